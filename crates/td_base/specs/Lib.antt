@@ -1,0 +1,9 @@
+pub mod Cause
+pub mod Files
+pub mod Memory
+pub mod NameCuts
+pub mod Names
+pub mod Outside
+pub mod Sized
+pub mod Stored
+pub mod Transfer

@@ -1,0 +1,58 @@
+ghost use Rattle.std.specs.Prelude.{◌≡◌, ◌++◌, ◌<◌, ◌^◌, length, take, decimal, OnOk, OnErr};
+ghost use Rattle.td_base.specs.Sized.{sized};
+ghost use Rattle.hex.specs.Hex.{encode_lower};
+
+use crate::{Bytes, NoMemory};
+use itoa::Buffer;
+
+/// Appends the number in decimal, without a leading zero. Where memory runs out nothing is appended.
+pub fn put_decimal(out: &mut Bytes, n: u64) -> Result<(), NoMemory>
+    ensures ok { OnOk result (out.new ≡ out.old ++ decimal n) }
+    ensures err { OnErr result (out.new ≡ out.old) }
+{
+    let mut buffer = Buffer::new();
+    out.append(buffer.format(n).as_bytes())
+}
+
+/// Appends two lower-case hex digits for each byte, the high half first. Where memory runs out nothing is appended.
+pub fn put_hex(out: &mut Bytes, bytes: &[u8]) -> Result<(), NoMemory>
+    ensures ok { OnOk result (out.new ≡ out.old ++ encode_lower bytes.now) }
+    ensures err { OnErr result (out.new ≡ out.old) }
+{
+    let start = out.len();
+    if let Err(error) = append_hex(out, bytes) {
+        out.truncate(start);
+        return Err(error);
+    }
+    Ok(())
+}
+
+#[tactic(auto, unfolding(hex::specs::Hex::encode_with))]
+/// Appends the hex digits byte by byte. Where memory runs out the digits of the bytes before it stay.
+fn append_hex(out: &mut Bytes, bytes: &[u8]) -> Result<(), NoMemory>
+    ensures ok { OnOk result (out.new ≡ out.old ++ encode_lower bytes.now) }
+    ensures kept { take (length out.old) out.new ≡ out.old }
+{
+    for byte in bytes {
+        let mut pair = [0; 2];
+        let _ = hex::encode_to_slice([*byte], &mut pair);
+        out.append(&pair)?;
+    }
+    Ok(())
+}
+
+/// Appends the number of bytes, in four bytes with the high one first, and the bytes. Where memory runs out
+/// nothing is appended.
+pub fn put_sized(out: &mut Bytes, bytes: &[u8]) -> Result<(), NoMemory>
+    requires { length bytes.now < 2 ^ 32 }
+    ensures ok { OnOk result (out.new ≡ out.old ++ sized bytes.now) }
+    ensures err { OnErr result (out.new ≡ out.old) }
+{
+    let start = out.len();
+    out.append(&(bytes.len() as u32).to_be_bytes())?;
+    if let Err(error) = out.append(bytes) {
+        out.truncate(start);
+        return Err(error);
+    }
+    Ok(())
+}

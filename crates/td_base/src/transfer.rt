@@ -1,0 +1,80 @@
+ghost use Rattle.std.specs.Prelude.{◌≡◌, ◌≤◌, ◌<◌, length, IfOk, IsErrOf};
+ghost use Rattle.td_base.specs.Cause.{Rose};
+ghost use Rattle.td_base.specs.Transfer.{ReadsTo, WritesTell};
+
+use crate::{Bytes, NoMemory, ReadStep, Sink, Source, WriteStep};
+use std::alloc::Global;
+use thiserror::Error;
+
+/// How many bytes are asked of a source at a time.
+const ROOM: usize = 4096;
+
+/// Why a source was not read to its end.
+#[derive(Clone, Copy, Debug, PartialEq, Eq, Error)]
+pub enum SourceFault {
+    /// There is no memory for the bytes.
+    #[error("out of memory")]
+    NoMemory,
+    /// The source failed.
+    #[error("a read failed")]
+    Failed,
+}
+
+impl From<NoMemory> for SourceFault {
+    ghost use Rattle.std.specs.Prelude.{◌≡◌};
+    ghost use Rattle.td_base.specs.declared.transfer.SourceFault.TheVariants as fault;
+
+    ghost from_gives = { λ _ e. e ≡ fault.NoMemory };
+
+    fn from(_: NoMemory) -> Self {
+        SourceFault::NoMemory
+    }
+}
+
+/// How a whole piece was written.
+#[derive(Clone, Copy, Debug, PartialEq, Eq)]
+pub enum Written {
+    /// Every byte was taken.
+    Whole,
+    /// The sink failed after it had taken a part, which may be empty.
+    Cut,
+}
+
+/// Reads a source to its end, or to `most` bytes of it.
+pub fn read_to_end<C: Source>(
+    alloc: Global,
+    source: &mut C,
+    most: usize,
+) -> Result<Bytes, SourceFault>
+    ensures told { IfOk result (λ bytes. ReadsTo most (C.left source.old) (C.left source.new) bytes) }
+    ensures later { C.faults source.old ≤ C.faults source.new }
+    ensures failed { IsErrOf result SourceFault.Failed → Rose (C.faults source.old) (C.faults source.new) }
+{
+    let mut held = Bytes::new(alloc);
+    let mut room = [0; ROOM];
+    'pieces: while held.len() < most {
+        let want = ROOM.min(most - held.len());
+        match source.read(&mut room[..want]) {
+            ReadStep::Got(count) => held.append(&room[..count])?,
+            ReadStep::End => return Ok(held),
+            ReadStep::Failed => return Err(SourceFault::Failed),
+        }
+    }
+    Ok(held)
+}
+
+/// Writes all the bytes. Where the sink fails, it has taken a part of them from the front.
+pub fn write_whole<K: Sink>(sink: &mut K, bytes: &[u8]) -> Written
+    ensures told { WritesTell (K.taken sink.old) (K.taken sink.new) bytes.now result }
+    ensures later { K.faults sink.old ≤ K.faults sink.new }
+    ensures cut { result ≡ Written.Cut → Rose (K.faults sink.old) (K.faults sink.new) }
+{
+    let mut at = 0;
+    'pieces: while at < bytes.len() {
+        match sink.write(&bytes[at..]) {
+            WriteStep::Took(count) => at += count,
+            WriteStep::Failed => return Written::Cut,
+        }
+    }
+    Written::Whole
+}
