@@ -1,0 +1,7 @@
+pub mod Answer
+pub mod Bounds
+pub mod Calendar
+pub mod Reading
+pub mod Stamp
+pub mod Texts
+pub use Rattle.jiff_core.specs.Calendar as Gregorian

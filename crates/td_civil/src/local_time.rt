@@ -1,0 +1,43 @@
+ghost use Rattle.std.specs.Prelude.{◌≡◌};
+
+use crate::Moment;
+use td_base::ShortText;
+
+/// The name of a state of local time, as `EST`: at most 32 bytes.
+pub type Name = ShortText<32>;
+
+/// A state of local time.
+#[derive(Debug, Drop, PartialEq, Eq)]
+pub struct Local {
+    /// Seconds east of UTC.
+    pub offset: i32,
+    /// Whether it is daylight saving time.
+    pub dst: bool,
+    pub name: Name,
+}
+
+impl Local {
+    /// The same state.
+    pub fn copy(&self) -> Local
+        ensures { result ≡ self.now }
+    {
+        Local {
+            offset: self.offset,
+            dst: self.dst,
+            name: self.name.copy(),
+        }
+    }
+}
+
+/// A change of local time, or the state at the beginning of a range.
+#[derive(Debug, Drop, PartialEq, Eq)]
+pub struct Observance {
+    pub onset: Moment,
+    /// The offset before the onset, in seconds east of UTC.
+    pub from: i32,
+    /// The offset from the onset on.
+    pub to: i32,
+    /// Whether daylight saving time holds from the onset on.
+    pub dst: bool,
+    pub name: Name,
+}

@@ -1,0 +1,63 @@
+ghost use Rattle.std.specs.Prelude.{◌≡◌, ℤ, ◌+ℤ◌, IfOk, IfSome, OnErr};
+ghost use Rattle.jiff_core.specs.Calendar.{IsWithin};
+ghost use Rattle.td_civil.specs.Bounds.{IsWithinBounds};
+ghost use Rattle.td_civil.specs.Stamp.{Spells, ShowsLocal};
+ghost use Rattle.td_civil.specs.Texts.{text_of, local_text_of};
+ghost use Rattle.td_civil.specs.Reading.{moment_in};
+ghost use Rattle.td_civil.specs.Answer.{moment_read};
+
+use crate::Moment;
+use crate::fields::Fields;
+use thiserror::Error;
+
+/// The text is not `YYYY-MM-DDTHH:MM:SSZ` of an existing date and time of day (RFC 3339, section 5.6).
+#[derive(Clone, Copy, Debug, PartialEq, Eq, Error)]
+#[error("bad moment")]
+pub struct BadMoment;
+
+/// The moment that a text `YYYY-MM-DDTHH:MM:SSZ` spells, in the years 0000 to 9999.
+pub fn moment_of(text: &[u8]) -> Result<Moment, BadMoment>
+    ensures found { IfOk result (λ m. Spells text.now m.seconds) }
+    ensures bad { OnErr result ((m : ℤ) → ¬ Spells text.now m) }
+    ensures exact { moment_read result ≡ moment_in text.now }
+{
+    match seconds_in(text) {
+        Some(seconds) => Ok(Moment { seconds }),
+        None => Err(BadMoment),
+    }
+}
+
+/// The text `YYYY-MM-DDTHH:MM:SSZ` of a moment (RFC 3339, section 5.6).
+pub fn utc_text(m: Moment) -> [u8; 20]
+    requires { IsWithinBounds m.seconds }
+    ensures spells { Spells result m.seconds }
+    ensures exact { result ≡ text_of m.seconds }
+{
+    Fields::at(m.seconds).spelling()
+}
+
+/// The local time `YYYYMMDDTHHMMSS` of a moment (RFC 5545, section 3.3.5), as clocks show it that are
+/// so many seconds east of UTC, less than a day.
+pub fn local_stamp(m: Moment, offset: i32) -> [u8; 15]
+    requires moment { IsWithinBounds m.seconds }
+    requires offset { IsWithin 86_399 offset }
+    ensures shows { ShowsLocal result (m.seconds +ℤ offset) }
+    ensures exact { result ≡ local_text_of m.seconds offset }
+{
+    Fields::at(m.seconds + offset as i64).basic_spelling()
+}
+
+fn seconds_in(text: &[u8]) -> Option<i64>
+    ensures value { result ≡ moment_in text.now }
+    ensures bound { IfSome result (IsWithin 400_000_000_000) }
+{
+    if text.len() != 20 {
+        return None;
+    }
+    let fields = Fields::in_text(text);
+    let spelling = fields.spelling();
+    if text != spelling.as_slice() {
+        return None;
+    }
+    fields.seconds()
+}

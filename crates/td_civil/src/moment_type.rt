@@ -1,0 +1,11 @@
+/// A moment: whole seconds from 1970-01-01T00:00:00Z, without leap seconds.
+#[derive(Clone, Copy, Debug, PartialEq, Eq, PartialOrd, Ord, Hash)]
+pub struct Moment {
+    pub seconds: i64,
+}
+
+/// The first moment that has a meaning here, 1800-01-01T00:00:00Z.
+pub const LO: i64 = -5_364_662_400;
+
+/// The end of the moments that have a meaning here, 9999-01-01T00:00:00Z.
+pub const HI: i64 = 253_370_764_800;
