@@ -1,0 +1,11 @@
+pub mod Chain
+pub mod Least
+pub mod Joined
+pub mod Headers
+pub mod Records
+pub mod Soundness
+pub mod Blocks
+pub mod Cuts
+pub mod Footers
+pub mod Frames
+pub mod Whole

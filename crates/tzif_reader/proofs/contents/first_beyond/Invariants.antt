@@ -1,0 +1,8 @@
+use Rattle.std.proofs.Common.{◌≡◌, ◌-◌}
+use Rattle.std.specs.Prelude.{find}
+use Rattle.std.specs.List.{range_with_len}
+use Rattle.tzif_reader.specs.Faults.{is_beyond, least}
+use Rattle.tzif_reader.proofs.contents.first_beyond.Given as goal
+
+abbrev pub invariant-loop-i : goal.invariant-loop-i
+invariant-loop-i l = find (is_beyond l.types) (range_with_len l.i (l.typecnt - l.i)) ≡ least (l.typecnt) (is_beyond l.types)

@@ -1,0 +1,6 @@
+pub mod Cut
+pub mod FaultText
+pub mod Faults
+pub mod Layout
+pub mod LeapSteps
+pub mod Views

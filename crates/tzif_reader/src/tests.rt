@@ -1,0 +1,325 @@
+use super::*;
+use std::alloc::Global;
+use std::test::*;
+use td_base::{Bytes, NoMemory};
+
+/// What the second block of a file and its footer are to hold.
+#[derive(Clone, Copy)]
+struct Plan<'a> {
+    times: &'a [i64],
+    numbers: &'a [u8],
+    /// Offset, flag and index of each type.
+    types: &'a [(i32, u8, u8)],
+    designations: &'a [u8],
+    leaps: &'a [(i64, i32)],
+    standard: &'a [u8],
+    ut: &'a [u8],
+    footer: &'a [u8],
+}
+
+const UTC: Plan<'static> = Plan {
+    times: &[],
+    numbers: &[],
+    types: &[(0, 0, 0)],
+    designations: b"UTC\0",
+    leaps: &[],
+    standard: &[],
+    ut: &[],
+    footer: b"UTC0",
+};
+
+const NEW_YORK: Plan<'static> = Plan {
+    times: &[1_173_596_400],
+    numbers: &[1],
+    types: &[(-18_000, 0, 0), (-14_400, 1, 4)],
+    designations: b"EST\0EDT\0",
+    leaps: &[],
+    standard: &[],
+    ut: &[],
+    footer: b"EST5EDT,M3.2.0,M11.1.0",
+};
+
+/// Isutcnt, isstdcnt, leapcnt, timecnt, typecnt and charcnt.
+fn put_header(file: &mut Bytes, counts: &[u32]) -> Result<(), NoMemory> {
+    file.append(b"TZif2")?;
+    file.append(&[0; 15])?;
+    for count in counts {
+        file.append(&count.to_be_bytes())?;
+    }
+    Ok(())
+}
+
+fn put_block(file: &mut Bytes, plan: &Plan) -> Result<(), NoMemory> {
+    for time in plan.times {
+        file.append(&time.to_be_bytes())?;
+    }
+    file.append(plan.numbers)?;
+    for (offset, flag, index) in plan.types {
+        file.append(&offset.to_be_bytes())?;
+        file.append(&[*flag, *index])?;
+    }
+    file.append(plan.designations)?;
+    for (at, correction) in plan.leaps {
+        file.append(&at.to_be_bytes())?;
+        file.append(&correction.to_be_bytes())?;
+    }
+    file.append(plan.standard)?;
+    file.append(plan.ut)
+}
+
+fn count_of(len: usize) -> u32 {
+    u32::try_from(len).unwrap_or(u32::MAX)
+}
+
+/// A file of version 2 whose first block has one type and one designation.
+fn slim(alloc: Global, plan: &Plan) -> Result<Bytes, NoMemory> {
+    let mut file = Bytes::new(alloc);
+    put_header(&mut file, &[0, 0, 0, 0, 1, 1])?;
+    file.append(&[0; 7])?;
+    put_header(
+        &mut file,
+        &[
+            count_of(plan.ut.len()),
+            count_of(plan.standard.len()),
+            count_of(plan.leaps.len()),
+            count_of(plan.times.len()),
+            count_of(plan.types.len()),
+            count_of(plan.designations.len()),
+        ],
+    )?;
+    put_block(&mut file, plan)?;
+    file.push(b'\n')?;
+    file.append(plan.footer)?;
+    file.push(b'\n')?;
+    Ok(file)
+}
+
+/// The bytes with others in their place from `place` on.
+fn edited(alloc: Global, bytes: &[u8], place: usize, with: &[u8]) -> Result<Bytes, NoMemory> {
+    let mut copy = Bytes::new(alloc);
+    for (i, byte) in bytes.iter().enumerate() {
+        let other = match i.checked_sub(place) {
+            Some(k) => with.get(k).copied(),
+            None => None,
+        };
+        copy.push(other.unwrap_or(*byte))?;
+    }
+    Ok(copy)
+}
+
+fn fault_of(alloc: Global, bytes: &[u8]) -> Option<TzifFault> {
+    read(alloc, bytes).err()
+}
+
+/// The fault of the first `len` bytes of a file whose second block ends at `block_end`.
+fn cut_fault(len: usize, block_end: usize) -> TzifFault {
+    match len {
+        0..=43 => TzifFault::Short(0),
+        44..=50 => TzifFault::Short(44),
+        51..=94 => TzifFault::Short(51),
+        _ if len < block_end => TzifFault::Short(95),
+        _ => TzifFault::FooterFrame,
+    }
+}
+
+#[test]
+fn cut_and_longer_files(rt: HostRuntime) -> Result<(), Fail> {
+    let alloc = rt.alloc();
+    for (plan, len, block_end) in [(UTC, 111, 105), (NEW_YORK, 148, 124)] {
+        let file = slim(alloc, &plan)?;
+        assert_eq!(rt; file.len(), len);
+        let mut front = Bytes::new(alloc);
+        for byte in file.as_slice() {
+            let fault = cut_fault(front.len(), block_end);
+            assert_eq!(rt; fault_of(alloc, front.as_slice()), Some(fault));
+            front.push(*byte)?;
+        }
+        assert_eq!(rt; fault_of(alloc, front.as_slice()), None);
+        front.push(b'X')?;
+        assert_eq!(rt;
+            fault_of(alloc, front.as_slice()),
+            Some(TzifFault::Trailing(len))
+        );
+    }
+    Ok(())
+}
+
+#[test]
+fn faults_of_edited_files(rt: HostRuntime) -> Result<(), Fail> {
+    let alloc = rt.alloc();
+    let file = slim(alloc, &NEW_YORK)?;
+    let cases: [(usize, &[u8], Option<TzifFault>); 28] = [
+        (0, b"X", Some(TzifFault::Magic)),
+        (4, b"1", Some(TzifFault::Version)),
+        (4, b"5", Some(TzifFault::Version)),
+        (5, b"reserved", None),
+        (32, &[255; 4], Some(TzifFault::Short(44))),
+        (44, &[255; 7], None),
+        (51, b"Y", Some(TzifFault::Magic)),
+        (55, b"3", Some(TzifFault::Version)),
+        (71, &[0, 0, 0, 1], Some(TzifFault::Counts)),
+        (75, &[0, 0, 0, 1], Some(TzifFault::Counts)),
+        (87, &[0; 4], Some(TzifFault::Counts)),
+        (91, &[0; 4], Some(TzifFault::Counts)),
+        (83, &[255; 4], Some(TzifFault::TooLarge)),
+        (83, &[0, 0, 0x10, 1], Some(TzifFault::TooLarge)),
+        (83, &[0, 0, 0x10, 0], Some(TzifFault::Short(95))),
+        (91, &[255; 4], Some(TzifFault::Short(95))),
+        (103, &[2], Some(TzifFault::TypeNumber(0))),
+        (115, &[8], Some(TzifFault::Designation(1))),
+        (123, b"X", Some(TzifFault::Designation(1))),
+        (108, &[2], Some(TzifFault::Indicator(0))),
+        (114, &[2], Some(TzifFault::Indicator(1))),
+        (
+            104,
+            &86_400_i32.to_be_bytes(),
+            Some(TzifFault::OffsetBeyond(0)),
+        ),
+        (
+            110,
+            &(-86_400_i32).to_be_bytes(),
+            Some(TzifFault::OffsetBeyond(1)),
+        ),
+        (104, &(-86_399_i32).to_be_bytes(), None),
+        (95, &253_370_764_799_i64.to_be_bytes(), None),
+        (
+            95,
+            &253_370_764_800_i64.to_be_bytes(),
+            Some(TzifFault::TooLate),
+        ),
+        (124, b"X", Some(TzifFault::FooterFrame)),
+        (147, b"X", Some(TzifFault::FooterFrame)),
+    ];
+    for (place, with, fault) in &cases {
+        let bytes = edited(alloc, file.as_slice(), *place, with)?;
+        assert_eq!(rt; fault_of(alloc, bytes.as_slice()), *fault, "at {place}");
+    }
+    Ok(())
+}
+
+#[test]
+fn faults_of_other_files(rt: HostRuntime) -> Result<(), Fail> {
+    let alloc = rt.alloc();
+    let plans: [(Plan, Option<TzifFault>); 7] = [
+        (
+            Plan {
+                times: &[-576_460_752_303_423_488, 0],
+                numbers: &[0, 1],
+                ..NEW_YORK
+            },
+            None,
+        ),
+        (
+            Plan {
+                times: &[7, 7],
+                numbers: &[0, 1],
+                ..NEW_YORK
+            },
+            Some(TzifFault::Order(1)),
+        ),
+        (
+            Plan {
+                standard: &[0, 1],
+                ut: &[1, 0],
+                ..NEW_YORK
+            },
+            None,
+        ),
+        (
+            Plan {
+                standard: &[0, 2],
+                ..NEW_YORK
+            },
+            Some(TzifFault::Indicator(1)),
+        ),
+        (
+            Plan {
+                ut: &[2, 0],
+                ..NEW_YORK
+            },
+            Some(TzifFault::Indicator(0)),
+        ),
+        (
+            Plan {
+                designations: b"ABCDEFGHIJKLMNOPQRSTUVWXYZABCDEF\0",
+                ..UTC
+            },
+            None,
+        ),
+        (
+            Plan {
+                designations: b"ABCDEFGHIJKLMNOPQRSTUVWXYZABCDEFG\0",
+                ..UTC
+            },
+            Some(TzifFault::Designation(0)),
+        ),
+    ];
+    for (plan, fault) in &plans {
+        let file = slim(alloc, plan)?;
+        assert_eq!(rt; fault_of(alloc, file.as_slice()), *fault);
+    }
+    let zeros = vec![in alloc; 0_u8; 65_537]?;
+    assert_eq!(rt; fault_of(alloc, &zeros), Some(TzifFault::TooLarge));
+    assert_eq!(rt; fault_of(alloc, &zeros[1..]), Some(TzifFault::Magic));
+    Ok(())
+}
+
+#[test]
+fn a_zone_is_read(rt: HostRuntime) -> Result<(), Fail> {
+    let alloc = rt.alloc();
+    let leaps: [(i64, i32); 2] = [(78_796_800, 1), (94_694_401, -2)];
+    let file = slim(
+        alloc,
+        &Plan {
+            leaps: &leaps,
+            ..NEW_YORK
+        },
+    )?;
+    let zone = read(alloc, file.as_slice())
+        .ok()
+        .ok_or("the file has no fault")?;
+    assert_eq!(rt; zone.numbers.as_slice(), [1].as_slice());
+    assert_eq!(rt;
+        zone.footer.as_slice(),
+        b"EST5EDT,M3.2.0,M11.1.0".as_slice()
+    );
+    assert_eq!(rt; zone.moments.len(), 1);
+    for moment in zone.moments.as_slice() {
+        assert_eq!(rt; moment.seconds, 1_173_596_400);
+    }
+    assert_eq!(rt; zone.kinds.len(), 2);
+    for kind in zone.kinds.as_slice() {
+        let (offset, name) = if kind.dst {
+            (-14_400, b"EDT")
+        } else {
+            (-18_000, b"EST")
+        };
+        assert_eq!(rt; kind.offset, offset);
+        assert_eq!(rt; kind.name.as_slice(), name.as_slice());
+    }
+    assert_eq!(rt; zone.leaps.len(), 2);
+    for (line, (at, correction)) in zone.leaps.as_slice().iter().zip(&leaps) {
+        assert_eq!(rt; line.at, *at);
+        assert_eq!(rt; line.correction, *correction);
+    }
+    one_zone_file();
+    Ok(())
+}
+
+#[test]
+fn faults_are_printed(rt: HostRuntime) -> Result<(), Fail> {
+    let cases = [
+        (TzifFault::NoMemory, "0 NoMemory"),
+        (TzifFault::Magic, "1 Magic"),
+        (TzifFault::Short(44), "3 Short 44"),
+        (TzifFault::OffsetBeyond(1), "9 OffsetBeyond 1"),
+        (TzifFault::TooLarge, "10 TooLarge"),
+        (TzifFault::FooterFrame, "12 FooterFrame"),
+        (TzifFault::Trailing(111), "13 Trailing 111"),
+    ];
+    for (fault, text) in cases {
+        let printed = format!(in rt.alloc(); "{fault}")?;
+        assert_eq!(rt; printed.as_str(), text);
+    }
+    Ok(())
+}

@@ -1,0 +1,28 @@
+ghost use Rattle.std.specs.Prelude.{◌≡◌, ◌+◌, ◌<◌, ◌≤◌, length, IfSome};
+ghost use Rattle.std.specs.Option.{option_copied};
+ghost use Rattle.tzif_reader.specs.Cut.{before, text_between};
+
+/// The text before the first byte `mark`, where there is one.
+pub fn before(text: &[u8], mark: u8) -> Option<&[u8]>
+    ensures value { option_copied result ≡ before mark text.now }
+    ensures len { IfSome result (λ front. length front.now < length text.now) }
+{
+    for (i, byte) in text.iter().enumerate() {
+        if *byte == mark {
+            let (front, _) = text.split_at(i);
+            return Some(front);
+        }
+    }
+    None
+}
+
+/// The text between two line feeds, of which the first begins the bytes.
+pub fn text_between(bytes: &[u8]) -> Option<&[u8]>
+    ensures value { option_copied result ≡ text_between bytes.now }
+    ensures len { IfSome result (λ text. length text.now + 2 ≤ length bytes.now) }
+{
+    match bytes {
+        [b'\n', rest @ ..] => before(rest, b'\n'),
+        _ => None,
+    }
+}

@@ -1,0 +1,75 @@
+ghost use Rattle.std.specs.Prelude.{◌≡◌};
+ghost use Rattle.tzif_reader.specs.declared.tzif_fault.TzifFault.TheVariants.{NoMemory as OutOfMemory};
+
+use std::error::Error;
+use std::fmt;
+use td_base::NoMemory;
+
+/// Why a list of bytes is not a zone file: its first fault, of which the least index is told. Places and lengths are
+/// counted in bytes from the beginning of the file. It prints as its number, its name and its value.
+#[derive(Clone, Copy, Debug, PartialEq, Eq)]
+pub enum TzifFault {
+    NoMemory,
+    /// A header does not begin with `TZif`.
+    Magic,
+    /// The version is not `2`, `3` or `4`, or the headers differ in it.
+    Version,
+    /// The file ends before the header or the block does that begins at this place.
+    Short(usize),
+    /// There is no type or no designation, or indicators stand for some types alone.
+    Counts,
+    /// This transition is not above the one before it.
+    Order(usize),
+    /// This transition's type is none of the file's.
+    TypeNumber(usize),
+    /// This type's name has no end, or more than 32 bytes.
+    Designation(usize),
+    /// A flag of this type is neither 0 nor 1.
+    Indicator(usize),
+    /// This type's offset is below -86399 or above 86399 seconds.
+    OffsetBeyond(usize),
+    /// The file has more than 65536 bytes or more than 4096 transitions.
+    TooLarge,
+    /// The last transition is at or after 9999-01-01T00:00:00Z.
+    TooLate,
+    /// No text between line feeds stands behind the second block.
+    FooterFrame,
+    /// Bytes follow the footer from this place on.
+    Trailing(usize),
+}
+
+impl fmt::Display for TzifFault {
+    ghost use Rattle.std.specs.Prelude.{Some};
+    ghost use Rattle.tzif_reader.specs.FaultText.{fault_text};
+
+    ghost output = { λ fault. Some (fault_text fault) };
+
+    fn fmt<W: fmt::Write>(&self, f: &mut fmt::Formatter<W>) -> fmt::Result {
+        match self {
+            TzifFault::NoMemory => write!(f, "0 NoMemory"),
+            TzifFault::Magic => write!(f, "1 Magic"),
+            TzifFault::Version => write!(f, "2 Version"),
+            TzifFault::Short(place) => write!(f, "3 Short {place}"),
+            TzifFault::Counts => write!(f, "4 Counts"),
+            TzifFault::Order(place) => write!(f, "5 Order {place}"),
+            TzifFault::TypeNumber(place) => write!(f, "6 TypeNumber {place}"),
+            TzifFault::Designation(place) => write!(f, "7 Designation {place}"),
+            TzifFault::Indicator(place) => write!(f, "8 Indicator {place}"),
+            TzifFault::OffsetBeyond(place) => write!(f, "9 OffsetBeyond {place}"),
+            TzifFault::TooLarge => write!(f, "10 TooLarge"),
+            TzifFault::TooLate => write!(f, "11 TooLate"),
+            TzifFault::FooterFrame => write!(f, "12 FooterFrame"),
+            TzifFault::Trailing(place) => write!(f, "13 Trailing {place}"),
+        }
+    }
+}
+
+impl Error for TzifFault {}
+
+impl From<NoMemory> for TzifFault {
+    ghost from_gives = { λ _ fault. fault ≡ OutOfMemory };
+
+    fn from(_: NoMemory) -> Self {
+        TzifFault::NoMemory
+    }
+}
