@@ -1,0 +1,10 @@
+pub mod Again
+pub mod AgainWhole
+pub mod ChangeLemmas
+pub mod DaylightLemmas
+pub mod Found
+pub mod FoundWhole
+pub mod OnsetLemmas
+pub mod Runs
+pub mod StateLemmas
+pub mod YearLemmas

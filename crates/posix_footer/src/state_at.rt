@@ -1,0 +1,79 @@
+//! The state of local time at a moment.
+ghost use Rattle.std.specs.Prelude.{◌≡◌, ◌≤ℤ◌, ◌<ℤ◌, ◌*ℤ◌, ◌+ℤ◌, pos, if◌then◌else◌};
+ghost use Rattle.td_civil.specs.Bounds.{HasMeaning};
+ghost use Rattle.jiff_core.specs.Calendar.{IsBetween, days_from_civil};
+ghost use Rattle.posix_footer.specs.Lawful.{IsLawful, IsLawfulRule};
+ghost use Rattle.posix_footer.specs.StateAt as spec;
+
+use crate::onsets::onset;
+use crate::{DstRule, Edge, Footer};
+use td_civil::{Local, Moment, year_of};
+
+/// The state of local time that a footer gives at a moment.
+pub fn at(footer: &Footer, t: Moment) -> Local
+    requires lawful { IsLawful footer.now }
+    requires meaning { HasMeaning t.seconds }
+    ensures value { result ≡ spec.state_of footer.now t.seconds }
+    ensures follows { spec.FollowsLastChange footer.now.std footer.now.dst t.seconds result }
+{
+    match &footer.dst {
+        None => footer.std.copy(),
+        Some(rule) => state_by_rule(&footer.std, rule, t),
+    }
+}
+
+/// The state at a moment where there is a rule.
+fn state_by_rule(std: &Local, rule: &DstRule, t: Moment) -> Local
+    requires lawful { IsLawfulRule std.now.offset rule.now }
+    requires meaning { HasMeaning t.seconds }
+    ensures value { result ≡ spec.state_by std.now (Some rule.now) t.seconds }
+    ensures follows { spec.FollowsLastChange std.now (Some rule.now) t.seconds result }
+{
+    if is_daylight(rule, std.offset, t) {
+        rule.dst.copy()
+    } else {
+        std.copy()
+    }
+}
+
+/// Whether daylight saving time holds at a moment.
+fn is_daylight(rule: &DstRule, std: i32, t: Moment) -> bool
+    requires lawful { IsLawfulRule std rule.now }
+    requires meaning { HasMeaning t.seconds }
+    ensures value { result ≡ spec.is_daylight rule.now std t.seconds }
+    ensures change { spec.IsLastChange rule.now std t.seconds (if result then Edge.Start else Edge.End) }
+{
+    let year = utc_year(t);
+    let started = latest(rule, std, year, Edge::Start, t);
+    let ended = latest(rule, std, year, Edge::End, t);
+    ended <= started
+}
+
+/// The latest onset of an edge that is not after a moment of the year. The time and the offset move an onset by
+/// less than eight days, and a day form names at most the first day after its year. So the onset of two years
+/// before the moment's is never after it, and that of two years after it always is.
+fn latest(rule: &DstRule, std: i32, year: i32, edge: Edge, t: Moment) -> i64
+    requires lawful { IsLawfulRule std rule.now }
+    requires year_in { IsBetween (pos 1800) (pos 9998) year }
+    requires begun { (days_from_civil year 1 1 *ℤ pos 86400) ≤ℤ t.seconds }
+    requires ahead { t.seconds <ℤ (days_from_civil (year +ℤ pos 1) 1 1 *ℤ pos 86400) }
+    ensures { spec.IsLatest rule.now std edge t.seconds result }
+{
+    for back in 0..3u8 {
+        let candidate = onset(rule, std, year + 1 - i32::from(back), edge);
+        if candidate.seconds <= t.seconds {
+            return candidate.seconds;
+        }
+    }
+    onset(rule, std, year - 2, edge).seconds
+}
+
+/// The year of a moment in UTC.
+fn utc_year(t: Moment) -> i32
+    requires { HasMeaning t.seconds }
+    ensures year_in { IsBetween (pos 1800) (pos 9998) result }
+    ensures begun { (days_from_civil result 1 1 *ℤ pos 86400) ≤ℤ t.seconds }
+    ensures ahead { t.seconds <ℤ (days_from_civil (result +ℤ pos 1) 1 1 *ℤ pos 86400) }
+{
+    year_of(t)
+}
