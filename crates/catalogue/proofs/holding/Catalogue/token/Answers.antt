@@ -1,0 +1,12 @@
+use Rattle.std.proofs.Common.{ap, ◌∙◌, ◌<◌, ◌-◌, length, arith, get_or}
+use Rattle.std.proofs.lemmas.List.FromFn.{get_or-map-range_with_len, length-map-range_with_len}
+use Rattle.catalogue.specs.Histories.{tokens_of, token_of}
+use Rattle.catalogue.proofs.holding.Catalogue.token.Goals as goal
+
+pub returns : goal.returns
+unfolding tokens_of
+returns g c = λ H s.
+    let all = ap length s.tokens ∙ length-map-range_with_len (token_of H) 1 (length H) in
+    let below : c.args.n - 1 < length H = omega arith in
+    c.copy.ensures ∙ c.index-as_slice-n.is ∙ ap (λ ts. get_or ts (c.args.n - 1) c.index-as_slice-n.result) (c.as_slice.ensures ∙ s.tokens)
+    ∙ get_or-map-range_with_len (token_of H) 1 (length H) (c.args.n - 1) c.args.n c.index-as_slice-n.result below (omega arith)

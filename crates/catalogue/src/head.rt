@@ -1,0 +1,12 @@
+use crate::Leaps;
+use td_base::Bytes;
+use td_civil::Moment;
+
+/// A release without its zones.
+#[derive(Debug, Drop)]
+pub struct Head {
+    pub stamp: Moment,
+    pub publisher: Bytes,
+    pub version: Bytes,
+    pub leaps: Option<Leaps>,
+}
