@@ -1,0 +1,4 @@
+pub mod Checks
+pub mod FaultText
+pub mod Meaning
+pub mod Reading

@@ -1,0 +1,45 @@
+-- The manifest of a text, and the fault of one that has none.
+use Rattle.std.specs.Prelude.{◌≡◌, ℕ, ◌≤◌, List, length, nat_le, if◌then◌else◌, Option, None, Some, Result, Ok, Err, ◌≢◌}
+use Rattle.std.specs.Str.{is_utf8}
+use Rattle.serde_json.specs.Data.{Data}
+use Rattle.serde_json.specs.Read.{read as read_text}
+use Rattle.release_manifest.specs.Checks.{Check, first_failing, first_fault}
+use Rattle.release_manifest.specs.Meaning.{IsManifest}
+use Rattle.release_manifest.specs.declared.faults.ManifestFault.{ManifestFault}
+use Rattle.release_manifest.specs.declared.faults.ManifestFault.TheVariants as fault
+use Rattle.release_manifest.specs.declared.manifest_type.Manifest.{Manifest}
+
+-- the most bytes that a manifest may have
+abbrev pub most_bytes : ℕ
+most_bytes = 1_048_576
+
+-- the JSON value that the bytes are, which have to be UTF-8
+unfoldable pub value_in : List ℕ → Option Data
+value_in text = if is_utf8 text then read_text text else None
+
+-- the fault of a text without a value, or the first of its value
+abbrev pub value_fault : Option Data → Option ManifestFault
+value_fault None = Some fault.Syntax
+value_fault (Some d) = first_fault d
+
+-- why a text is no manifest
+unfoldable pub text_fault : List ℕ → Option ManifestFault
+text_fault text = if nat_le (length text) most_bytes then value_fault (value_in text) else Some fault.Long
+
+-- the text is this manifest
+pub record IsManifestText (text : List ℕ) (m : Manifest) : Type 0 where
+  pub fits : length text ≤ most_bytes
+  pub value : Data
+  pub reads : value_in text ≡ Some value
+  pub is : IsManifest value m
+
+-- What a function judged of checks: where it gave a value each passes, and a fault is that of the first that does
+-- not, want of memory aside.
+abbrev pub Judges : {T : Type 0} → Result T ManifestFault → List Check → Type 0
+Judges (Ok x) checks = first_failing checks ≡ None
+Judges (Err e) checks = e ≢ fault.NoMemory → first_failing checks ≡ Some e
+
+-- A text was read as its value, or there is none, want of memory aside.
+abbrev pub ReadsValue : {T : Type 0} → (T → Data) → List ℕ → Result T ManifestFault → Type 0
+ReadsValue view text (Ok v) = value_in text ≡ Some (view v)
+ReadsValue view text (Err e) = e ≢ fault.NoMemory → (e ≡ fault.Syntax) × (value_in text ≡ None)

@@ -1,0 +1,32 @@
+use td_base::{Bytes, Items};
+use td_civil::Moment;
+
+/// What a release's manifest says.
+#[derive(Debug, Drop)]
+pub struct Manifest {
+    /// 1 to 64 printable ASCII bytes, as are those of the version.
+    pub publisher: Bytes,
+    pub version: Bytes,
+    /// When the release was made, from 1800-01-01T00:00:00Z to before 9999-01-01T00:00:00Z.
+    pub stamp: Moment,
+    pub zones: Items<ManifestZone>,
+    pub leaps: Option<ManifestLeaps>,
+}
+
+/// A zone of a manifest. Its identifiers are any texts: who checks the release judges them.
+#[derive(Debug, Drop)]
+pub struct ManifestZone {
+    pub tzid: Bytes,
+    /// The name of the zone's TZif file in the release's folder.
+    pub file: Bytes,
+    pub aliases: Items<Bytes>,
+}
+
+/// The leap seconds of a manifest.
+#[derive(Debug, Drop)]
+pub struct ManifestLeaps {
+    /// The name of the file with the leap seconds in the release's folder.
+    pub file: Bytes,
+    /// The date from which the table is out of date, `YYYY-MM-DD`.
+    pub expires: Bytes,
+}

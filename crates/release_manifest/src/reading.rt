@@ -1,0 +1,103 @@
+ghost use Rattle.std.specs.Prelude.{◌≡◌, ◌≢◌, ◌⊎◌, Some, IfOk, IfErr, codes};
+ghost use Rattle.serde_json.specs.Errors.{IsMemory};
+ghost use Rattle.serde_json.specs.Find.{get};
+ghost use Rattle.serde_json.specs.View.{view};
+ghost use Rattle.release_manifest.specs.declared.faults.ManifestFault.{ManifestFault};
+ghost use Rattle.release_manifest.specs.declared.manifest_type.Manifest.{Manifest};
+ghost use Rattle.release_manifest.specs.Checks.{leap_checks, manifest_checks};
+ghost use Rattle.release_manifest.specs.Meaning.{AreLeaps, IsLeaps, IsManifest};
+ghost use Rattle.release_manifest.specs.Reading.{IsManifestText, Judges, ReadsValue, text_fault};
+
+use crate::members::{check_object, read_expiry, read_file_name, read_label, read_stamp};
+use crate::zone_members::read_zones;
+use crate::{Manifest, ManifestFault, ManifestLeaps, Path};
+use serde_json::{Error, Value};
+use std::alloc::Global;
+
+/// The most bytes that a manifest may have.
+pub const MOST_BYTES: usize = 1_048_576;
+
+/// Reads the manifest that a text is. [`ManifestFault::Long`] comes for a longer text than [`MOST_BYTES`], else
+/// `Syntax` for one that is no JSON (RFC 8259) in UTF-8, and else the first fault of a member, members in the order
+/// publisher, version, stamp, zones and leap seconds, and of a zone tzid, file and aliases. A member given twice is
+/// no fault: the last one counts. Members of other names are ignored.
+pub fn read(alloc: Global, bytes: &[u8]) -> Result<Manifest, ManifestFault>
+    ensures ok { IfOk result (λ m. IsManifestText bytes.now m) }
+    ensures err { IfErr result (λ e. e ≢ ManifestFault.NoMemory → text_fault bytes.now ≡ Some e) }
+    ensures found { (m : Manifest) → IsManifestText bytes.now m
+        → (result ≡ Ok m) ⊎ (result ≡ Err ManifestFault.NoMemory) }
+    ensures refused { (f : ManifestFault) → text_fault bytes.now ≡ Some f
+        → (result ≡ Err f) ⊎ (result ≡ Err ManifestFault.NoMemory) }
+{
+    if bytes.len() > MOST_BYTES {
+        return Err(ManifestFault::Long);
+    }
+    let value = read_value(alloc, bytes)?;
+    read_manifest(alloc, &value)
+}
+
+/// The JSON value that a text is.
+fn read_value(alloc: Global, bytes: &[u8]) -> Result<Value, ManifestFault>
+    ensures { ReadsValue view bytes.now result }
+{
+    match Value::from_slice(alloc, bytes) {
+        Ok(value) => Ok(value),
+        Err(error) => Err(refusal(&error)),
+    }
+}
+
+/// What an error of the JSON reader means here.
+fn refusal(error: &Error) -> ManifestFault
+    ensures memory { IsMemory error.now → result ≡ ManifestFault.NoMemory }
+    ensures syntax { (¬ IsMemory error.now) → result ≡ ManifestFault.Syntax }
+{
+    if error.is_memory() {
+        ManifestFault::NoMemory
+    } else {
+        ManifestFault::Syntax
+    }
+}
+
+/// The manifest that a value is.
+fn read_manifest(alloc: Global, value: &Value) -> Result<Manifest, ManifestFault>
+    ensures is { IfOk result (λ m. IsManifest (view value.now) m) }
+    ensures judged { Judges result (manifest_checks (view value.now)) }
+{
+    check_object(value, Path::Whole)?;
+    let publisher = read_label(alloc, value, "publisher", Path::Publisher)?;
+    let version = read_label(alloc, value, "version", Path::Version)?;
+    let stamp = read_stamp(value)?;
+    let zones = read_zones(alloc, value)?;
+    let leaps = read_leaps(alloc, value)?;
+    Ok(Manifest {
+        publisher,
+        version,
+        stamp,
+        zones,
+        leaps,
+    })
+}
+
+/// The leap seconds, of which there are none where the member is left out.
+#[tactic(auto, unfolding(crate::specs::Checks::leap_checks))]
+fn read_leaps(alloc: Global, manifest: &Value) -> Result<Option<ManifestLeaps>, ManifestFault>
+    ensures is { IfOk result (λ leaps. AreLeaps (get (codes "leapseconds") (view manifest.now)) leaps) }
+    ensures judged { Judges result (leap_checks (get (codes "leapseconds") (view manifest.now))) }
+{
+    match manifest.get("leapseconds") {
+        Some(member) => Ok(Some(read_leap_members(alloc, member)?)),
+        None => Ok(None),
+    }
+}
+
+/// The leap seconds that a value is.
+#[tactic(auto, unfolding(crate::specs::Checks::leap_checks))]
+fn read_leap_members(alloc: Global, leaps: &Value) -> Result<ManifestLeaps, ManifestFault>
+    ensures is { IfOk result (λ l. IsLeaps (view leaps.now) l) }
+    ensures judged { Judges result (leap_checks (Some (view leaps.now))) }
+{
+    check_object(leaps, Path::Leaps)?;
+    let file = read_file_name(alloc, leaps, Path::LeapFile)?;
+    let expires = read_expiry(alloc, leaps)?;
+    Ok(ManifestLeaps { file, expires })
+}

@@ -1,0 +1,12 @@
+//! The types of this crate may be sent to other threads and shared with them.
+use crate::{Manifest, ManifestFault, ManifestLeaps, ManifestZone, Path};
+
+fn is_shared<T: Send + Sync>() {}
+
+fn types_are_shared() {
+    is_shared::<Manifest>();
+    is_shared::<ManifestZone>();
+    is_shared::<ManifestLeaps>();
+    is_shared::<ManifestFault>();
+    is_shared::<Path>();
+}

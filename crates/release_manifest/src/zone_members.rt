@@ -1,0 +1,100 @@
+ghost use Rattle.std.specs.Prelude.{◌≡◌, Some, IfOk, codes};
+ghost use Rattle.serde_json.specs.Find.{get};
+ghost use Rattle.serde_json.specs.View.{view, items_view};
+ghost use Rattle.release_manifest.specs.declared.faults.Path.TheVariants as path;
+ghost use Rattle.release_manifest.specs.Checks.{text_checks, alias_checks, zone_checks, zones_checks, each_checks};
+ghost use Rattle.release_manifest.specs.Meaning.{AllAre, IsText, AreAliases, IsZone, AreZonesOf};
+ghost use Rattle.release_manifest.specs.Reading.{Judges};
+
+use crate::members::{check_object, read_file_name, read_text};
+use crate::{ManifestFault, ManifestZone, Path};
+use serde_json::Value;
+use std::alloc::Global;
+use td_base::{Bytes, Items};
+
+/// The list of zones.
+#[tactic(auto, unfolding(crate::specs::Checks::zones_checks))]
+pub(crate) fn read_zones(
+    alloc: Global,
+    manifest: &Value,
+) -> Result<Items<ManifestZone>, ManifestFault>
+    ensures is { IfOk result (λ zs. AreZonesOf (get (codes "zones") (view manifest.now)) zs) }
+    ensures judged { Judges result (zones_checks (get (codes "zones") (view manifest.now))) }
+{
+    match manifest.get("zones").and_then(Value::as_array) {
+        Some(list) => read_each_zone(alloc, list.as_slice()),
+        None => Err(ManifestFault::Field(Path::Zones)),
+    }
+}
+
+/// The zones of the list.
+fn read_each_zone(alloc: Global, list: &[Value]) -> Result<Items<ManifestZone>, ManifestFault>
+    ensures is { IfOk result (λ zs. AllAre IsZone (items_view list.now) zs) }
+    ensures judged { Judges result (each_checks zone_checks 0 (items_view list.now)) }
+{
+    let mut zones = Items::new(alloc);
+    for (number, value) in list.iter().enumerate() {
+        zones.push(read_zone(alloc, value, number)?)?;
+    }
+    Ok(zones)
+}
+
+/// A zone, by its number in the list.
+#[tactic(auto, unfolding(crate::specs::Checks::zone_checks))]
+fn read_zone(alloc: Global, zone: &Value, number: usize) -> Result<ManifestZone, ManifestFault>
+    ensures is { IfOk result (λ z. IsZone (view zone.now) z) }
+    ensures judged { Judges result (zone_checks number (view zone.now)) }
+{
+    check_object(zone, Path::Zone(number))?;
+    let tzid = read_text(alloc, zone, "tzid", Path::Tzid(number))?;
+    let file = read_file_name(alloc, zone, Path::File(number))?;
+    let aliases = read_aliases(alloc, zone, number)?;
+    Ok(ManifestZone {
+        tzid,
+        file,
+        aliases,
+    })
+}
+
+/// The aliases of a zone, of which there are none where the member is left out.
+#[tactic(auto, unfolding(crate::specs::Checks::alias_checks))]
+fn read_aliases(alloc: Global, zone: &Value, number: usize) -> Result<Items<Bytes>, ManifestFault>
+    ensures is { IfOk result (λ texts. AreAliases (get (codes "aliases") (view zone.now)) texts) }
+    ensures judged { Judges result (alias_checks number (get (codes "aliases") (view zone.now))) }
+{
+    let Some(member) = zone.get("aliases") else {
+        return Ok(Items::new(alloc));
+    };
+    match member.as_array() {
+        Some(list) => read_each_alias(alloc, list.as_slice(), number),
+        None => Err(ManifestFault::Field(Path::Aliases(number))),
+    }
+}
+
+/// The aliases of the list, of a zone by its number.
+fn read_each_alias(
+    alloc: Global,
+    list: &[Value],
+    zone: usize,
+) -> Result<Items<Bytes>, ManifestFault>
+    ensures is { IfOk result (λ texts. AllAre IsText (items_view list.now) texts) }
+    ensures judged { Judges result (each_checks (λ n alias. text_checks (path.Alias zone n) (Some alias)) 0 (items_view list.now)) }
+{
+    let mut aliases = Items::new(alloc);
+    for (number, value) in list.iter().enumerate() {
+        aliases.push(read_alias(alloc, value, Path::Alias(zone, number))?)?;
+    }
+    Ok(aliases)
+}
+
+/// An alias.
+#[tactic(auto, unfolding(crate::specs::Checks::text_checks))]
+fn read_alias(alloc: Global, value: &Value, path: Path) -> Result<Bytes, ManifestFault>
+    ensures is { IfOk result (λ text. IsText (view value.now) text) }
+    ensures judged { Judges result (text_checks path (Some (view value.now))) }
+{
+    match value.as_str() {
+        Some(text) => Ok(Bytes::from_slice(alloc, text.as_bytes())?),
+        None => Err(ManifestFault::Field(path)),
+    }
+}
