@@ -1,0 +1,2 @@
+pub mod ListDocument
+pub mod PlainTexts
