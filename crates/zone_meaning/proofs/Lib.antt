@@ -1,0 +1,4 @@
+pub mod Refusals
+pub mod Counting
+pub mod Types
+pub mod RuleLemmas

@@ -1,0 +1,35 @@
+-- The lengths in a sound release fit in four bytes.
+use Rattle.std.specs.Prelude.{ℕ, ◌<◌, ◌≤◌, ◌^◌, List, [], ◌∷◌, length, nat_le, ◌&&◌}
+use Rattle.std.specs.Bool.{IsTrue}
+use Rattle.std.specs.List.{AllByRecursion, list_all}
+use Rattle.std.proofs.Common.{arith}
+use Rattle.std.proofs.lemmas.Bool.{leb-true, and_parts}
+use Rattle.td_base.specs.Names.{is_label, is_printable}
+use Rattle.tzif_reader.proofs.Whole.{zone_file_of}
+use Rattle.catalogue.specs.Releases.{ContentData, ReleaseData, HasLengths}
+use Rattle.zone_meaning.specs.Sound.{IsSound, IsSoundFile}
+use Rattle.zone_meaning.specs.FaultLemmas.{file_clear}
+
+label_fits : (text : List ℕ) → IsTrue (is_label text) → length text < 2 ^ 32
+unfolding is_label
+label_fits text h =
+    let both = and_parts (nat_le 1 (length text) && nat_le (length text) 64) (list_all is_printable text) h in
+    let most : length text ≤ 64 = leb-true _ _ (and_parts (nat_le 1 (length text)) (nat_le (length text) 64) both.0).1 in
+    omega arith
+
+file_fits : (file : List ℕ) → IsSoundFile file → length file < 2 ^ 32
+file_fits file s = let most : length file ≤ 65536 = (zone_file_of file (file_clear file s.no_fault)).size in omega arith
+
+files_fit : (contents : List ContentData) → AllByRecursion (λ c. IsSoundFile c.file) contents → AllByRecursion (λ c. length c.file < 2 ^ 32) contents
+files_fit [] all = tt
+files_fit (c ∷ cs) all = (file_fits c.file all.0, files_fit cs all.1)
+
+pub sound_lengths : (r : ReleaseData) → IsSound r → HasLengths r
+sound_lengths r s = record {
+  stamp = s.stamp;
+  publisher = label_fits r.publisher s.publisher;
+  version = label_fits r.version s.version;
+  files = files_fit r.contents s.files;
+  leap_file = rw s.no_leaps (omega arith);
+  leap_expiry = rw s.no_leaps (omega arith);
+}

@@ -1,0 +1,62 @@
+//! The state of local time that a zone gives at a moment.
+ghost use Rattle.std.specs.Prelude.{◌≡◌, ◌≤◌, length};
+ghost use Rattle.std.specs.Option.{IfSome};
+ghost use Rattle.td_civil.specs.Bounds.{HasMeaning};
+ghost use Rattle.posix_footer.specs.Lawful.{IsLawful};
+ghost use Rattle.zone_meaning.specs.Kept.{HasTypes};
+ghost use Rattle.tzif_reader.specs.Cut as cut;
+ghost use Rattle.zone_meaning.specs.Rules.{FollowsRules};
+ghost use Rattle.zone_meaning.specs.State as state;
+
+use crate::Zone;
+use posix_footer::Footer;
+use td_civil::{Local, Moment};
+use tzif_reader::ZoneFile;
+
+/// The state of local time at a moment (RFC 9636, section 3.2 and 3.3). It takes no memory.
+#[tactic(auto, using(crate::proofs::Types::kept_types, crate::proofs::Types::kept_state, crate::proofs::RuleLemmas::zone_follows))]
+pub fn at(zone: &Zone, t: Moment) -> Local
+    requires { HasMeaning t.seconds }
+    ensures state { result ≡ state.zone_state zone.now t.seconds }
+    ensures rules { FollowsRules (cut.zone_of zone.now) (state.footer_meant (cut.zone_of zone.now).footer) t.seconds result }
+{
+    state_at(&zone.lists, &zone.footer, t)
+}
+
+/// The state that a file's lists and its footer give at a moment.
+fn state_at(lists: &ZoneFile, footer: &Option<Footer>, t: Moment) -> Local
+    requires types { HasTypes lists.now }
+    requires lawful { IfSome footer.now IsLawful }
+    requires meaning { HasMeaning t.seconds }
+    ensures { result ≡ state.state_at lists.now footer.now t.seconds }
+{
+    let begun = begun(lists, t);
+    match footer {
+        Some(footer) if begun == lists.moments.len() => posix_footer::at(footer, t),
+        _ => state_after(lists, begun),
+    }
+}
+
+/// How many transitions are not after a moment.
+fn begun(lists: &ZoneFile, t: Moment) -> usize
+    requires { HasTypes lists.now }
+    ensures count { result ≡ state.begun t.seconds lists.now.moments }
+    ensures bound { result ≤ length lists.now.moments }
+{
+    let moments = lists.moments.as_slice();
+    moments.partition_point(|moment| moment.seconds <= t.seconds)
+}
+
+/// The state that the types give after so many transitions.
+fn state_after(lists: &ZoneFile, begun: usize) -> Local
+    requires types { HasTypes lists.now }
+    requires bound { begun ≤ length lists.now.moments }
+    ensures { result ≡ state.after lists.now begun }
+{
+    let number = if begun == 0 {
+        0
+    } else {
+        lists.numbers.as_slice()[begun - 1]
+    };
+    lists.kinds.as_slice()[number as usize].copy()
+}

@@ -1,0 +1,58 @@
+//! A zone is read from its file.
+ghost use Rattle.std.specs.Prelude.{◌≡◌, ◌≢◌, None, Some, IfOk, IfErr, OnOk};
+ghost use Rattle.posix_footer.specs.Lawful.{IsLawful};
+ghost use Rattle.std.specs.Option.{IfSome};
+ghost use Rattle.tzif_reader.specs.Cut as cut;
+ghost use Rattle.tzif_reader.specs.Faults.{first_fault};
+ghost use Rattle.zone_meaning.specs.Faults.{text_fault, zone_fault};
+ghost use Rattle.zone_meaning.specs.State.{footer_meant};
+
+use crate::{Zone, ZoneFault};
+use posix_footer::{Footer, FooterFault};
+use std::alloc::Global;
+use td_base::Bytes;
+use tzif_reader::ZoneFile;
+
+/// The zone of a file. Tzif comes where the bytes are no zone file, and Footer where they are one whose footer is
+/// neither empty nor a TZ string (RFC 9636, section 3.3).
+#[tactic(auto, using(crate::proofs::Refusals::file_refused_as))]
+pub fn zone_of(alloc: Global, file: Bytes) -> Result<Zone, ZoneFault>
+    ensures ok { IfOk result (λ z. z ≡ file) }
+    ensures no_fault { OnOk result (zone_fault file ≡ None) }
+    ensures err { IfErr result (λ e. e ≢ ZoneFault.NoMemory → zone_fault file ≡ Some e) }
+{
+    let lists = tzif_reader::read(alloc, file.as_slice())?;
+    let zone = zone_from_lists(file, lists)?;
+    Ok(zone)
+}
+
+/// The zone of a file whose lists have been read already. It takes no memory.
+#[tactic(auto, using(crate::proofs::Refusals::zone_clear, crate::proofs::Refusals::footer_refused))]
+pub fn zone_from_lists(file: Bytes, lists: ZoneFile) -> Result<Zone, FooterFault>
+    requires no_fault { first_fault file ≡ None }
+    requires lists { lists ≡ cut.zone_of file }
+    ensures ok { IfOk result (λ z. z ≡ file) }
+    ensures no_fault { OnOk result (zone_fault file ≡ None) }
+    ensures err { IfErr result (λ e. zone_fault file ≡ Some (ZoneFault.Footer e)) }
+{
+    let footer = footer_in(&lists.footer)?;
+    Ok(Zone {
+        file,
+        lists,
+        footer,
+    })
+}
+
+/// The footer that a text spells, if there is a text.
+fn footer_in(text: &Bytes) -> Result<Option<Footer>, FooterFault>
+    ensures ok { IfOk result (λ f. f ≡ footer_meant text.now) }
+    ensures lawful { IfOk result (λ f. IfSome f IsLawful) }
+    ensures no_fault { OnOk result (text_fault text.now ≡ None) }
+    ensures err { IfErr result (λ e. text_fault text.now ≡ Some e) }
+{
+    if text.len() == 0 {
+        return Ok(None);
+    }
+    let footer = posix_footer::read(text.as_slice())?;
+    Ok(Some(footer))
+}

@@ -1,0 +1,18 @@
+//! Zones are data of releases.
+use crate::Zone;
+use catalogue::ZoneData;
+
+impl ZoneData for Zone {
+    ghost use Rattle.zone_meaning.specs.Sound.{IsSound};
+    ghost use Rattle.zone_meaning.specs.Lengths.{sound_lengths};
+
+    ghost bytes = { λ z. z };
+
+    ghost sound = { IsSound };
+
+    fn file_bytes(&self) -> &[u8] {
+        self.file.as_slice()
+    }
+
+    ghost lengths = { sound_lengths };
+}

@@ -1,0 +1,9 @@
+//! The types of this crate may be sent to other threads and shared with them.
+use crate::{Zone, ZoneFault};
+
+fn is_shared<T: Send + Sync>() {}
+
+fn types_are_shared() {
+    is_shared::<Zone>();
+    is_shared::<ZoneFault>();
+}
