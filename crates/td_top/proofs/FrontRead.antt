@@ -1,0 +1,104 @@
+-- Of a file no more is read than one byte past its limit, which judges it as the whole file would be judged.
+use Rattle.std.proofs.Common.{◌≡◌, ℕ, ◌<◌, ◌≤◌, nat_lt, nat_le, Bool, true, false, List, length, take, Option, None, Some, Ok, Err, inl, inr, ◌⊎◌, ⊎_elim, ap, sym, ◌∙◌, refl, subst, arith}
+use Rattle.std.specs.Option.{option_map}
+use Rattle.std.proofs.lemmas.Bool.Decides.{nat_tests}
+use Rattle.std.proofs.lemmas.List.{take_all, length-take-le}
+use Rattle.td_base.specs.Files.{File, file_at}
+use Rattle.catalogue.specs.Releases.{content_data}
+use Rattle.catalogue.specs.declared.release.Content.{Content}
+use Rattle.release_manifest.specs.Reading.{IsManifestText, text_fault}
+use Rattle.release_manifest.specs.declared.faults.ManifestFault.TheVariants as manifest
+use Rattle.release_manifest.specs.declared.manifest_type.Manifest.{Manifest}
+use Rattle.release_manifest.specs.declared.manifest_type.ManifestZone.{ManifestZone}
+use Rattle.tzif_reader.specs.Faults.{first_fault, frame_fault}
+use Rattle.tzif_reader.specs.declared.tzif_fault.TzifFault.TheVariants as tzif
+use Rattle.td_top.specs.Folder.{path_in, file_fault, content_in, content_from, content_or}
+use Rattle.td_top.specs.declared.check_fault.CheckFault.{CheckFault}
+use Rattle.td_top.specs.declared.check_fault.CheckFault.TheVariants as fault
+use Rattle.td_top.proofs.ZoneFiles.{file_fault-tzif}
+
+-- one number is above another, or not
+pub split : (b : Bool) (n m : ℕ) → b ≡ nat_lt n m → (n < m) ⊎ (m ≤ n)
+split true n m e = inl (grind (arith, nat_tests))
+split false n m e = inr (grind (arith, nat_tests))
+
+-- the whole of a list is read, or one more than so many
+pub fits_or_longer : (n : ℕ) (w : List ℕ) → (n < length w) ⊎ (length w ≤ n)
+fits_or_longer n w = split (nat_lt n (length w)) n (length w) refl
+
+-- a file past its limit
+pub too_large : (bytes : List ℕ) → 65536 < length bytes → first_fault bytes ≡ Some tzif.TooLarge
+unfolding first_fault frame_fault
+too_large bytes long = let test : nat_lt 65536 (length bytes) ≡ true = grind (arith, nat_tests) in rw test refl
+
+-- a zone's file
+pub file_fault-front : (n : ℕ) (whole : List ℕ) → file_fault n (take 65537 whole) ≡ file_fault n whole
+file_fault-front n whole = ⊎_elim
+    (λ (long : 65536 < length whole).
+    let size : length (take 65537 whole) ≡ 65537 = length-take-le 65537 whole (omega arith) in
+    file_fault-tzif n (take 65537 whole) tzif.TooLarge (too_large _ (omega arith))
+    ∙ sym (file_fault-tzif n whole tzif.TooLarge (too_large whole long)))
+    (λ (fits : length whole ≤ 65536). ap (file_fault n) (take_all 65537 whole (omega arith)))
+    (fits_or_longer 65536 whole)
+
+-- a file without a fault is read whole
+pub front-whole : (n : ℕ) (whole : List ℕ) → file_fault n (take 65537 whole) ≡ None → take 65537 whole ≡ whole
+front-whole n whole none = ⊎_elim
+    (λ (long : 65536 < length whole).
+    let size : length (take 65537 whole) ≡ 65537 = length-take-le 65537 whole (omega arith) in
+    let some : file_fault n (take 65537 whole) ≡ Some (fault.Tzif n tzif.TooLarge) = file_fault-tzif n (take 65537 whole) tzif.TooLarge (too_large _ (omega arith)) in
+    cc)
+    (λ (fits : length whole ≤ 65536). take_all 65537 whole (omega arith))
+    (fits_or_longer 65536 whole)
+
+-- the file of a zone, where its front was read
+content_front : (n : ℕ) (path : List ℕ) (z : ManifestZone) (found : Option (List ℕ)) (front : List ℕ) (c : Content (List ℕ)) → option_map (take 65537) found ≡ Some front → file_fault n front ≡ None → c.tzid ≡ z.tzid → c.aliases ≡ z.aliases → c.zone ≡ front → content_from n path z found ≡ Ok (content_data (λ bytes. bytes) c)
+content_front n path z None front c read none tzid aliases zone = cc
+content_front n path z (Some whole) front c read none tzid aliases zone =
+    let is : take 65537 whole ≡ front = cc in
+    let clean : file_fault n (take 65537 whole) ≡ None = ap (file_fault n) is ∙ none in
+    ap (content_or z whole) (sym (file_fault-front n whole) ∙ clean)
+    ∙ rw (tzid, aliases, zone, ← is, front-whole n whole clean) refl
+
+content_front_refused : (n : ℕ) (path : List ℕ) (z : ManifestZone) (found : Option (List ℕ)) (front : List ℕ) (f : CheckFault) → option_map (take 65537) found ≡ Some front → file_fault n front ≡ Some f → content_from n path z found ≡ Err f
+content_front_refused n path z None front f read is = cc
+content_front_refused n path z (Some whole) front f read is =
+    let same : take 65537 whole ≡ front = cc in
+    ap (content_or z whole) (sym (file_fault-front n whole) ∙ (ap (file_fault n) same ∙ is))
+
+-- the same of the files of a directory
+pub content_read : (files : List File) (dir : List ℕ) (n : ℕ) (z : ManifestZone) (front : List ℕ) (c : Content (List ℕ)) → option_map (take 65537) (file_at files (path_in dir z.file)) ≡ Some front → file_fault n front ≡ None → c.tzid ≡ z.tzid → c.aliases ≡ z.aliases → c.zone ≡ front → content_in files dir n z ≡ Ok (content_data (λ bytes. bytes) c)
+unfolding content_in
+content_read files dir n z front c read none tzid aliases zone =
+    content_front n (path_in dir z.file) z (file_at files (path_in dir z.file)) front c read none tzid aliases zone
+
+pub content_refused : (files : List File) (dir : List ℕ) (n : ℕ) (z : ManifestZone) (front : List ℕ) (f : CheckFault) → option_map (take 65537) (file_at files (path_in dir z.file)) ≡ Some front → file_fault n front ≡ Some f → content_in files dir n z ≡ Err f
+unfolding content_in
+content_refused files dir n z front f read is =
+    content_front_refused n (path_in dir z.file) z (file_at files (path_in dir z.file)) front f read is
+
+pub content_absent : (files : List File) (dir : List ℕ) (n : ℕ) (z : ManifestZone) → file_at files (path_in dir z.file) ≡ None → content_in files dir n z ≡ Err (fault.Absent (path_in dir z.file))
+unfolding content_in
+content_absent files dir n z none = ap (content_from n (path_in dir z.file) z) none
+
+-- a manifest past its limit
+too_long : (text : List ℕ) → 1048576 < length text → text_fault text ≡ Some manifest.Long
+unfolding text_fault
+too_long text long = let test : nat_le (length text) 1048576 ≡ false = grind (arith, nat_tests) in rw test refl
+
+pub text_fault-front : (whole : List ℕ) → text_fault (take 1048577 whole) ≡ text_fault whole
+text_fault-front whole = ⊎_elim
+    (λ (long : 1048576 < length whole).
+    let size : length (take 1048577 whole) ≡ 1048577 = length-take-le 1048577 whole (omega arith) in
+    too_long _ (omega arith) ∙ sym (too_long whole long))
+    (λ (fits : length whole ≤ 1048576). ap text_fault (take_all 1048577 whole (omega arith)))
+    (fits_or_longer 1048576 whole)
+
+pub manifest-front : (whole : List ℕ) (m : Manifest) → IsManifestText (take 1048577 whole) m → IsManifestText whole m
+manifest-front whole m h = ⊎_elim
+    (λ (long : 1048576 < length whole).
+    let size : length (take 1048577 whole) ≡ 1048577 = length-take-le 1048577 whole (omega arith) in
+    let fits : length (take 1048577 whole) ≤ 1048576 = h.fits in
+    absurd (omega arith))
+    (λ (fits : length whole ≤ 1048576). subst (λ (t : List ℕ). IsManifestText t m) (take_all 1048577 whole (omega arith)) h)
+    (fits_or_longer 1048576 whole)

@@ -1,0 +1,15 @@
+pub mod Cutting
+pub mod Fitting
+pub mod Folders
+pub mod FrontRead
+pub mod Heads
+pub mod Judgement
+pub mod Listing
+pub mod Meant
+pub mod Names
+pub mod OneFolder
+pub mod Reading
+pub mod Serving
+pub mod StateLines
+pub mod Words
+pub mod ZoneFiles

@@ -1,0 +1,15 @@
+pub mod CheckFaults
+pub mod Commands
+pub mod Ends
+pub mod Folder
+pub mod Grammar
+pub mod Judged
+pub mod Lines
+pub mod ListReply
+pub mod Output
+pub mod Read
+pub mod Replies
+pub mod Requests
+pub mod Served
+pub mod Shown
+pub mod Statuses

@@ -1,0 +1,91 @@
+ghost use Rattle.std.specs.Prelude.{◌≡◌, IfSome};
+ghost use Rattle.std.specs.Option.{option_map};
+ghost use Rattle.td_civil.specs.Bounds.{HasMeaning};
+ghost use Rattle.td_top.specs.Grammar.{command_of, answer_of, at_of, if_meant, is_path_word, meant_moment};
+ghost use Rattle.td_top.specs.Commands.{plain_command, IsMeantCommand};
+
+use td_base::Bytes;
+use td_civil::{HI, LO, Moment, moment_of};
+
+/// The most bytes that a word which names a folder or a file may have.
+const PATH_LIMIT: usize = 1_024;
+
+/// What the words ask for.
+#[derive(Clone, Copy, Debug)]
+pub enum Command<'a> {
+    /// Install the folder, and answer the input as one connection.
+    Answer { folder: &'a [u8] },
+    /// Print the state of a zone file at a moment.
+    At { file: &'a [u8], moment: Moment },
+}
+
+/// The command that the words spell, if they are of the grammar.
+pub fn read_words(words: &[Bytes]) -> Option<Command<'_>>
+    ensures spelled { option_map plain_command result ≡ command_of words.now }
+    ensures meant { IfSome result IsMeantCommand }
+{
+    match words.len() {
+        2 => read_answer(&words[0], &words[1]),
+        3 => read_at(&words[0], &words[1], &words[2]),
+        _ => None,
+    }
+}
+
+/// `answer DIR`
+fn read_answer<'a>(name: &'a Bytes, folder: &'a Bytes) -> Option<Command<'a>>
+    ensures spelled { option_map plain_command result ≡ answer_of name.now folder.now }
+    ensures meant { IfSome result IsMeantCommand }
+{
+    let folder = folder.as_slice();
+    if name.as_slice() == b"answer".as_slice() && is_path_word(folder) {
+        Some(Command::Answer { folder })
+    } else {
+        None
+    }
+}
+
+/// `at FILE MOMENT`
+fn read_at<'a>(name: &'a Bytes, file: &'a Bytes, moment: &'a Bytes) -> Option<Command<'a>>
+    ensures spelled { option_map plain_command result ≡ at_of name.now file.now moment.now }
+    ensures meant { IfSome result IsMeantCommand }
+{
+    let file = file.as_slice();
+    if name.as_slice() != b"at".as_slice() || !is_path_word(file) {
+        return None;
+    }
+    let moment = meant_moment(moment.as_slice())?;
+    Some(Command::At { file, moment })
+}
+
+/// Whether a word may name a folder or a file: 1 to 1,024 bytes that do not begin with a dash.
+fn is_path_word(word: &[u8]) -> bool
+    ensures { result ≡ is_path_word word.now }
+{
+    match word {
+        [] => false,
+        [first, ..] => *first != b'-' && word.len() <= PATH_LIMIT,
+    }
+}
+
+/// The moment that a word spells, if it has a meaning.
+fn meant_moment(word: &[u8]) -> Option<Moment>
+    ensures value { option_map (λ m. m.seconds) result ≡ meant_moment word.now }
+    ensures meant { IfSome result (λ m. HasMeaning m.seconds) }
+{
+    match moment_of(word) {
+        Ok(moment) => if_meant(moment),
+        Err(_) => None,
+    }
+}
+
+/// The moment, if it has a meaning.
+fn if_meant(moment: Moment) -> Option<Moment>
+    ensures value { option_map (λ m. m.seconds) result ≡ if_meant moment.seconds }
+    ensures meant { IfSome result (λ m. HasMeaning m.seconds) }
+{
+    if LO <= moment.seconds && moment.seconds < HI {
+        Some(moment)
+    } else {
+        None
+    }
+}
