@@ -148,12 +148,13 @@ fn cut_and_longer_files(rt: HostRuntime) -> Result<(), Fail> {
 fn faults_of_edited_files(rt: HostRuntime) -> Result<(), Fail> {
     let alloc = rt.alloc();
     let file = slim(alloc, &NEW_YORK)?;
-    let cases: [(usize, &[u8], Option<TzifFault>); 28] = [
+    let cases: [(usize, &[u8], Option<TzifFault>); 29] = [
         (0, b"X", Some(TzifFault::Magic)),
         (4, b"1", Some(TzifFault::Version)),
         (4, b"5", Some(TzifFault::Version)),
         (5, b"reserved", None),
         (32, &[255; 4], Some(TzifFault::Short(44))),
+        (40, &[255; 4], Some(TzifFault::Short(44))),
         (44, &[255; 7], None),
         (51, b"Y", Some(TzifFault::Magic)),
         (55, b"3", Some(TzifFault::Version)),
