@@ -1,5 +1,6 @@
 use super::folders::{UTC, folder, manifest, put, sized, slim};
 use super::runs::{ETC_UTC, LIST, ONE_ZONE, end_of, expect};
+use crate::one_folder;
 use std::test::Fail;
 use td_base::MemoryStore;
 
@@ -53,6 +54,7 @@ fn refuses_manifests(rt: HostRuntime) -> Result<(), Fail> {
         let ending = end_of(alloc, &["answer", "a"], &mut store, LIST.as_bytes())?;
         expect(&rt, &ending, status, output, "a long manifest");
     }
+    one_folder();
     Ok(())
 }
 
