@@ -11,7 +11,7 @@ mod laws;
 mod making;
 mod order;
 mod release;
-mod sharing;
+mod send_sync;
 mod zone_data;
 
 pub use entries::Entry;

@@ -2,6 +2,7 @@
 #![tactic(auto)]
 
 mod list_writer;
+mod send_sync;
 #[cfg(test)]
 mod tests;
 mod texts;

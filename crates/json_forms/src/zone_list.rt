@@ -14,10 +14,3 @@ pub struct ListZone {
     /// Other names of the zone, in rising order.
     pub aliases: Items<Bytes>,
 }
-
-/// Listed zones may go to other threads, and be read by several at a time.
-fn assert_shared() {
-    is_shared::<ListZone>();
-}
-
-fn is_shared<T: Send + Sync>() {}

@@ -12,12 +12,11 @@ mod send_sync;
 mod state_at;
 #[cfg(test)]
 mod state_tests;
+#[cfg(test)]
+mod tests;
 
 pub use footer_fault::FooterFault;
 pub use onsets::onset;
 pub use reading::read;
 pub use rule_types::{Date, DayForm, DstRule, Edge, Footer};
 pub use state_at::at;
-
-#[cfg(test)]
-mod tests;

@@ -1,21 +1,13 @@
-//! The types of this crate are Send and Sync.
-use crate::footer_fault::FooterFault;
-use crate::rule_types::{Date, DayForm, DstRule, Edge, Footer};
+//! The types of this crate may be sent to other threads and shared with them.
+use crate::{Date, DayForm, DstRule, Edge, Footer, FooterFault};
 
-fn crosses<X: Send + Sync + Drop>(value: X) {
-    let _ = value;
-}
+fn is_shared<T: Send + Sync>() {}
 
-#[allow(dead_code)]
-fn footers_cross(footer: Footer, rule: DstRule, date: Date) {
-    crosses(footer);
-    crosses(rule);
-    crosses(date);
-}
-
-#[allow(dead_code)]
-fn parts_cross(day: DayForm, edge: Edge, fault: FooterFault) {
-    crosses(day);
-    crosses(edge);
-    crosses(fault);
+fn types_are_shared() {
+    is_shared::<Footer>();
+    is_shared::<DstRule>();
+    is_shared::<Date>();
+    is_shared::<DayForm>();
+    is_shared::<Edge>();
+    is_shared::<FooterFault>();
 }

@@ -7,7 +7,7 @@ mod laws;
 mod manifest_type;
 mod members;
 mod reading;
-mod shared;
+mod send_sync;
 #[cfg(test)]
 mod tests;
 mod zone_members;

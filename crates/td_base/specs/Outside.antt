@@ -1,6 +1,6 @@
 -- What one call does to the content that an object of the outside tells, and when it may answer that it failed.
 -- An object that tells nothing has None for its content, of which nothing is said.
-use Rattle.std.specs.Prelude.{◌≡◌, ℕ, ◌<◌, ◌≤◌, List, [], length, take, ⊤, Option, None, Some}
+use Rattle.std.specs.Prelude.{◌≡◌, ℕ, ◌<◌, ◌≤◌, List, length, take, ⊤, Option, None, Some}
 use Rattle.std.specs.Option.{option_map}
 use Rattle.std.specs.Io.KnownBytes.{Appends, Consumes, IsAtEnd, Keeps}
 use Rattle.td_base.specs.Cause.{Rose}

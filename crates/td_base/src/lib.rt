@@ -10,15 +10,15 @@ mod item_list;
 mod memory_sink;
 mod memory_source;
 mod memory_store;
+mod name_forms;
 #[cfg(test)]
 mod name_table;
-mod name_tests;
 mod no_memory;
 mod outside;
+mod send_sync;
 mod short_text;
 #[cfg(test)]
 mod tests;
-mod thread_safe;
 mod transfer;
 
 pub use byte_list::Bytes;
@@ -28,7 +28,7 @@ pub use item_list::Items;
 pub use memory_sink::MemorySink;
 pub use memory_source::MemorySource;
 pub use memory_store::MemoryStore;
-pub use name_tests::{is_file_name, is_identifier, is_label};
+pub use name_forms::{is_file_name, is_identifier, is_label};
 pub use no_memory::NoMemory;
 pub use outside::{FileRead, ReadStep, Sink, Source, Store, WriteStep};
 pub use short_text::ShortText;

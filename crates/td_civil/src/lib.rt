@@ -10,7 +10,7 @@ mod laws;
 mod local_time;
 mod moment_text;
 mod moment_type;
-mod shared;
+mod send_sync;
 
 pub use calendar::{day_of, year_of};
 pub use date_text::is_date;

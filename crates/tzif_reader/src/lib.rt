@@ -8,7 +8,7 @@ mod frame;
 mod header;
 mod numbers;
 mod reading;
-mod shared;
+mod send_sync;
 mod text;
 mod tzif_fault;
 mod zone;

@@ -4,7 +4,7 @@
 mod lookup;
 mod reading;
 mod release_data;
-mod shared;
+mod send_sync;
 mod zone_fault;
 mod zone_type;
 

@@ -1,12 +1,12 @@
 use Rattle.std.proofs.Common.{◌≡◌, ◌+◌, length}
 use Rattle.std.specs.Option.{option_copied, option_map_or}
-use Rattle.std.specs.List.{list_any}
-use Rattle.td_base.specs.Names.{segments, is_dots}
+use Rattle.std.specs.List.{list_all}
+use Rattle.td_base.specs.Names.{segments, is_segment}
 use Rattle.td_base.specs.NameCuts.{segments_left}
-use Rattle.td_base.proofs.name_tests.has_dots.Given as goal
+use Rattle.td_base.proofs.name_forms.has_segments.Given as goal
 
 abbrev pub invariant-loop-left : goal.invariant-loop-left
-invariant-loop-left l = list_any is_dots (segments l.text) ≡ list_any is_dots (segments_left (option_copied l.left))
+invariant-loop-left l = list_all is_segment (segments l.text) ≡ list_all is_segment (segments_left (option_copied l.left))
 
 abbrev pub decreases-loop-left : goal.decreases-loop-left
 decreases-loop-left l = option_map_or (λ r. length r.now + 1) l.left 0

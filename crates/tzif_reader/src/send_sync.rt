@@ -1,10 +1,9 @@
-//! The plain data of this crate may be handed to other threads and seen by several.
-
+//! The types of this crate may be sent to other threads and shared with them.
 use crate::{LeapLine, TzifFault, ZoneFile};
 
 fn is_shared<T: Send + Sync>() {}
 
-fn all_are_shared() {
+fn types_are_shared() {
     is_shared::<ZoneFile>();
     is_shared::<LeapLine>();
     is_shared::<TzifFault>();

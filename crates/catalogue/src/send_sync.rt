@@ -1,9 +1,9 @@
+//! The types of this crate may be shared with other threads, wherever the zones may.
 use crate::{Catalogue, Content, Entry, LeapStep, Leaps, Release};
 
 /// Only a value that threads may share is lent to it.
 fn share<T: Send + Sync>(_value: &T) {}
 
-/// All data of this crate may be shared where the zones may.
 fn shares_all<Z: Send + Sync>(
     content: &Content<Z>,
     release: &Release<Z>,
