@@ -38,7 +38,7 @@ pub enum FileRead {
     NoMemory,
 }
 
-/// Bytes that are read to their end. One that knows its bytes tells those left; a real stream tells nothing.
+/// Bytes that are read to their end. One that knows its bytes tells those left; the standard input tells nothing.
 pub trait Source {
     ghost left: { Self → Option (List ℕ) };
 
@@ -52,7 +52,7 @@ pub trait Source {
         ensures cause { HasReadCause (faults self.old) (faults self.new) result };
 }
 
-/// What takes bytes. One that keeps them tells those taken; a real stream tells nothing.
+/// What takes bytes. One that keeps them tells those taken; the standard output tells nothing.
 pub trait Sink {
     ghost taken: { Self → Option (List ℕ) };
 

@@ -3,6 +3,7 @@ use Rattle.std.proofs.Common.{◌≡◌, ◌≢◌, ℕ, ◌<◌, ◌≤◌, Lis
 use Rattle.std.specs.Io.KnownBytes.{Appends}
 use Rattle.std.proofs.lemmas.List.{take_all, take-append-le}
 use Rattle.td_base.specs.Transfer.{ReadsTo}
+use Rattle.td_base.proofs.FrontLemmas.{front_read}
 use Rattle.td_base.specs.Files.{File}
 use Rattle.catalogue.specs.Releases.{ReleaseData}
 use Rattle.td_top.specs.CheckFaults.{fault_text}
@@ -26,23 +27,11 @@ reply_handed H request reply status.NotRead old new Output is h = absurd h
 reply_handed H request reply status.NotWritten old new Output is h = (h.0, (reply, is, h.1))
 reply_handed H request reply status.NoMemory old new Output is h = absurd h
 
--- what was read is the front of the input
-front_of : (bytes rest : List ℕ) → (length bytes < 16385) ⊎ (16385 ≤ length bytes) → length bytes ≤ 16385 → (length bytes < 16385 → rest ≡ []) → take 16385 (bytes ++ rest) ≡ bytes
-front_of bytes rest (inl short) within ended =
-    ap (λ r. take 16385 (bytes ++ r)) (ended short) ∙ (ap (take 16385) (append-nil bytes) ∙ take_all 16385 bytes within)
-front_of bytes rest (inr long) within ended =
-    take-append-le 16385 bytes rest long ∙ take_all 16385 bytes within
-
-front_read : (i bytes rest : List ℕ) → i ≡ bytes ++ rest → length bytes ≤ 16385 → (length bytes < 16385 → rest ≡ []) → bytes ≡ take 16385 i
-front_read i bytes rest is within ended =
-    sym (ap (take 16385) is ∙ front_of bytes rest (split (nat_lt (length bytes) 16385) (length bytes) 16385 refl) within ended)
-
 -- the reply to what was read is the reply to the input
 served_done : (H : List ReleaseData) (input left old new : Option (List ℕ)) (bytes : List ℕ) (P : List ℕ → Type 0) → ReadsTo 16385 input left bytes → (reply : List ℕ) × IsReply H bytes reply × P reply → IfSome input (λ i. (reply : List ℕ) × IsReply H (take 16385 i) reply × P reply)
 served_done H None left old new bytes P reads h = tt
-served_done H (Some i) None old new bytes P reads h = absurd reads.taken
-served_done H (Some i) (Some rest) old new bytes P reads h =
-    subst (λ (b : List ℕ). (reply : List ℕ) × IsReply H b reply × P reply) (front_read i bytes rest reads.taken reads.within reads.ended) h
+served_done H (Some i) left old new bytes P reads h =
+    subst (λ (b : List ℕ). (reply : List ℕ) × IsReply H b reply × P reply) (front_read 16385 (Some i) left bytes reads) h
 
 pub served : (H : List ReleaseData) (s : Status) (input left old new : Option (List ℕ)) (bytes : List ℕ) (Input Output : Type 0) → ReadsTo 16385 input left bytes → Replies H bytes s old new Output → Serves H s input old new Input Output
 served H status.Done input left old new bytes Input Output reads h = served_done H input left old new bytes (Appends old new) reads h
