@@ -1,10 +1,10 @@
-ghost use Rattle.std.specs.Prelude.{◌≡◌, ◌==◌, None, MatchResult, if◌then◌else◌};
+ghost use Rattle.std.specs.Prelude.{◌≡◌, ◌==◌, MatchResult, if◌then◌else◌};
 
 use std::io;
 use std::io::Write;
 use td_base::{Sink, WriteStep};
 
-/// A real stream that is written. It tells nothing of its bytes. Its faults count its failed writes.
+/// A real stream that is written. It tells of its bytes what the stream tells. Its faults count its failed writes.
 #[derive(Drop)]
 pub struct RealSink<W> {
     stream: W,
@@ -13,13 +13,15 @@ pub struct RealSink<W> {
 
 impl<W> RealSink<W> {
     /// The stream, of which no write failed yet.
-    pub fn new(stream: W) -> RealSink<W> {
+    pub fn new(stream: W) -> RealSink<W>
+        ensures { result ≡ record { stream = stream; faults = 0 } }
+    {
         RealSink { stream, faults: 0 }
     }
 }
 
 impl<W: Write> Sink for RealSink<W> {
-    ghost taken = { λ _. None };
+    ghost taken = { λ s. W.contents s.stream };
 
     ghost faults = { λ s. s.faults };
 

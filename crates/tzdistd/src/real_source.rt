@@ -1,10 +1,10 @@
-ghost use Rattle.std.specs.Prelude.{◌≡◌, ◌==◌, None, MatchResult, if◌then◌else◌};
+ghost use Rattle.std.specs.Prelude.{◌≡◌, ◌==◌, MatchResult, if◌then◌else◌};
 
 use std::io;
 use std::io::Read;
 use td_base::{ReadStep, Source};
 
-/// A real stream that is read. It tells nothing of its bytes. Its faults count its failed reads.
+/// A real stream that is read. It tells of its bytes what the stream tells. Its faults count its failed reads.
 #[derive(Drop)]
 pub struct RealSource<R> {
     stream: R,
@@ -13,13 +13,15 @@ pub struct RealSource<R> {
 
 impl<R> RealSource<R> {
     /// The stream, of which no read failed yet.
-    pub fn new(stream: R) -> RealSource<R> {
+    pub fn new(stream: R) -> RealSource<R>
+        ensures { result ≡ record { stream = stream; faults = 0 } }
+    {
         RealSource { stream, faults: 0 }
     }
 }
 
 impl<R: Read> Source for RealSource<R> {
-    ghost left = { λ _. None };
+    ghost left = { λ s. R.remaining s.stream };
 
     ghost faults = { λ s. s.faults };
 

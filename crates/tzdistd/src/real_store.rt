@@ -1,10 +1,11 @@
 ghost use Rattle.std.specs.Prelude.{◌≡◌, ◌≢◌, None};
 ghost use Rattle.std.specs.IoError.{error_kind};
 ghost use Rattle.td_base.specs.Outside.{FileFits};
+ghost use Rattle.tzdistd.specs.Opened.{GivesFront};
 
 use crate::real_source::RealSource;
 use std::alloc::Global;
-use std::io::{Error, ErrorKind};
+use std::io::{Error, ErrorKind, Read};
 use std::rt::Files;
 use std::{fs, str};
 use td_base::{FileRead, SourceFault, Store, read_to_end};
@@ -18,7 +19,9 @@ pub struct RealStore<'a, R> {
 
 impl<'a, R> RealStore<'a, R> {
     /// The files that the runtime reaches, of which no read failed yet.
-    pub fn new(rt: &'a R) -> RealStore<'a, R> {
+    pub fn new(rt: &'a R) -> RealStore<'a, R>
+        ensures { result.faults ≡ 0 }
+    {
         RealStore { rt, faults: 0 }
     }
 }
@@ -48,6 +51,15 @@ fn read_front<R: Files>(alloc: Global, rt: &R, path: &[u8], most: u64) -> FileRe
         Ok(file) => file,
         Err(error) => return not_opened(error),
     };
+    read_opened(alloc, file, most)
+}
+
+/// Reads at most `most` bytes from the front of an open file.
+#[tactic(auto, using(td_base::proofs::FrontLemmas::front_read))]
+fn read_opened<F: Read + Drop>(alloc: Global, file: F, most: u64) -> FileRead
+    ensures fits { FileFits most result }
+    ensures told { GivesFront most (F.remaining file) result }
+{
     match read_to_end(alloc, &mut RealSource::new(file), most as usize) {
         Ok(bytes) => FileRead::Found(bytes),
         Err(SourceFault::NoMemory) => FileRead::NoMemory,
