@@ -198,64 +198,66 @@ fn faults_of_edited_files(rt: HostRuntime) -> Result<(), Fail> {
     Ok(())
 }
 
+/// Files, and the fault of each.
+const OTHER_FILES: [(Plan<'static>, Option<TzifFault>); 7] = [
+    (
+        Plan {
+            times: &[-576_460_752_303_423_488, 0],
+            numbers: &[0, 1],
+            ..NEW_YORK
+        },
+        None,
+    ),
+    (
+        Plan {
+            times: &[7, 7],
+            numbers: &[0, 1],
+            ..NEW_YORK
+        },
+        Some(TzifFault::Order(1)),
+    ),
+    (
+        Plan {
+            standard: &[0, 1],
+            ut: &[1, 0],
+            ..NEW_YORK
+        },
+        None,
+    ),
+    (
+        Plan {
+            standard: &[0, 2],
+            ..NEW_YORK
+        },
+        Some(TzifFault::Indicator(1)),
+    ),
+    (
+        Plan {
+            ut: &[2, 0],
+            ..NEW_YORK
+        },
+        Some(TzifFault::Indicator(0)),
+    ),
+    (
+        Plan {
+            designations: b"ABCDEFGHIJKLMNOPQRSTUVWXYZABCDEF\0",
+            ..UTC
+        },
+        None,
+    ),
+    (
+        Plan {
+            designations: b"ABCDEFGHIJKLMNOPQRSTUVWXYZABCDEFG\0",
+            ..UTC
+        },
+        Some(TzifFault::Designation(0)),
+    ),
+];
+
 #[test]
 fn faults_of_other_files(rt: HostRuntime) -> Result<(), Fail> {
     let alloc = rt.alloc();
-    let plans: [(Plan, Option<TzifFault>); 7] = [
-        (
-            Plan {
-                times: &[-576_460_752_303_423_488, 0],
-                numbers: &[0, 1],
-                ..NEW_YORK
-            },
-            None,
-        ),
-        (
-            Plan {
-                times: &[7, 7],
-                numbers: &[0, 1],
-                ..NEW_YORK
-            },
-            Some(TzifFault::Order(1)),
-        ),
-        (
-            Plan {
-                standard: &[0, 1],
-                ut: &[1, 0],
-                ..NEW_YORK
-            },
-            None,
-        ),
-        (
-            Plan {
-                standard: &[0, 2],
-                ..NEW_YORK
-            },
-            Some(TzifFault::Indicator(1)),
-        ),
-        (
-            Plan {
-                ut: &[2, 0],
-                ..NEW_YORK
-            },
-            Some(TzifFault::Indicator(0)),
-        ),
-        (
-            Plan {
-                designations: b"ABCDEFGHIJKLMNOPQRSTUVWXYZABCDEF\0",
-                ..UTC
-            },
-            None,
-        ),
-        (
-            Plan {
-                designations: b"ABCDEFGHIJKLMNOPQRSTUVWXYZABCDEFG\0",
-                ..UTC
-            },
-            Some(TzifFault::Designation(0)),
-        ),
-    ];
-    for (plan, fault) in &plans {
+    for (plan, fault) in &OTHER_FILES {
         let file = slim(alloc, plan)?;
         assert_eq!(rt; fault_of(alloc, file.as_slice()), *fault);
     }
