@@ -18,7 +18,7 @@ use Rattle.td_top.specs.declared.check_fault.CheckFault.TheVariants as fault
 use Rattle.td_top.proofs.ZoneFiles.{file_fault-tzif}
 
 -- one number is above another, or not
-pub split : (b : Bool) (n m : ℕ) → b ≡ nat_lt n m → (n < m) ⊎ (m ≤ n)
+split : (b : Bool) (n m : ℕ) → b ≡ nat_lt n m → (n < m) ⊎ (m ≤ n)
 split true n m e = inl (grind (arith, nat_tests))
 split false n m e = inr (grind (arith, nat_tests))
 

@@ -1,7 +1,6 @@
 -- From what a reply does to what answering an input does.
-use Rattle.std.proofs.Common.{◌≡◌, ◌≢◌, ℕ, ◌<◌, ◌≤◌, List, [], ◌++◌, length, take, Option, None, Some, IfSome, ◌⊎◌, inl, inr, ap, sym, ◌∙◌, refl, subst, append-nil, ◌∷◌, Ok, Err, nat_lt}
+use Rattle.std.proofs.Common.{◌≡◌, ◌≢◌, ℕ, List, [], take, Option, None, Some, IfSome, inl, inr, subst, ◌∷◌, Ok, Err}
 use Rattle.std.specs.Io.KnownBytes.{Appends}
-use Rattle.std.proofs.lemmas.List.{take_all, take-append-le}
 use Rattle.td_base.specs.Transfer.{ReadsTo}
 use Rattle.td_base.proofs.FrontLemmas.{front_read}
 use Rattle.td_base.specs.Files.{File}
@@ -10,7 +9,6 @@ use Rattle.td_top.specs.CheckFaults.{fault_text}
 use Rattle.td_top.specs.Ends.{IsReply, Answers, AnswerEnds}
 use Rattle.td_top.specs.Folder.{FolderGives}
 use Rattle.td_top.specs.Lines.{refused_line}
-use Rattle.td_top.proofs.FrontRead.{split}
 use Rattle.td_top.specs.Output.{AppendsFront, Prints, Hands}
 use Rattle.td_top.specs.Served.{Refuses, Replies, Serves}
 use Rattle.td_top.specs.declared.check_fault.CheckFault.{CheckFault}
