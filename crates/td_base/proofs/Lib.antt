@@ -1,2 +1,9 @@
-pub mod FrontLemmas
+pub mod FaultLemmas
+pub mod FaultyLemmas
+pub mod LaterLemmas
+pub mod LeastLemmas
 pub mod NameCutLemmas
+pub mod PlainLemmas
+pub mod PrefixLemmas
+pub mod StoredLemmas
+pub mod TransferLemmas

@@ -1,9 +1,13 @@
 pub mod Cause
 pub mod Files
+pub mod FirstFault
+pub mod Later
 pub mod Memory
 pub mod NameCuts
 pub mod Names
 pub mod Outside
 pub mod Sized
 pub mod Stored
+pub mod TargetForm
 pub mod Transfer
+pub mod Views

@@ -1,10 +1,12 @@
--- What one call does to the content that an object of the outside tells, and when it may answer that it failed.
--- An object that tells nothing has None for its content, of which nothing is said.
+-- What one call does to an object of the outside. Of content that an object does not tell nothing
+-- is said.
 use Rattle.std.specs.Prelude.{◌≡◌, ℕ, ◌<◌, ◌≤◌, List, length, take, ⊤, Option, None, Some}
 use Rattle.std.specs.Option.{option_map}
 use Rattle.std.specs.Io.KnownBytes.{Appends, Consumes, IsAtEnd, Keeps}
-use Rattle.td_base.specs.Cause.{Rose}
+use Rattle.td_base.specs.Cause.{SourceFailed, SinkFailed, StoreFailed}
 use Rattle.td_base.specs.Files.{File, file_at}
+use Rattle.td_base.specs.Views.{SourceView, SinkView, StoreView, ConnView, IsSameConn, source_of}
+use Rattle.td_base.specs.Views.{sink_of}
 use Rattle.td_base.specs.declared.outside.ReadStep.{ReadStep}
 use Rattle.td_base.specs.declared.outside.ReadStep.TheVariants as read
 use Rattle.td_base.specs.declared.outside.WriteStep.{WriteStep}
@@ -18,16 +20,19 @@ ReadFits (read.Got n) room = (0 < n) × (n ≤ length room)
 ReadFits read.End room = ⊤
 ReadFits read.Failed room = ⊤
 
--- the bytes left begin with those that a read gave, and lose them; the end comes only where none are left
+-- the bytes left begin with those that a read gave, and lose them; the end comes only where none
+-- are left
 abbrev pub ReadTells : Option (List ℕ) → Option (List ℕ) → ReadStep → List ℕ → Type 0
 ReadTells old new (read.Got n) room = Consumes old new (take n room)
 ReadTells old new read.End room = Keeps old new × IsAtEnd new
 ReadTells old new read.Failed room = Keeps old new
 
--- a count of faults never falls, and a read failed only where it rose
-pub record HasReadCause (before now : ℕ) (result : ReadStep) : Type 0 where
-  pub later : before ≤ now
-  pub failed : result ≡ read.Failed → Rose before now
+-- one read into the room: the count of faults never falls, and a read failed only where it rose
+pub record Reads (old new : SourceView) (result : ReadStep) (room : List ℕ) : Type 0 where
+  pub fits : ReadFits result room
+  pub told : ReadTells old.left new.left result room
+  pub later : old.faults ≤ new.faults
+  pub failed : result ≡ read.Failed → SourceFailed old new
 
 -- the number of bytes that a write took is at least one and within the piece
 abbrev pub WriteFits : WriteStep → List ℕ → Type 0
@@ -39,10 +44,12 @@ abbrev pub WriteTells : Option (List ℕ) → Option (List ℕ) → WriteStep �
 WriteTells old new (write.Took n) piece = Appends old new (take n piece)
 WriteTells old new write.Failed piece = Keeps old new
 
--- a count of faults never falls, and a write failed only where it rose
-pub record HasWriteCause (before now : ℕ) (result : WriteStep) : Type 0 where
-  pub later : before ≤ now
-  pub failed : result ≡ write.Failed → Rose before now
+-- one write of the piece: the count of faults never falls, and a write failed only where it rose
+pub record Writes (old new : SinkView) (result : WriteStep) (piece : List ℕ) : Type 0 where
+  pub fits : WriteFits result piece
+  pub told : WriteTells old.taken new.taken result piece
+  pub later : old.faults ≤ new.faults
+  pub failed : result ≡ write.Failed → SinkFailed old new
 
 -- no more bytes were read than were asked for
 abbrev pub FileFits : ℕ → FileRead → Type 0
@@ -51,15 +58,41 @@ FileFits most file.Absent = ⊤
 FileFits most file.Failed = ⊤
 FileFits most file.NoMemory = ⊤
 
--- what was found are the first `most` bytes of the file, and a file is absent only where there is none of the path
+-- what was found are the first `most` bytes of the file, and a file is absent only where there is
+-- none of the path
 abbrev pub FileTells : Option (List File) → List ℕ → ℕ → FileRead → Type 0
 FileTells None path most result = ⊤
-FileTells (Some files) path most (file.Found bytes) = option_map (take most) (file_at files path) ≡ Some bytes
+FileTells (Some files) path most (file.Found bytes) =
+    option_map (take most) (file_at files path) ≡ Some bytes
 FileTells (Some files) path most file.Absent = file_at files path ≡ None
 FileTells (Some files) path most file.Failed = ⊤
 FileTells (Some files) path most file.NoMemory = ⊤
 
--- a count of faults never falls, and a file was not read only where it rose
-pub record HasFileCause (before now : ℕ) (result : FileRead) : Type 0 where
-  pub later : before ≤ now
-  pub failed : result ≡ file.Failed → Rose before now
+-- one look at a file: no file changes, the count of faults never falls, and a file was not read
+-- only where it rose
+pub record Looks (old new : StoreView) (path : List ℕ) (most : ℕ) (result : FileRead) : Type 0 where
+  pub kept : new.files ≡ old.files
+  pub fits : FileFits most result
+  pub told : FileTells old.files path most result
+  pub later : old.faults ≤ new.faults
+  pub failed : result ≡ file.Failed → StoreFailed old new
+
+-- the bytes that reads have given grow by those that a read gave
+abbrev pub GivenTells : Option (List ℕ) → Option (List ℕ) → ReadStep → List ℕ → Type 0
+GivenTells old new (read.Got n) room = Appends old new (take n room)
+GivenTells old new read.End room = Keeps old new
+GivenTells old new read.Failed room = Keeps old new
+
+-- one read of a connection, which leaves all that concerns its writes
+pub record ConnReads (old new : ConnView) (result : ReadStep) (room : List ℕ) : Type 0 where
+  pub reads : Reads (source_of old) (source_of new) result room
+  pub given : GivenTells old.given new.given result room
+  pub written : sink_of new ≡ sink_of old
+  pub same : IsSameConn old new
+
+-- one write to a connection, which leaves all that concerns its reads
+pub record ConnWrites (old new : ConnView) (result : WriteStep) (piece : List ℕ) : Type 0 where
+  pub writes : Writes (sink_of old) (sink_of new) result piece
+  pub given : new.given ≡ old.given
+  pub read : source_of new ≡ source_of old
+  pub same : IsSameConn old new

@@ -1,11 +1,14 @@
-ghost use Rattle.std.specs.Prelude.{◌≡◌, ◌++◌, ◌<◌, ◌^◌, length, take, decimal, OnOk, OnErr};
+ghost use Rattle.std.specs.Prelude.{◌≡◌, ◌≢◌, ℕ, ◌++◌, ◌<◌, ◌^◌, length, take, decimal, OnOk};
+ghost use Rattle.std.specs.Prelude.{OnErr, IfSome, IsNone};
 ghost use Rattle.td_base.specs.Sized.{sized};
 ghost use Rattle.hex.specs.Hex.{encode_lower};
 
 use crate::{Bytes, NoMemory};
 use itoa::Buffer;
+use std::str;
 
-/// Appends the number in decimal, without a leading zero. Where memory runs out nothing is appended.
+/// Appends the number in decimal, without a leading zero. Where memory runs out nothing is
+/// appended.
 pub fn put_decimal(out: &mut Bytes, n: u64) -> Result<(), NoMemory>
     ensures ok { OnOk result (out.new ≡ out.old ++ decimal n) }
     ensures err { OnErr result (out.new ≡ out.old) }
@@ -14,7 +17,28 @@ pub fn put_decimal(out: &mut Bytes, n: u64) -> Result<(), NoMemory>
     out.append(buffer.format(n).as_bytes())
 }
 
-/// Appends two lower-case hex digits for each byte, the high half first. Where memory runs out nothing is appended.
+/// The number that a text writes in decimal, without a sign and without a leading zero, if there is
+/// one that fits.
+pub fn read_decimal(text: &[u8]) -> Option<u64>
+    ensures some { IfSome result (λ n. text.now ≡ decimal n) }
+    ensures none { IsNone result → (n : ℕ) → n < 2 ^ 64 → text.now ≢ decimal n }
+{
+    let Ok(digits) = str::from_utf8(text) else {
+        return None;
+    };
+    let Ok(n) = digits.parse::<u64>() else {
+        return None;
+    };
+    let mut buffer = Buffer::new();
+    if buffer.format(n).as_bytes() == text {
+        Some(n)
+    } else {
+        None
+    }
+}
+
+/// Appends two lower-case hex digits for each byte, the high half first. Where memory runs out
+/// nothing is appended.
 pub fn put_hex(out: &mut Bytes, bytes: &[u8]) -> Result<(), NoMemory>
     ensures ok { OnOk result (out.new ≡ out.old ++ encode_lower bytes.now) }
     ensures err { OnErr result (out.new ≡ out.old) }
@@ -28,7 +52,8 @@ pub fn put_hex(out: &mut Bytes, bytes: &[u8]) -> Result<(), NoMemory>
 }
 
 #[tactic(auto, unfolding(hex::specs::Hex::encode_with))]
-/// Appends the hex digits byte by byte. Where memory runs out the digits of the bytes before it stay.
+/// Appends the hex digits byte by byte. Where memory runs out the digits of the bytes before it
+/// stay.
 fn append_hex(out: &mut Bytes, bytes: &[u8]) -> Result<(), NoMemory>
     ensures ok { OnOk result (out.new ≡ out.old ++ encode_lower bytes.now) }
     ensures kept { take (length out.old) out.new ≡ out.old }
@@ -41,8 +66,8 @@ fn append_hex(out: &mut Bytes, bytes: &[u8]) -> Result<(), NoMemory>
     Ok(())
 }
 
-/// Appends the number of bytes, in four bytes with the high one first, and the bytes. Where memory runs out
-/// nothing is appended.
+/// Appends the number of bytes, in four bytes with the high one first, and the bytes. Where memory
+/// runs out nothing is appended.
 pub fn put_sized(out: &mut Bytes, bytes: &[u8]) -> Result<(), NoMemory>
     requires { length bytes.now < 2 ^ 32 }
     ensures ok { OnOk result (out.new ≡ out.old ++ sized bytes.now) }

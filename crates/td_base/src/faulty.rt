@@ -1,19 +1,20 @@
-ghost use Rattle.std.specs.Prelude.{◌≡◌, ◌≤◌};
-ghost use Rattle.td_base.specs.Cause.{Rose};
-ghost use Rattle.td_base.specs.Memory.{FaultyState};
+ghost use Rattle.std.specs.Prelude.{◌≡◌, ◌<◌, length, true, false};
+ghost use Rattle.td_base.specs.Memory.{is_chosen, counted, is_failed_read, is_failed_write};
+ghost use Rattle.td_base.specs.Memory.{is_failed_look, faulty_source, faulty_sink, faulty_store};
+ghost use Rattle.td_base.specs.Outside.{Reads, Writes, Looks};
 
+use crate::failing_calls::FailingCalls;
 use crate::{FileRead, Items, ReadStep, Sink, Source, Store, WriteStep};
 use std::alloc::Global;
 use std::marker::Model;
 
-/// An object of the outside of which chosen calls fail without reaching it. Calls count from 1. Its count of faults
-/// is the number of its answers that say that it failed, the inner object's own among them.
+/// An object of the outside of which chosen calls fail without reaching it. Calls count from 1. Its
+/// count of faults is the number of its answers that say that it failed, the inner object's own
+/// among them.
 #[derive(Debug, Drop)]
 pub struct Faulty<S> {
     inner: S,
-    failing: Items<u64>,
-    calls: u64,
-    faults: u64,
+    calls: FailingCalls,
 }
 
 impl<S> Model for Faulty<S> {
@@ -21,20 +22,19 @@ impl<S> Model for Faulty<S> {
 
     ghost Value = { FaultyState S };
 
-    ghost view = { λ f. record { inner = f.inner; failing = f.failing; calls = f.calls; faults = f.faults } };
+    ghost view = { λ f. record { inner = f.inner; calls = f.calls } };
 }
 
 impl<S> Faulty<S> {
     /// The object, of which the calls with these numbers are to fail.
     pub fn new(inner: S, failing: Items<u64>) -> Faulty<S>
-        ensures { result ≡ record { inner = inner; failing = failing; calls = 0; faults = 0 } }
+        ensures { result ≡ record {
+          inner = inner;
+          calls = record { failing = failing; calls = 0; faults = 0 };
+        } }
     {
-        Faulty {
-            inner,
-            failing,
-            calls: 0,
-            faults: 0,
-        }
+        let calls = FailingCalls::new(failing);
+        Faulty { inner, calls }
     }
 
     /// The object inside.
@@ -43,75 +43,77 @@ impl<S> Faulty<S> {
     {
         &self.inner
     }
-
-    /// Counts a call, and says whether it is to fail.
-    fn begin_call(&mut self) -> bool
-        ensures inner { self.new.inner ≡ self.old.inner }
-        ensures faults { self.new.faults ≡ self.old.faults }
-    {
-        self.calls = self.calls.saturating_add(1);
-        self.failing.as_slice().contains(&self.calls)
-    }
-
-    /// Counts a fault.
-    fn count_fault(&mut self)
-        ensures inner { self.new.inner ≡ self.old.inner }
-        ensures later { self.old.faults ≤ self.new.faults }
-        ensures rose { Rose self.old.faults self.new.faults }
-    {
-        self.faults = self.faults.saturating_add(1);
-    }
 }
 
 impl<S: Source> Source for Faulty<S> {
-    ghost left = { λ s. S.left s.inner };
+    ghost seen = { faulty_source S.seen };
 
-    ghost faults = { λ s. s.faults };
-
-    fn read(&mut self, room: &mut [u8]) -> ReadStep {
-        if self.begin_call() {
-            self.count_fault();
+    fn read(&mut self, room: &mut [u8]) -> ReadStep
+        requires { 0 < length room.old }
+        ensures read { Reads (faulty_source S.seen self.old) (faulty_source S.seen self.new)
+            result room.new }
+        ensures calls { self.new.calls ≡ counted self.old.calls (is_failed_read result) }
+        ensures chosen { is_chosen self.old.calls ≡ true
+            → (result ≡ ReadStep.Failed) × (self.new.inner ≡ self.old.inner) }
+        ensures other { is_chosen self.old.calls ≡ false
+            → Reads (S.seen self.old.inner) (S.seen self.new.inner) result room.new }
+    {
+        if self.calls.begin() {
+            self.calls.count_fault();
             return ReadStep::Failed;
         }
         let step = self.inner.read(room);
         if step == ReadStep::Failed {
-            self.count_fault();
+            self.calls.count_fault();
         }
         step
     }
 }
 
 impl<S: Sink> Sink for Faulty<S> {
-    ghost taken = { λ s. S.taken s.inner };
+    ghost seen = { faulty_sink S.seen };
 
-    ghost faults = { λ s. s.faults };
-
-    fn write(&mut self, piece: &[u8]) -> WriteStep {
-        if self.begin_call() {
-            self.count_fault();
+    fn write(&mut self, piece: &[u8]) -> WriteStep
+        requires { 0 < length piece.now }
+        ensures write { Writes (faulty_sink S.seen self.old) (faulty_sink S.seen self.new)
+            result piece.now }
+        ensures calls { self.new.calls ≡ counted self.old.calls (is_failed_write result) }
+        ensures chosen { is_chosen self.old.calls ≡ true
+            → (result ≡ WriteStep.Failed) × (self.new.inner ≡ self.old.inner) }
+        ensures other { is_chosen self.old.calls ≡ false
+            → Writes (S.seen self.old.inner) (S.seen self.new.inner) result piece.now }
+    {
+        if self.calls.begin() {
+            self.calls.count_fault();
             return WriteStep::Failed;
         }
         let step = self.inner.write(piece);
         if step == WriteStep::Failed {
-            self.count_fault();
+            self.calls.count_fault();
         }
         step
     }
 }
 
 impl<S: Store> Store for Faulty<S> {
-    ghost files = { λ s. S.files s.inner };
+    ghost seen = { faulty_store S.seen };
 
-    ghost faults = { λ s. s.faults };
-
-    fn read_file(&mut self, alloc: Global, path: &[u8], most: u64) -> FileRead {
-        if self.begin_call() {
-            self.count_fault();
+    fn read_file(&mut self, alloc: Global, path: &[u8], most: u64) -> FileRead
+        ensures look { Looks (faulty_store S.seen self.old) (faulty_store S.seen self.new)
+            path.now most result }
+        ensures calls { self.new.calls ≡ counted self.old.calls (is_failed_look result) }
+        ensures chosen { is_chosen self.old.calls ≡ true
+            → (result ≡ FileRead.Failed) × (self.new.inner ≡ self.old.inner) }
+        ensures other { is_chosen self.old.calls ≡ false
+            → Looks (S.seen self.old.inner) (S.seen self.new.inner) path.now most result }
+    {
+        if self.calls.begin() {
+            self.calls.count_fault();
             return FileRead::Failed;
         }
         let found = self.inner.read_file(alloc, path, most);
         if let FileRead::Failed = &found {
-            self.count_fault();
+            self.calls.count_fault();
         }
         found
     }

@@ -4,7 +4,8 @@ use crate::NoMemory;
 use std::alloc::Global;
 use std::marker::Model;
 
-/// An owned list. Contracts see it as the list of its items, so that a clause can compare a record that holds one.
+/// An owned list. Contracts see it as the list of its items, so that a clause can compare a record
+/// that holds one.
 #[derive(Debug, Drop)]
 pub struct Items<T> {
     held: Vec<T>,

@@ -1,12 +1,19 @@
-//! What every crate of the service stands on: owned bytes, lists and short texts that contracts see as lists,
-//! the traits of the outside (sources, sinks and stores of files) with their versions in memory, and the digits
-//! and lengths that several formats share.
+//! What every crate of the service stands on: owned bytes, lists and short texts that contracts see
+//! as lists; the traits of the outside, with one view and one relation a call (`specs/Views.antt`,
+//! `specs/Outside.antt`), and their versions in memory; and the digits, lengths and names that
+//! several formats share. [`read_to_end`] and [`write_whole`] are its main calls
+//! (`specs/Transfer.antt`).
 #![tactic(auto)]
 
 mod byte_list;
 mod digits;
+mod failing_calls;
 mod faulty;
+mod faulty_conn;
 mod item_list;
+mod joined;
+pub mod laws;
+mod memory_conn;
 mod memory_sink;
 mod memory_source;
 mod memory_store;
@@ -15,24 +22,32 @@ mod name_forms;
 mod name_table;
 mod no_memory;
 mod outside;
+mod piece_sizes;
+mod report;
 mod send_sync;
 mod short_text;
 #[cfg(test)]
 mod tests;
 mod transfer;
+mod value;
 
 pub use byte_list::Bytes;
-pub use digits::{put_decimal, put_hex, put_sized};
+pub use digits::{put_decimal, put_hex, put_sized, read_decimal};
 pub use faulty::Faulty;
+pub use faulty_conn::FaultyConn;
 pub use item_list::Items;
+pub use joined::Joined;
+pub use memory_conn::MemoryConn;
 pub use memory_sink::MemorySink;
 pub use memory_source::MemorySource;
 pub use memory_store::MemoryStore;
 pub use name_forms::{is_file_name, is_identifier, is_label};
 pub use no_memory::NoMemory;
-pub use outside::{FileRead, ReadStep, Sink, Source, Store, WriteStep};
+pub use outside::{Conn, FileRead, ReadStep, Sink, Source, Store, WriteStep};
+pub use report::{Ask, End, MOST_PLACES, Places, Report, Role};
 pub use short_text::ShortText;
-pub use transfer::{SourceFault, Written, read_to_end, write_whole};
+pub use transfer::{SourceFault, Written, read_to_end, send_whole, write_whole};
+pub use value::Value;
 
 /// The token of a place in a history: its number in decimal, a dash and hex digits.
 pub type Token = ShortText<32>;

@@ -1,19 +1,21 @@
-ghost use Rattle.std.specs.Prelude.{◌≡◌, ◌+◌, ◌-◌, ◌<◌, ◌≤◌, ◌↔◌, ◌++◌, [], length, min, take, Some, IfOk};
-ghost use Rattle.td_base.specs.declared.outside.WriteStep.TheVariants.{Failed};
-ghost use Rattle.td_base.specs.Outside.{WriteFits, WriteTells, HasWriteCause};
-ghost use Rattle.td_base.specs.Memory.{SinkState};
+ghost use Rattle.std.specs.Prelude.{◌≡◌, ◌+◌, ◌<◌, ◌≤◌, ◌↔◌, ◌==◌, [], length, min, drop, IfOk};
+ghost use Rattle.std.specs.Prelude.{if◌then◌else◌};
+ghost use Rattle.td_base.specs.Memory.{SinkState, one_more, piece_size, sink_view};
+ghost use Rattle.td_base.specs.Outside.{Writes};
 
-use crate::{NoMemory, Sink, WriteStep};
+use crate::piece_sizes::PieceSizes;
+use crate::{Items, NoMemory, Sink, WriteStep};
 use std::alloc::Global;
 use std::marker::Model;
 
-/// A sink in room that was taken at its making. It tells what it took and the room left, and fails only where no
-/// room is left. Its count of faults is the number of its failed writes.
+/// A sink in room that was taken at its making. It tells what it took and the room left, and fails
+/// only where no room is left. Its count of faults is the number of its failed writes.
 #[derive(Debug, Drop)]
 pub struct MemorySink {
     held: Vec<u8>,
     room: usize,
     faults: u64,
+    sizes: PieceSizes,
 }
 
 impl Model for MemorySink {
@@ -22,7 +24,12 @@ impl Model for MemorySink {
 
     ghost Value = { SinkState };
 
-    ghost view = { λ s. record { taken = s.held.items; room = s.room; faults = s.faults } };
+    ghost view = { λ s. record {
+      taken = s.held.items;
+      room = s.room;
+      faults = s.faults;
+      sizes = s.sizes;
+    } };
 
     ghost invariant = { λ s. vec_len s.held + s.room ≤ vec_capacity s.held };
 }
@@ -30,13 +37,27 @@ impl Model for MemorySink {
 impl MemorySink {
     /// A sink that has taken nothing, with room for so many bytes.
     pub fn new(alloc: Global, room: usize) -> Result<MemorySink, NoMemory>
-        ensures { IfOk result (λ s. s ≡ record { taken = []; room = room; faults = 0 }) }
+        ensures { IfOk result (λ s.
+            s ≡ record { taken = []; room = room; faults = 0; sizes = [] }) }
+    {
+        MemorySink::in_pieces(alloc, room, Items::new(alloc))
+    }
+
+    /// The same, with the size of the piece that each write takes where there is room for it.
+    pub fn in_pieces(
+        alloc: Global,
+        room: usize,
+        sizes: Items<usize>,
+    ) -> Result<MemorySink, NoMemory>
+        ensures { IfOk result (λ s.
+            s ≡ record { taken = []; room = room; faults = 0; sizes = sizes }) }
     {
         let held = Vec::with_capacity(alloc, room)?;
         Ok(MemorySink {
             held,
             room,
             faults: 0,
+            sizes: PieceSizes::new(sizes),
         })
     }
 
@@ -56,27 +77,31 @@ impl MemorySink {
 }
 
 impl Sink for MemorySink {
-    ghost taken = { λ s. Some s.taken };
-
-    ghost faults = { λ s. s.faults };
+    ghost seen = { sink_view };
 
     fn write(&mut self, piece: &[u8]) -> WriteStep
         requires { 0 < length piece.now }
-        ensures fits { WriteFits result piece.now }
-        ensures told { WriteTells (Some self.old.taken) (Some self.new.taken) result piece.now }
-        ensures cause { HasWriteCause self.old.faults self.new.faults result }
+        ensures write { Writes (sink_view self.old) (sink_view self.new) result piece.now }
 
-        // It fails at nothing else than used-up room, and else takes as much as there is room for.
-        ensures full { (result ≡ Failed) ↔ (self.old.room ≡ 0) }
-        ensures room { self.new.room ≡ self.old.room - length piece.now }
+        // It fails at nothing else than used-up room, and else takes a piece of the next size.
+        ensures full { self.old.room ≡ 0
+            → (result ≡ WriteStep.Failed)
+            × (self.new ≡ record self.old { faults = one_more self.old.faults }) }
+        ensures piece { 0 < self.old.room
+            → result ≡ WriteStep.Took
+            (piece_size self.old.sizes (min (length piece.now) self.old.room)) }
+        ensures sizes { 0 < self.old.room → self.new.sizes ≡ drop 1 self.old.sizes }
+        ensures faults { 0 < self.old.room → self.new.faults ≡ self.old.faults }
+        ensures took { length self.new.taken + self.new.room
+            ≡ length self.old.taken + self.old.room }
     {
-        let count = piece.len().min(self.room);
-        if count == 0 {
+        if self.room == 0 {
             self.faults = self.faults.saturating_add(1);
             return WriteStep::Failed;
         }
-        let _ = self.held.extend_from_slice(&piece[..count]);
-        self.room -= count;
-        WriteStep::Took(count)
+        let size = self.sizes.next(piece.len().min(self.room));
+        let _ = self.held.extend_from_slice(&piece[..size]);
+        self.room -= size;
+        WriteStep::Took(size)
     }
 }

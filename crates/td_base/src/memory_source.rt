@@ -1,21 +1,31 @@
-ghost use Rattle.std.specs.Prelude.{◌≡◌, ◌≤◌, ◌++◌, Some, length, min, take, drop};
+ghost use Rattle.std.specs.Prelude.{◌≡◌, ◌≢◌, ◌<◌, ◌≤◌, ◌↔◌, ◌++◌, [], Some, length, min, take};
+ghost use Rattle.std.specs.Prelude.{drop};
+ghost use Rattle.td_base.specs.Memory.{piece_size, source_view};
+ghost use Rattle.td_base.specs.Outside.{Reads, GivenTells};
 
-use crate::{Bytes, ReadStep, Source};
+use crate::piece_sizes::PieceSizes;
+use crate::{Bytes, Items, ReadStep, Source};
 use std::marker::Model;
 
-/// A source over bytes in memory. It tells what is left, which is what contracts see of it, and never fails.
+/// A source over bytes in memory. It tells what is left and never fails.
 #[derive(Debug, Drop)]
 pub struct MemorySource {
     bytes: Bytes,
     at: usize,
+    sizes: PieceSizes,
 }
 
 impl Model for MemorySource {
-    ghost use Rattle.std.specs.Prelude.{◌≤◌, List, ℕ, drop, length};
+    ghost use Rattle.std.specs.Prelude.{◌≤◌, take, drop, length};
+    ghost use Rattle.td_base.specs.Memory.{SourceState};
 
-    ghost Value = { List ℕ };
+    ghost Value = { SourceState };
 
-    ghost view = { λ s. drop s.at s.bytes };
+    ghost view = { λ s. record {
+      given = take s.at s.bytes;
+      left = drop s.at s.bytes;
+      sizes = s.sizes;
+    } };
 
     ghost invariant = { λ s. s.at ≤ length s.bytes };
 }
@@ -23,34 +33,67 @@ impl Model for MemorySource {
 impl MemorySource {
     /// A source of these bytes, none of which has been read.
     pub fn new(bytes: Bytes) -> MemorySource
-        ensures { result ≡ bytes }
+        ensures { result ≡ record { given = []; left = bytes; sizes = [] } }
     {
-        MemorySource { bytes, at: 0 }
+        let sizes = PieceSizes::none(bytes.allocator());
+        MemorySource {
+            bytes,
+            at: 0,
+            sizes,
+        }
+    }
+
+    /// The same, with the size of the piece that each read gives where there is room for it.
+    pub fn in_pieces(bytes: Bytes, sizes: Items<usize>) -> MemorySource
+        ensures { result ≡ record { given = []; left = bytes; sizes = sizes } }
+    {
+        let sizes = PieceSizes::new(sizes);
+        MemorySource {
+            bytes,
+            at: 0,
+            sizes,
+        }
+    }
+
+    /// The bytes that its reads have given.
+    pub fn given(&self) -> &[u8]
+        ensures { result.now ≡ self.now.given }
+    {
+        &self.bytes.as_slice()[..self.at]
     }
 }
 
 impl Source for MemorySource {
-    ghost left = { λ s. Some s };
+    ghost seen = { source_view };
 
-    ghost faults = { λ _. 0 };
+    fn read(&mut self, room: &mut [u8]) -> ReadStep
+        requires { 0 < length room.old }
+        ensures read { Reads (source_view self.old) (source_view self.new) result room.new }
+        ensures given { GivenTells (Some self.old.given) (Some self.new.given) result room.new }
 
-    fn read(&mut self, room: &mut [u8]) -> ReadStep {
+        // It ends where no byte is left, and else gives a piece of the next size.
+        ensures end { self.old.left ≡ [] → (result ≡ ReadStep.End) × (self.new ≡ self.old) }
+        ensures piece { self.old.left ≢ []
+            → result ≡ ReadStep.Got
+            (piece_size self.old.sizes (min (length self.old.left) (length room.old))) }
+        ensures sizes { self.old.left ≢ [] → self.new.sizes ≡ drop 1 self.old.sizes }
+    {
         let left = &self.bytes.as_slice()[self.at..];
         if left.is_empty() {
             return ReadStep::End;
         }
-        let count = copy_front(left, room);
-        self.at += count;
-        ReadStep::Got(count)
+        let size = self.sizes.next(left.len().min(room.len()));
+        copy_prefix(left, room, size);
+        self.at += size;
+        ReadStep::Got(size)
     }
 }
 
-/// Copies as many bytes as there are on both sides, from front to front, and says how many.
-fn copy_front(from: &[u8], room: &mut [u8]) -> usize
-    ensures count { result ≡ min (length from.now) (length room.old) }
-    ensures moved { from.now ≡ take result room.new ++ drop result from.now }
+/// Copies so many bytes, from beginning to beginning.
+fn copy_prefix(from: &[u8], room: &mut [u8], size: usize)
+    requires from { size ≤ length from.now }
+    requires room { size ≤ length room.old }
+    ensures { take size room.new ≡ take size from.now }
 {
-    let count = from.len().min(room.len());
-    room[..count].copy_from_slice(&from[..count]);
-    count
+    room[..size].copy_from_slice(&from[..size]);
 }

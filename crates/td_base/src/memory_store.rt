@@ -2,25 +2,17 @@ ghost use Rattle.std.specs.Prelude.{◌≡◌, [], ℕ, List, Some, OnOk, OnErr,
 ghost use Rattle.std.specs.Option.{option_map};
 ghost use Rattle.std.specs.Str.{bytes_eq};
 ghost use Rattle.td_base.specs.Files.{file_at};
-ghost use Rattle.td_base.specs.Memory.{IsFront};
-ghost use Rattle.td_base.specs.Stored.{files_of};
+ghost use Rattle.td_base.specs.Memory.{IsPrefixRead};
 
 use crate::{Bytes, FileRead, NoMemory, Store};
 use std::alloc::Global;
+use std::collections::BTreeMap;
 use std::marker::Model;
-
-/// A file of a [`MemoryStore`].
-#[derive(Debug, Drop)]
-pub struct StoredFile {
-    path: Bytes,
-    bytes: Bytes,
-}
 
 /// A store in memory. It tells its files, which are what contracts see of it, and never fails.
 #[derive(Debug, Drop)]
 pub struct MemoryStore {
-    /// The file put last stands first, so that it is the one found.
-    files: Vec<StoredFile>,
+    files: BTreeMap<Vec<u8>, Bytes>,
 }
 
 impl Model for MemoryStore {
@@ -30,7 +22,7 @@ impl Model for MemoryStore {
 
     ghost Value = { List File };
 
-    ghost view = { λ s. files_of s.files.items };
+    ghost view = { λ s. files_of s.files.entries };
 }
 
 impl MemoryStore {
@@ -39,7 +31,7 @@ impl MemoryStore {
         ensures { result ≡ [] }
     {
         MemoryStore {
-            files: Vec::new(alloc),
+            files: BTreeMap::new(alloc),
         }
     }
 
@@ -49,43 +41,39 @@ impl MemoryStore {
             ≡ (if bytes_eq path asked then Some bytes else file_at self.old asked)) }
         ensures err { OnErr result (self.new ≡ self.old) }
     {
-        self.files.insert(0, StoredFile { path, bytes })?;
+        let _ = self.files.insert(path.into_vec(), bytes)?;
         Ok(())
+    }
+
+    /// The bytes of the file of a path.
+    fn find(&self, path: &[u8]) -> Option<&[u8]>
+        ensures { option_map (λ b. b.now) result ≡ file_at self.now path.now }
+    {
+        match self.files.get(path) {
+            Some(bytes) => Some(bytes.as_slice()),
+            None => None,
+        }
     }
 }
 
 impl Store for MemoryStore {
-    ghost files = { λ s. Some s };
-
-    ghost faults = { λ _. 0 };
+    ghost seen = { λ s. record { files = Some s; faults = 0 } };
 
     fn read_file(&mut self, alloc: Global, path: &[u8], most: u64) -> FileRead {
-        match find(self.files.as_slice(), path) {
-            Some(bytes) => read_front(alloc, bytes, most),
+        match self.find(path) {
+            Some(bytes) => read_prefix(alloc, bytes, most),
             None => FileRead::Absent,
         }
     }
 }
 
-/// The bytes of the first file of the path.
-fn find<'a>(files: &'a [StoredFile], path: &[u8]) -> Option<&'a [u8]>
-    ensures { option_map (λ b. b.now) result ≡ file_at (files_of files.now) path.now }
-{
-    for file in files {
-        if file.path.as_slice() == path {
-            return Some(file.bytes.as_slice());
-        }
-    }
-    None
-}
-
 /// The first `most` bytes, as a read file.
-fn read_front(alloc: Global, bytes: &[u8], most: u64) -> FileRead
-    ensures { IsFront bytes.now most result }
+fn read_prefix(alloc: Global, bytes: &[u8], most: u64) -> FileRead
+    ensures { IsPrefixRead bytes.now most result }
 {
     let count = bytes.len().min(most as usize);
     match Bytes::from_slice(alloc, &bytes[..count]) {
-        Ok(front) => FileRead::Found(front),
+        Ok(prefix) => FileRead::Found(prefix),
         Err(NoMemory) => FileRead::NoMemory,
     }
 }

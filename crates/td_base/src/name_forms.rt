@@ -5,22 +5,31 @@ ghost use Rattle.td_base.specs.Names as names;
 ghost use Rattle.td_base.specs.Names.{segments};
 ghost use Rattle.td_base.specs.NameCuts.{IsCut};
 
-/// Whether a text may be the identifier of a time zone, or an alias of one: 1 to 64 letters, digits and `_+-./`,
-/// without a slash at an end and without two in a row.
+/// The most bytes of an identifier.
+const MOST_IDENTIFIER_BYTES: usize = 64;
+
+/// The most bytes of the name of a file.
+const MOST_FILE_NAME_BYTES: usize = 128;
+
+/// The most bytes of a label.
+const MOST_LABEL_BYTES: usize = 64;
+
+/// Whether a text may be the identifier of a time zone, or an alias of one: 1 to 64 letters, digits
+/// and `_+-./`, without a slash at an end and without two in a row.
 #[tactic(auto, unfolding(crate::specs::Names::is_path))]
 pub fn is_identifier(text: &[u8]) -> bool
     ensures { result ≡ names.is_identifier text.now }
 {
-    text.len() <= 64 && has_segments(text)
+    text.len() <= MOST_IDENTIFIER_BYTES && has_segments(text)
 }
 
-/// Whether a text may be the name of a file of a release: as an identifier with at most 128 bytes, but with no
-/// segment `.` or `..`.
+/// Whether a text may be the name of a file of a release: as an identifier with at most 128 bytes,
+/// but with no segment `.` or `..`.
 #[tactic(auto, unfolding(crate::specs::Names::is_file_name, crate::specs::Names::is_path))]
 pub fn is_file_name(text: &[u8]) -> bool
     ensures { result ≡ names.is_file_name text.now }
 {
-    text.len() <= 128 && has_segments(text) && !has_dots(text)
+    text.len() <= MOST_FILE_NAME_BYTES && has_segments(text) && !has_dots(text)
 }
 
 /// Whether a text may be the name of a publisher or of a version: 1 to 64 printable ASCII bytes.
@@ -28,7 +37,7 @@ pub fn is_file_name(text: &[u8]) -> bool
 pub fn is_label(text: &[u8]) -> bool
     ensures { result ≡ names.is_label text.now }
 {
-    !text.is_empty() && text.len() <= 64 && is_printable(text)
+    !text.is_empty() && text.len() <= MOST_LABEL_BYTES && is_printable(text)
 }
 
 /// Whether each byte is a printable ASCII byte.

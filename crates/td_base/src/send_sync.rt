@@ -1,21 +1,36 @@
-//! The plain data types cross threads and are shared by them. Each is named here once at its bound, so that a type
-//! that cannot is refused in this crate.
+//! The types of this crate may be sent to other threads and shared with them, generic ones where
+//! their parts may.
+use crate::{
+    Ask, Bytes, End, Faulty, FaultyConn, FileRead, Items, MemoryConn, MemorySink, MemorySource,
+    MemoryStore, NoMemory, Places, ReadStep, Report, Role, ShortText, SourceFault, Token,
+    WriteStep, Written,
+};
 
-use crate::{Bytes, Items, MemoryStore, NoMemory, ShortText};
-use std::alloc::Global;
+fn is_shared<T: Send + Sync>() {}
 
-/// Lets go of a value that threads may hand over and share.
-fn let_go<T: Send + Sync + Drop>(_value: T) {}
-
-/// Each plain data type meets the bound.
-fn each_type(alloc: Global) {
-    let_go(NoMemory);
-    let_go(Bytes::new(alloc));
-    let_go(MemoryStore::new(alloc));
-    let_go(ShortText::<32>::new());
+fn types_are_shared() {
+    is_shared::<Bytes>();
+    is_shared::<Token>();
+    is_shared::<NoMemory>();
+    is_shared::<SourceFault>();
+    is_shared::<ReadStep>();
+    is_shared::<WriteStep>();
+    is_shared::<FileRead>();
+    is_shared::<Written>();
+    is_shared::<End>();
+    is_shared::<Places>();
+    is_shared::<Report>();
+    is_shared::<Role>();
+    is_shared::<Ask>();
+    is_shared::<MemorySource>();
+    is_shared::<MemorySink>();
+    is_shared::<MemoryStore>();
+    is_shared::<MemoryConn>();
 }
 
-/// A list meets it wherever its items do.
-fn each_list<T: Send + Sync + Drop>(items: Items<T>) {
-    let_go(items);
+fn generic_types_are_shared<T: Send + Sync, const N: usize>() {
+    is_shared::<Items<T>>();
+    is_shared::<ShortText<N>>();
+    is_shared::<Faulty<T>>();
+    is_shared::<FaultyConn<T>>();
 }

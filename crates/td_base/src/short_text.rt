@@ -3,7 +3,8 @@ ghost use Rattle.std.specs.Prelude.{◌≡◌, ◌+◌, ◌≤◌, [], ◌++◌,
 use arrayvec::ArrayVec;
 use std::marker::Model;
 
-/// At most `N` bytes in fixed room, which never takes memory. Contracts see it as the list of its bytes.
+/// At most `N` bytes in fixed room, which never takes memory. Contracts see it as the list of its
+/// bytes.
 #[derive(Debug, Drop, PartialEq, Eq)]
 pub struct ShortText<const N: usize> {
     held: ArrayVec<u8, N>,

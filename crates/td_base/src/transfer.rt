@@ -1,8 +1,6 @@
-ghost use Rattle.std.specs.Prelude.{◌≡◌, ◌≤◌, ◌<◌, length, IfOk, IsErrOf};
-ghost use Rattle.td_base.specs.Cause.{Rose};
-ghost use Rattle.td_base.specs.Transfer.{ReadsTo, WritesTell};
+ghost use Rattle.td_base.specs.Transfer.{ReadsTo, WritesAll, Sends};
 
-use crate::{Bytes, NoMemory, ReadStep, Sink, Source, WriteStep};
+use crate::{Bytes, Conn, NoMemory, ReadStep, Sink, Source, WriteStep};
 use std::alloc::Global;
 use thiserror::Error;
 
@@ -46,9 +44,7 @@ pub fn read_to_end<C: Source>(
     source: &mut C,
     most: usize,
 ) -> Result<Bytes, SourceFault>
-    ensures told { IfOk result (λ bytes. ReadsTo most (C.left source.old) (C.left source.new) bytes) }
-    ensures later { C.faults source.old ≤ C.faults source.new }
-    ensures failed { IsErrOf result SourceFault.Failed → Rose (C.faults source.old) (C.faults source.new) }
+    ensures { ReadsTo most (C.seen source.old) (C.seen source.new) result }
 {
     let mut held = Bytes::new(alloc);
     let mut room = [0; ROOM];
@@ -63,15 +59,27 @@ pub fn read_to_end<C: Source>(
     Ok(held)
 }
 
-/// Writes all the bytes. Where the sink fails, it has taken a part of them from the front.
+/// Writes all the bytes. Where the sink fails, it has taken a prefix of them.
 pub fn write_whole<K: Sink>(sink: &mut K, bytes: &[u8]) -> Written
-    ensures told { WritesTell (K.taken sink.old) (K.taken sink.new) bytes.now result }
-    ensures later { K.faults sink.old ≤ K.faults sink.new }
-    ensures cut { result ≡ Written.Cut → Rose (K.faults sink.old) (K.faults sink.new) }
+    ensures { WritesAll (K.seen sink.old) (K.seen sink.new) bytes.now result }
 {
     let mut at = 0;
     'pieces: while at < bytes.len() {
         match sink.write(&bytes[at..]) {
+            WriteStep::Took(count) => at += count,
+            WriteStep::Failed => return Written::Cut,
+        }
+    }
+    Written::Whole
+}
+
+/// Writes all the bytes to a connection. Where a write fails, it has taken a prefix of them.
+pub fn send_whole<C: Conn>(conn: &mut C, bytes: &[u8]) -> Written
+    ensures { Sends (C.seen conn.old) (C.seen conn.new) bytes.now result }
+{
+    let mut at = 0;
+    'pieces: while at < bytes.len() {
+        match conn.write(&bytes[at..]) {
             WriteStep::Took(count) => at += count,
             WriteStep::Failed => return Written::Cut,
         }

@@ -1,9 +1,9 @@
 use Rattle.std.proofs.Common.{sym}
-use Rattle.td_base.proofs.NameCutLemmas.{with_front-segments, cut_at_slash, past_byte, cut_at_end}
+use Rattle.td_base.proofs.NameCutLemmas.{with_prefix-segments, cut_at_slash, past_byte, cut_at_end}
 use Rattle.td_base.proofs.name_forms.cut_segment.Goals as goal
 
 pub loop-at-init : goal.loop-at-init
-loop-at-init c = sym (with_front-segments c.args.text.now)
+loop-at-init c = sym (with_prefix-segments c.args.text.now)
 
 pub returns-then-byte-eq47-clause-cut : goal.returns-then-byte-eq47-clause-cut
 returns-then-byte-eq47-clause-cut c =

@@ -4,8 +4,8 @@ use Rattle.td_base.proofs.transfer.read_to_end.Given as goal
 
 abbrev pub invariant-pieces : goal.invariant-pieces
 invariant-pieces g l = record {
-  told : Consumes (g.C.Source.left l.fn.source) (g.C.Source.left l.source) l.held;
-  later : g.C.Source.faults l.fn.source ≤ g.C.Source.faults l.source;
+  told : Consumes (g.C.Source.seen l.fn.source).left (g.C.Source.seen l.source).left l.held;
+  later : (g.C.Source.seen l.fn.source).faults ≤ (g.C.Source.seen l.source).faults;
   within : length l.held ≤ l.most;
 }
 

@@ -6,7 +6,7 @@ use Rattle.td_base.proofs.transfer.write_whole.Goals as goal
 pub pieces-preserved : goal.pieces-preserved
 pieces-preserved g c = record {
   told = rw (take-add c.pieces.at c.in-Took.count c.args.bytes.now)
-      (Appends-trans _ _ _ _ _ c.pieces.invariant.told (rw (take_rest c.args.bytes.now c.pieces.at) at c.in-Took.ensures.told));
-  later = omega (arith, c.in-Took.ensures.cause.later);
+      (Appends-trans _ _ _ _ _ c.pieces.invariant.told (rw (take_rest c.args.bytes.now c.pieces.at) at c.in-Took.ensures.write.told));
+  later = omega (arith, c.in-Took.ensures.write.later);
   inside = search rules;
 }

@@ -4,8 +4,8 @@ use Rattle.td_base.proofs.transfer.write_whole.Given as goal
 
 abbrev pub invariant-pieces : goal.invariant-pieces
 invariant-pieces g l = record {
-  told : Appends (g.K.Sink.taken l.fn.sink) (g.K.Sink.taken l.sink) (take l.at l.bytes);
-  later : g.K.Sink.faults l.fn.sink ≤ g.K.Sink.faults l.sink;
+  told : Appends (g.K.Sink.seen l.fn.sink).taken (g.K.Sink.seen l.sink).taken (take l.at l.bytes);
+  later : (g.K.Sink.seen l.fn.sink).faults ≤ (g.K.Sink.seen l.sink).faults;
   inside : l.at ≤ length l.bytes;
 }
 

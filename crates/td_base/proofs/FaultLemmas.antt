@@ -1,0 +1,42 @@
+-- Faults that are looked for one after another.
+use Rattle.std.proofs.Common.{◌≡◌, ◌≢◌, Option, None, Some, Result, Ok, Err, refl}
+use Rattle.std.specs.Option.{option_map}
+use Rattle.td_base.specs.FirstFault.{◌or_else◌, Judges}
+
+-- the first comes before a later one
+pub sooner : {A : Type 0} (a b : Option A) (e : A) → a ≡ Some e → (a or_else b) ≡ Some e
+sooner a b e h = rw h refl
+
+-- a later one comes where there is none before it
+pub later : {A : Type 0} (a b : Option A) (e : A) → a ≡ None → b ≡ Some e → (a or_else b) ≡ Some e
+later a b e h k = rw h k
+
+pub neither : {A : Type 0} (a b : Option A) → a ≡ None → b ≡ None → (a or_else b) ≡ None
+neither a b h k = rw h k
+
+-- where none of several comes, neither the first nor a later one does
+pub first : {A : Type 0} (a b : Option A) → (a or_else b) ≡ None → a ≡ None
+first None b h = refl
+first (Some e) b h = h
+
+pub second : {A : Type 0} (a b : Option A) → (a or_else b) ≡ None → b ≡ None
+second None b h = h
+second (Some e) b h = absurd cc
+
+pub unmapped : {A B : Type 0} (f : A → B) (a : Option A) → option_map f a ≡ None → a ≡ None
+unmapped f None h = refl
+unmapped f (Some x) h = absurd cc
+
+pub mapped : {A B : Type 0} (f : A → B) (a : Option A) → a ≡ None → option_map f a ≡ None
+mapped f a h = rw h refl
+
+-- the error of the first search is that of both
+pub judges_sooner : {F : Type 0} (no_memory : F) (a b : Option F) (e : F) → (e ≢ no_memory → a ≡ Some e)
+    → e ≢ no_memory → (a or_else b) ≡ Some e
+judges_sooner no_memory a b e h other = sooner a b e (h other)
+
+-- after a search that finds none, what judges the next judges both
+pub judges_later : {T F : Type 0} (no_memory : F) (a b : Option F) (r : Result T F) → a ≡ None
+    → Judges no_memory b r → Judges no_memory (a or_else b) r
+judges_later no_memory a b (Ok y) h k = neither a b h k
+judges_later no_memory a b (Err e) h k = λ other. later a b e h (k other)
