@@ -1,10 +1,10 @@
 -- Counting off years, months and days gives the date that has that many days before it, and no other date has.
-use Rattle.std.proofs.Common.{◌≡◌, ℕ, zero, suc, ◌+◌, ◌-◌, ◌<◌, ◌≤◌, nat_lt, refl, arith, pos, ◌+ℤ◌}
+use Rattle.std.proofs.Common.{◌≡◌, ℕ, zero, suc, ◌+◌, ◌-◌, ◌<◌, ◌≤◌, nat_lt, refl, arith, ℤ, pos, ◌+ℤ◌, ◌≤ℤ◌, unsigned_abs}
 use Rattle.std.proofs.lemmas.Bool.{cond_both, ltb-true, ltb-false}
 use Rattle.jiff_core.specs.declared.civil.date.Date.{Date}
 use Rattle.jiff_core.specs.Calendar.{days_in_year, days_in_month, day_count, days_from_civil}
 use Rattle.jiff_core.specs.Date.{epoch_day}
-use Rattle.jiff_core.proofs.SignedLemmas.{signed_arith}
+use Rattle.jiff_core.proofs.SignedLemmas.{signed_arith, one_part}
 use Rattle.jiff_core.proofs.DateLemmas.{civil, epoch_day_injective}
 use Rattle.jiff_core.proofs.CalendarLemmas.{day_count-next_month, day_count-next_year, day_count-day, day_count-last_of_year, day_count-end, day_count-later_year, day_count-day_of_year, day_count_bounds, days_from_civil-day_count}
 use Rattle.jiff_core.proofs.MarchLemmas.{day_count-early}
@@ -24,13 +24,15 @@ pub record HasCount (c : Civil) (n : ℕ) : Type 0 where
 abbrev dated : ℕ → ℕ → ℕ → Civil
 dated y m d = record { year = y; month = m; day = d }
 
-counted_day : (y m days n : ℕ) → y ≤ 9999 → 1 ≤ m → m ≤ 12 → days < days_in_month (pos y) m → n ≡ days + day_count (pos y) m 1 → HasCount (dated y m (days + 1)) n
+counted_day : (y m days n : ℕ) → y ≤ 9999 → 1 ≤ m → m ≤ 12 → days < days_in_month (pos y) m → n ≡ days + day_count (pos y) m 1
+    → HasCount (dated y m (days + 1)) n
 counted_day y m days n year low high lt e = record {
   dated = record { year = year; month = (low, high); day = (omega arith, omega arith) };
   count = omega (arith, day_count-day (pos y) m (days + 1) 1 (omega arith) (omega arith));
 }
 
-month_after_counts : (more y m days n : ℕ) → y ≤ 9999 → 1 ≤ m → m + more ≡ 12 → n ≡ days + day_count (pos y) m 1 → n < day_count (pos y) 1 1 + days_in_year (pos y) → HasCount (month_after more y m days) n
+month_after_counts : (more y m days n : ℕ) → y ≤ 9999 → 1 ≤ m → m + more ≡ 12 → n ≡ days + day_count (pos y) m 1
+    → n < day_count (pos y) 1 1 + days_in_year (pos y) → HasCount (month_after more y m days) n
 unfolding month_after
 month_after_counts zero y m days n year low bound e within =
     let last : m ≡ 12 = omega arith in
@@ -96,7 +98,8 @@ date_of_is c n h e within =
     one_date (date_of n) c found.dated h (omega (arith, signed_arith, found.count, days_from_civil-day_count))
 
 -- a date of jiff with that day number is the one that counting gives
-pub plain_date_is : (d : Date) (n : ℕ) → n < 3652425 → epoch_day d +ℤ pos 4_371_587 ≡ pos (n + 3652059) → (d.year ≡ pos (date_of n).year) × (d.month ≡ (date_of n).month) × (d.day ≡ (date_of n).day)
+pub plain_date_is : (d : Date) (n : ℕ) → n < 3652425 → epoch_day d +ℤ pos 4_371_587 ≡ pos (n + 3652059)
+    → (d.year ≡ pos (date_of n).year) × (d.month ≡ (date_of n).month) × (d.day ≡ (date_of n).day)
 unfolding plain
 plain_date_is d n within e =
     let found = date_of_counts n within in
@@ -110,3 +113,11 @@ dated_bounds c h =
     let place = day_count-day_of_year (pos c.year) c.month c.day h.day.0 in
     let first : 3652425 ≤ day_count (pos c.year) 1 1 = year_start c.year in
     (omega (arith, h.day), omega arith)
+
+-- the date that counting gives has the day number that was counted
+pub date_of_number : (z : ℤ) → pos 0 ≤ℤ (z +ℤ pos 719528) → z ≤ℤ pos 2932896
+    → z ≡ days_from_civil (pos (date_of (unsigned_abs (z +ℤ pos 719528))).year) (date_of (unsigned_abs (z +ℤ pos 719528))).month (date_of (unsigned_abs (z +ℤ pos 719528))).day
+date_of_number z low high =
+    let is = one_part (z +ℤ pos 719528) in
+    let found = date_of_counts (unsigned_abs (z +ℤ pos 719528)) (omega (arith, signed_arith, is)) in
+    omega (arith, signed_arith, is, found.count, days_from_civil-day_count)

@@ -2,6 +2,8 @@ pub mod Bounds
 pub mod Counting
 pub mod DateText
 pub mod ReadBack
+pub mod SameStates
 pub mod Shown
 pub mod Spelled
 pub mod TextBytes
+pub mod Years

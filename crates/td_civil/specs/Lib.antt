@@ -2,6 +2,7 @@ pub mod Answer
 pub mod Bounds
 pub mod Calendar
 pub mod Reading
+pub mod SameLocal
 pub mod Stamp
 pub mod Texts
 pub use Rattle.jiff_core.specs.Calendar as Gregorian

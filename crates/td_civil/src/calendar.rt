@@ -1,10 +1,10 @@
-ghost use Rattle.std.specs.Prelude.{◌≡◌, ◌↔◌, pos, IsSome, IfSome};
-ghost use Rattle.jiff_core.specs.Calendar.{days_from_civil};
+ghost use Rattle.std.specs.Prelude.{◌≡◌, ◌↔◌, ◌+ℤ◌, pos, neg_ℤ, unsigned_abs, IsSome, IfSome};
+ghost use Rattle.jiff_core.specs.Calendar.{IsBetween, IsCivilDate, days_from_civil};
 ghost use Rattle.td_civil.specs.Bounds.{IsWithinBounds};
-ghost use Rattle.td_civil.specs.Calendar.{stamp_of, HasDay, IsInYear};
+ghost use Rattle.td_civil.specs.Calendar.{stamp_of, date_of, HasDay, IsInYear};
 
 use crate::Moment;
-use crate::day_numbers::day_number;
+use crate::day_numbers::{date_after, day_number};
 use crate::fields::Fields;
 
 /// The year in UTC.
@@ -25,4 +25,29 @@ pub fn day_of(year: i32, month: u8, day: u8) -> Option<i64>
         return None;
     }
     day_number(year.unsigned_abs(), month as u32, day as u32)
+}
+
+/// A date of the proleptic Gregorian calendar.
+#[derive(Clone, Copy, Debug, PartialEq, Eq)]
+pub struct CivilDate {
+    pub year: i32,
+    pub month: u8,
+    pub day: u8,
+}
+
+/// The date of a day number, counted from 1970-01-01, of the years 0000 to 9999.
+pub fn date_of_day(number: i64) -> CivilDate
+    requires { IsBetween (neg_ℤ (pos 719_528)) (pos 2_932_896) number }
+    ensures there { IsCivilDate result.year result.month result.day }
+    ensures number { number ≡ days_from_civil result.year result.month result.day }
+    ensures year { result.year ≡ pos (date_of (unsigned_abs (number +ℤ pos 719_528))).year }
+    ensures month { result.month ≡ (date_of (unsigned_abs (number +ℤ pos 719_528))).month }
+    ensures day { result.day ≡ (date_of (unsigned_abs (number +ℤ pos 719_528))).day }
+{
+    let date = date_after((number + 719_528) as u32);
+    CivilDate {
+        year: i32::from(date.year),
+        month: date.month as u8,
+        day: date.day as u8,
+    }
 }

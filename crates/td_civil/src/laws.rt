@@ -1,9 +1,13 @@
-//! Laws of the texts of moments, each the contract of a function that does nothing.
-ghost use Rattle.std.specs.Prelude.{◌≡◌, ◌↔◌, ℕ, List, ℤ, Some, codes};
+//! Laws of years, states and the texts of moments, each the contract of a function that does nothing.
+ghost use Rattle.std.specs.Prelude.{◌≡◌, ◌↔◌, ◌+ℤ◌, ◌*ℤ◌, ◌≤ℤ◌, ◌<ℤ◌, ℕ, List, ℤ, pos, Some, true, codes};
+ghost use Rattle.jiff_core.specs.Calendar.{IsYear, days_from_civil};
 ghost use Rattle.td_civil.specs.Bounds.{HasText};
+ghost use Rattle.td_civil.specs.Calendar.{IsInYear};
 ghost use Rattle.td_civil.specs.Reading.{moment_in};
+ghost use Rattle.td_civil.specs.SameLocal.{same_local};
 ghost use Rattle.td_civil.specs.Stamp.{Spells};
 ghost use Rattle.td_civil.specs.Texts.{text_of};
+ghost use Rattle.td_civil.specs.declared.local_time.Local.{Local};
 
 use crate::{HI, LO};
 
@@ -37,4 +41,23 @@ pub fn is_spelled()
 pub fn reads_back()
     ensures spells { (m : ℤ) → HasText m → Spells (text_of m) m }
     ensures reads { (m : ℤ) → HasText m → moment_in (text_of m) ≡ Some m }
+{}
+
+/// The test of equal states passes where they are one, and nowhere else.
+pub fn same_states()
+    ensures { (x y : Local) → (same_local x y ≡ true) ↔ (x ≡ y) }
+{}
+
+/// The moments of an earlier year come before those of a later one.
+pub fn years_apart()
+    ensures { (year later m n : ℤ) → IsYear year → IsYear later → IsInYear year m → IsInYear later n
+        → year <ℤ later → m <ℤ n }
+{}
+
+/// A moment that lies within years one after another lies in one of them.
+pub fn some_year()
+    ensures { (count : ℕ) (first t : ℤ)
+        → (days_from_civil first 1 1 *ℤ pos 86400) ≤ℤ t
+        → t <ℤ (days_from_civil (first +ℤ pos count) 1 1 *ℤ pos 86400)
+        → (year : ℤ) × ((first ≤ℤ year) × (year <ℤ (first +ℤ pos count)) × IsInYear year t) }
 {}

@@ -1,4 +1,5 @@
-ghost use Rattle.std.specs.Prelude.{◌≡◌};
+ghost use Rattle.std.specs.Prelude.{◌≡◌, ◌↔◌, IsTrue};
+ghost use Rattle.td_civil.specs.SameLocal.{same_local};
 
 use crate::Moment;
 use td_base::ShortText;
@@ -26,6 +27,14 @@ impl Local {
             dst: self.dst,
             name: self.name.copy(),
         }
+    }
+
+    /// Whether the other state has this offset, flag and name.
+    pub fn is_same(&self, other: &Local) -> bool
+        ensures exact { result ≡ same_local self.now other.now }
+        ensures equal { IsTrue result ↔ (self.now ≡ other.now) }
+    {
+        self == other
     }
 }
 

@@ -1,5 +1,5 @@
 //! The types of this crate may be sent to other threads and shared with them.
-use crate::{BadMoment, Local, Moment, Name, Observance};
+use crate::{BadMoment, CivilDate, Local, Moment, Name, Observance};
 
 fn is_shared<T: Send + Sync>() {}
 
@@ -9,4 +9,5 @@ fn types_are_shared() {
     is_shared::<Local>();
     is_shared::<Observance>();
     is_shared::<BadMoment>();
+    is_shared::<CivilDate>();
 }

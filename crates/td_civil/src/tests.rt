@@ -1,8 +1,9 @@
 ghost use Rattle.td_civil.specs.Bounds.{IsWithinBounds};
 
 use crate::{
-    HI, LO, Local, Moment, Name, Observance, bounds_are, day_of, is_date, is_spelled, is_text_of,
-    local_stamp, moment_of, one_moment, one_text, reads_back, utc_text, year_of,
+    CivilDate, HI, LO, Local, Moment, Name, Observance, bounds_are, date_of_day, day_of, is_date,
+    is_spelled, is_text_of, local_stamp, moment_of, one_moment, one_text, reads_back, same_states,
+    some_year, utc_text, year_of, years_apart,
 };
 use std::process::Abort;
 
@@ -127,6 +128,18 @@ fn counts_years_and_days(rt: HostRuntime) {
     for (year, month, day, want) in days {
         assert!(rt; day_of(year, month, day) == want);
     }
+    let dates = [
+        (-719_528, 0, 1, 1),
+        (-719_469, 0, 2, 29),
+        (0, 1970, 1, 1),
+        (11_016, 2000, 2, 29),
+        (20_088, 2024, 12, 31),
+        (2_932_896, 9999, 12, 31),
+    ];
+    for (number, year, month, day) in dates {
+        assert!(rt; -719_528 <= number && number <= 2_932_896);
+        assert!(rt; date_of_day(number) == CivilDate { year, month, day });
+    }
 }
 
 #[test]
@@ -165,6 +178,7 @@ fn keeps_states(rt: HostRuntime) {
     };
     let same = state.copy();
     assert!(rt; same == state);
+    assert!(rt; same.is_same(&state));
     let change = Observance {
         onset: moment(&rt, 1_741_503_600),
         from: -18_000,
@@ -179,4 +193,7 @@ fn keeps_states(rt: HostRuntime) {
     is_text_of();
     is_spelled();
     reads_back();
+    same_states();
+    years_apart();
+    some_year();
 }

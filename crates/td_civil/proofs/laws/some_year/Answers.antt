@@ -1,0 +1,5 @@
+use Rattle.td_civil.proofs.Years.{some_year_lem}
+use Rattle.td_civil.proofs.laws.some_year.Goals as goal
+
+pub returns : goal.returns
+returns c = some_year_lem

@@ -1,0 +1,5 @@
+use Rattle.td_civil.proofs.Years.{years_apart_lem}
+use Rattle.td_civil.proofs.laws.years_apart.Goals as goal
+
+pub returns : goal.returns
+returns c = years_apart_lem
