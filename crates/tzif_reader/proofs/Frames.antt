@@ -6,8 +6,9 @@ use Rattle.tzif_reader.specs.declared.counts.Counts.{Counts}
 use Rattle.tzif_reader.specs.declared.tzif_fault.TzifFault.TheVariants.{Version, Counts as BadCounts, TooLarge}
 use Rattle.tzif_reader.specs.Layout.{AreCounts, IsVersion, first_block_size, second_block_size}
 use Rattle.tzif_reader.specs.Cut.{version_in, counts_in, first_header, second_place, second_header, counts_of, block_place}
-use Rattle.tzif_reader.specs.Faults.{when, room_fault, header_fault, stands_for_all, counts_fault, frame_fault}
-use Rattle.tzif_reader.proofs.Chain.{first, second, neither}
+use Rattle.td_base.specs.FirstFault.{when}
+use Rattle.tzif_reader.specs.Faults.{room_fault, header_fault, stands_for_all, counts_fault, frame_fault}
+use Rattle.td_base.proofs.FaultLemmas.{first, second, neither}
 use Rattle.tzif_reader.proofs.Headers.{when_none, none_when, room_none, none_room, HeaderAt, header_none, none_header}
 
 stands : (count types : ℕ) → stands_for_all count types ≡ true → (count ≡ 0) ⊎ (count ≡ types)

@@ -12,8 +12,9 @@ use Rattle.tzif_reader.specs.declared.tzif_fault.TzifFault.{TzifFault}
 use Rattle.tzif_reader.specs.declared.tzif_fault.TzifFault.TheVariants.{Magic, Short}
 use Rattle.tzif_reader.specs.Layout.{IsUnsigned, IsHeader, magic, listed}
 use Rattle.tzif_reader.specs.Cut.{piece, unsigned_at, version_in, counts_in}
-use Rattle.tzif_reader.specs.Faults.{when, room_fault, header_fault}
-use Rattle.tzif_reader.proofs.Chain.{first, second, neither}
+use Rattle.td_base.specs.FirstFault.{when}
+use Rattle.tzif_reader.specs.Faults.{room_fault, header_fault}
+use Rattle.td_base.proofs.FaultLemmas.{first, second, neither}
 use Rattle.tzif_reader.proofs.Joined.{join_step, joined_length, joined_at, cut_at, length_piece}
 
 pub when_none : (test : Bool) (fault : TzifFault) → when test fault ≡ None → test ≡ false

@@ -1,5 +1,5 @@
-pub mod Chain
-pub mod Least
+pub mod Items
+pub mod Named
 pub mod Joined
 pub mod Headers
 pub mod Records
@@ -8,4 +8,5 @@ pub mod Blocks
 pub mod Cuts
 pub mod Footers
 pub mod Frames
+pub mod LeapLines
 pub mod Whole

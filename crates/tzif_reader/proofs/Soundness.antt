@@ -5,9 +5,10 @@ use Rattle.tzif_reader.specs.declared.counts.Counts.{Counts}
 use Rattle.tzif_reader.specs.declared.tzif_fault.TzifFault.{TzifFault}
 use Rattle.tzif_reader.specs.declared.tzif_fault.TzifFault.TheVariants.{Order, TypeNumber, Designation, Indicator, OffsetBeyond, TooLate}
 use Rattle.tzif_reader.specs.Cut.{Parts}
-use Rattle.tzif_reader.specs.Faults.{least, contents_fault, is_unordered, is_unknown, is_unnamed, is_unflagged, is_beyond, is_late}
-use Rattle.tzif_reader.proofs.Chain.{first, second, neither, unmapped}
-use Rattle.tzif_reader.proofs.Least.{least_clear, none_least}
+use Rattle.td_base.specs.FirstFault.{least}
+use Rattle.tzif_reader.specs.Faults.{contents_fault, is_unordered, is_unknown, is_unnamed, is_unflagged, is_beyond, is_late}
+use Rattle.td_base.proofs.FaultLemmas.{first, second, neither, unmapped}
+use Rattle.td_base.proofs.LeastLemmas.{least_clear, none_least}
 use Rattle.tzif_reader.proofs.Headers.{when_none, none_when}
 
 -- no field is faulty

@@ -9,9 +9,9 @@ use Rattle.tzif_reader.specs.declared.counts.Counts.{Counts}
 use Rattle.tzif_reader.specs.declared.tzif_fault.TzifFault.{TzifFault}
 use Rattle.tzif_reader.specs.declared.zone_file.ZoneFile.{ZoneFile}
 use Rattle.tzif_reader.specs.Layout.{magic, AreCounts, IsVersion, IsZoneFile, IsHeader, first_block_size, second_block_size}
-use Rattle.tzif_reader.specs.Cut.{Parts, piece, version_in, counts_in, parts_in, first_header, second_place, second_header, counts_of, block_place, parts_of, footer_of, zone_from, zone_of}
+use Rattle.tzif_reader.specs.Cut.{Parts, piece, version_in, counts_in, parts_in, first_header, second_place, second_header, counts_of, block_place, parts_of, footer_of, zone_from, lists_of}
 use Rattle.tzif_reader.specs.Faults.{frame_fault, contents_fault, footer_fault, first_fault}
-use Rattle.tzif_reader.proofs.Chain.{first, second, neither}
+use Rattle.td_base.proofs.FaultLemmas.{first, second, neither}
 use Rattle.tzif_reader.proofs.Joined.{cut_at, field, length_piece}
 use Rattle.tzif_reader.proofs.Headers.{header_is, header_cuts}
 use Rattle.tzif_reader.proofs.Soundness.{AreSound, contents_none, none_contents}
@@ -23,7 +23,7 @@ use Rattle.tzif_reader.proofs.Frames.{IsFramed, frame_none, none_frame}
 onto : (a r s : List ℕ) → r ≡ s → a ++ r ≡ a ++ s
 onto a r s h = ap (λ (t : List ℕ). a ++ t) h
 
-pub zone_file_of : (bytes : List ℕ) → first_fault bytes ≡ None → IsZoneFile bytes (zone_of bytes)
+pub zone_file_of : (bytes : List ℕ) → first_fault bytes ≡ None → IsZoneFile bytes (lists_of bytes)
 unfolding first_fault counts_of block_place parts_of
 zone_file_of bytes h =
     let framed = frame_none bytes (first _ _ h) in
@@ -78,7 +78,7 @@ framed_of bytes z is e1 s1 v1 e2 s2 v2 c2 room = record {
 -- what a zone file is, cut
 pub record CutsZone (bytes : List ℕ) (z : ZoneFile) : Type 0 where
   pub no_fault : first_fault bytes ≡ None
-  pub zone_is : z ≡ zone_of bytes
+  pub zone_is : z ≡ lists_of bytes
 
 pub zone_file_cuts : (bytes : List ℕ) (z : ZoneFile) → IsZoneFile bytes z → CutsZone bytes z
 unfolding first_fault counts_of block_place parts_of
@@ -108,11 +108,11 @@ zone_file_cuts bytes z is =
 -- ---- the laws
 
 pub exactly_one : (bytes : List ℕ) → ((z : ZoneFile) × IsZoneFile bytes z) ↔ (first_fault bytes ≡ None)
-exactly_one bytes = (λ h. (zone_file_cuts bytes h.0 h.1).no_fault, λ h. (zone_of bytes, zone_file_of bytes h))
+exactly_one bytes = (λ h. (zone_file_cuts bytes h.0 h.1).no_fault, λ h. (lists_of bytes, zone_file_of bytes h))
 
 pub only_one : (bytes : List ℕ) (y z : ZoneFile) → IsZoneFile bytes y → IsZoneFile bytes z → y ≡ z
 only_one bytes y z p q = (zone_file_cuts bytes y p).zone_is ∙ sym (zone_file_cuts bytes z q).zone_is
 
-pub is_found : (bytes : List ℕ) (r : Result ZoneFile TzifFault) → IfOk r (λ z. z ≡ zone_of bytes) → OnOk r (first_fault bytes ≡ None) → IfOk r (λ z. IsZoneFile bytes z)
+pub is_found : (bytes : List ℕ) (r : Result ZoneFile TzifFault) → IfOk r (λ z. z ≡ lists_of bytes) → OnOk r (first_fault bytes ≡ None) → IfOk r (λ z. IsZoneFile bytes z)
 is_found bytes (Ok z) same none = subst (λ (y : ZoneFile). IsZoneFile bytes y) (sym same) (zone_file_of bytes none)
 is_found bytes (Err e) same none = tt

@@ -141,5 +141,5 @@ zone_from c p footer = record {
   footer = footer;
 }
 
-abbrev pub zone_of : List ℕ → ZoneFile
-zone_of bytes = zone_from (counts_of bytes) (parts_of bytes) (unwrap_or (footer_of bytes) [])
+abbrev pub lists_of : List ℕ → ZoneFile
+lists_of bytes = zone_from (counts_of bytes) (parts_of bytes) (unwrap_or (footer_of bytes) [])

@@ -1,27 +1,16 @@
 -- The first fault of a file, in the order in which faults are told.
-use Rattle.std.specs.Prelude.{ℕ, ◌+◌, ◌-◌, ◌*◌, ◌&&◌, ◌||◌, not, List, length, pos, negsuc, int_lt, int_le, Bool, true, nat_lt, nat_le, ◌==◌, if◌then◌else◌, slice_index, Option, Some, None, find}
-use Rattle.std.specs.Option.{option_map, option_or}
-use Rattle.std.specs.List.{range_with_len, starts_with}
+use Rattle.std.specs.Prelude.{ℕ, ◌+◌, ◌-◌, ◌*◌, ◌&&◌, ◌||◌, not, List, length, pos, negsuc, int_lt, int_le, Bool, true, nat_lt, nat_le, ◌==◌, slice_index, Option, Some, None}
+use Rattle.std.specs.Option.{option_map}
+use Rattle.std.specs.List.{starts_with}
 use Rattle.std.specs.Bool.{nat_eq}
+use Rattle.td_base.specs.FirstFault.{when, ◌or_else◌, least}
 use Rattle.td_civil.specs.declared.moment_type.TheConstants.{HI}
 use Rattle.tzif_reader.specs.declared.tzif_fault.TzifFault.{TzifFault}
 use Rattle.tzif_reader.specs.declared.tzif_fault.TzifFault.TheVariants.{Magic, Version, Short, Counts as BadCounts, Order, TypeNumber, Designation, Indicator, OffsetBeyond, TooLarge, TooLate, FooterFrame, Trailing}
 use Rattle.tzif_reader.specs.declared.counts.Counts.{Counts}
+use Rattle.tzif_reader.specs.declared.zone_file.TheConstants.{MOST_BYTES, MOST_TRANSITIONS}
 use Rattle.tzif_reader.specs.Layout.{magic, first_block_size, second_block_size}
 use Rattle.tzif_reader.specs.Cut.{Parts, version_in, counts_in, long_at, offset_at, flag_at, name_at, piece, first_header, second_place, second_header, counts_of, block_place, parts_of, footer_place, footer_of}
-
--- the fault, where the test holds
-abbrev pub when : Bool → TzifFault → Option TzifFault
-when test fault = if test then Some fault else None
-
--- the first of several faults
-infixr 4 ◌or_else◌
-abbrev pub ◌or_else◌ : Option TzifFault → Option TzifFault → Option TzifFault
-a or_else b = option_or a b
-
--- the least number below n with a property
-abbrev pub least : ℕ → (ℕ → Bool) → Option ℕ
-least n test = find test (range_with_len 0 n)
 
 -- ---- frame
 
@@ -40,12 +29,12 @@ stands_for_all count types = count == 0 || count == types
 unfoldable pub counts_fault : Counts → Option TzifFault
 counts_fault c =
     when (c.typecnt == 0 || c.charcnt == 0 || not (stands_for_all c.isutcnt c.typecnt) || not (stands_for_all c.isstdcnt c.typecnt)) BadCounts
-    or_else when (nat_lt 4096 c.timecnt) TooLarge
+    or_else when (nat_lt MOST_TRANSITIONS c.timecnt) TooLarge
 
 -- what is wrong with the size, the headers and the room for the blocks
 unfoldable pub frame_fault : List ℕ → Option TzifFault
 frame_fault bytes =
-    when (nat_lt 65536 (length bytes)) TooLarge
+    when (nat_lt MOST_BYTES (length bytes)) TooLarge
     or_else header_fault 0 bytes
     or_else when (not (nat_le 50 (version_in (first_header bytes)) && nat_le (version_in (first_header bytes)) 52)) Version
     or_else room_fault 44 (first_block_size (counts_in (first_header bytes))) bytes

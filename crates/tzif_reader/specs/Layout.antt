@@ -1,5 +1,5 @@
 -- The layout of a TZif file (RFC 9636, section 3) of version 2 to 4, as this service takes it: the whole file is its
--- parts, one behind another. Numbers are big-endian, and signed ones are in two's complement.
+-- parts, one after another. Numbers are big-endian, and signed ones are in two's complement.
 use Rattle.std.specs.Prelude.{◌≡◌, ◌≢◌, ℕ, suc, ◌+◌, ◌-◌, ◌*◌, ◌<◌, ◌≤◌, ◌⊎◌, List, [], ◌∷◌, ◌++◌, length, All, slice_index_or, slice_get, IfSome, ℤ, pos, negsuc, ◌<ℤ◌, ◌≤ℤ◌}
 use Rattle.std.specs.Int.{Width, w32, w64, from_be_bytes, cast_signed, from_bool}
 use Rattle.td_civil.specs.declared.moment_type.Moment.{Moment}
@@ -8,8 +8,9 @@ use Rattle.td_civil.specs.declared.local_time.Local.{Local}
 use Rattle.tzif_reader.specs.declared.counts.Counts.{Counts}
 use Rattle.tzif_reader.specs.declared.zone_file.ZoneFile.{ZoneFile}
 use Rattle.tzif_reader.specs.declared.zone_file.LeapLine.{LeapLine}
+use Rattle.tzif_reader.specs.declared.zone_file.TheConstants.{MOST_BYTES, MOST_TRANSITIONS}
 
--- The text is these items, one behind another, each a piece of so many bytes.
+-- The text is these items, one after another, each a piece of so many bytes.
 abbrev pub AreJoined : {A : Type 0} → ℕ → (List ℕ → A → Type 0) → List ℕ → List A → Type 0
 AreJoined size Is text [] = text ≡ []
 AreJoined size Is text (x ∷ xs) = (piece : List ℕ) × (rest : List ℕ) × (text ≡ piece ++ rest) × (length piece ≡ size) × Is piece x × AreJoined size Is rest xs
@@ -117,7 +118,7 @@ pub record AreCounts (c : Counts) : Type 0 where
   pub designations : 0 < c.charcnt
   pub ut : (c.isutcnt ≡ 0) ⊎ (c.isutcnt ≡ c.typecnt)
   pub standard : (c.isstdcnt ≡ 0) ⊎ (c.isstdcnt ≡ c.typecnt)
-  pub times : c.timecnt ≤ 4096
+  pub times : c.timecnt ≤ MOST_TRANSITIONS
 
 -- ---- the file (section 3)
 
@@ -132,7 +133,7 @@ pub record IsZoneFile (bytes : List ℕ) (z : ZoneFile) : Type 0 where
   pub first_counts : Counts
   pub counts : Counts
   pub whole : bytes ≡ first_header ++ (first_block ++ (second_header ++ (second_block ++ (10 ∷ (z.footer ++ (10 ∷ []))))))
-  pub size : length bytes ≤ 65536
+  pub size : length bytes ≤ MOST_BYTES
   pub first_header_is : IsHeader first_header version first_counts
   pub version_is : IsVersion version
   pub first_block_is : length first_block ≡ first_block_size first_counts

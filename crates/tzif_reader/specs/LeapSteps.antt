@@ -5,7 +5,7 @@ use Rattle.std.specs.List.{range_with_len, flat_map}
 use Rattle.std.specs.Int.{int_div_euclid}
 use Rattle.td_civil.specs.declared.moment_type.TheConstants.{HI}
 use Rattle.tzif_reader.specs.declared.zone_file.LeapLine.{LeapLine}
-use Rattle.tzif_reader.specs.Faults.{least}
+use Rattle.td_base.specs.FirstFault.{least}
 
 -- why lines are no leap table: this line does not go one second on, or it does not begin a day
 pub data LeapCause : Type 0 where

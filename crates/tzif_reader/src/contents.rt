@@ -3,7 +3,8 @@
 ghost use Rattle.std.specs.Prelude.{◌≡◌, ◌*◌, ◌+◌, ◌<◌, ◌≤◌, length, OnOk, IfErr, None, Some, nat_lt, slice_index};
 ghost use Rattle.std.specs.Option.{option_copied};
 ghost use Rattle.tzif_reader.specs.Cut.{name_at};
-ghost use Rattle.tzif_reader.specs.Faults.{least, is_unordered, is_unknown, is_unnamed, is_unflagged, is_beyond, is_late, contents_fault};
+ghost use Rattle.td_base.specs.FirstFault.{least};
+ghost use Rattle.tzif_reader.specs.Faults.{is_unordered, is_unknown, is_unnamed, is_unflagged, is_beyond, is_late, contents_fault};
 ghost use Rattle.tzif_reader.specs.Views.{parts_view, AreSized};
 
 use crate::TzifFault;
@@ -69,7 +70,7 @@ fn is_beyond(types: &[u8], i: usize) -> bool
     offset < -GREATEST_OFFSET || offset > GREATEST_OFFSET
 }
 
-#[tactic(auto, using(crate::proofs::Least::least_step, crate::proofs::Least::least_found, crate::proofs::Least::least_none))]
+#[tactic(auto, using(td_base::proofs::LeastLemmas::least_step, td_base::proofs::LeastLemmas::least_found, td_base::proofs::LeastLemmas::least_none))]
 fn first_unordered(times: &[u8], timecnt: usize) -> Option<usize>
     requires { length times.now ≡ 8 * timecnt }
     ensures { result ≡ least timecnt (is_unordered times.now) }
@@ -82,7 +83,7 @@ fn first_unordered(times: &[u8], timecnt: usize) -> Option<usize>
     None
 }
 
-#[tactic(auto, using(crate::proofs::Least::least_step, crate::proofs::Least::least_found, crate::proofs::Least::least_none))]
+#[tactic(auto, using(td_base::proofs::LeastLemmas::least_step, td_base::proofs::LeastLemmas::least_found, td_base::proofs::LeastLemmas::least_none))]
 fn first_unknown(numbers: &[u8], typecnt: u32) -> Option<usize>
     ensures { result ≡ least (length numbers.now) (is_unknown typecnt numbers.now) }
 {
@@ -94,7 +95,7 @@ fn first_unknown(numbers: &[u8], typecnt: u32) -> Option<usize>
     None
 }
 
-#[tactic(auto, using(crate::proofs::Least::least_step, crate::proofs::Least::least_found, crate::proofs::Least::least_none))]
+#[tactic(auto, using(td_base::proofs::LeastLemmas::least_step, td_base::proofs::LeastLemmas::least_found, td_base::proofs::LeastLemmas::least_none))]
 fn first_unnamed(designations: &[u8], types: &[u8], typecnt: usize) -> Option<usize>
     requires { length types.now ≡ 6 * typecnt }
     ensures { result ≡ least typecnt (is_unnamed designations.now types.now) }
@@ -107,7 +108,7 @@ fn first_unnamed(designations: &[u8], types: &[u8], typecnt: usize) -> Option<us
     None
 }
 
-#[tactic(auto, using(crate::proofs::Least::least_step, crate::proofs::Least::least_found, crate::proofs::Least::least_none))]
+#[tactic(auto, using(td_base::proofs::LeastLemmas::least_step, td_base::proofs::LeastLemmas::least_found, td_base::proofs::LeastLemmas::least_none))]
 fn first_unflagged(block: &Block, typecnt: usize) -> Option<usize>
     requires { length block.now.types.now ≡ 6 * typecnt }
     ensures { result ≡ least typecnt (is_unflagged (parts_view block.now)) }
@@ -120,7 +121,7 @@ fn first_unflagged(block: &Block, typecnt: usize) -> Option<usize>
     None
 }
 
-#[tactic(auto, using(crate::proofs::Least::least_step, crate::proofs::Least::least_found, crate::proofs::Least::least_none))]
+#[tactic(auto, using(td_base::proofs::LeastLemmas::least_step, td_base::proofs::LeastLemmas::least_found, td_base::proofs::LeastLemmas::least_none))]
 fn first_beyond(types: &[u8], typecnt: usize) -> Option<usize>
     requires { length types.now ≡ 6 * typecnt }
     ensures { result ≡ least typecnt (is_beyond types.now) }
@@ -141,7 +142,7 @@ fn is_late(times: &[u8], timecnt: usize) -> bool
 }
 
 /// Looks for the first fault of the fields, one kind after another.
-#[tactic(auto, using(crate::proofs::Chain::sooner, crate::proofs::Chain::later, crate::proofs::Chain::neither), unfolding(crate::specs::Faults::contents_fault))]
+#[tactic(auto, using(td_base::proofs::FaultLemmas::sooner, td_base::proofs::FaultLemmas::later, td_base::proofs::FaultLemmas::neither), unfolding(crate::specs::Faults::contents_fault))]
 pub fn check(counts: &Counts, block: &Block) -> Result<(), TzifFault>
     requires { AreSized counts.now (parts_view block.now) }
     ensures ok { OnOk result (contents_fault counts.now (parts_view block.now) ≡ None) }

@@ -3,9 +3,7 @@ ghost use Rattle.tzif_reader.specs.Layout.{first_block_size, second_block_size};
 ghost use Rattle.tzif_reader.specs.Faults.{counts_fault, stands_for_all};
 
 use crate::TzifFault;
-
-/// The most transitions that a file may have.
-const MOST_TRANSITIONS: u32 = 4_096;
+use crate::zone_file::MOST_TRANSITIONS;
 
 /// The six counts of a header, by their names in RFC 9636, section 3.1.
 #[derive(Clone, Copy)]

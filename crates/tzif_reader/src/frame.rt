@@ -6,9 +6,7 @@ ghost use Rattle.tzif_reader.specs.Faults.{frame_fault};
 use crate::TzifFault;
 use crate::counts::Counts;
 use crate::header::{HEADER_LEN, header_at, room};
-
-/// The most bytes that a file may have.
-const MOST_BYTES: usize = 65_536;
+use crate::zone_file::MOST_BYTES;
 
 /// Where the second block and the footer of a file stand, and the counts of that block.
 #[derive(Clone, Copy)]
@@ -19,7 +17,7 @@ pub struct Frame {
 }
 
 /// Goes over the headers and the blocks. Of the first block it looks at nothing but its length.
-#[tactic(auto, using(crate::proofs::Chain::sooner, crate::proofs::Chain::later, crate::proofs::Chain::neither), unfolding(crate::specs::Faults::frame_fault, crate::specs::Cut::counts_of, crate::specs::Cut::block_place))]
+#[tactic(auto, using(td_base::proofs::FaultLemmas::sooner, td_base::proofs::FaultLemmas::later, td_base::proofs::FaultLemmas::neither), unfolding(crate::specs::Faults::frame_fault, crate::specs::Cut::counts_of, crate::specs::Cut::block_place))]
 pub fn frame_of(bytes: &[u8]) -> Result<Frame, TzifFault>
     ensures fault { IfOk result (λ f. frame_fault bytes.now ≡ None) }
     ensures counts { IfOk result (λ f. f.counts ≡ counts_of bytes.now) }

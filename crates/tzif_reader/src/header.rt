@@ -16,7 +16,7 @@ pub struct Header {
     pub counts: Counts,
 }
 
-/// The place behind so many bytes, where the file has them.
+/// The place after so many bytes, where the file has them.
 pub fn room(bytes: &[u8], place: usize, size: u64) -> Result<usize, TzifFault>
     requires { place ≤ length bytes.now }
     ensures ok { IfOk result (λ end. (end ≡ place + size) × (end ≤ length bytes.now) × (room_fault place size bytes.now ≡ None)) }

@@ -1,4 +1,5 @@
-//! Zone files in the TZif format (RFC 9636), versions 2 to 4, read from their bytes.
+//! Zone files in the TZif format (RFC 9636), versions 2 to 4, read from their bytes. The main call is [`read`]: what it
+//! gives is laid out in the bytes as `Layout.antt` says, and what it refuses has the first fault of `Faults.antt`.
 #![tactic(auto)]
 
 mod block;
@@ -6,6 +7,7 @@ mod contents;
 mod counts;
 mod frame;
 mod header;
+mod laws;
 mod numbers;
 mod reading;
 mod send_sync;
@@ -14,9 +16,10 @@ mod tzif_fault;
 mod zone;
 mod zone_file;
 
-pub use reading::{one_zone_file, read};
+pub use laws::{leap_lines_fit, one_zone_file};
+pub use reading::read;
 pub use tzif_fault::TzifFault;
-pub use zone_file::{LeapLine, ZoneFile};
+pub use zone_file::{LeapLine, MOST_BYTES, MOST_TRANSITIONS, ZoneFile};
 
 #[cfg(test)]
 mod tests;

@@ -8,8 +8,8 @@ pub fn piece(bytes: &[u8], place: usize, size: usize) -> &[u8]
     ensures len { length result.now ≡ size }
 {
     let (_, rest) = bytes.split_at(place);
-    let (front, _) = rest.split_at(size);
-    front
+    let (prefix, _) = rest.split_at(size);
+    prefix
 }
 
 /// The unsigned number of 4 bytes at a place.

@@ -1,8 +1,7 @@
-ghost use Rattle.std.specs.Prelude.{◌≡◌, ◌≢◌, ◌↔◌, ◌≤◌, ℕ, List, length, IfOk, OnOk, IfErr, None, Some};
+ghost use Rattle.std.specs.Prelude.{◌≡◌, ◌≢◌, ◌≤◌, length, IfOk, OnOk, IfErr, None, Some};
 ghost use Rattle.tzif_reader.specs.Layout.{IsZoneFile};
-ghost use Rattle.tzif_reader.specs.Cut.{zone_of, footer_of, footer_place};
+ghost use Rattle.tzif_reader.specs.Cut.{lists_of, footer_of, footer_place};
 ghost use Rattle.tzif_reader.specs.Faults.{first_fault, footer_fault};
-ghost use Rattle.tzif_reader.specs.declared.zone_file.ZoneFile.{ZoneFile as Zone};
 ghost use Rattle.tzif_reader.specs.declared.tzif_fault.TzifFault.TheVariants.{NoMemory};
 
 use crate::block::fields_of;
@@ -37,9 +36,9 @@ fn footer_at(bytes: &[u8], place: usize) -> Result<&[u8], TzifFault>
 }
 
 /// The zone that the definitions cut out of the bytes, or their first fault.
-#[tactic(auto, using(crate::proofs::Chain::sooner, crate::proofs::Chain::later, crate::proofs::Chain::neither), unfolding(crate::specs::Faults::first_fault, crate::specs::Cut::parts_of))]
+#[tactic(auto, using(td_base::proofs::FaultLemmas::sooner, td_base::proofs::FaultLemmas::later, td_base::proofs::FaultLemmas::neither), unfolding(crate::specs::Faults::first_fault, crate::specs::Cut::parts_of))]
 fn zone_or_fault(alloc: Global, bytes: &[u8]) -> Result<ZoneFile, TzifFault>
-    ensures exact { IfOk result (λ z. z ≡ zone_of bytes.now) }
+    ensures exact { IfOk result (λ z. z ≡ lists_of bytes.now) }
     ensures no_fault { OnOk result (first_fault bytes.now ≡ None) }
     ensures fault { IfErr result (λ e. e ≢ NoMemory → first_fault bytes.now ≡ Some e) }
 {
@@ -52,24 +51,17 @@ fn zone_or_fault(alloc: Global, bytes: &[u8]) -> Result<ZoneFile, TzifFault>
     Ok(zone)
 }
 
-/// Reads a whole zone file of at most 65,536 bytes (RFC 9636, section 3). It wants a version from 2 to 4; of the first
-/// block, whose times have 4 bytes, it looks at the size alone. An error is want of memory or the first fault: of the
+/// Reads a whole zone file of at most [`MOST_BYTES`](crate::MOST_BYTES) bytes (RFC 9636, section 3). It wants a version from 2 to 4; of the first
+/// block, whose times have 4 bytes, it looks at the size alone. An error is [`TzifFault::NoMemory`] or the first fault: of the
 /// size, of the headers and the room for the blocks as they come, of the second block, kind after kind in the order of
 /// `TzifFault`'s numbers with `TooLate` as the last, and of the footer.
 #[tactic(auto, using(crate::proofs::Whole::is_found))]
 pub fn read(alloc: Global, bytes: &[u8]) -> Result<ZoneFile, TzifFault>
     // What is read is laid out so.
     ensures found { IfOk result (λ z. IsZoneFile bytes.now z) }
-    ensures exact { IfOk result (λ z. z ≡ zone_of bytes.now) }
+    ensures exact { IfOk result (λ z. z ≡ lists_of bytes.now) }
     ensures no_fault { OnOk result (first_fault bytes.now ≡ None) }
     ensures fault { IfErr result (λ e. e ≢ NoMemory → first_fault bytes.now ≡ Some e) }
 {
     zone_or_fault(alloc, bytes)
 }
-
-/// A list of bytes is a zone file exactly where it has no fault, and tells of one zone alone.
-#[tactic(auto, using(crate::proofs::Whole::exactly_one))]
-pub fn one_zone_file()
-    ensures exactly { (bytes : List ℕ) → ((z : Zone) × IsZoneFile bytes z) ↔ (first_fault bytes ≡ None) }
-    ensures one { (bytes : List ℕ) (y z : Zone) → IsZoneFile bytes y → IsZoneFile bytes z → y ≡ z }
-{}

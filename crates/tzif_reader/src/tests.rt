@@ -128,16 +128,16 @@ fn cut_and_longer_files(rt: HostRuntime) -> Result<(), Fail> {
     for (plan, len, block_end) in [(UTC, 111, 105), (NEW_YORK, 148, 124)] {
         let file = slim(alloc, &plan)?;
         assert_eq!(rt; file.len(), len);
-        let mut front = Bytes::new(alloc);
+        let mut prefix = Bytes::new(alloc);
         for byte in file.as_slice() {
-            let fault = cut_fault(front.len(), block_end);
-            assert_eq!(rt; fault_of(alloc, front.as_slice()), Some(fault));
-            front.push(*byte)?;
+            let fault = cut_fault(prefix.len(), block_end);
+            assert_eq!(rt; fault_of(alloc, prefix.as_slice()), Some(fault));
+            prefix.push(*byte)?;
         }
-        assert_eq!(rt; fault_of(alloc, front.as_slice()), None);
-        front.push(b'X')?;
+        assert_eq!(rt; fault_of(alloc, prefix.as_slice()), None);
+        prefix.push(b'X')?;
         assert_eq!(rt;
-            fault_of(alloc, front.as_slice()),
+            fault_of(alloc, prefix.as_slice()),
             Some(TzifFault::Trailing(len))
         );
     }
@@ -267,6 +267,43 @@ fn faults_of_other_files(rt: HostRuntime) -> Result<(), Fail> {
     Ok(())
 }
 
+/// Edits of the same file in which two things are wrong, and the fault that is told of them.
+const TWO_FAULTS: [(&[(usize, &[u8])], TzifFault); 7] = [
+    (&[(4, b"1"), (40, &[255; 4])], TzifFault::Version),
+    (&[(83, &[255; 4]), (71, &[0, 0, 0, 1])], TzifFault::Counts),
+    (&[(51, b"Y"), (55, b"3")], TzifFault::Magic),
+    (&[(115, &[8]), (108, &[2])], TzifFault::Designation(1)),
+    (
+        &[(114, &[2]), (104, &[0, 1, 0x51, 0x80])],
+        TzifFault::Indicator(1),
+    ),
+    (
+        &[(104, &[0, 1, 0x51, 0x80]), (95, &[127; 8])],
+        TzifFault::OffsetBeyond(0),
+    ),
+    (&[(95, &[127; 8]), (124, b"X")], TzifFault::TooLate),
+];
+
+#[test]
+fn first_of_two_faults(rt: HostRuntime) -> Result<(), Fail> {
+    let alloc = rt.alloc();
+    for (edits, fault) in &TWO_FAULTS {
+        let mut bytes = slim(alloc, &NEW_YORK)?;
+        for (place, with) in *edits {
+            bytes = edited(alloc, bytes.as_slice(), *place, with)?;
+        }
+        assert_eq!(rt; fault_of(alloc, bytes.as_slice()), Some(*fault));
+    }
+    let unordered = Plan {
+        times: &[7, 7],
+        numbers: &[2, 1],
+        ..NEW_YORK
+    };
+    let file = slim(alloc, &unordered)?;
+    assert_eq!(rt; fault_of(alloc, file.as_slice()), Some(TzifFault::Order(1)));
+    Ok(())
+}
+
 #[test]
 fn a_zone_is_read(rt: HostRuntime) -> Result<(), Fail> {
     let alloc = rt.alloc();
@@ -306,6 +343,7 @@ fn a_zone_is_read(rt: HostRuntime) -> Result<(), Fail> {
         assert_eq!(rt; line.correction, *correction);
     }
     one_zone_file();
+    leap_lines_fit();
     Ok(())
 }
 

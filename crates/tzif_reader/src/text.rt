@@ -5,12 +5,12 @@ ghost use Rattle.tzif_reader.specs.Cut.{before, text_between};
 /// The text before the first byte `mark`, where there is one.
 pub fn before(text: &[u8], mark: u8) -> Option<&[u8]>
     ensures value { option_copied result ≡ before mark text.now }
-    ensures len { IfSome result (λ front. length front.now < length text.now) }
+    ensures len { IfSome result (λ prefix. length prefix.now < length text.now) }
 {
     for (i, byte) in text.iter().enumerate() {
         if *byte == mark {
-            let (front, _) = text.split_at(i);
-            return Some(front);
+            let (prefix, _) = text.split_at(i);
+            return Some(prefix);
         }
     }
     None

@@ -28,11 +28,11 @@ pub enum TzifFault {
     Indicator(usize),
     /// This type's offset is below -86399 or above 86399 seconds.
     OffsetBeyond(usize),
-    /// The file has more than 65536 bytes or more than 4096 transitions.
+    /// The file has more than [`MOST_BYTES`](crate::MOST_BYTES) bytes or [`MOST_TRANSITIONS`](crate::MOST_TRANSITIONS) transitions.
     TooLarge,
     /// The last transition is at or after 9999-01-01T00:00:00Z.
     TooLate,
-    /// No text between line feeds stands behind the second block.
+    /// No text between line feeds stands after the second block.
     FooterFrame,
     /// Bytes follow the footer from this place on.
     Trailing(usize),

@@ -2,7 +2,8 @@
 
 ghost use Rattle.std.specs.Prelude.{◌≡◌, ◌*◌, ◌+◌, ◌≤◌, length, IfOk, false, None};
 ghost use Rattle.tzif_reader.specs.Cut.{items, moment_at, kind_at, leap_at, zone_from};
-ghost use Rattle.tzif_reader.specs.Faults.{least, is_unnamed};
+ghost use Rattle.td_base.specs.FirstFault.{least};
+ghost use Rattle.tzif_reader.specs.Faults.{is_unnamed};
 ghost use Rattle.tzif_reader.specs.Views.{parts_view, AreSized};
 
 use crate::block::Block;
@@ -14,7 +15,7 @@ use std::alloc::Global;
 use td_base::{Bytes, Items, NoMemory, ShortText};
 use td_civil::{Local, Moment};
 
-#[tactic(auto, using(crate::proofs::Least::items_more))]
+#[tactic(auto, using(crate::proofs::Items::items_more))]
 fn moments_of(alloc: Global, times: &[u8], timecnt: usize) -> Result<Items<Moment>, NoMemory>
     requires { length times.now ≡ 8 * timecnt }
     ensures { IfOk result (λ found. found ≡ items timecnt (moment_at times.now)) }
@@ -44,7 +45,7 @@ fn kind_of(designations: &[u8], types: &[u8], i: usize) -> Local
     }
 }
 
-#[tactic(auto, using(crate::proofs::Least::items_more))]
+#[tactic(auto, using(crate::proofs::Items::items_more))]
 fn kinds_of(
     alloc: Global,
     designations: &[u8],
@@ -63,7 +64,7 @@ fn kinds_of(
     Ok(kinds)
 }
 
-#[tactic(auto, using(crate::proofs::Least::items_more))]
+#[tactic(auto, using(crate::proofs::Items::items_more))]
 fn leaps_of(alloc: Global, leaps: &[u8], leapcnt: usize) -> Result<Items<LeapLine>, NoMemory>
     requires { length leaps.now ≡ 12 * leapcnt }
     ensures { IfOk result (λ found. found ≡ items leapcnt (leap_at leaps.now)) }

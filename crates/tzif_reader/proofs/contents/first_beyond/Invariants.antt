@@ -1,7 +1,8 @@
 use Rattle.std.proofs.Common.{◌≡◌, ◌-◌}
 use Rattle.std.specs.Prelude.{find}
 use Rattle.std.specs.List.{range_with_len}
-use Rattle.tzif_reader.specs.Faults.{is_beyond, least}
+use Rattle.td_base.specs.FirstFault.{least}
+use Rattle.tzif_reader.specs.Faults.{is_beyond}
 use Rattle.tzif_reader.proofs.contents.first_beyond.Given as goal
 
 abbrev pub invariant-loop-i : goal.invariant-loop-i

@@ -1,5 +1,5 @@
 use Rattle.tzif_reader.specs.Views.{parts_view}
-use Rattle.tzif_reader.proofs.Chain.{named}
+use Rattle.tzif_reader.proofs.Named.{named}
 use Rattle.tzif_reader.proofs.reading.zone_or_fault.Goals as goal
 
 pub zone_from-requires-clause-named : goal.zone_from-requires-clause-named
