@@ -1,14 +1,16 @@
 -- What upper crates need of the state: the last change decides it, and between two changes it stays.
-use Rattle.std.proofs.Common.{◌≡◌, ℕ, zero, suc, ◌+◌, ◌<◌, Bool, true, false, ◌&&◌, refl, ap, arith, ℤ, pos, ◌≤ℤ◌, int_lt, int_le}
+use Rattle.std.proofs.Common.{◌≡◌, ℕ, zero, suc, ◌+◌, ◌<◌, Bool, true, false, ◌&&◌, refl, ap, arith, ℤ, pos, ◌≤ℤ◌, int_lt, int_le, Option, None, Some, if◌then◌else◌}
 use Rattle.std.specs.List.{list_any}
 use Rattle.std.proofs.lemmas.Int.{by_lt_z, ints}
 use Rattle.jiff_core.specs.Calendar.{IsBetween}
 use Rattle.jiff_core.proofs.SignedLemmas.{signed_arith}
-use Rattle.posix_footer.specs.declared.rule_types.Edge.{Edge}
+use Rattle.td_civil.specs.declared.local_time.Local.{Local}
+use Rattle.posix_footer.specs.declared.rule_types.Footer.{Footer}
 use Rattle.posix_footer.specs.declared.rule_types.Edge.TheVariants as edge
 use Rattle.posix_footer.specs.declared.rule_types.DstRule.{DstRule}
 use Rattle.posix_footer.specs.Onset.{onset_of}
-use Rattle.posix_footer.specs.StateAt.{first_years, years, has_ended, is_daylight, IsLastChange}
+use Rattle.posix_footer.specs.NextOnset.{IsQuiet, IsQuietIfAny}
+use Rattle.posix_footer.specs.StateAt.{first_years, years, has_ended, is_daylight, state_by, state_of, IsLastChange}
 use Rattle.posix_footer.proofs.DaylightLemmas.{some_year, no_year, not_between, between_is, begun_and, not_begun_or}
 
 -- a last change that is a start gives daylight saving time
@@ -28,7 +30,8 @@ standard_after_end rule std t is =
     let apart = is.start_counts refl other there in
     some_year _ is.year is.year_in (between_is (onset_of rule std other edge.Start) t (onset_of rule std is.year edge.End) (omega (arith, signed_arith, apart)) is.begun)))
 
-first_years_same : (n : ℕ) (p q : ℤ → Bool) → ((k : ℕ) → k < n → p (pos (1798 + k)) ≡ q (pos (1798 + k))) → list_any p (first_years n) ≡ list_any q (first_years n)
+first_years_same : (n : ℕ) (p q : ℤ → Bool) → ((k : ℕ) → k < n → p (pos (1798 + k)) ≡ q (pos (1798 + k)))
+    → list_any p (first_years n) ≡ list_any q (first_years n)
 unfolding first_years
 first_years_same zero p q same = refl
 first_years_same (suc n) p q same =
@@ -46,10 +49,6 @@ same_bound : (m t u : ℤ) → t ≤ℤ u → (m ≤ℤ u → m ≤ℤ t) → in
 same_bound m t u h quiet =
     by_lt_z u m (λ late. grind (arith, ints)) (λ begun. let before = quiet begun in grind (arith, ints))
 
--- no change comes after t and not after u
-abbrev pub IsQuiet : DstRule → ℤ → ℤ → ℤ → Type 0
-IsQuiet rule std t u = (year : ℤ) (at : Edge) → IsBetween (pos 1798) (pos 9999) year → onset_of rule std year at ≤ℤ u → onset_of rule std year at ≤ℤ t
-
 -- between two changes the state stays
 pub daylight_stays : (rule : DstRule) (std t u : ℤ) → t ≤ℤ u → IsQuiet rule std t u → is_daylight rule std t ≡ is_daylight rule std u
 unfolding is_daylight has_ended
@@ -59,3 +58,11 @@ daylight_stays rule std t u h quiet =
     let ended = same_years (λ other. int_lt (onset_of rule std year edge.Start) (onset_of rule std other edge.End) && int_le (onset_of rule std other edge.End) t) (λ other. int_lt (onset_of rule std year edge.Start) (onset_of rule std other edge.End) && int_le (onset_of rule std other edge.End) u)
     (λ other that. ap (λ b. int_lt (onset_of rule std year edge.Start) (onset_of rule std other edge.End) && b) (same_bound (onset_of rule std other edge.End) t u h (quiet other edge.End that))) in
     cc)
+
+stays_by : (std : Local) (rule : Option DstRule) (t u : ℤ) → t ≤ℤ u → IsQuietIfAny rule std.offset t u → state_by std rule t ≡ state_by std rule u
+stays_by std None t u h quiet = refl
+stays_by std (Some rule) t u h quiet = ap (λ b. if b then rule.dst else std) (daylight_stays rule std.offset t u h quiet)
+
+-- and so does the state of a footer
+pub footer_stays : (footer : Footer) (t u : ℤ) → t ≤ℤ u → IsQuietIfAny footer.dst footer.std.offset t u → state_of footer t ≡ state_of footer u
+footer_stays footer t u h quiet = stays_by footer.std footer.dst t u h quiet

@@ -4,6 +4,8 @@ pub mod ChangeLemmas
 pub mod DaylightLemmas
 pub mod Found
 pub mod FoundWhole
+pub mod Lawfulness
+pub mod NextLemmas
 pub mod OnsetLemmas
 pub mod Runs
 pub mod StateLemmas

@@ -6,7 +6,7 @@ use Rattle.std.proofs.lemmas.Bool.Decides.{nat_tests}
 use Rattle.std.proofs.lemmas.Option.{cond_some}
 use Rattle.std.proofs.lemmas.List.{take-append-drop, take_at, drop_at}
 use Rattle.std.proofs.lemmas.List.Folds.{length-prefix_len}
-use Rattle.posix_footer.specs.Items.{◌>>=◌, begins_as, run_at, number_at, decimal}
+use Rattle.posix_footer.specs.Items.{◌>>=◌, begins_as, run_at, number_at, number_of_digits}
 use Rattle.posix_footer.specs.Spelling.{IsRun, IsNumber}
 
 -- what stands at the front of a text spells a value, and the rest stands behind it
@@ -99,20 +99,20 @@ run_along kind fewest most a b e h = let P : List ℕ → Type 0 = λ run. IsRun
 
 number_from : (fewest most low high : ℕ) (text front : List ℕ) (digits : List ℕ × List ℕ) (x : ℕ × List ℕ) → text ≡ front ++ digits.1 →
     IsRunOf is_ascii_digit fewest most front digits.0 →
-    cond (nat_le low (decimal digits.0) && nat_le (decimal digits.0) high) (Some (decimal digits.0, digits.1)) None ≡ Some x →
+    cond (nat_le low (number_of_digits digits.0) && nat_le (number_of_digits digits.0) high) (Some (number_of_digits digits.0, digits.1)) None ≡ Some x →
     Reads (IsNumber fewest most low high) text x
 number_from fewest most low high text front digits x text_is run h =
     let parts = cond_some _ _ _ h in
-    let n_is : decimal digits.0 ≡ x.0 = ap (λ p. p.0) parts.1 in
+    let n_is : number_of_digits digits.0 ≡ x.0 = ap (λ p. p.0) parts.1 in
     let rest_is : digits.1 ≡ x.1 = ap (λ p. p.1) parts.1 in
-    let least : low ≤ decimal digits.0 = grind (arith, nat_tests) in
-    let greatest : decimal digits.0 ≤ high = grind (arith, nat_tests) in
+    let least : low ≤ number_of_digits digits.0 = grind (arith, nat_tests) in
+    let greatest : number_of_digits digits.0 ≤ high = grind (arith, nat_tests) in
     record {
       front = front;
       text_is = text_is ∙ ap (λ rest. front ++ rest) rest_is;
       spells = record {
         digits = run.bytes;
-        value = sym n_is ∙ ap decimal (sym run.same);
+        value = sym n_is ∙ ap number_of_digits (sym run.same);
         at_least = omega (arith, n_is, least);
         at_most = omega (arith, n_is, greatest);
       };
@@ -131,7 +131,7 @@ pub number_again : (fewest most low high : ℕ) (text : List ℕ) (n : ℕ) (res
 unfolding number_at
 number_again fewest most low high text n rest is end =
     let run = run_again is_ascii_digit fewest most text rest is.digits end in
-    let same : decimal text ≡ n = sym is.value in
+    let same : number_of_digits text ≡ n = sym is.value in
     let least : nat_le low n ≡ true = grind (arith, nat_tests) in
     let greatest : nat_le n high ≡ true = grind (arith, nat_tests) in
     rw (run, same, least, greatest) refl

@@ -3,7 +3,8 @@ use Rattle.std.proofs.Common.{◌≡◌, arith, ℤ, pos, ◌+ℤ◌, ◌*ℤ◌
 use Rattle.std.proofs.lemmas.Int.{by_lt_z}
 use Rattle.jiff_core.specs.Calendar.{days_from_civil, IsBetween, IsCivilDate, IsYear}
 use Rattle.jiff_core.proofs.SignedLemmas.{signed_arith}
-use Rattle.jiff_core.proofs.CalendarLemmas.{days_from_civil-day_count, day_count-later_year, day_count-day_of_year, day_of_year_bound, days_in_year_bounds}
+use Rattle.jiff_core.proofs.CalendarLemmas.{days_from_civil-day_count, day_count-later_year, day_count-day_of_year, day_of_year_bound}
+use Rattle.td_civil.proofs.Years.{year_is_long}
 use Rattle.posix_footer.specs.declared.rule_types.DayForm.{DayForm}
 use Rattle.posix_footer.specs.declared.rule_types.DayForm.TheVariants as day
 use Rattle.posix_footer.specs.declared.rule_types.Edge.{Edge}
@@ -18,11 +19,6 @@ use Rattle.posix_footer.proofs.OnsetLemmas.{days_before_bounds, month_day_within
 -- a year whose onsets count is one that the calendar has
 pub year_of : (y : ℤ) → IsBetween (pos 1798) (pos 9999) y → IsYear y
 year_of y h = omega (arith, signed_arith)
-
--- a later year begins at least 365 days later
-pub year_is_long : (y later : ℤ) → IsYear y → y <ℤ later → (days_from_civil y 1 1 +ℤ pos 365) ≤ℤ days_from_civil later 1 1
-year_is_long y later year lt =
-    omega (arith, signed_arith, days_from_civil-day_count, day_count-later_year y later (omega (arith, signed_arith)) lt, days_in_year_bounds y)
 
 -- a form's day comes later in a later year
 pub day_number_rises : (form : DayForm) (y later : ℤ) → IsLawfulDay form → IsYear y → IsYear later → y <ℤ later → day_number form y <ℤ day_number form later
@@ -45,13 +41,15 @@ moment_on_within date offset y h o year =
     let time = h.time in
     omega (arith, signed_arith)
 
-pub moment_on_rises : (date : Date) (offset y later : ℤ) → IsLawfulDate date → IsYear y → IsYear later → y <ℤ later → moment_on date offset y <ℤ moment_on date offset later
+pub moment_on_rises : (date : Date) (offset y later : ℤ) → IsLawfulDate date → IsYear y → IsYear later → y <ℤ later
+    → moment_on date offset y <ℤ moment_on date offset later
 moment_on_rises date offset y later h year there lt =
     let day = day_number_rises date.day y later h.day year there lt in
     omega (arith, signed_arith)
 
 -- an edge comes later in a later year
-pub onset_rises : (rule : DstRule) (std y later : ℤ) (at : Edge) → IsLawfulRule std rule → IsYear y → IsYear later → y <ℤ later → onset_of rule std y at <ℤ onset_of rule std later at
+pub onset_rises : (rule : DstRule) (std y later : ℤ) (at : Edge) → IsLawfulRule std rule → IsYear y → IsYear later → y <ℤ later
+    → onset_of rule std y at <ℤ onset_of rule std later at
 onset_rises rule std y later edge.Start h year there lt = moment_on_rises rule.start std y later h.start year there lt
 onset_rises rule std y later edge.End h year there lt = moment_on_rises rule.end rule.dst.offset y later h.end year there lt
 
@@ -62,15 +60,17 @@ onset_within rule std y edge.Start h year = moment_on_within rule.start std y h.
 onset_within rule std y edge.End h year = moment_on_within rule.end rule.dst.offset y h.end h.daylight_offset year
 
 -- from two years after a moment's year on each onset comes after the moment
-pub onset_after : (rule : DstRule) (std y next later t : ℤ) (at : Edge) → IsLawfulRule std rule → IsYear next → IsYear later → next ≡ y +ℤ pos 1 → next <ℤ later → t <ℤ (days_from_civil next 1 1 *ℤ pos 86400) → t <ℤ onset_of rule std later at
+pub onset_after : (rule : DstRule) (std y next later t : ℤ) (at : Edge) → IsLawfulRule std rule → IsYear next → IsYear later → next ≡ y +ℤ pos 1
+    → next <ℤ later → t <ℤ (days_from_civil next 1 1 *ℤ pos 86400) → t <ℤ onset_of rule std later at
 onset_after rule std y next later t at h year there is lt before =
     let long = year_is_long next later year lt in
     let near = onset_within rule std later at h there in
     omega (arith, signed_arith)
 
 -- and up to two years before it none does
-pub onset_before : (rule : DstRule) (std y before t : ℤ) (at : Edge) → IsLawfulRule std rule → IsYear y → IsYear before → y ≡ before +ℤ pos 2 → (days_from_civil y 1 1 *ℤ pos 86400) ≤ℤ t → onset_of rule std before at ≤ℤ t
-onset_before rule std y before t at h year there is begun =
+pub onset_before : (rule : DstRule) (std y before t : ℤ) (at : Edge) → IsLawfulRule std rule → IsYear y → IsYear before → (before +ℤ pos 2) ≤ℤ y
+    → (days_from_civil y 1 1 *ℤ pos 86400) ≤ℤ t → onset_of rule std before at ≤ℤ t
+onset_before rule std y before t at h year there le begun =
     let first = year_is_long before (before +ℤ pos 1) there (omega (arith, signed_arith)) in
     let second = year_is_long (before +ℤ pos 1) y (omega (arith, signed_arith)) (omega (arith, signed_arith)) in
     let near = onset_within rule std before at h there in

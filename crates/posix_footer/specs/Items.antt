@@ -46,15 +46,16 @@ unfoldable pub name_at : List ℕ → Option (List ℕ × List ℕ)
 name_at text = if begins 60 text then quoted_at (drop 1 text) else run_at is_ascii_alphabetic 3 32 text
 
 -- the number that digits write
-abbrev pub decimal : List ℕ → ℕ
-decimal [] = 0
-decimal (digit ∷ rest) = (digit - 48) * 10 ^ length rest + decimal rest
+abbrev pub number_of_digits : List ℕ → ℕ
+number_of_digits [] = 0
+number_of_digits (digit ∷ rest) = (digit - 48) * 10 ^ length rest + number_of_digits rest
 
 -- a number from low to high, of fewest to most digits
 unfoldable pub number_at : ℕ → ℕ → ℕ → ℕ → List ℕ → Option (ℕ × List ℕ)
 number_at fewest most low high text = do
   digits ← run_at is_ascii_digit fewest most text
-  if nat_le low (decimal digits.0) && nat_le (decimal digits.0) high then Some (decimal digits.0, digits.1) else None
+  let number = number_of_digits digits.0 in
+      if nat_le low number && nat_le number high then Some (number, digits.1) else None
 
 -- `:` and two digits up to 59, or nothing, which counts as 0
 unfoldable pub part_at : List ℕ → Option (ℕ × List ℕ)

@@ -1,7 +1,9 @@
+pub mod Carried
 pub mod FaultText
 pub mod Grammar
 pub mod Items
 pub mod Lawful
+pub mod NextOnset
 pub mod Onset
 pub mod Spelling
 pub mod StateAt

@@ -1,6 +1,6 @@
 -- The moment at which a change of a year comes, from its day and its time.
-use Rattle.std.specs.Prelude.{ℕ, zero, suc, ◌+◌, ◌-◌, ◌*◌, ◌%◌, min, ◌==◌, ◌&&◌, nat_le, if◌then◌else◌, ℤ, pos, ◌+ℤ◌, ◌-ℤ◌, ◌*ℤ◌}
-use Rattle.jiff_core.specs.Calendar.{is_leap_year, days_in_month, days_from_civil, weekday_number}
+use Rattle.std.specs.Prelude.{◌≡◌, ◌≤◌, ℕ, zero, suc, ◌+◌, ◌-◌, ◌*◌, ◌%◌, min, ◌==◌, ◌&&◌, nat_le, if◌then◌else◌, ℤ, pos, ◌+ℤ◌, ◌-ℤ◌, ◌*ℤ◌}
+use Rattle.jiff_core.specs.Calendar.{is_leap_year, days_in_month, days_of_months, days_from_civil, weekday_number}
 use Rattle.posix_footer.specs.declared.rule_types.DayForm.{DayForm}
 use Rattle.posix_footer.specs.declared.rule_types.DayForm.TheVariants as day
 use Rattle.posix_footer.specs.declared.rule_types.Edge.{Edge}
@@ -35,6 +35,25 @@ day_number (day.Julian n) year = days_from_civil year 1 1 +ℤ pos (days_before 
 day_number (day.YearDay n) year = days_from_civil year 1 1 +ℤ pos n
 day_number (day.Week month week weekday) year =
     days_from_civil year month (month_day year month week weekday)
+
+-- The days that a form can name in a year: one, or seven one after another, of which it names that
+-- with its weekday. The place of the first of them, where 1 January is 0, and how many follow it
+abbrev pub first_place : DayForm → ℤ → ℕ
+first_place (day.Julian n) year = days_before year n
+first_place (day.YearDay n) year = n
+first_place (day.Week month week weekday) year =
+    days_of_months year (month - 1) + min (7 * week) (days_in_month year month) - 7
+
+abbrev pub more_places : DayForm → ℕ
+more_places (day.Week month week weekday) = 6
+more_places other = 0
+
+-- where a form's day stands among those that it can name
+pub record IsNamed (form : DayForm) (year : ℤ) : Type 0 where
+  pub after : ℕ
+  pub among : after ≤ more_places form
+  pub number :
+      day_number form year ≡ days_from_civil year 1 1 +ℤ pos (first_place form year + after)
 
 -- the moment of a date's day and time in a year, by clocks that are so many seconds east of UTC
 abbrev pub moment_on : Date → ℤ → ℤ → ℤ

@@ -8,7 +8,7 @@ use Rattle.posix_footer.specs.declared.rule_types.DayForm.TheVariants as day
 use Rattle.posix_footer.specs.declared.rule_types.Date.{Date}
 use Rattle.posix_footer.specs.declared.rule_types.DstRule.{DstRule}
 use Rattle.posix_footer.specs.declared.rule_types.Footer.{Footer}
-use Rattle.posix_footer.specs.Items.{is_quotable, decimal}
+use Rattle.posix_footer.specs.Items.{is_quotable, number_of_digits}
 
 -- from fewest to most bytes of a kind
 pub record IsRun (kind : ℕ → Bool) (fewest most : ℕ) (text : List ℕ) : Type 0 where
@@ -31,7 +31,7 @@ IsName text name = IsPlain text name ⊎ IsQuoted text name
 -- a number from low to high, in fewest to most digits
 pub record IsNumber (fewest most low high : ℕ) (text : List ℕ) (n : ℕ) : Type 0 where
   pub digits : IsRun is_ascii_digit fewest most text
-  pub value : n ≡ decimal text
+  pub value : n ≡ number_of_digits text
   pub at_least : low ≤ n
   pub at_most : n ≤ high
 

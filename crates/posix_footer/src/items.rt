@@ -1,7 +1,7 @@
 //! The items of a TZ string: names, offsets, times and days. An answer of None leaves the reader anywhere.
 ghost use Rattle.std.specs.Prelude.{◌≡◌, ℕ, ◌+◌, ◌-◌, ◌*◌, ◌<◌, ◌≤◌, length, drop, if◌then◌else◌, IfSome};
 ghost use Rattle.jiff_core.specs.Calendar.{IsWithin};
-ghost use Rattle.posix_footer.specs.Items.{begins, begins_as, is_sign, behind, decimal, quoted_at, name_at, number_at, part_at, clock_at, signed_at, offset_at, ahead_at, daylight_offset_at, time_at, week_at, julian_at, year_day_at, day_at};
+ghost use Rattle.posix_footer.specs.Items.{begins, begins_as, is_sign, behind, number_of_digits, quoted_at, name_at, number_at, part_at, clock_at, signed_at, offset_at, ahead_at, daylight_offset_at, time_at, week_at, julian_at, year_day_at, day_at};
 ghost use Rattle.posix_footer.specs.Takes.{Takes, TakesAs};
 ghost use Rattle.posix_footer.specs.Lawful.{IsLawfulDay, IsLawfulOffset};
 
@@ -12,7 +12,7 @@ use td_civil::Name;
 /// The number that at most three digits write.
 fn value_of(digits: &[u8]) -> u16
     requires { length digits.now ≤ 3 }
-    ensures { result ≡ decimal digits.now }
+    ensures { result ≡ number_of_digits digits.now }
 {
     let mut number = 0;
     for digit in digits {

@@ -4,6 +4,8 @@
 
 mod footer_fault;
 mod items;
+mod laws;
+mod next_edge;
 mod onsets;
 mod parser;
 mod reading;
@@ -16,6 +18,10 @@ mod state_tests;
 mod tests;
 
 pub use footer_fault::FooterFault;
+pub use laws::{
+    day_is_named, day_of_week_form, far_years_are_quiet, footer_is_lawful, onsets_rise, state_stays,
+};
+pub use next_edge::next_onset;
 pub use onsets::onset;
 pub use reading::read;
 pub use rule_types::{Date, DayForm, DstRule, Edge, Footer};

@@ -9,7 +9,9 @@ use crate::onsets::onset;
 use crate::{DstRule, Edge, Footer};
 use td_civil::{Local, Moment, year_of};
 
-/// The state of local time that a footer gives at a moment.
+/// The state of local time that a footer gives at a moment: that which follows the last onset not after it, whatever
+/// the year of that onset. Where a start and an end fall on one moment, the start counts. Without a rule standard time
+/// always holds.
 pub fn at(footer: &Footer, t: Moment) -> Local
     requires lawful { IsLawful footer.now }
     requires meaning { HasMeaning t.seconds }
@@ -69,7 +71,7 @@ fn latest(rule: &DstRule, std: i32, year: i32, edge: Edge, t: Moment) -> i64
 }
 
 /// The year of a moment in UTC.
-fn utc_year(t: Moment) -> i32
+pub(crate) fn utc_year(t: Moment) -> i32
     requires { HasMeaning t.seconds }
     ensures year_in { IsBetween (pos 1800) (pos 9998) result }
     ensures begun { (days_from_civil result 1 1 *ℤ pos 86400) ≤ℤ t.seconds }

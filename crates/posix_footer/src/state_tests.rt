@@ -3,7 +3,7 @@ ghost use Rattle.std.specs.Prelude.{◌≡◌, ◌≤◌, pos, neg_ℤ, true, fa
 ghost use Rattle.jiff_core.specs.Calendar.{IsWithin};
 ghost use Rattle.posix_footer.specs.Lawful.{IsLawful, IsLawfulDay, IsLawfulDate, IsLawfulOffset};
 
-use crate::{Date, DayForm, DstRule, Edge, Footer, at, onset};
+use crate::{Date, DayForm, DstRule, Edge, Footer, at, next_onset, onset};
 use std::process::Abort;
 use td_civil::{HI, LO, Local, Moment, Name};
 
@@ -323,6 +323,46 @@ fn follows_onsets_that_fall_in_other_years(rt: HostRuntime) {
     expect(&rt, &at_utc(last, before_last), &rows);
 }
 
+/// The next onset after a moment that has a meaning, or the moment itself where there is none.
+fn next_after(footer: &Footer, seconds: i64) -> i64
+    requires { IsLawful footer.now }
+{
+    if seconds < LO || seconds >= HI {
+        return seconds;
+    }
+    match next_onset(footer, Moment { seconds }) {
+        Some(next) => next.seconds,
+        None => seconds,
+    }
+}
+
+#[test]
+fn finds_the_next_onset(rt: HostRuntime) {
+    for (seconds, want) in [
+        (LO, -5358848400),
+        (1_735_689_600, 1_741_503_600),
+        (1_741_503_599, 1_741_503_600),
+        (1_741_503_600, 1_762_063_200),
+        (1_762_063_200, 1772953200),
+        (HI - 1, 253377010800),
+    ] {
+        assert_eq!(rt; next_after(&new_york(), seconds), want, "after {seconds}");
+    }
+    let first = date(DayForm::Julian(1), -167);
+    let last = date(DayForm::Julian(365), 167);
+    // The last onset of an edge that begins its year a week early comes before the end of 9998.
+    assert_eq!(rt;
+        next_after(&at_utc(first, last), HI - 601_201),
+        HI - 601_200
+    );
+    assert_eq!(rt; next_after(&at_utc(first, last), HI - 1), HI + 514_800);
+    assert_eq!(rt; next_after(&at_utc(first, first), HI - 1), HI - 1);
+    assert_eq!(rt;
+        next_after(&at_utc(last, last), 1_735_689_600),
+        1_736_204_400
+    );
+}
+
 #[test]
 fn names_the_state(rt: HostRuntime) {
     let summer = Moment {
@@ -338,4 +378,5 @@ fn names_the_state(rt: HostRuntime) {
         dst: None,
     };
     assert_eq!(rt; at(&constant, summer), standard(b"JST", 32_400));
+    assert_eq!(rt; next_onset(&constant, summer), None);
 }

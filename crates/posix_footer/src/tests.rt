@@ -219,3 +219,13 @@ fn printed(rt: HostRuntime) -> Result<(), Fail> {
     }
     Ok(())
 }
+
+#[test]
+fn laws() {
+    day_is_named();
+    day_of_week_form();
+    far_years_are_quiet();
+    footer_is_lawful();
+    onsets_rise();
+    state_stays();
+}

@@ -1,0 +1,5 @@
+use Rattle.posix_footer.proofs.StateLemmas.{onset_rises}
+use Rattle.posix_footer.proofs.laws.onsets_rise.Goals as goal
+
+pub returns : goal.returns
+returns c = onset_rises

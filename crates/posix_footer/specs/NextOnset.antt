@@ -1,0 +1,63 @@
+-- The first onset after a moment: where the state that a footer gives may change next.
+use Rattle.std.specs.Prelude.{◌≡◌, if◌then◌else◌, ℤ, pos, int_le, ◌≤ℤ◌, ◌<ℤ◌, Option, None, Some}
+use Rattle.jiff_core.specs.Calendar.{IsBetween}
+use Rattle.td_civil.specs.declared.moment_type.Moment.{Moment}
+use Rattle.posix_footer.specs.declared.rule_types.Edge.{Edge}
+use Rattle.posix_footer.specs.declared.rule_types.DstRule.{DstRule}
+use Rattle.posix_footer.specs.Onset.{onset_of}
+
+-- m is an onset after t, and no other one after t comes before it
+pub record IsNextOnset (rule : DstRule) (std t m : ℤ) : Type 0 where
+  pub year : ℤ
+  pub edge : Edge
+  pub year_in : IsBetween (pos 1798) (pos 9999) year
+  pub onset_is : m ≡ onset_of rule std year edge
+  pub after : t <ℤ m
+  pub least : (other : ℤ) (at : Edge) → IsBetween (pos 1798) (pos 9999) other
+      → t <ℤ onset_of rule std other at → m ≤ℤ onset_of rule std other at
+
+-- each onset has come by t
+abbrev pub NoneAfter : DstRule → ℤ → ℤ → Type 0
+NoneAfter rule std t =
+    (year : ℤ) (at : Edge) → IsBetween (pos 1798) (pos 9999) year → onset_of rule std year at ≤ℤ t
+
+-- where there is a rule, its first onset after t, if there is one
+abbrev pub IsNext : Option DstRule → ℤ → ℤ → Option Moment → Type 0
+IsNext None std t next = next ≡ None
+IsNext (Some rule) std t None = NoneAfter rule std t
+IsNext (Some rule) std t (Some m) = IsNextOnset rule std t m.seconds
+
+-- the same of the onsets of one edge
+pub record IsNextOf (rule : DstRule) (std : ℤ) (at : Edge) (t m : ℤ) : Type 0 where
+  pub year : ℤ
+  pub year_in : IsBetween (pos 1798) (pos 9999) year
+  pub onset_is : m ≡ onset_of rule std year at
+  pub after : t <ℤ m
+  pub least : (other : ℤ) → IsBetween (pos 1798) (pos 9999) other
+      → t <ℤ onset_of rule std other at → m ≤ℤ onset_of rule std other at
+
+abbrev pub IsNextIfAny : DstRule → ℤ → Edge → ℤ → Option Moment → Type 0
+IsNextIfAny rule std at t None =
+    (year : ℤ) → IsBetween (pos 1798) (pos 9999) year → onset_of rule std year at ≤ℤ t
+IsNextIfAny rule std at t (Some m) = IsNextOf rule std at t m.seconds
+
+-- the earlier of two moments, where there are two, and else that which there is
+abbrev pub earlier : Option Moment → Option Moment → Option Moment
+earlier None other = other
+earlier (Some m) None = Some m
+earlier (Some m) (Some n) = Some (if int_le m.seconds n.seconds then m else n)
+
+-- no onset comes after t and not after u
+abbrev pub IsQuiet : DstRule → ℤ → ℤ → ℤ → Type 0
+IsQuiet rule std t u =
+    (year : ℤ) (at : Edge) → IsBetween (pos 1798) (pos 9999) year
+    → onset_of rule std year at ≤ℤ u → onset_of rule std year at ≤ℤ t
+
+abbrev pub IsQuietIfAny : Option DstRule → ℤ → ℤ → ℤ → Type 0
+IsQuietIfAny None std t u = Unit {0}
+IsQuietIfAny (Some rule) std t u = IsQuiet rule std t u
+
+-- the next onset, if there is one, comes after u
+abbrev pub ComesAfter : Option Moment → ℤ → Type 0
+ComesAfter None u = Unit {0}
+ComesAfter (Some m) u = u <ℤ m.seconds
