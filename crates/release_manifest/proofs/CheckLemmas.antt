@@ -6,12 +6,12 @@ use Rattle.serde_json.specs.Data.{Data, Items, item}
 use Rattle.serde_json.specs.View.{view, items_view}
 use Rattle.serde_json.specs.declared.value.Value.{Value}
 use Rattle.serde_json.specs.Find.{as_array}
-use Rattle.release_manifest.specs.declared.faults.Path.TheVariants as path
+use Rattle.release_manifest.specs.declared.manifest_fault.Path.TheVariants as path
 use Rattle.release_manifest.specs.Checks.{Check, first_failing, each_checks, text_checks, alias_checks}
 use Rattle.release_manifest.specs.Meaning.{AllAre}
 use Rattle.release_manifest.specs.Reading.{Judges}
-use Rattle.release_manifest.specs.declared.faults.ManifestFault.{ManifestFault}
-use Rattle.release_manifest.specs.declared.faults.ManifestFault.TheVariants as fault
+use Rattle.release_manifest.specs.declared.manifest_fault.ManifestFault.{ManifestFault}
+use Rattle.release_manifest.specs.declared.manifest_fault.ManifestFault.TheVariants as fault
 
 pub first_failing-append : (a b : List Check) → first_failing (a ++ b) ≡ option_or (first_failing a) (first_failing b)
 first_failing-append [] b = refl

@@ -12,9 +12,9 @@ use Rattle.td_base.specs.Names.{is_label, is_file_name}
 use Rattle.td_civil.specs.Bounds.{HasMeaning, has_meaning}
 use Rattle.td_civil.specs.Reading.{moment_in, is_date_text}
 use Rattle.td_civil.specs.declared.moment_type.Moment.{Moment}
-use Rattle.release_manifest.specs.declared.faults.Path.{Path}
-use Rattle.release_manifest.specs.declared.faults.Path.TheVariants as path
-use Rattle.release_manifest.specs.declared.faults.ManifestFault.{ManifestFault}
+use Rattle.release_manifest.specs.declared.manifest_fault.Path.{Path}
+use Rattle.release_manifest.specs.declared.manifest_fault.Path.TheVariants as path
+use Rattle.release_manifest.specs.declared.manifest_fault.ManifestFault.{ManifestFault}
 use Rattle.release_manifest.specs.declared.manifest_type.Manifest.{Manifest}
 use Rattle.release_manifest.specs.declared.manifest_type.ManifestZone.{ManifestZone}
 use Rattle.release_manifest.specs.declared.manifest_type.ManifestLeaps.{ManifestLeaps}

@@ -6,10 +6,10 @@ use Rattle.serde_json.specs.Find.{get, as_str, as_array, as_object}
 use Rattle.td_base.specs.Names.{is_label, is_file_name}
 use Rattle.td_civil.specs.Reading.{moment_in, is_date_text}
 use Rattle.td_civil.specs.Bounds.{has_meaning}
-use Rattle.release_manifest.specs.declared.faults.Path.{Path}
-use Rattle.release_manifest.specs.declared.faults.Path.TheVariants as path
-use Rattle.release_manifest.specs.declared.faults.ManifestFault.{ManifestFault}
-use Rattle.release_manifest.specs.declared.faults.ManifestFault.TheVariants as fault
+use Rattle.release_manifest.specs.declared.manifest_fault.Path.{Path}
+use Rattle.release_manifest.specs.declared.manifest_fault.Path.TheVariants as path
+use Rattle.release_manifest.specs.declared.manifest_fault.ManifestFault.{ManifestFault}
+use Rattle.release_manifest.specs.declared.manifest_fault.ManifestFault.TheVariants as fault
 
 -- a fault, and whether the manifest is free of it
 pub record Check : Type 0 where

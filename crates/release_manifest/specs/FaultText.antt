@@ -1,9 +1,9 @@
 -- How the faults are printed: number, name and value, with a space between them.
 use Rattle.std.specs.Prelude.{ℕ, List, ◌++◌, codes, decimal}
-use Rattle.release_manifest.specs.declared.faults.ManifestFault.{ManifestFault}
-use Rattle.release_manifest.specs.declared.faults.ManifestFault.TheVariants as fault
-use Rattle.release_manifest.specs.declared.faults.Path.{Path}
-use Rattle.release_manifest.specs.declared.faults.Path.TheVariants as path
+use Rattle.release_manifest.specs.declared.manifest_fault.ManifestFault.{ManifestFault}
+use Rattle.release_manifest.specs.declared.manifest_fault.ManifestFault.TheVariants as fault
+use Rattle.release_manifest.specs.declared.manifest_fault.Path.{Path}
+use Rattle.release_manifest.specs.declared.manifest_fault.Path.TheVariants as path
 
 -- the path of a member
 abbrev pub path_text : Path → List ℕ

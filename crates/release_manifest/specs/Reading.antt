@@ -5,13 +5,10 @@ use Rattle.serde_json.specs.Data.{Data}
 use Rattle.serde_json.specs.Read.{read as read_text}
 use Rattle.release_manifest.specs.Checks.{Check, first_failing, first_fault}
 use Rattle.release_manifest.specs.Meaning.{IsManifest}
-use Rattle.release_manifest.specs.declared.faults.ManifestFault.{ManifestFault}
-use Rattle.release_manifest.specs.declared.faults.ManifestFault.TheVariants as fault
+use Rattle.release_manifest.specs.declared.manifest_fault.ManifestFault.{ManifestFault}
+use Rattle.release_manifest.specs.declared.manifest_fault.ManifestFault.TheVariants as fault
 use Rattle.release_manifest.specs.declared.manifest_type.Manifest.{Manifest}
-
--- the most bytes that a manifest may have
-abbrev pub most_bytes : ℕ
-most_bytes = 1_048_576
+use Rattle.release_manifest.specs.declared.manifest_type.TheConstants.{MOST_BYTES}
 
 -- the JSON value that the bytes are, which have to be UTF-8
 unfoldable pub value_in : List ℕ → Option Data
@@ -23,23 +20,24 @@ value_fault None = Some fault.Syntax
 value_fault (Some d) = first_fault d
 
 -- why a text is no manifest
-unfoldable pub text_fault : List ℕ → Option ManifestFault
-text_fault text = if nat_le (length text) most_bytes then value_fault (value_in text) else Some fault.Long
+unfoldable pub manifest_text_fault : List ℕ → Option ManifestFault
+manifest_text_fault text =
+    if nat_le (length text) MOST_BYTES then value_fault (value_in text) else Some fault.Long
 
 -- the text is this manifest
 pub record IsManifestText (text : List ℕ) (m : Manifest) : Type 0 where
-  pub fits : length text ≤ most_bytes
+  pub fits : length text ≤ MOST_BYTES
   pub value : Data
   pub reads : value_in text ≡ Some value
   pub is : IsManifest value m
 
 -- What a function judged of checks: where it gave a value each passes, and a fault is that of the first that does
--- not, want of memory aside.
+-- not, unless memory ran out.
 abbrev pub Judges : {T : Type 0} → Result T ManifestFault → List Check → Type 0
 Judges (Ok x) checks = first_failing checks ≡ None
 Judges (Err e) checks = e ≢ fault.NoMemory → first_failing checks ≡ Some e
 
--- A text was read as its value, or there is none, want of memory aside.
+-- A text was read as its value, or there is none, unless memory ran out.
 abbrev pub ReadsValue : {T : Type 0} → (T → Data) → List ℕ → Result T ManifestFault → Type 0
 ReadsValue view text (Ok v) = value_in text ≡ Some (view v)
 ReadsValue view text (Err e) = e ≢ fault.NoMemory → (e ≡ fault.Syntax) × (value_in text ≡ None)

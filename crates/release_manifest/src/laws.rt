@@ -3,7 +3,7 @@ ghost use Rattle.serde_json.specs.Data.{Data};
 ghost use Rattle.release_manifest.specs.declared.manifest_type.Manifest.{Manifest};
 ghost use Rattle.release_manifest.specs.Checks.{first_fault};
 ghost use Rattle.release_manifest.specs.Meaning.{IsManifest};
-ghost use Rattle.release_manifest.specs.Reading.{IsManifestText, text_fault};
+ghost use Rattle.release_manifest.specs.Reading.{IsManifestText, manifest_text_fault};
 
 /// A JSON value is a manifest exactly where it has no fault, and is one alone.
 pub fn one_meaning()
@@ -14,7 +14,7 @@ pub fn one_meaning()
 
 /// A text is a manifest exactly where it has no fault, and is one alone.
 pub fn one_reading()
-    ensures found { (text : List ℕ) → text_fault text ≡ None → (m : Manifest) × IsManifestText text m }
-    ensures sound { (text : List ℕ) (m : Manifest) → IsManifestText text m → text_fault text ≡ None }
+    ensures found { (text : List ℕ) → manifest_text_fault text ≡ None → (m : Manifest) × IsManifestText text m }
+    ensures sound { (text : List ℕ) (m : Manifest) → IsManifestText text m → manifest_text_fault text ≡ None }
     ensures one { (text : List ℕ) (m n : Manifest) → IsManifestText text m → IsManifestText text n → m ≡ n }
 {}

@@ -1,6 +1,9 @@
 use td_base::{Bytes, Items};
 use td_civil::Moment;
 
+/// The most bytes that a manifest may have.
+pub const MOST_BYTES: usize = 1_048_576;
+
 /// What a release's manifest says.
 #[derive(Debug, Drop)]
 pub struct Manifest {

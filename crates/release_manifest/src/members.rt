@@ -3,7 +3,7 @@ ghost use Rattle.serde_json.specs.Find.{get};
 ghost use Rattle.serde_json.specs.View.{view};
 ghost use Rattle.td_base.specs.Names.{is_label as has_label_form, is_file_name as has_file_name_form};
 ghost use Rattle.td_civil.specs.Reading.{is_date_text};
-ghost use Rattle.release_manifest.specs.declared.faults.Path.TheVariants as path;
+ghost use Rattle.release_manifest.specs.declared.manifest_fault.Path.TheVariants as path;
 ghost use Rattle.release_manifest.specs.Checks.{text_of, object_checks, text_checks, form_checks, is_stamp_text};
 ghost use Rattle.release_manifest.specs.Meaning.{IsForm, IsStampOf};
 ghost use Rattle.release_manifest.specs.Reading.{Judges};

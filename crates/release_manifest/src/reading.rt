@@ -2,31 +2,31 @@ ghost use Rattle.std.specs.Prelude.{◌≡◌, ◌≢◌, ◌⊎◌, Some, IfOk,
 ghost use Rattle.serde_json.specs.Errors.{IsMemory};
 ghost use Rattle.serde_json.specs.Find.{get};
 ghost use Rattle.serde_json.specs.View.{view};
-ghost use Rattle.release_manifest.specs.declared.faults.ManifestFault.{ManifestFault};
+ghost use Rattle.release_manifest.specs.declared.manifest_fault.ManifestFault.{ManifestFault};
 ghost use Rattle.release_manifest.specs.declared.manifest_type.Manifest.{Manifest};
 ghost use Rattle.release_manifest.specs.Checks.{leap_checks, manifest_checks};
 ghost use Rattle.release_manifest.specs.Meaning.{AreLeaps, IsLeaps, IsManifest};
-ghost use Rattle.release_manifest.specs.Reading.{IsManifestText, Judges, ReadsValue, text_fault};
+ghost use Rattle.release_manifest.specs.Reading.{IsManifestText, Judges, ReadsValue, manifest_text_fault};
 
 use crate::members::{check_object, read_expiry, read_file_name, read_label, read_stamp};
 use crate::zone_members::read_zones;
-use crate::{Manifest, ManifestFault, ManifestLeaps, Path};
+use crate::{MOST_BYTES, Manifest, ManifestFault, ManifestLeaps, Path};
 use serde_json::{Error, Value};
 use std::alloc::Global;
-
-/// The most bytes that a manifest may have.
-pub const MOST_BYTES: usize = 1_048_576;
 
 /// Reads the manifest that a text is. [`ManifestFault::Long`] comes for a longer text than [`MOST_BYTES`], else
 /// `Syntax` for one that is no JSON (RFC 8259) in UTF-8, and else the first fault of a member, members in the order
 /// publisher, version, stamp, zones and leap seconds, and of a zone tzid, file and aliases. A member given twice is
 /// no fault: the last one counts. Members of other names are ignored.
 pub fn read(alloc: Global, bytes: &[u8]) -> Result<Manifest, ManifestFault>
-    ensures ok { IfOk result (λ m. IsManifestText bytes.now m) }
-    ensures err { IfErr result (λ e. e ≢ ManifestFault.NoMemory → text_fault bytes.now ≡ Some e) }
-    ensures found { (m : Manifest) → IsManifestText bytes.now m
+    // What is read is the manifest that the text says.
+    ensures found { IfOk result (λ m. IsManifestText bytes.now m) }
+    ensures fault { IfErr result
+        (λ e. e ≢ ManifestFault.NoMemory → manifest_text_fault bytes.now ≡ Some e) }
+    // What the text says is read, and as nothing else; what is wrong with it is told.
+    ensures only { (m : Manifest) → IsManifestText bytes.now m
         → (result ≡ Ok m) ⊎ (result ≡ Err ManifestFault.NoMemory) }
-    ensures refused { (f : ManifestFault) → text_fault bytes.now ≡ Some f
+    ensures refused { (f : ManifestFault) → manifest_text_fault bytes.now ≡ Some f
         → (result ≡ Err f) ⊎ (result ≡ Err ManifestFault.NoMemory) }
 {
     if bytes.len() > MOST_BYTES {

@@ -1,7 +1,7 @@
 ghost use Rattle.std.specs.Prelude.{◌≡◌, Some, IfOk, codes};
 ghost use Rattle.serde_json.specs.Find.{get};
 ghost use Rattle.serde_json.specs.View.{view, items_view};
-ghost use Rattle.release_manifest.specs.declared.faults.Path.TheVariants as path;
+ghost use Rattle.release_manifest.specs.declared.manifest_fault.Path.TheVariants as path;
 ghost use Rattle.release_manifest.specs.Checks.{text_checks, alias_checks, zone_checks, zones_checks, each_checks};
 ghost use Rattle.release_manifest.specs.Meaning.{AllAre, IsText, AreAliases, IsZone, AreZonesOf};
 ghost use Rattle.release_manifest.specs.Reading.{Judges};

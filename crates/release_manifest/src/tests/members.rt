@@ -91,16 +91,16 @@ const LEAP_SECONDS: [(&str, ManifestFault); 9] = [
     (r#"{"file":"a","expires":20241228}"#, Field(Path::Expires)),
 ];
 
-/// Meets each fault, of the text that its row is between `front` and `back`.
+/// Meets each fault, of the text that its row is between `before` and `after`.
 fn meet_faults(
     rt: &impl Abort,
     alloc: Global,
-    front: &str,
-    back: &str,
+    before: &str,
+    after: &str,
     rows: &[(&str, ManifestFault)],
 ) -> Result<(), Fail> {
     for (members, fault) in rows {
-        let text = format!(in alloc; "{front}{members}{back}")?;
+        let text = format!(in alloc; "{before}{members}{after}")?;
         assert_eq!(rt; fault_of(alloc, text.as_str()), Some(*fault), "{members}");
     }
     Ok(())
@@ -113,12 +113,12 @@ fn first_members(rt: HostRuntime) -> Result<(), Fail> {
 
 #[test]
 fn zones(rt: HostRuntime) -> Result<(), Fail> {
-    let front = format!(in rt.alloc(); "{{{HEAD},")?;
-    meet_faults(&rt, rt.alloc(), front.as_str(), "}", &ZONES)
+    let before = format!(in rt.alloc(); "{{{HEAD},")?;
+    meet_faults(&rt, rt.alloc(), before.as_str(), "}", &ZONES)
 }
 
 #[test]
 fn leap_seconds(rt: HostRuntime) -> Result<(), Fail> {
-    let front = format!(in rt.alloc(); "{{{HEAD},\"zones\":[],\"leapseconds\":")?;
-    meet_faults(&rt, rt.alloc(), front.as_str(), "}", &LEAP_SECONDS)
+    let before = format!(in rt.alloc(); "{{{HEAD},\"zones\":[],\"leapseconds\":")?;
+    meet_faults(&rt, rt.alloc(), before.as_str(), "}", &LEAP_SECONDS)
 }

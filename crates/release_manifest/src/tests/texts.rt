@@ -32,10 +32,10 @@ const LABELS: [(&str, usize, bool); 11] = [
 
 #[test]
 fn labels(rt: HostRuntime) -> Result<(), Fail> {
-    for (front, path, next) in LABELLED {
+    for (before, path, next) in LABELLED {
         for (unit, count, is_label) in LABELS {
             let label = repeated(rt.alloc(), unit, count)?;
-            let text = format!(in rt.alloc(); "{{{front}\"{label}\"}}")?;
+            let text = format!(in rt.alloc(); "{{{before}\"{label}\"}}")?;
             let fault = if is_label { Field(next) } else { Text(path) };
             assert_eq!(rt;
                 fault_of(rt.alloc(), text.as_str()),
@@ -114,10 +114,10 @@ const FILE_NAMES: [(&str, usize, bool); 17] = [
 
 #[test]
 fn file_names(rt: HostRuntime) -> Result<(), Fail> {
-    for (front, back, path) in FILED {
+    for (before, after, path) in FILED {
         for (unit, count, is_file_name) in FILE_NAMES {
             let name = repeated(rt.alloc(), unit, count)?;
-            let text = format!(in rt.alloc(); "{{{HEAD},{front}\"{name}\"{back}}}")?;
+            let text = format!(in rt.alloc(); "{{{HEAD},{before}\"{name}\"{after}}}")?;
             let fault = if is_file_name { None } else { Some(Text(path)) };
             assert_eq!(rt;
                 fault_of(rt.alloc(), text.as_str()),

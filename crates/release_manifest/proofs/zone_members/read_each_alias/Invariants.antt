@@ -1,6 +1,6 @@
 use Rattle.std.proofs.Common.{◌≡◌, List, ◌++◌, drop, Some}
 use Rattle.serde_json.specs.View.{items_view}
-use Rattle.release_manifest.specs.declared.faults.Path.TheVariants as path
+use Rattle.release_manifest.specs.declared.manifest_fault.Path.TheVariants as path
 use Rattle.release_manifest.specs.Checks.{first_failing, text_checks, each_checks}
 use Rattle.release_manifest.specs.Meaning.{AllAre, IsText}
 use Rattle.release_manifest.proofs.zone_members.read_each_alias.Given as goal

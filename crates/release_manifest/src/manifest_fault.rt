@@ -84,7 +84,7 @@ impl Error for ManifestFault {}
 
 impl From<NoMemory> for ManifestFault {
     ghost use Rattle.std.specs.Prelude.{◌≡◌};
-    ghost use Rattle.release_manifest.specs.declared.faults.ManifestFault.TheVariants as fault;
+    ghost use Rattle.release_manifest.specs.declared.manifest_fault.ManifestFault.TheVariants as fault;
 
     ghost from_gives = { λ _ e. e ≡ fault.NoMemory };
 
