@@ -100,7 +100,7 @@ length_exchanges most front a b rest h =
     (omega (arith, length-append front (a ++ (b ++ rest)), length-append a (b ++ rest), length-append b rest, h))
 
 -- each text of one list is none of the other
-abbrev Apart : List (List ℕ) → List (List ℕ) → Type 0
+abbrev pub Apart : List (List ℕ) → List (List ℕ) → Type 0
 Apart xs ys = AllByRecursion (λ x. AllByRecursion (λ y. bytes_eq x y ≡ false) ys) xs
 
 bytes_turned : (x y : List ℕ) → bytes_eq x y ≡ false → bytes_eq y x ≡ false
@@ -120,12 +120,12 @@ each_parted : (P : List ℕ → Type 0) (xs ys : List (List ℕ)) → AllByRecur
 each_parted P [] ys h = (tt, h)
 each_parted P (x ∷ xs) ys h = let rest = each_parted P xs ys h.1 in ((h.0, rest.0), rest.1)
 
-record Parts (xs ys : List (List ℕ)) : Type 0 where
-  front : IsDistinct bytes_eq xs
-  back : IsDistinct bytes_eq ys
-  apart : Apart xs ys
+pub record Parts (xs ys : List (List ℕ)) : Type 0 where
+  pub front : IsDistinct bytes_eq xs
+  pub back : IsDistinct bytes_eq ys
+  pub apart : Apart xs ys
 
-parted : (xs ys : List (List ℕ)) → IsDistinct bytes_eq (xs ++ ys) → Parts xs ys
+pub parted : (xs ys : List (List ℕ)) → IsDistinct bytes_eq (xs ++ ys) → Parts xs ys
 unfolding IsDistinct
 parted [] ys h = record { front = tt; back = h; apart = tt }
 parted (x ∷ xs) ys h =
@@ -147,7 +147,7 @@ apart_none : (ys : List (List ℕ)) → Apart ys []
 apart_none [] = tt
 apart_none (y ∷ ys) = (tt, apart_none ys)
 
-apart_turned : (xs ys : List (List ℕ)) → Apart xs ys → Apart ys xs
+pub apart_turned : (xs ys : List (List ℕ)) → Apart xs ys → Apart ys xs
 apart_turned [] ys h = apart_none ys
 apart_turned (x ∷ xs) ys h = apart_one x xs ys h.0 (apart_turned xs ys h.1)
 

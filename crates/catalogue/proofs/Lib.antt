@@ -3,3 +3,9 @@ pub mod Rising
 pub mod Lengths
 pub mod Standing
 pub mod AnyOrder
+pub mod PlainEntries
+pub mod NameIndex
+pub mod LastRelease
+pub mod Growing
+pub mod SameZones
+pub mod Tokens

@@ -24,7 +24,7 @@ lt-less Equal h = absurd (cc)
 lt-less Greater h = absurd (cc)
 
 -- a text that is not before another, and is another, is behind it
-behind : (x y : List ℕ) → is_before y x ≡ false → bytes_eq x y ≡ false → is_before x y ≡ true
+pub behind : (x y : List ℕ) → is_before y x ≡ false → bytes_eq x y ≡ false → is_before x y ≡ true
 behind x y not_before other = by (slice_cmp nat_cmp x y) refl
   where
     by : (o : Ordering) → slice_cmp nat_cmp x y ≡ o → is_before x y ≡ true
@@ -69,7 +69,7 @@ pub each_sorted : {X : Type 0} (text : X → List ℕ) (P : X → Type 0) (xs : 
 each_sorted text P [] all = tt
 each_sorted text P (x ∷ xs) all = each_put text P x (rising_by text xs) all.0 (each_sorted text P xs all.1)
 
-not_before_itself : (x y : List ℕ) → is_before y x ≡ true → is_before x y ≡ false
+pub not_before_itself : (x y : List ℕ) → is_before y x ≡ true → is_before x y ≡ false
 not_before_itself x y h = by (slice_cmp nat_cmp x y) refl
   where
     by : (o : Ordering) → slice_cmp nat_cmp x y ≡ o → is_before x y ≡ false
@@ -79,7 +79,7 @@ not_before_itself x y h = by (slice_cmp nat_cmp x y) refl
     by Equal e = ap is_lt e
     by Greater e = ap is_lt e
 
-none_before : (x y : List ℕ) (ys : List (List ℕ)) → is_before y x ≡ false → AllByRecursion (λ z. is_before z y ≡ false) ys → AllByRecursion (λ z. is_before z x ≡ false) ys
+pub none_before : (x y : List ℕ) (ys : List (List ℕ)) → is_before y x ≡ false → AllByRecursion (λ z. is_before z y ≡ false) ys → AllByRecursion (λ z. is_before z x ≡ false) ys
 none_before x y [] h all = tt
 none_before x y (z ∷ zs) h all = (by (is_before z x) refl, none_before x y zs h all.1)
   where

@@ -7,10 +7,11 @@ use Rattle.std.specs.Cmp.Lexicographic.{pointwise}
 use Rattle.std.proofs.lemmas.List.{map-append}
 use Rattle.std.proofs.lemmas.Simd.{map-map}
 use Rattle.std.proofs.lemmas.Slice.Eq.{bytes_eq-Decides}
-use Rattle.catalogue.specs.Releases.{ContentData, ReleaseData, content_as_is, same_content}
-use Rattle.catalogue.specs.Digests.{chain_of, linked, token_text}
+use Rattle.catalogue.specs.Releases.{ContentData, ReleaseData, same_content}
+use Rattle.catalogue.specs.Digests.{chain_of, content_digest, linked, token_text}
 use Rattle.catalogue.specs.Histories.{IsRelease, IsHistory, EntryData, entry_from, entry_of, has_content, last_change, meta, token_of, tokens_of}
-use Rattle.catalogue.specs.Holdings.{StandsFor, entry_data, release_of}
+use Rattle.catalogue.specs.HeldZones.{held_content, held_digest, held_entry}
+use Rattle.catalogue.specs.Holdings.{StandsFor, release_of}
 use Rattle.catalogue.specs.declared.holding.Catalogue.{Catalogue}
 
 pub entries_more : {E C D : Type 0} (show : E → D) (from : C → D) (es : List E) (e : E) (c : C) (rest : List C) (all : List D)
@@ -43,6 +44,10 @@ each_found front (c ∷ cs) = (
   subst (λ all. AllByRecursion (λ d. list_any (same_content d) all ≡ true) cs) (append_assoc front (c ∷ []) cs) (each_found (front ++ c ∷ []) cs),
 )
 
+-- each content of a release is one of its contents
+pub each_content : (r : ReleaseData) → AllByRecursion (λ c. has_content c r ≡ true) r.contents
+each_content r = each_found [] r.contents
+
 first_change : (r : ReleaseData) (c : ContentData) → has_content c r ≡ true → last_change (r ∷ []) c ≡ 1
 unfolding last_change
 first_change r c h = rw h
@@ -58,25 +63,26 @@ one_release : (sound : ReleaseData → Type 0) (r : ReleaseData) → IsRelease s
 one_release sound r is [] r' after e = let same : r ≡ r' = cc in subst (IsRelease sound []) same is
 one_release sound r is (x ∷ before) r' after e = absurd (omega (arith, ap length e, length-append before (r' ∷ after)))
 
-mapped_ids : {X : Type 0} (xs : List X) → map (λ x. x) xs ≡ xs
+pub mapped_ids : {X : Type 0} (xs : List X) → map (λ x. x) xs ≡ xs
 mapped_ids [] = refl
 mapped_ids (x ∷ xs) = ap (λ ys. x ∷ ys) (mapped_ids xs)
 
 pub stands_first : {Z : Type 0} (bytes : Z → List ℕ) (sound : ReleaseData → Type 0) (c : Catalogue Z) (r : ReleaseData)
     → IsRelease sound [] r → release_of c.head r.contents ≡ r
-    → map (entry_data bytes) c.entries ≡ map (entry_from r 1) r.contents
+    → map (held_entry bytes) c.held ≡ map (entry_from r 1) r.contents → map held_digest c.held ≡ map content_digest r.contents
     → c.chain ≡ linked (replicate 32 0) r → c.tokens ≡ token_text 1 c.chain ∷ []
     → StandsFor bytes sound c (r ∷ [])
 unfolding meta chain_of tokens_of token_of
-stands_first bytes sound c r is head entries chain tokens =
+stands_first bytes sound c r is head entries digests chain tokens =
     let content : EntryData → ContentData = λ (d : EntryData). d.content in
-    let held : map (λ e. content_as_is bytes e.content) c.entries ≡ r.contents =
-    sym (map-map content (entry_data bytes) c.entries) ∙ ap (map content) entries
+    let held : map (held_content bytes) c.held ≡ r.contents =
+    sym (map-map content (held_entry bytes) c.held) ∙ ap (map content) entries
     ∙ map-map content (entry_from r 1) r.contents ∙ mapped_ids r.contents in
     record {
       history = one_release sound r is;
       last = ap Some (sym head ∙ ap (release_of c.head) (sym held));
-      entries = entries ∙ sym (entries_first r r.contents (each_found [] r.contents));
+      entries = entries ∙ sym (entries_first r r.contents (each_content r));
+      digests = digests ∙ ap (map content_digest) (sym held) ∙ map-map content_digest (held_content bytes) c.held;
       chain = chain;
       tokens = tokens ∙ ap (λ v. token_text 1 v ∷ []) chain;
     }

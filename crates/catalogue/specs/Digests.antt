@@ -12,7 +12,7 @@ use Rattle.catalogue.specs.Releases.{ContentData, ReleaseData, leap_file, leap_e
 abbrev pub four_bytes : ℕ → List ℕ
 four_bytes n = to_be_bytes w32 n
 
--- the bytes that stand for a content: identifier, aliases and file, each behind its length
+-- the bytes that stand for a content: identifier, aliases and file, each after its length
 unfoldable pub content_bytes : ContentData → List ℕ
 content_bytes c =
     sized c.tzid ++ four_bytes (length c.aliases) ++ concat (map sized c.aliases) ++ sized c.file
@@ -24,7 +24,7 @@ content_digest c = sha256 (content_bytes c)
 unfoldable pub tag_of : ContentData → List ℕ
 tag_of c = take 32 (encode_lower (content_digest c))
 
--- the bytes that stand for a release behind the chain value of the place before it
+-- the bytes that stand for a release after the chain value of the place before it
 unfoldable pub link_bytes : List ℕ → ReleaseData → List ℕ
 link_bytes before r =
     before ++ sized (text_of r.stamp) ++ sized r.publisher ++ sized r.version

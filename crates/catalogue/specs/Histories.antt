@@ -1,10 +1,14 @@
--- Histories: lists of releases, the earliest first, each of which is sound and fits those before it.
-use Rattle.std.specs.Prelude.{ℕ, ◌+◌, ◌-◌, ◌<◌, ◌≤◌, List, [], ◌∷◌, ◌++◌, length, take, map, Bool, ◌≡◌, Option, None, Some, IfSome, IsTrue, ℤ, ◌≤ℤ◌}
-use Rattle.std.specs.List.{IsDistinct, list_all, list_any, last_or, suffix_len, range_with_len, slice_index_or}
+-- Histories: lists of releases, the earliest first, each of which is sound and fits those before
+-- it.
+use Rattle.std.specs.Prelude.{ℕ, ◌+◌, ◌-◌, ◌<◌, ◌≤◌, List, [], ◌∷◌, ◌++◌, length, take, map, Bool}
+use Rattle.std.specs.Prelude.{◌≡◌, Option, None, Some, IfSome, IsTrue, ℤ, ◌≤ℤ◌}
+use Rattle.std.specs.List.{IsDistinct, list_all, list_any, last_or, suffix_len, range_with_len}
+use Rattle.std.specs.List.{slice_index_or}
 use Rattle.std.specs.Str.{bytes_eq}
 use Rattle.td_base.specs.Names.{is_identifier}
 use Rattle.catalogue.specs.Releases.{ContentData, ReleaseData, same_content, names_of, IsInOrder}
 use Rattle.catalogue.specs.Digests.{tag_of, chain_of, token_text}
+use Rattle.catalogue.specs.declared.limits.TheConstants.{MOST_ZONES, MOST_NAMES, MOST_PLACES}
 
 abbrev pub last_release : List ReleaseData → Option ReleaseData
 last_release H = last_or None H
@@ -13,26 +17,33 @@ last_release H = last_or None H
 abbrev pub has_name : ReleaseData → List ℕ → Bool
 has_name r name = list_any (bytes_eq name) (names_of r.contents)
 
--- the release may follow the history: its names are identifiers and distinct, it is not earlier than the last
--- release and drops none of its names, and the limits are kept
-pub record Fits (H : List ReleaseData) (r : ReleaseData) : Type 0 where
+-- the release may follow so many releases of which this is the last: its names are identifiers and
+-- distinct, it is
+-- not earlier than the last one and drops none of its names, and the limits are kept
+pub record FitsAfter (before : Option ReleaseData) (count : ℕ) (r : ReleaseData) : Type 0 where
   pub identifiers : IsTrue (list_all is_identifier (names_of r.contents))
   pub distinct : IsDistinct bytes_eq (names_of r.contents)
-  pub stamp : IfSome (last_release H) (λ last. last.stamp ≤ℤ r.stamp)
-  pub kept : IfSome (last_release H) (λ last. IsTrue (list_all (has_name r) (names_of last.contents)))
-  pub zones : length r.contents ≤ 1024
-  pub names : length (names_of r.contents) ≤ 4096
-  pub places : length H < 4096
+  pub stamp : IfSome before (λ last. last.stamp ≤ℤ r.stamp)
+  pub kept : IfSome before (λ last. IsTrue (list_all (has_name r) (names_of last.contents)))
+  pub zones : length r.contents ≤ MOST_ZONES
+  pub names : length (names_of r.contents) ≤ MOST_NAMES
+  pub places : count < MOST_PLACES
+
+-- the release may follow the history
+abbrev pub Fits : List ReleaseData → ReleaseData → Type 0
+Fits H r = FitsAfter (last_release H) (length H) r
 
 -- each release is in order, sound, and fits those before it
-pub record IsRelease (sound : ReleaseData → Type 0) (before : List ReleaseData) (r : ReleaseData) : Type 0 where
+pub record IsRelease (sound : ReleaseData → Type 0) (before : List ReleaseData)
+    (r : ReleaseData) : Type 0 where
   pub in_order : IsInOrder r
   pub is_sound : sound r
   pub fits : Fits before r
 
 abbrev pub IsHistory : (ReleaseData → Type 0) → List ReleaseData → Type 0
 IsHistory sound H =
-    (before : List ReleaseData) (r : ReleaseData) (after : List ReleaseData) → H ≡ before ++ r ∷ after → IsRelease sound before r
+    (before : List ReleaseData) (r : ReleaseData) (after : List ReleaseData)
+    → H ≡ before ++ r ∷ after → IsRelease sound before r
 
 -- the token of the n-th place, counted from 1
 unfoldable pub token_of : List ReleaseData → ℕ → List ℕ
@@ -46,7 +57,8 @@ tokens_of H = map (token_of H) (range_with_len 1 (length H))
 abbrev pub has_content : ContentData → ReleaseData → Bool
 has_content c r = list_any (same_content c) r.contents
 
--- the place of the last change of a content of the last release: the first of the last places, one after
+-- the place of the last change of a content of the last release: the first of the last places, one
+-- after
 -- another, whose releases all have it
 unfoldable pub last_change : List ReleaseData → ContentData → ℕ
 last_change H c = length H - suffix_len (has_content c) H + 1

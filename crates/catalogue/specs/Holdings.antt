@@ -1,22 +1,11 @@
 -- Which histories a catalogue stands for.
 use Rattle.std.specs.Prelude.{ℕ, List, length, map, ◌≡◌, Some}
-use Rattle.catalogue.specs.Releases.{ContentData, ReleaseData, content_as_is}
-use Rattle.catalogue.specs.Digests.{chain_of}
-use Rattle.catalogue.specs.Histories.{last_release, IsHistory, EntryData, meta, tokens_of}
-use Rattle.catalogue.specs.declared.entries.Entry.{Entry}
+use Rattle.catalogue.specs.Releases.{ContentData, ReleaseData}
+use Rattle.catalogue.specs.Digests.{chain_of, content_digest}
+use Rattle.catalogue.specs.Histories.{last_release, IsHistory, meta, tokens_of}
+use Rattle.catalogue.specs.HeldZones.{held_content, held_digest, held_entry}
 use Rattle.catalogue.specs.declared.head.Head.{Head}
 use Rattle.catalogue.specs.declared.holding.Catalogue.{Catalogue}
-
--- an entry as plain data, where `bytes` tells the bytes of a zone's file
-abbrev pub entry_data : {Z : Type 0} → (Z → List ℕ) → Entry Z → EntryData
-entry_data bytes e = record {
-  content = content_as_is bytes e.content;
-  tag = e.tag;
-  changed = e.changed;
-  stamp = e.stamp.seconds;
-  publisher = e.publisher;
-  version = e.version;
-}
 
 -- the release that has these contents
 abbrev pub release_of : Head → List ContentData → ReleaseData
@@ -30,20 +19,32 @@ release_of head contents = record {
 
 -- the release that a catalogue holds
 abbrev pub release_held : {Z : Type 0} → (Z → List ℕ) → Catalogue Z → ReleaseData
-release_held bytes c = release_of c.head (map (λ e. content_as_is bytes e.content) c.entries)
+release_held bytes c = release_of c.head (map (held_content bytes) c.held)
 
--- how many zones a catalogue holds, and of how many places the tokens
+-- how many zones a catalogue holds, and how many releases its history has
 abbrev pub zone_count : {Z : Type 0} → Catalogue Z → ℕ
-zone_count c = length c.entries
+zone_count c = length c.held
 
 abbrev pub place_count : {Z : Type 0} → Catalogue Z → ℕ
-place_count c = length c.tokens
+place_count c = c.count
 
--- the catalogue stands for the history: it holds its last release, the last changes of that release's zones, the
--- last chain value and all tokens
-pub record StandsFor {Z : Type 0} (bytes : Z → List ℕ) (sound : ReleaseData → Type 0) (c : Catalogue Z) (H : List ReleaseData) : Type 0 where
+-- the catalogue stands for the history: it holds its last release, the digests and the last changes
+-- of that
+-- release's zones, the last chain value and all tokens
+pub record StandsFor {Z : Type 0} (bytes : Z → List ℕ) (sound : ReleaseData → Type 0)
+    (c : Catalogue Z) (H : List ReleaseData) : Type 0 where
   pub history : IsHistory sound H
   pub last : last_release H ≡ Some (release_held bytes c)
-  pub entries : map (entry_data bytes) c.entries ≡ meta H
+  pub entries : map (held_entry bytes) c.held ≡ meta H
+  pub digests : map held_digest c.held ≡ map (λ h. content_digest (held_content bytes h)) c.held
   pub chain : c.chain ≡ chain_of H
   pub tokens : c.tokens ≡ tokens_of H
+
+-- a fact of each history that the catalogue stands for
+abbrev pub ForEachHistory : {Z : Type 0} → (Z → List ℕ) → (ReleaseData → Type 0) → Catalogue Z
+    → (List ReleaseData → Type 0) → Type 0
+ForEachHistory bytes sound c P = (H : List ReleaseData) → StandsFor bytes sound c H → P H
+
+-- the catalogue stands for some history
+abbrev pub HasHistory : {Z : Type 0} → (Z → List ℕ) → (ReleaseData → Type 0) → Catalogue Z → Type 0
+HasHistory bytes sound c = (H : List ReleaseData) × StandsFor bytes sound c H

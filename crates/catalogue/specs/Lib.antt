@@ -2,4 +2,9 @@ pub mod Order
 pub mod Releases
 pub mod Digests
 pub mod Histories
+pub mod Lookups
+pub mod Plain
+pub mod HeldZones
 pub mod Holdings
+pub mod Growing
+pub mod Counts

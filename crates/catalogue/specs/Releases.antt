@@ -1,5 +1,6 @@
 -- A release as plain data, and what it is made of.
-use Rattle.std.specs.Prelude.{ℕ, ◌<◌, ◌^◌, List, [], ◌∷◌, ◌++◌, length, map, Bool, ◌&&◌, Option, None, Some, ℤ}
+use Rattle.std.specs.Prelude.{ℕ, ◌<◌, ◌^◌, List, [], ◌∷◌, ◌++◌, length, map, Bool, ◌&&◌, Option}
+use Rattle.std.specs.Prelude.{None, Some, ℤ}
 use Rattle.std.specs.List.{AllByRecursion}
 use Rattle.std.specs.Cmp.Lexicographic.{pointwise}
 use Rattle.std.specs.Str.{bytes_eq}
@@ -25,7 +26,8 @@ pub record ReleaseData : Type 0 where
 
 -- whether two contents are one and the same
 abbrev pub same_content : ContentData → ContentData → Bool
-same_content a b = bytes_eq a.tzid b.tzid && pointwise bytes_eq a.aliases b.aliases && bytes_eq a.file b.file
+same_content a b =
+    bytes_eq a.tzid b.tzid && pointwise bytes_eq a.aliases b.aliases && bytes_eq a.file b.file
 
 -- all names of the contents: identifiers and aliases
 abbrev pub names_of : List ContentData → List (List ℕ)
@@ -62,12 +64,14 @@ pub record IsInOrder (r : ReleaseData) : Type 0 where
   pub contents : IsRising (map (λ c. c.tzid) r.contents)
   pub aliases : AllByRecursion (λ c. IsRising c.aliases) r.contents
 
--- a zone as it stands, and with its aliases in rising order, where `bytes` tells the bytes of its file
+-- a zone as it stands, and with its aliases in rising order, where `bytes` tells the bytes of its
+-- file
 abbrev pub content_as_is : {Z : Type 0} → (Z → List ℕ) → Content Z → ContentData
 content_as_is bytes c = record { tzid = c.tzid; aliases = c.aliases; file = bytes c.zone }
 
 abbrev pub content_data : {Z : Type 0} → (Z → List ℕ) → Content Z → ContentData
-content_data bytes c = record { tzid = c.tzid; aliases = rising_by (λ a. a) c.aliases; file = bytes c.zone }
+content_data bytes c =
+    record { tzid = c.tzid; aliases = rising_by (λ a. a) c.aliases; file = bytes c.zone }
 
 -- a release in rising order, whatever the order in which its zones and their aliases stand
 abbrev pub release_data : {Z : Type 0} → (Z → List ℕ) → Release Z → ReleaseData

@@ -1,19 +1,23 @@
-ghost use Rattle.std.specs.Prelude.{◌≡◌, ◌<◌, ◌++◌, ◌^◌, IfOk, OnOk, length, map, List, []};
+ghost use Rattle.std.specs.Prelude.{◌≡◌, ◌<◌, ◌++◌, ◌^◌, ℕ, length, map, List, []};
 ghost use Rattle.std.specs.List.{concat};
+ghost use Rattle.sha2.specs.Hashers.{Holds256};
 ghost use Rattle.td_base.specs.Sized.{sized};
 ghost use Rattle.td_civil.specs.Texts.{text_of};
 ghost use Rattle.catalogue.specs.Releases.{ContentData, HasLengths, leap_file, leap_expiry};
 ghost use Rattle.catalogue.specs.Digests.{content_digest, linked, four_bytes};
+ghost use Rattle.catalogue.specs.HeldZones.{held_digest};
 ghost use Rattle.catalogue.specs.Holdings.{release_of};
 
 use crate::Leaps;
+use crate::digest::{hash_number, hash_sized};
+use crate::entries::Held;
 use crate::head::Head;
 use sha2::{Digest, Sha256};
-use std::alloc::Global;
-use td_base::{Bytes, Items, NoMemory, put_sized};
+use std::sync::Arc;
 use td_civil::utc_text;
 
-/// The bytes of the file of leap seconds and of its expiry, of which there are none without a table.
+/// The bytes of the file of leap seconds and of its expiry, of which there are none without a
+/// table.
 fn leap_texts(leaps: &Option<Leaps>) -> (&[u8], &[u8])
     ensures file { result.0.now ≡ leap_file leaps.now }
     ensures expiry { result.1.now ≡ leap_expiry leaps.now }
@@ -24,54 +28,54 @@ fn leap_texts(leaps: &Option<Leaps>) -> (&[u8], &[u8])
     }
 }
 
-/// Appends the stamp, the publisher and the version, each behind its length.
-fn put_labels(out: &mut Bytes, head: &Head) -> Result<(), NoMemory>
+/// Hashes the stamp, the publisher and the version, each after its length.
+fn hash_labels(hasher: &mut Sha256, head: &Head)
     requires { HasLengths (release_of head.now []) }
-    ensures { OnOk result (out.new ≡ out.old ++ sized (text_of head.now.stamp.seconds) ++ sized head.now.publisher ++ sized head.now.version) }
+    ensures { (m : List ℕ) → Holds256 hasher.old m → Holds256 hasher.new
+        (m ++ sized (text_of head.now.stamp.seconds)
+        ++ sized head.now.publisher ++ sized head.now.version) }
 {
-    put_sized(out, utc_text(head.stamp).as_slice())?;
-    put_sized(out, head.publisher.as_slice())?;
-    put_sized(out, head.version.as_slice())?;
-    Ok(())
+    hash_sized(hasher, utc_text(head.stamp).as_slice());
+    hash_sized(hasher, head.publisher.as_slice());
+    hash_sized(hasher, head.version.as_slice());
 }
 
-/// Appends the file of leap seconds and its expiry, each behind its length.
-fn put_leaps(out: &mut Bytes, head: &Head) -> Result<(), NoMemory>
+/// Hashes the file of leap seconds and its expiry, each after its length.
+fn hash_leaps(hasher: &mut Sha256, head: &Head)
     requires { HasLengths (release_of head.now []) }
-    ensures { OnOk result (out.new ≡ out.old ++ sized (leap_file head.now.leaps) ++ sized (leap_expiry head.now.leaps)) }
+    ensures { (m : List ℕ) → Holds256 hasher.old m → Holds256 hasher.new
+        (m ++ sized (leap_file head.now.leaps) ++ sized (leap_expiry head.now.leaps)) }
 {
     let (file, expiry) = leap_texts(&head.leaps);
-    put_sized(out, file)?;
-    put_sized(out, expiry)?;
-    Ok(())
+    hash_sized(hasher, file);
+    hash_sized(hasher, expiry);
 }
 
-/// Appends the number of digests, and the digests.
-fn put_digests(out: &mut Bytes, digests: &Items<[u8; 32]>) -> Result<(), NoMemory>
-    requires { length digests.now < 2 ^ 32 }
-    ensures { OnOk result (out.new ≡ out.old ++ four_bytes (length digests.now) ++ concat digests.now) }
+/// Hashes the number of zones, and their digests.
+fn hash_digests<Z>(hasher: &mut Sha256, held: &[Arc<Held<Z>>])
+    requires { length held.now < 2 ^ 32 }
+    ensures { (m : List ℕ) → Holds256 hasher.old m → Holds256 hasher.new
+        (m ++ four_bytes (length held.now) ++ concat (map held_digest held.now)) }
 {
-    out.append(&(digests.len() as u32).to_be_bytes())?;
-    for digest in digests.as_slice() {
-        out.append(digest.as_slice())?;
+    hash_number(hasher, held.len() as u32);
+    for one in held {
+        hasher.update(one.digest.as_slice());
     }
-    Ok(())
 }
 
-/// The chain value of the place of the release whose zones have these digests, from that of the place before.
-pub fn link(
-    alloc: Global,
-    before: &[u8; 32],
-    head: &Head,
-    digests: &Items<[u8; 32]>,
-) -> Result<[u8; 32], NoMemory>
+/// The chain value of the place of the release of this head and of the zones held, from that of the
+/// place before.
+pub fn link<Z>(before: &[u8; 32], head: &Head, held: &[Arc<Held<Z>>]) -> [u8; 32]
     requires head { HasLengths (release_of head.now []) }
-    requires digests { length digests.now < 2 ^ 32 }
-    ensures { IfOk result (λ chain. (contents : List ContentData) → map content_digest contents ≡ digests.now → chain ≡ linked before.now (release_of head.now contents)) }
+    requires held { length held.now < 2 ^ 32 }
+    ensures { (contents : List ContentData) →
+        map held_digest held.now ≡ map content_digest contents →
+        result ≡ linked before.now (release_of head.now contents) }
 {
-    let mut message = Bytes::from_slice(alloc, before.as_slice())?;
-    put_labels(&mut message, head)?;
-    put_leaps(&mut message, head)?;
-    put_digests(&mut message, digests)?;
-    Ok(Sha256::digest(message.as_slice()))
+    let mut hasher = Sha256::new();
+    hasher.update(before.as_slice());
+    hash_labels(&mut hasher, head);
+    hash_leaps(&mut hasher, head);
+    hash_digests(&mut hasher, held);
+    hasher.finalize()
 }

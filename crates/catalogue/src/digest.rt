@@ -1,6 +1,7 @@
-ghost use Rattle.std.specs.Prelude.{◌≡◌, ◌<◌, ◌++◌, ◌^◌, IfOk, OnOk, length, take, map, List};
+ghost use Rattle.std.specs.Prelude.{◌≡◌, ◌<◌, ◌++◌, ◌^◌, ℕ, length, take, map, List};
 ghost use Rattle.std.specs.List.{AllByRecursion, concat};
 ghost use Rattle.hex.specs.Hex.{encode_lower};
+ghost use Rattle.sha2.specs.Hashers.{Holds256};
 ghost use Rattle.td_base.specs.Sized.{sized};
 ghost use Rattle.catalogue.specs.Releases.{content_as_is, IsShort};
 ghost use Rattle.catalogue.specs.Digests.{content_digest, token_text, four_bytes};
@@ -8,8 +9,7 @@ ghost use Rattle.catalogue.specs.Digests.{content_digest, token_text, four_bytes
 use crate::{Content, ZoneData};
 use itoa::Buffer;
 use sha2::{Digest, Sha256};
-use std::alloc::Global;
-use td_base::{Bytes, Items, NoMemory, Token, put_sized};
+use td_base::{Bytes, Items, Token};
 
 /// The hex digits of a digest.
 fn hex_digits(digest: &[u8; 32]) -> [u8; 64]
@@ -33,8 +33,8 @@ fn first_half(digits: &[u8]) -> [u8; 32]
     ensures { result ≡ take 32 digits.now }
 {
     let mut half = [0; 32];
-    let front = &digits[..32];
-    half.copy_from_slice(front);
+    let prefix = &digits[..32];
+    half.copy_from_slice(prefix);
     half
 }
 
@@ -51,45 +51,45 @@ pub fn token(place: u32, chain: &[u8; 32]) -> Token
     token
 }
 
-/// Appends the number of texts, and each behind its length.
-fn put_texts(out: &mut Bytes, texts: &Items<Bytes>) -> Result<(), NoMemory>
+/// Hashes a number as four bytes, the high one first.
+pub fn hash_number(hasher: &mut Sha256, number: u32)
+    ensures { (m : List ℕ) → Holds256 hasher.old m →
+        Holds256 hasher.new (m ++ four_bytes number) }
+{
+    hasher.update(number.to_be_bytes().as_slice());
+}
+
+/// Hashes bytes after their number.
+pub fn hash_sized(hasher: &mut Sha256, bytes: &[u8])
+    requires { length bytes.now < 2 ^ 32 }
+    ensures { (m : List ℕ) → Holds256 hasher.old m →
+        Holds256 hasher.new (m ++ sized bytes.now) }
+{
+    hash_number(hasher, bytes.len() as u32);
+    hasher.update(bytes);
+}
+
+/// Hashes the number of texts, and each text after its length.
+fn hash_texts(hasher: &mut Sha256, texts: &Items<Bytes>)
     requires count { length texts.now < 2 ^ 32 }
     requires texts { AllByRecursion (λ a. length a < 2 ^ 32) texts.now }
-    ensures { OnOk result (out.new ≡ out.old ++ four_bytes (length texts.now) ++ concat (map sized texts.now)) }
+    ensures { (m : List ℕ) → Holds256 hasher.old m →
+        Holds256 hasher.new (m ++ four_bytes (length texts.now) ++ concat (map sized texts.now)) }
 {
-    out.append(&(texts.len() as u32).to_be_bytes())?;
+    hash_number(hasher, texts.len() as u32);
     for text in texts.as_slice() {
-        put_sized(out, text.as_slice())?;
+        hash_sized(hasher, text.as_slice());
     }
-    Ok(())
 }
 
 /// The digest of a content whose aliases rise.
-pub fn content_digest<Z: ZoneData>(
-    alloc: Global,
-    content: &Content<Z>,
-) -> Result<[u8; 32], NoMemory>
+pub fn content_digest<Z: ZoneData>(content: &Content<Z>) -> [u8; 32]
     requires { IsShort (content_as_is Z.bytes content.now) }
-    ensures { IfOk result (λ d. d ≡ content_digest (content_as_is Z.bytes content.now)) }
+    ensures { result ≡ content_digest (content_as_is Z.bytes content.now) }
 {
-    let mut message = Bytes::new(alloc);
-    put_sized(&mut message, content.tzid.as_slice())?;
-    put_texts(&mut message, &content.aliases)?;
-    put_sized(&mut message, content.zone.file_bytes())?;
-    Ok(Sha256::digest(message.as_slice()))
-}
-
-/// The digest of each of the zones.
-pub fn digests<Z: ZoneData>(
-    alloc: Global,
-    contents: &[Content<Z>],
-) -> Result<Items<[u8; 32]>, NoMemory>
-    requires { AllByRecursion (λ c. IsShort (content_as_is Z.bytes c)) contents.now }
-    ensures { IfOk result (λ r. r ≡ map content_digest (map (content_as_is Z.bytes) contents.now)) }
-{
-    let mut digests = Vec::with_capacity(alloc, contents.len())?;
-    for content in contents {
-        digests.push(content_digest(alloc, content)?)?;
-    }
-    Ok(Items::from(digests))
+    let mut hasher = Sha256::new();
+    hash_sized(&mut hasher, content.tzid.as_slice());
+    hash_texts(&mut hasher, &content.aliases);
+    hash_sized(&mut hasher, content.zone.file_bytes());
+    hasher.finalize()
 }

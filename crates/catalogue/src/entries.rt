@@ -18,3 +18,11 @@ pub struct Entry<Z> {
     /// The version of that release.
     pub version: Bytes,
 }
+
+/// An entry with the digest of its content. Catalogues of one history share it as long as the
+/// content stays.
+#[derive(Debug, Drop)]
+pub struct Held<Z> {
+    pub entry: Entry<Z>,
+    pub digest: [u8; 32],
+}

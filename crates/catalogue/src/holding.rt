@@ -1,11 +1,17 @@
-ghost use Rattle.std.specs.Prelude.{◌≡◌, ◌<◌, ◌≤◌, ◌^◌, length, List, IfOk, Some, [], ◌∷◌};
+ghost use Rattle.std.specs.Prelude.{◌≡◌, ◌≤◌, ◌<◌, Some, length, map, option_copied};
 ghost use Rattle.std.specs.Option.{IsSomeAnd};
 ghost use Rattle.std.specs.List.{slice_get};
-ghost use Rattle.catalogue.specs.Releases.{ReleaseData};
+ghost use Rattle.td_base.specs.Names.{IsPlain};
+ghost use Rattle.catalogue.specs.HeldZones.{entry_data, held_names, numbered};
 ghost use Rattle.catalogue.specs.Histories.{last_release, meta, token_of};
+ghost use Rattle.catalogue.specs.Order.{rising_by};
+ghost use Rattle.catalogue.specs.Plain.{IsPlainEntry};
 
+use crate::entries::Held;
 use crate::head::Head;
-use crate::{Entry, ZoneData};
+use crate::names::Name;
+use crate::{Entry, Leaps, ZoneData};
+use std::sync::Arc;
 use td_base::{Items, Token};
 use td_civil::Moment;
 
@@ -13,65 +19,86 @@ use td_civil::Moment;
 #[derive(Debug, Drop)]
 pub struct Catalogue<Z> {
     pub(crate) head: Head,
-    pub(crate) entries: Items<Entry<Z>>,
+    /// The entries in rising order of their identifiers.
+    pub(crate) held: Items<Arc<Held<Z>>>,
     pub(crate) chain: [u8; 32],
+    pub(crate) count: u32,
     pub(crate) tokens: Items<Token>,
-    ghost counted: { length tokens < 2 ^ 32 },
+    pub(crate) names: Items<Name>,
+    ghost some: { 1 ≤ count },
+    ghost counted: { length tokens ≡ count },
+    ghost indexed: { names ≡ rising_by (λ n. n.text) (numbered 0 (map held_names held)) },
 }
 
 impl<Z: ZoneData> Catalogue<Z> {
-    ghost use Rattle.catalogue.specs.Holdings.{StandsFor, zone_count, place_count, entry_data};
+    ghost use Rattle.catalogue.specs.Holdings.{ForEachHistory, zone_count, place_count};
 
     /// How many releases the history has, which is the last place.
     pub fn count(&self) -> u32
         ensures places { result ≡ place_count self.now }
-        ensures count { (H : List ReleaseData) → StandsFor Z.bytes Z.sound self.now H → result ≡ length H }
+        ensures some { 1 ≤ result }
+        ensures count { ForEachHistory Z.bytes Z.sound self.now (λ H. result ≡ length H) }
     {
-        self.tokens.len() as u32
+        self.count
     }
 
     /// How many zones the last release has.
     pub fn len(&self) -> usize
         ensures zones { result ≡ zone_count self.now }
-        ensures len { (H : List ReleaseData) → StandsFor Z.bytes Z.sound self.now H → result ≡ length (meta H) }
+        ensures len { ForEachHistory Z.bytes Z.sound self.now (λ H. result ≡ length (meta H)) }
     {
-        self.entries.len()
+        self.held.len()
     }
 
     /// The entry at a position in the rising order of the identifiers, counted from 0.
     pub fn entry(&self, i: usize) -> &Entry<Z>
         requires { i < zone_count self.now }
-        ensures { (H : List ReleaseData) → StandsFor Z.bytes Z.sound self.now H → slice_get (meta H) i ≡ Some (entry_data Z.bytes result.now) }
+        ensures entry { ForEachHistory Z.bytes Z.sound self.now (λ H.
+            slice_get (meta H) i ≡ Some (entry_data Z.bytes result.now)) }
+        ensures plain { ForEachHistory Z.bytes Z.sound self.now (λ H.
+            IsPlainEntry (entry_data Z.bytes result.now)) }
     {
-        &self.entries.as_slice()[i]
+        &self.held.as_slice()[i].entry
     }
 
     /// The token of a place, counted from 1.
     pub fn token(&self, n: u32) -> Token
         requires { (1 ≤ n) × (n ≤ place_count self.now) }
-        ensures { (H : List ReleaseData) → StandsFor Z.bytes Z.sound self.now H → result ≡ token_of H n }
+        ensures token { ForEachHistory Z.bytes Z.sound self.now (λ H. result ≡ token_of H n) }
+        ensures plain { ForEachHistory Z.bytes Z.sound self.now (λ H. IsPlain result) }
     {
         self.tokens.as_slice()[n as usize - 1].copy()
     }
 
     /// The stamp of the last release.
     pub fn last_stamp(&self) -> Moment
-        ensures { (H : List ReleaseData) → StandsFor Z.bytes Z.sound self.now H → IsSomeAnd (last_release H) (λ r. result.seconds ≡ r.stamp) }
+        ensures { ForEachHistory Z.bytes Z.sound self.now (λ H.
+            IsSomeAnd (last_release H) (λ r. result.seconds ≡ r.stamp)) }
     {
         self.head.stamp
     }
 
     /// The publisher of the last release.
     pub fn publisher(&self) -> &[u8]
-        ensures { (H : List ReleaseData) → StandsFor Z.bytes Z.sound self.now H → IsSomeAnd (last_release H) (λ r. result.now ≡ r.publisher) }
+        ensures { ForEachHistory Z.bytes Z.sound self.now (λ H.
+            IsSomeAnd (last_release H) (λ r. result.now ≡ r.publisher)) }
     {
         self.head.publisher.as_slice()
     }
 
     /// The version of the last release.
     pub fn version(&self) -> &[u8]
-        ensures { (H : List ReleaseData) → StandsFor Z.bytes Z.sound self.now H → IsSomeAnd (last_release H) (λ r. result.now ≡ r.version) }
+        ensures { ForEachHistory Z.bytes Z.sound self.now (λ H.
+            IsSomeAnd (last_release H) (λ r. result.now ≡ r.version)) }
     {
         self.head.version.as_slice()
+    }
+
+    /// The table of leap seconds of the last release.
+    pub fn leaps(&self) -> Option<&Leaps>
+        ensures { ForEachHistory Z.bytes Z.sound self.now (λ H.
+            IsSomeAnd (last_release H) (λ r. option_copied result ≡ r.leaps)) }
+    {
+        self.head.leaps.as_ref()
     }
 }

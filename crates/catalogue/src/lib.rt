@@ -1,5 +1,8 @@
-//! Releases of time zone data, the tags of their zones and the tokens of their places in a history, and the
-//! catalogue that holds a history's last release.
+//! Releases of time zone data, and the catalogue that holds the last release of a history of them.
+//!
+//! `Catalogue::first` begins a history, and `Catalogue::next` adds a release to it. What a
+//! catalogue then tells, its
+//! entries, tags and tokens, is what `StandsFor` of `specs/Holdings.antt` says of that history.
 #![tactic(auto)]
 
 mod chain;
@@ -7,17 +10,27 @@ mod digest;
 mod entries;
 mod head;
 mod holding;
+mod keeping;
 mod laws;
+mod limits;
+mod lookups;
 mod making;
+mod names;
 mod order;
 mod release;
 mod send_sync;
+mod value;
 mod zone_data;
 
 pub use entries::Entry;
 pub use holding::Catalogue;
-pub use laws::order_is_free;
+pub use laws::{
+    entries_are_plain, fits_what_is_held, histories_grow, order_is_free, tokens_are_apart,
+    tokens_are_plain, tokens_find_places,
+};
+pub use limits::{MOST_NAMES, MOST_PLACES, MOST_ZONES};
 pub use release::{Content, LeapStep, Leaps, Release};
+pub use value::ReleaseMark;
 pub use zone_data::ZoneData;
 
 #[cfg(test)]

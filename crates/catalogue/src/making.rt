@@ -1,79 +1,90 @@
-ghost use Rattle.std.specs.Prelude.{◌≡◌, ◌∷◌, ◌++◌, [], IfOk, length, map, take, List, ℕ, ◌<◌, slice_index_or};
-ghost use Rattle.hex.specs.Hex.{encode_lower};
-ghost use Rattle.catalogue.specs.Releases.{ReleaseData, content_as_is, release_data};
+ghost use Rattle.std.specs.Prelude.{◌≡◌, ◌∷◌, ◌++◌, [], IfOk, Some, map};
+ghost use Rattle.std.specs.List.{AllByRecursion};
+ghost use Rattle.catalogue.specs.Releases.{IsShort, content_as_is, release_data};
 ghost use Rattle.catalogue.specs.Digests.{content_digest};
-ghost use Rattle.catalogue.specs.Histories.{Fits, entry_from};
-ghost use Rattle.catalogue.specs.Holdings.{StandsFor, entry_data, release_of};
+ghost use Rattle.catalogue.specs.Histories.{Fits, FitsAfter, entry_from};
+ghost use Rattle.catalogue.specs.HeldZones.{held_digest, held_entry};
+ghost use Rattle.catalogue.specs.Holdings.{ForEachHistory, StandsFor, place_count, release_held};
+ghost use Rattle.catalogue.specs.Holdings.{release_of};
 
 use crate::chain::link;
-use crate::digest::{digests, tag, token};
+use crate::digest::{content_digest, tag, token};
+use crate::entries::Held;
 use crate::head::Head;
 use crate::holding::Catalogue;
+use crate::names::all_names;
 use crate::order::in_order;
 use crate::{Content, Entry, Release, ZoneData};
 use std::alloc::Global;
-use td_base::{Bytes, Items, NoMemory};
+use std::sync::Arc;
+use td_base::{Bytes, Items, NoMemory, Token};
 
-/// The entry of a zone that changed at this place, in the release of this head.
-fn changed_entry<Z: Drop>(
+/// What is held of a zone that changed at this place, in the release of this head.
+pub fn changed<Z: ZoneData + Drop>(
     alloc: Global,
     content: Content<Z>,
-    digest: &[u8; 32],
     place: u32,
     head: &Head,
-) -> Result<Entry<Z>, NoMemory>
-    ensures { IfOk result (λ e. e ≡ record {
-      content = content;
-      tag = take 32 (encode_lower digest.now);
-      changed = place;
-      stamp = head.now.stamp;
-      publisher = head.now.publisher;
-      version = head.now.version;
-    }) }
+) -> Result<Arc<Held<Z>>, NoMemory>
+    requires { IsShort (content_as_is Z.bytes content) }
+    ensures entry { IfOk result (λ h. held_entry Z.bytes h
+        ≡ entry_from (release_of head.now []) place (content_as_is Z.bytes content)) }
+    ensures digest { IfOk result (λ h.
+        held_digest h ≡ content_digest (content_as_is Z.bytes content)) }
 {
-    Ok(Entry {
+    let digest = content_digest(&content);
+    let entry = Entry {
         content,
-        tag: tag(digest),
+        tag: tag(&digest),
         changed: place,
         stamp: head.stamp,
         publisher: Bytes::from_slice(alloc, head.publisher.as_slice())?,
         version: Bytes::from_slice(alloc, head.version.as_slice())?,
-    })
+    };
+    let held = Arc::new(alloc, Held { entry, digest })?;
+    Ok(held)
 }
 
-/// The digest at a position.
-fn digest_at(digests: &[[u8; 32]], at: usize) -> [u8; 32]
-    requires { at < length digests.now }
-    ensures { (d : List ℕ) → result ≡ slice_index_or digests.now at d }
-{
-    digests[at]
-}
-
-/// The entries of zones all of which changed at this place, in the release of this head.
-fn changed_entries<Z: ZoneData + Drop>(
+/// What is held of zones all of which changed at this place, in the release of this head.
+fn all_changed<Z: ZoneData + Drop>(
     alloc: Global,
     contents: Items<Content<Z>>,
-    digests: &[[u8; 32]],
     place: u32,
     head: &Head,
-) -> Result<Items<Entry<Z>>, NoMemory>
-    requires { digests.now ≡ map content_digest (map (content_as_is Z.bytes) contents) }
-    ensures { IfOk result (λ r. map (entry_data Z.bytes) r ≡ map (entry_from (release_of head.now []) place) (map (content_as_is Z.bytes) contents)) }
+) -> Result<Items<Arc<Held<Z>>>, NoMemory>
+    requires { AllByRecursion (λ c. IsShort (content_as_is Z.bytes c)) contents }
+    ensures entries { IfOk result (λ r. map (held_entry Z.bytes) r
+        ≡ map (entry_from (release_of head.now []) place)
+        (map (content_as_is Z.bytes) contents)) }
+    ensures digests { IfOk result (λ r. map held_digest r
+        ≡ map content_digest (map (content_as_is Z.bytes) contents)) }
 {
-    let mut entries = Vec::with_capacity(alloc, contents.len())?;
+    let mut held = Vec::with_capacity(alloc, contents.len())?;
     for content in contents.into_vec() {
-        let digest = digest_at(digests, entries.len());
-        entries.push(changed_entry(alloc, content, &digest, place, head)?)?;
+        held.push(changed(alloc, content, place, head)?)?;
     }
-    Ok(Items::from(entries))
+    Ok(Items::from(held))
+}
+
+/// The tokens, copied.
+fn copy_tokens(alloc: Global, tokens: &Items<Token>) -> Result<Items<Token>, NoMemory>
+    ensures { IfOk result (λ r. r ≡ tokens.now) }
+{
+    let mut copied = Items::new(alloc);
+    for token in tokens.as_slice() {
+        copied.push(token.copy())?;
+    }
+    Ok(copied)
 }
 
 impl<Z: ZoneData + Drop> Catalogue<Z> {
-    /// The catalogue of a history of one release. The zones and the aliases of each may stand in any order.
+    /// The catalogue of a history of one release. The zones and the aliases of each may stand in
+    /// any order.
     pub fn first(alloc: Global, release: Release<Z>) -> Result<Catalogue<Z>, NoMemory>
         requires sound { Z.sound (release_data Z.bytes release) }
         requires fits { Fits [] (release_data Z.bytes release) }
-        ensures { IfOk result (λ c. StandsFor Z.bytes Z.sound c (release_data Z.bytes release ∷ [])) }
+        ensures { IfOk result (λ c.
+            StandsFor Z.bytes Z.sound c (release_data Z.bytes release ∷ [])) }
     {
         let Release {
             stamp,
@@ -89,16 +100,58 @@ impl<Z: ZoneData + Drop> Catalogue<Z> {
             leaps,
         };
         let contents = in_order(alloc, zones)?;
-        let digests = digests(alloc, contents.as_slice())?;
-        let chain = link(alloc, &[0; 32], &head, &digests)?;
-        let entries = changed_entries(alloc, contents, digests.as_slice(), 1, &head)?;
+        let held = all_changed(alloc, contents, 1, &head)?;
+        let chain = link(&[0; 32], &head, held.as_slice());
+        let names = all_names(alloc, held.as_slice())?;
         let mut tokens = Items::new(alloc);
         tokens.push(token(1, &chain))?;
         Ok(Catalogue {
             head,
-            entries,
+            held,
             chain,
+            count: 1,
             tokens,
+            names,
+        })
+    }
+
+    /// The catalogue of the same history with one release more. The zones and the aliases of each
+    /// may stand in any
+    /// order. A zone whose content stays keeps its entry.
+    pub fn next(&self, alloc: Global, release: Release<Z>) -> Result<Catalogue<Z>, NoMemory>
+        requires sound { Z.sound (release_data Z.bytes release) }
+        requires fits { FitsAfter (Some (release_held Z.bytes self.now)) (place_count self.now)
+            (release_data Z.bytes release) }
+        ensures { IfOk result (λ c. ForEachHistory Z.bytes Z.sound self.now (λ H.
+            StandsFor Z.bytes Z.sound c (H ++ release_data Z.bytes release ∷ []))) }
+    {
+        let Release {
+            stamp,
+            publisher,
+            version,
+            zones,
+            leaps,
+        } = release;
+        let head = Head {
+            stamp,
+            publisher,
+            version,
+            leaps,
+        };
+        let place = self.count + 1;
+        let contents = in_order(alloc, zones)?;
+        let held = self.all_next(alloc, contents, place, &head)?;
+        let chain = link(&self.chain, &head, held.as_slice());
+        let names = all_names(alloc, held.as_slice())?;
+        let mut tokens = copy_tokens(alloc, &self.tokens)?;
+        tokens.push(token(place, &chain))?;
+        Ok(Catalogue {
+            head,
+            held,
+            chain,
+            count: place,
+            tokens,
+            names,
         })
     }
 }

@@ -1,10 +1,12 @@
-ghost use Rattle.std.specs.Prelude.{◌≡◌, ◌≤◌, ℕ, List, IfOk, length, map};
-ghost use Rattle.std.specs.List.{insert};
-ghost use Rattle.catalogue.specs.Order.{put_by, rising_by};
+ghost use Rattle.std.specs.Prelude.{◌≡◌, ℕ, List, IfOk, map};
+ghost use Rattle.std.specs.Cmp.Lexicographic.{slice_cmp};
+ghost use Rattle.std.specs.Ordering.{nat_cmp};
+ghost use Rattle.catalogue.specs.Order.{rising_by};
 ghost use Rattle.catalogue.specs.Releases.{content_as_is, content_data};
 
 use crate::{Content, ZoneData};
 use std::alloc::Global;
+use std::cmp::Ordering;
 use td_base::{Bytes, Items, NoMemory};
 
 /// What has its place in an order by a text.
@@ -32,45 +34,33 @@ impl<Z> Ranked for Content<Z> {
     }
 }
 
-/// Where an item of this text is to stand among the sorted items.
-fn place_of<T: Ranked>(sorted: &[T], text: &[u8]) -> usize
-    ensures within { result ≤ length sorted.now }
-    ensures place { (x : T) → T.text x ≡ text.now → put_by T.text x sorted.now ≡ insert sorted.now result x }
+/// How two items compare by their texts.
+fn compare<T: Ranked>(a: &T, b: &T) -> Ordering
+    ensures { result ≡ slice_cmp nat_cmp (T.text a.now) (T.text b.now) }
 {
-    for (place, item) in sorted.iter().enumerate() {
-        if !item.text().cmp(text).is_lt() {
-            return place;
-        }
-    }
-    sorted.len()
+    a.text().cmp(b.text())
 }
 
-/// The items in rising order.
-fn rising<T: Ranked + Drop>(alloc: Global, items: Items<T>) -> Result<Items<T>, NoMemory>
+/// The items in rising order. Items of the same text keep their order.
+pub fn rising<T: Ranked + Drop>(items: Items<T>) -> Result<Items<T>, NoMemory>
     ensures { IfOk result (λ sorted. sorted ≡ rising_by T.text items) }
 {
-    let mut left = items.into_vec();
-    let mut sorted = Vec::with_capacity(alloc, left.len())?;
-    while let Some(item) = left.pop() {
-        let place = place_of(sorted.as_slice(), item.text());
-        sorted.insert(place, item)?;
-    }
+    let mut sorted = items.into_vec();
+    sorted.sort_by(|a, b| compare(a, b))?;
     Ok(Items::from(sorted))
 }
 
 /// The zone with its aliases in rising order.
-fn with_rising_aliases<Z: ZoneData + Drop>(
-    alloc: Global,
-    content: Content<Z>,
-) -> Result<Content<Z>, NoMemory>
-    ensures { IfOk result (λ c. (c.tzid ≡ content.tzid) × (content_as_is Z.bytes c ≡ content_data Z.bytes content)) }
+fn with_rising_aliases<Z: ZoneData + Drop>(content: Content<Z>) -> Result<Content<Z>, NoMemory>
+    ensures { IfOk result (λ c. (c.tzid ≡ content.tzid)
+        × (content_as_is Z.bytes c ≡ content_data Z.bytes content)) }
 {
     let Content {
         tzid,
         aliases,
         zone,
     } = content;
-    let aliases = rising(alloc, aliases)?;
+    let aliases = rising(aliases)?;
     Ok(Content {
         tzid,
         aliases,
@@ -83,11 +73,12 @@ fn with_all_aliases_rising<Z: ZoneData + Drop>(
     alloc: Global,
     zones: Items<Content<Z>>,
 ) -> Result<Items<Content<Z>>, NoMemory>
-    ensures { IfOk result (λ r. map (content_as_is Z.bytes) r ≡ map (content_data Z.bytes) zones) }
+    ensures { IfOk result (λ r.
+        map (content_as_is Z.bytes) r ≡ map (content_data Z.bytes) zones) }
 {
     let mut contents = Vec::with_capacity(alloc, zones.len())?;
     for content in zones.into_vec() {
-        contents.push(with_rising_aliases(alloc, content)?)?;
+        contents.push(with_rising_aliases(content)?)?;
     }
     Ok(Items::from(contents))
 }
@@ -97,8 +88,9 @@ pub fn in_order<Z: ZoneData + Drop>(
     alloc: Global,
     zones: Items<Content<Z>>,
 ) -> Result<Items<Content<Z>>, NoMemory>
-    ensures { IfOk result (λ r. map (content_as_is Z.bytes) r ≡ rising_by (λ c. c.tzid) (map (content_data Z.bytes) zones)) }
+    ensures { IfOk result (λ r. map (content_as_is Z.bytes) r
+        ≡ rising_by (λ c. c.tzid) (map (content_data Z.bytes) zones)) }
 {
-    let contents = rising(alloc, with_all_aliases_rising(alloc, zones)?)?;
+    let contents = rising(with_all_aliases_rising(alloc, zones)?)?;
     Ok(contents)
 }

@@ -1,8 +1,12 @@
 ghost use Rattle.std.specs.Prelude.{◌≡◌, [], ◌∷◌, ◌++◌, codes, option_to_list, IfOk};
+ghost use Rattle.catalogue.specs.Plain.{HasPlainLabels};
 ghost use Rattle.catalogue.specs.Releases.{HasLengths, release_data};
 ghost use Rattle.catalogue.specs.Histories.{Fits};
 
-use crate::{Catalogue, Content, Leaps, Release, ZoneData, order_is_free};
+use crate::{
+    Catalogue, Content, Leaps, Release, ZoneData, entries_are_plain, order_is_free,
+    tokens_are_plain,
+};
 use std::alloc::Global;
 use std::process::Abort;
 use std::test::Fail;
@@ -11,16 +15,18 @@ use td_civil::Moment;
 
 /// A zone of which nothing but the bytes of its file is known.
 #[derive(Debug, Drop)]
-struct RawZone {
-    file: Bytes,
+pub struct RawZone {
+    pub file: Bytes,
 }
 
 impl ZoneData for RawZone {
     ghost bytes = { λ z. z.file };
 
-    ghost sound = { HasLengths };
+    ghost sound = { λ r. HasLengths r × HasPlainLabels r };
 
-    ghost lengths = { λ r s. s };
+    ghost lengths = { λ r s. s.0 };
+
+    ghost labels = { λ r s. s.1 };
 
     fn file_bytes(&self) -> &[u8] {
         self.file.as_slice()
@@ -28,11 +34,11 @@ impl ZoneData for RawZone {
 }
 
 /// The file of UTC: version 2, no transitions, one type, the footer `UTC0` (RFC 9636).
-const UTC_FILE: &[u8] =
+pub const UTC_FILE: &[u8] =
     b"TZif2\0\0\0\0\0\0\0\0\0\0\0\0\0\0\0\0\0\0\0\0\0\0\0\0\0\0\0\0\0\0\0\0\0\0\x01\0\0\0\x01\0\0\0\0\0\0\0TZif2\0\0\0\0\0\0\0\0\0\0\0\0\0\0\0\0\0\0\0\0\0\0\0\0\0\0\0\0\0\0\0\0\0\0\x01\0\0\0\x04\0\0\0\0\0\0UTC\0\nUTC0\n";
 
 /// A zone without aliases.
-fn zone(alloc: Global, tzid: &[u8], file: &[u8]) -> Result<Content<RawZone>, NoMemory>
+pub fn zone(alloc: Global, tzid: &[u8], file: &[u8]) -> Result<Content<RawZone>, NoMemory>
     ensures { IfOk result (λ c. c ≡ record {
       tzid = tzid.now;
       aliases = [];
@@ -49,7 +55,7 @@ fn zone(alloc: Global, tzid: &[u8], file: &[u8]) -> Result<Content<RawZone>, NoM
 }
 
 /// The zone with one alias more.
-fn with_alias(
+pub fn with_alias(
     alloc: Global,
     content: Content<RawZone>,
     alias: &[u8],
@@ -74,7 +80,7 @@ fn with_alias(
 }
 
 /// A release of the publisher `Test`.
-fn release(
+pub fn release(
     alloc: Global,
     seconds: i64,
     version: &[u8],
@@ -114,7 +120,7 @@ fn leaps(alloc: Global) -> Result<Leaps, NoMemory>
 }
 
 /// The zone and those after it.
-fn zones(
+pub fn zones(
     alloc: Global,
     first: Content<RawZone>,
     second: Option<Content<RawZone>>,
@@ -132,6 +138,7 @@ fn zones(
 /// A release of one zone.
 fn one_zone(alloc: Global) -> Result<Release<RawZone>, NoMemory>
     ensures lengths { IfOk result (λ r. HasLengths (release_data (λ z. z.file) r)) }
+    ensures labels { IfOk result (λ r. HasPlainLabels (release_data (λ z. z.file) r)) }
     ensures fits { IfOk result (λ r. Fits [] (release_data (λ z. z.file) r)) }
 {
     let zones = zones(alloc, zone(alloc, b"Etc/UTC", UTC_FILE)?, None)?;
@@ -139,9 +146,11 @@ fn one_zone(alloc: Global) -> Result<Release<RawZone>, NoMemory>
     Ok(release)
 }
 
-/// A release of two zones with aliases, neither of which stand in rising order, and with a table of leap seconds.
+/// A release of two zones with aliases, neither of which stand in rising order, and with a table of
+/// leap seconds.
 fn two_zones(alloc: Global) -> Result<Release<RawZone>, NoMemory>
     ensures lengths { IfOk result (λ r. HasLengths (release_data (λ z. z.file) r)) }
+    ensures labels { IfOk result (λ r. HasPlainLabels (release_data (λ z. z.file) r)) }
     ensures fits { IfOk result (λ r. Fits [] (release_data (λ z. z.file) r)) }
 {
     let utc = with_alias(alloc, zone(alloc, b"Etc/UTC", UTC_FILE)?, b"Zulu")?;
@@ -156,7 +165,8 @@ fn two_zones(alloc: Global) -> Result<Release<RawZone>, NoMemory>
     Ok(release)
 }
 
-// The tags and tokens were computed by another program (Python's hashlib) over the bytes that are to be hashed.
+// The tags and tokens were computed by another program (Python's hashlib) over the bytes that are
+// to be hashed.
 
 #[test]
 fn begins_a_history_of_one_zone(rt: HostRuntime) -> Result<(), Fail> {
@@ -165,12 +175,10 @@ fn begins_a_history_of_one_zone(rt: HostRuntime) -> Result<(), Fail> {
     assert_eq!(rt; catalogue.last_stamp().seconds, 1_737_331_200);
     assert_eq!(rt; catalogue.publisher(), b"Test".as_slice());
     assert_eq!(rt; catalogue.version(), b"2025a".as_slice());
-    if catalogue.count() == 1 {
-        assert_eq!(rt;
-            catalogue.token(1).as_slice(),
-            b"1-e2b2cb478d218163".as_slice()
-        );
-    }
+    assert_eq!(rt;
+        catalogue.token(1).as_slice(),
+        b"1-e2b2cb478d218163".as_slice()
+    );
     assert_eq!(rt; catalogue.len(), 1);
     if catalogue.len() == 1 {
         let entry = catalogue.entry(0);
@@ -192,13 +200,13 @@ fn begins_a_history_of_one_zone(rt: HostRuntime) -> Result<(), Fail> {
 #[test]
 fn begins_a_history_in_rising_order(rt: HostRuntime) -> Result<(), Fail> {
     order_is_free::<RawZone>();
+    entries_are_plain::<RawZone>();
+    tokens_are_plain();
     let catalogue = Catalogue::first(rt.alloc(), two_zones(rt.alloc())?)?;
-    if catalogue.count() == 1 {
-        assert_eq!(rt;
-            catalogue.token(1).as_slice(),
-            b"1-2beffeb0f6b28a88".as_slice()
-        );
-    }
+    assert_eq!(rt;
+        catalogue.token(catalogue.count()).as_slice(),
+        b"1-2beffeb0f6b28a88".as_slice()
+    );
     assert_eq!(rt; catalogue.len(), 2);
     if catalogue.len() == 2 {
         let york = catalogue.entry(0);

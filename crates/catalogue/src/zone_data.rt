@@ -1,7 +1,9 @@
 ghost use Rattle.std.specs.Prelude.{◌≡◌, ℕ, List};
+ghost use Rattle.catalogue.specs.Plain.{HasPlainLabels};
 ghost use Rattle.catalogue.specs.Releases.{ReleaseData, HasLengths};
 
-/// The data of a zone, of which the bytes of its file are told, and which releases of such zones are sound.
+/// The data of a zone, of which the bytes of its file are told, and which releases of such zones
+/// are sound.
 pub trait ZoneData {
     ghost bytes: { Self → List ℕ };
 
@@ -12,4 +14,6 @@ pub trait ZoneData {
         ensures { result.now ≡ bytes self.now };
 
     ghost lengths: { (r : ReleaseData) → sound r → HasLengths r };
+
+    ghost labels: { (r : ReleaseData) → sound r → HasPlainLabels r };
 }

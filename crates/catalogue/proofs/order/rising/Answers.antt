@@ -1,20 +1,15 @@
-use Rattle.std.proofs.Common.{◌≡◌, ap, sym, ◌∙◌}
-use Rattle.catalogue.specs.Order.{put_by}
-use Rattle.catalogue.proofs.Sorting.{rising_onto, rising_onto-last, rising_onto-none}
+use Rattle.std.proofs.Common.{rules, ◌≡◌, ◌∙◌}
+use Rattle.std.proofs.lemmas.Cmp.{nat_list_cmp_total}
+use Rattle.std.proofs.lemmas.Fn.{always_returns_same}
+use Rattle.std.proofs.lemmas.List.Sorted.{ranks_by}
+use Rattle.catalogue.proofs.Sorting.{earlier, sorted_is}
 use Rattle.catalogue.proofs.order.rising.Goals as goal
 
-pub loop-item-init : goal.loop-item-init
-loop-item-init g c = rw (c.into_vec-left.ensures, c.in_ok-sorted.ensures.items) (rising_onto-none g.T.Ranked.text c.args.items)
-
-pub loop-item-preserved : goal.loop-item-preserved
-loop-item-preserved g c =
-    let old = c.loop-item.sorted.items in
-    let left = c.pop.new.self.items in
-    let item = c.in-Some.item in
-    let put : put_by g.T.Ranked.text item old ≡ c.insert.new.self.items =
-    rw c.as_slice.ensures.value at (c.place_of-place.ensures.place item (sym c.text.ensures))
-    ∙ sym c.in_ok-insert.ensures.items in
-    ap (λ sorted. rising_onto g.T.Ranked.text left sorted) (sym put)
-    ∙ sym (rising_onto-last g.T.Ranked.text left item old)
-    ∙ ap (λ items. rising_onto g.T.Ranked.text items old) (sym c.in-Some.ensures.items)
-    ∙ c.loop-item.invariant
+pub returns : goal.returns
+returns g c =
+    let text = g.T.Ranked.text in
+    let made : c.from.result ≡ c.sort_by.new.self.items = search rules in
+    let ranks = ranks_by nat_list_cmp_total text in
+    let computes = always_returns_same _ _ _ (λ a r f' called. search rules) in
+    made ∙ sorted_is text c.args.items c.sort_by.new.self.items (c.in_ok-sort_by.ensures.sorted (earlier text) ranks computes)
+    (rw c.into_vec-sorted.ensures at (c.in_ok-sort_by.ensures.stable (earlier text) ranks computes))

@@ -28,3 +28,6 @@ returns-clause-fits c =
       names = omega arith;
       places = omega arith;
     })
+
+pub returns-clause-labels : goal.returns-clause-labels
+returns-clause-labels c = rw c.in_ok-release.ensures (record { publisher = refl; version = refl })

@@ -1,0 +1,5 @@
+use Rattle.catalogue.proofs.PlainEntries.{token_plain}
+use Rattle.catalogue.proofs.laws.tokens_are_plain.Goals as goal
+
+pub returns : goal.returns
+returns c = token_plain

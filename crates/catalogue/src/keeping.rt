@@ -1,0 +1,94 @@
+ghost use Rattle.std.specs.Prelude.{◌≡◌, ◌<◌, [], IfOk, IfSome, None, false, length, map, true};
+ghost use Rattle.std.specs.List.{AllByRecursion, HoldsAt};
+ghost use Rattle.catalogue.specs.Releases.{IsShort, content_as_is, same_content};
+ghost use Rattle.catalogue.specs.Digests.{content_digest};
+ghost use Rattle.catalogue.specs.Growing.{entry_next};
+ghost use Rattle.catalogue.specs.HeldZones.{held_content, held_digest, held_entry};
+ghost use Rattle.catalogue.specs.Histories.{has_content};
+ghost use Rattle.catalogue.specs.Holdings.{ForEachHistory, release_held, release_of, zone_count};
+
+use crate::entries::Held;
+use crate::head::Head;
+use crate::making::changed;
+use crate::{Catalogue, Content, ZoneData};
+use std::alloc::Global;
+use std::sync::Arc;
+use td_base::{Items, NoMemory};
+
+/// Whether two zones have the same identifier, the same aliases and the same file.
+fn is_same<Z: ZoneData>(a: &Content<Z>, b: &Content<Z>) -> bool
+    ensures { result ≡ same_content (content_as_is Z.bytes a.now) (content_as_is Z.bytes b.now) }
+{
+    a.tzid == b.tzid
+        && a.aliases.as_slice() == b.aliases.as_slice()
+        && a.zone.file_bytes() == b.zone.file_bytes()
+}
+
+impl<Z: ZoneData + Drop> Catalogue<Z> {
+    /// The position of the zone of the last release that is the same.
+    fn find_same(&self, content: &Content<Z>) -> Option<usize>
+        ensures within { IfSome result (λ i. i < zone_count self.now) }
+        ensures same { IfSome result (λ i. HoldsAt
+            (λ h. same_content (content_as_is Z.bytes content.now) (held_content Z.bytes h) ≡ true)
+            self.now.held i) }
+        ensures none { result ≡ None → ForEachHistory Z.bytes Z.sound self.now (λ H.
+            has_content (content_as_is Z.bytes content.now) (release_held Z.bytes self.now)
+            ≡ false) }
+    {
+        let at = self.find_name(content.tzid.as_slice())?;
+        if is_same(content, &self.held.as_slice()[at].entry.content) {
+            Some(at)
+        } else {
+            None
+        }
+    }
+
+    /// What is held of a zone of the next release, which has this place and this head.
+    fn held_next(
+        &self,
+        alloc: Global,
+        content: Content<Z>,
+        place: u32,
+        head: &Head,
+    ) -> Result<Arc<Held<Z>>, NoMemory>
+        requires { IsShort (content_as_is Z.bytes content) }
+        ensures entry { IfOk result (λ h. ForEachHistory Z.bytes Z.sound self.now (λ H.
+            held_entry Z.bytes h
+            ≡ entry_next H (release_held Z.bytes self.now) (release_of head.now []) place
+            (content_as_is Z.bytes content))) }
+        ensures digest { IfOk result (λ h. ForEachHistory Z.bytes Z.sound self.now (λ H.
+            held_digest h ≡ content_digest (content_as_is Z.bytes content))) }
+    {
+        match self.find_same(&content) {
+            Some(at) => {
+                let held = Arc::try_clone(&self.held.as_slice()[at])?;
+                Ok(held)
+            }
+            None => changed(alloc, content, place, head),
+        }
+    }
+
+    /// What is held of all zones of the next release, which has this place and this head.
+    pub fn all_next(
+        &self,
+        alloc: Global,
+        contents: Items<Content<Z>>,
+        place: u32,
+        head: &Head,
+    ) -> Result<Items<Arc<Held<Z>>>, NoMemory>
+        requires { AllByRecursion (λ c. IsShort (content_as_is Z.bytes c)) contents }
+        ensures count { IfOk result (λ r. length r ≡ length contents) }
+        ensures entries { IfOk result (λ r. ForEachHistory Z.bytes Z.sound self.now (λ H.
+            map (held_entry Z.bytes) r
+            ≡ map (entry_next H (release_held Z.bytes self.now) (release_of head.now []) place)
+            (map (content_as_is Z.bytes) contents))) }
+        ensures digests { IfOk result (λ r. ForEachHistory Z.bytes Z.sound self.now (λ H.
+            map held_digest r ≡ map content_digest (map (content_as_is Z.bytes) contents))) }
+    {
+        let mut held = Vec::with_capacity(alloc, contents.len())?;
+        for content in contents.into_vec() {
+            held.push(self.held_next(alloc, content, place, head)?)?;
+        }
+        Ok(Items::from(held))
+    }
+}

@@ -1,0 +1,68 @@
+ghost use Rattle.std.specs.Prelude.{◌≡◌, ◌<◌, ◌∷◌, ◌++◌, ◌^◌, IfOk, OnOk, length, map};
+ghost use Rattle.std.specs.Cmp.Lexicographic.{slice_cmp};
+ghost use Rattle.std.specs.Ordering.{nat_cmp};
+ghost use Rattle.catalogue.specs.Order.{rising_by};
+ghost use Rattle.catalogue.specs.HeldZones.{held_names, names_at, numbered};
+
+use crate::Content;
+use crate::entries::Held;
+use crate::order::{Ranked, rising};
+use std::alloc::Global;
+use std::cmp::Ordering;
+use std::sync::Arc;
+use td_base::{Bytes, Items, NoMemory};
+
+/// A name of a zone, its identifier or an alias, with the zone's number, counted from 0.
+#[derive(Debug, Drop)]
+pub struct Name {
+    pub text: Bytes,
+    pub zone: u32,
+}
+
+impl Ranked for Name {
+    ghost text = { λ n. n.text };
+
+    fn text(&self) -> &[u8] {
+        self.text.as_slice()
+    }
+}
+
+/// How a name compares with a text, by bytes.
+pub fn compare(name: &Name, text: &[u8]) -> Ordering
+    ensures { result ≡ slice_cmp nat_cmp name.now.text text.now }
+{
+    name.text.as_slice().cmp(text)
+}
+
+/// Appends the names of the zone of this number.
+fn put_names<Z>(
+    alloc: Global,
+    names: &mut Items<Name>,
+    zone: u32,
+    content: &Content<Z>,
+) -> Result<(), NoMemory>
+    ensures { OnOk result
+        (names.new ≡ names.old ++ names_at zone (content.now.tzid ∷ content.now.aliases)) }
+{
+    let text = Bytes::from_slice(alloc, content.tzid.as_slice())?;
+    names.push(Name { text, zone })?;
+    for alias in content.aliases.as_slice() {
+        let text = Bytes::from_slice(alloc, alias.as_slice())?;
+        names.push(Name { text, zone })?;
+    }
+    Ok(())
+}
+
+/// The names of all zones, in rising order.
+pub fn all_names<Z>(alloc: Global, held: &[Arc<Held<Z>>]) -> Result<Items<Name>, NoMemory>
+    requires { length held.now < 2 ^ 32 }
+    ensures { IfOk result (λ r.
+        r ≡ rising_by (λ n. n.text) (numbered 0 (map held_names held.now))) }
+{
+    let mut names = Items::new(alloc);
+    for zone in 0..held.len() {
+        put_names(alloc, &mut names, zone as u32, &held[zone].entry.content)?;
+    }
+    let names = rising(names)?;
+    Ok(names)
+}
