@@ -1,4 +1,10 @@
-pub mod Refusals
+pub mod ChangeLists
 pub mod Counting
-pub mod Types
+pub mod Members
+pub mod NameLemmas
+pub mod RangeLemmas
+pub mod RangeMeaning
+pub mod Refusals
 pub mod RuleLemmas
+pub mod Types
+pub mod Walking

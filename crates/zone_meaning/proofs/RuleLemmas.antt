@@ -1,11 +1,11 @@
 -- The definition by a count follows the rules.
-use Rattle.std.proofs.Common.{◌≡◌, ◌≢◌, ℕ, suc, ◌<◌, List, length, Option, Some, None, refl, sym, ap, ◌∙◌, subst, get_or, arith}
+use Rattle.std.proofs.Common.{◌≡◌, ℕ, suc, List, length, Option, Some, None, refl, sym, ap, ◌∙◌, subst, get_or, arith}
 use Rattle.std.specs.Prelude.{ℤ, pos, ◌≤ℤ◌, slice_index}
-use Rattle.std.proofs.lemmas.Bool.{ne_eqb, eq-eqb}
+use Rattle.std.proofs.lemmas.Bool.{eq-eqb}
 use Rattle.td_civil.specs.declared.moment_type.Moment.{Moment}
 use Rattle.td_civil.specs.declared.local_time.Local.{Local}
 use Rattle.tzif_reader.specs.declared.zone_file.ZoneFile.{ZoneFile}
-use Rattle.tzif_reader.specs.Cut.{zone_of}
+use Rattle.tzif_reader.specs.Cut.{lists_of}
 use Rattle.tzif_reader.specs.Layout.{AreRising}
 use Rattle.posix_footer.specs.declared.rule_types.Footer.{Footer}
 use Rattle.zone_meaning.specs.Faults.{zone_fault}
@@ -13,16 +13,11 @@ use Rattle.zone_meaning.specs.State.{begun, after, state_at, zone_state, footer_
 use Rattle.zone_meaning.specs.Rules.{FollowsRules, by_footer_or}
 use Rattle.zone_meaning.proofs.Counting.{begun_are}
 use Rattle.zone_meaning.proofs.Types.{has_types}
-
--- while some transition has not begun
-early : (z : ZoneFile) (footer : Option Footer) (t : ℤ) (n : ℕ) → begun t z.moments ≡ n → n < length z.moments → state_at z footer t ≡ after z n
-early z None t n h lt = ap (after z) h
-early z (Some footer) t n h lt =
-    let other : n ≢ length z.moments = λ e. absurd (omega arith) in
-    rw (h, ne_eqb n (length z.moments) other) refl
+use Rattle.zone_meaning.proofs.Walking.{early}
 
 -- once all have
-late : (z : ZoneFile) (footer : Option Footer) (t : ℤ) (number : ℕ) → begun t z.moments ≡ length z.moments → after z (length z.moments) ≡ by_footer_or z None t number → state_at z footer t ≡ by_footer_or z footer t number
+late : (z : ZoneFile) (footer : Option Footer) (t : ℤ) (number : ℕ) → begun t z.moments ≡ length z.moments
+    → after z (length z.moments) ≡ by_footer_or z None t number → state_at z footer t ≡ by_footer_or z footer t number
 late z None t number h k = ap (after z) h ∙ k
 late z (Some footer) t number h k = rw (h, eq-eqb (length z.moments) (length z.moments) refl) refl
 
@@ -34,6 +29,7 @@ follows z footer t up = record {
   alone = λ none. late z footer t 0 (ap (λ (ms : List Moment). begun t ms) none ∙ sym (ap length none)) (ap (after z) (ap length none));
 }
 
-pub zone_follows : (bytes : List ℕ) (t : ℤ) (state : Local) → zone_fault bytes ≡ None → state ≡ zone_state bytes t → FollowsRules (zone_of bytes) (footer_meant (zone_of bytes).footer) t state
+pub zone_follows : (bytes : List ℕ) (t : ℤ) (state : Local) → zone_fault bytes ≡ None → state ≡ zone_state bytes t
+    → FollowsRules (lists_of bytes) (footer_meant (lists_of bytes).footer) t state
 unfolding zone_state
-zone_follows bytes t state h e = rw e (follows (zone_of bytes) (footer_meant (zone_of bytes).footer) t (has_types bytes h).rising)
+zone_follows bytes t state h e = rw e (follows (lists_of bytes) (footer_meant (lists_of bytes).footer) t (has_types bytes h).rising)

@@ -1,11 +1,13 @@
--- The lengths in a sound release fit in four bytes.
+-- The lengths in a sound release fit in four bytes, and its labels are plain.
 use Rattle.std.specs.Prelude.{ℕ, ◌<◌, ◌≤◌, ◌^◌, List, [], ◌∷◌, length, nat_le, ◌&&◌}
 use Rattle.std.specs.Bool.{IsTrue}
 use Rattle.std.specs.List.{AllByRecursion, list_all}
 use Rattle.std.proofs.Common.{arith}
 use Rattle.std.proofs.lemmas.Bool.{leb-true, and_parts}
 use Rattle.td_base.specs.Names.{is_label, is_printable}
+use Rattle.td_base.proofs.PlainLemmas.{label_is_plain}
 use Rattle.tzif_reader.proofs.Whole.{zone_file_of}
+use Rattle.catalogue.specs.Plain.{HasPlainLabels}
 use Rattle.catalogue.specs.Releases.{ContentData, ReleaseData, HasLengths}
 use Rattle.zone_meaning.specs.Sound.{IsSound, IsSoundFile}
 use Rattle.zone_meaning.specs.FaultLemmas.{file_clear}
@@ -33,3 +35,6 @@ sound_lengths r s = record {
   leap_file = rw s.no_leaps (omega arith);
   leap_expiry = rw s.no_leaps (omega arith);
 }
+
+pub sound_labels : (r : ReleaseData) → IsSound r → HasPlainLabels r
+sound_labels r s = record { publisher = label_is_plain r.publisher s.publisher; version = label_is_plain r.version s.version }

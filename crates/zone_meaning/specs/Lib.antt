@@ -1,8 +1,14 @@
 pub mod Faults
 pub mod FaultText
 pub mod State
+pub mod RangeLaws
 pub mod Rules
 pub mod Kept
+pub mod Observed
+pub mod Walks
+pub mod WalkLeft
+pub mod Names
 pub mod FaultLemmas
 pub mod Sound
 pub mod Lengths
+pub mod ZoneHistories

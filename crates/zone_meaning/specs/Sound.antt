@@ -4,14 +4,16 @@ use Rattle.std.specs.Bool.{IsTrue}
 use Rattle.std.specs.List.{AllByRecursion}
 use Rattle.td_base.specs.Names.{is_label}
 use Rattle.td_civil.specs.Bounds.{HasMeaning}
-use Rattle.tzif_reader.specs.Cut.{zone_of}
+use Rattle.tzif_reader.specs.Cut.{lists_of}
 use Rattle.catalogue.specs.Releases.{ReleaseData}
 use Rattle.zone_meaning.specs.Faults.{zone_fault}
+use Rattle.zone_meaning.specs.Names.{has_printable_names}
 
--- a file is a zone, and has no leap lines
+-- a file is a zone, has no leap lines, and has names alone that can be printed
 pub record IsSoundFile (file : List ℕ) : Type 0 where
   pub no_fault : zone_fault file ≡ None
-  pub no_leaps : (zone_of file).leaps ≡ []
+  pub no_leaps : (lists_of file).leaps ≡ []
+  pub names : IsTrue (has_printable_names file)
 
 -- the texts are labels, the stamp has a meaning, the files are sound, and there is no table of leap seconds
 pub record IsSound (r : ReleaseData) : Type 0 where

@@ -4,7 +4,7 @@ use Rattle.std.specs.Result.{result_ok}
 use Rattle.td_civil.specs.declared.moment_type.Moment.{Moment}
 use Rattle.td_civil.specs.declared.local_time.Local.{Local}
 use Rattle.tzif_reader.specs.declared.zone_file.ZoneFile.{ZoneFile}
-use Rattle.tzif_reader.specs.Cut.{zone_of}
+use Rattle.tzif_reader.specs.Cut.{lists_of}
 use Rattle.posix_footer.specs.declared.rule_types.Footer.{Footer}
 use Rattle.posix_footer.specs.Grammar.{footer_in}
 use Rattle.posix_footer.specs.StateAt.{state_of}
@@ -36,4 +36,4 @@ footer_meant (b ∷ bs) = result_ok (footer_in (b ∷ bs))
 
 -- the state that a zone file gives at t
 unfoldable pub zone_state : List ℕ → ℤ → Local
-zone_state bytes t = state_at (zone_of bytes) (footer_meant (zone_of bytes).footer) t
+zone_state bytes t = state_at (lists_of bytes) (footer_meant (lists_of bytes).footer) t

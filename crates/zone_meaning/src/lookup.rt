@@ -1,9 +1,11 @@
 //! The state of local time that a zone gives at a moment.
 ghost use Rattle.std.specs.Prelude.{◌≡◌, ◌≤◌, length};
 ghost use Rattle.std.specs.Option.{IfSome};
+ghost use Rattle.jiff_core.specs.Calendar.{IsWithin};
 ghost use Rattle.td_civil.specs.Bounds.{HasMeaning};
 ghost use Rattle.posix_footer.specs.Lawful.{IsLawful};
 ghost use Rattle.zone_meaning.specs.Kept.{HasTypes};
+ghost use Rattle.zone_meaning.specs.Walks.{HaveBegun};
 ghost use Rattle.tzif_reader.specs.Cut as cut;
 ghost use Rattle.zone_meaning.specs.Rules.{FollowsRules};
 ghost use Rattle.zone_meaning.specs.State as state;
@@ -18,19 +20,37 @@ use tzif_reader::ZoneFile;
 pub fn at(zone: &Zone, t: Moment) -> Local
     requires { HasMeaning t.seconds }
     ensures state { result ≡ state.zone_state zone.now t.seconds }
-    ensures rules { FollowsRules (cut.zone_of zone.now) (state.footer_meant (cut.zone_of zone.now).footer) t.seconds result }
+    ensures rules { FollowsRules (cut.lists_of zone.now)
+        (state.footer_meant (cut.lists_of zone.now).footer) t.seconds result }
+    ensures offset { IsWithin 86_399 result.offset }
 {
     state_at(&zone.lists, &zone.footer, t)
 }
 
 /// The state that a file's lists and its footer give at a moment.
-fn state_at(lists: &ZoneFile, footer: &Option<Footer>, t: Moment) -> Local
+pub(crate) fn state_at(lists: &ZoneFile, footer: &Option<Footer>, t: Moment) -> Local
     requires types { HasTypes lists.now }
     requires lawful { IfSome footer.now IsLawful }
     requires meaning { HasMeaning t.seconds }
     ensures { result ≡ state.state_at lists.now footer.now t.seconds }
 {
-    let begun = begun(lists, t);
+    state_when(lists, footer, begun(lists, t), t)
+}
+
+/// The same, where it is known how many transitions have come.
+pub(crate) fn state_when(
+    lists: &ZoneFile,
+    footer: &Option<Footer>,
+    begun: usize,
+    t: Moment,
+) -> Local
+    requires types { HasTypes lists.now }
+    requires lawful { IfSome footer.now IsLawful }
+    requires meaning { HasMeaning t.seconds }
+    requires begun_is { begun ≡ state.begun t.seconds lists.now.moments }
+    requires bound { begun ≤ length lists.now.moments }
+    ensures { result ≡ state.state_at lists.now footer.now t.seconds }
+{
     match footer {
         Some(footer) if begun == lists.moments.len() => posix_footer::at(footer, t),
         _ => state_after(lists, begun),
@@ -38,10 +58,11 @@ fn state_at(lists: &ZoneFile, footer: &Option<Footer>, t: Moment) -> Local
 }
 
 /// How many transitions are not after a moment.
-fn begun(lists: &ZoneFile, t: Moment) -> usize
+pub(crate) fn begun(lists: &ZoneFile, t: Moment) -> usize
     requires { HasTypes lists.now }
     ensures count { result ≡ state.begun t.seconds lists.now.moments }
     ensures bound { result ≤ length lists.now.moments }
+    ensures place { HaveBegun lists.now.moments t.seconds result }
 {
     let moments = lists.moments.as_slice();
     moments.partition_point(|moment| moment.seconds <= t.seconds)

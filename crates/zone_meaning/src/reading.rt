@@ -4,7 +4,7 @@ ghost use Rattle.posix_footer.specs.Lawful.{IsLawful};
 ghost use Rattle.std.specs.Option.{IfSome};
 ghost use Rattle.tzif_reader.specs.Cut as cut;
 ghost use Rattle.tzif_reader.specs.Faults.{first_fault};
-ghost use Rattle.zone_meaning.specs.Faults.{text_fault, zone_fault};
+ghost use Rattle.zone_meaning.specs.Faults.{footer_text_fault, zone_fault};
 ghost use Rattle.zone_meaning.specs.State.{footer_meant};
 
 use crate::{Zone, ZoneFault};
@@ -30,7 +30,7 @@ pub fn zone_of(alloc: Global, file: Bytes) -> Result<Zone, ZoneFault>
 #[tactic(auto, using(crate::proofs::Refusals::zone_clear, crate::proofs::Refusals::footer_refused))]
 pub fn zone_from_lists(file: Bytes, lists: ZoneFile) -> Result<Zone, FooterFault>
     requires no_fault { first_fault file ≡ None }
-    requires lists { lists ≡ cut.zone_of file }
+    requires lists { lists ≡ cut.lists_of file }
     ensures ok { IfOk result (λ z. z ≡ file) }
     ensures no_fault { OnOk result (zone_fault file ≡ None) }
     ensures err { IfErr result (λ e. zone_fault file ≡ Some (ZoneFault.Footer e)) }
@@ -47,8 +47,8 @@ pub fn zone_from_lists(file: Bytes, lists: ZoneFile) -> Result<Zone, FooterFault
 fn footer_in(text: &Bytes) -> Result<Option<Footer>, FooterFault>
     ensures ok { IfOk result (λ f. f ≡ footer_meant text.now) }
     ensures lawful { IfOk result (λ f. IfSome f IsLawful) }
-    ensures no_fault { OnOk result (text_fault text.now ≡ None) }
-    ensures err { IfErr result (λ e. text_fault text.now ≡ Some e) }
+    ensures no_fault { OnOk result (footer_text_fault text.now ≡ None) }
+    ensures err { IfErr result (λ e. footer_text_fault text.now ≡ Some e) }
 {
     if text.len() == 0 {
         return Ok(None);

@@ -4,7 +4,7 @@ use catalogue::ZoneData;
 
 impl ZoneData for Zone {
     ghost use Rattle.zone_meaning.specs.Sound.{IsSound};
-    ghost use Rattle.zone_meaning.specs.Lengths.{sound_lengths};
+    ghost use Rattle.zone_meaning.specs.Lengths.{sound_labels, sound_lengths};
 
     ghost bytes = { λ z. z };
 
@@ -15,4 +15,6 @@ impl ZoneData for Zone {
     }
 
     ghost lengths = { sound_lengths };
+
+    ghost labels = { sound_labels };
 }

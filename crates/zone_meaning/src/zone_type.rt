@@ -1,5 +1,10 @@
-ghost use Rattle.std.specs.Prelude.{◌≡◌, length};
+ghost use Rattle.std.specs.Prelude.{◌≡◌, length, None};
 ghost use Rattle.tzif_reader.specs.Cut as cut;
+ghost use Rattle.std.specs.Option.{IfSome};
+ghost use Rattle.posix_footer.specs.Lawful.{IsLawful};
+ghost use Rattle.zone_meaning.specs.Faults.{zone_fault};
+ghost use Rattle.zone_meaning.specs.Kept.{HasTypes};
+ghost use Rattle.zone_meaning.specs.State.{footer_meant};
 
 use posix_footer::Footer;
 use std::marker::Model;
@@ -21,6 +26,7 @@ impl Model for Zone {
 
     ghost Value = { List ℕ };
 
+    ghost use Rattle.zone_meaning.specs.Faults.{zone_fault};
     ghost use Rattle.zone_meaning.specs.Kept.{IsReadFrom};
 
     ghost view = { λ z. z.file };
@@ -37,7 +43,25 @@ pub fn file(zone: &Zone) -> &[u8]
 
 /// How many leap lines the zone's file has.
 pub fn leap_count(zone: &Zone) -> usize
-    ensures { result ≡ length (cut.zone_of zone.now).leaps }
+    ensures { result ≡ length (cut.lists_of zone.now).leaps }
 {
     zone.lists.leaps.len()
+}
+
+/// The lists of the zone's file, which has no fault.
+pub fn lists(zone: &Zone) -> &ZoneFile
+    ensures no_fault { zone_fault zone.now ≡ None }
+    ensures lists { result.now ≡ cut.lists_of zone.now }
+    ensures types { HasTypes result.now }
+{
+    &zone.lists
+}
+
+/// The rule that the TZ string of the zone's file spells, or None where it is empty.
+pub fn footer(zone: &Zone) -> &Option<Footer>
+    ensures no_fault { zone_fault zone.now ≡ None }
+    ensures footer { result.now ≡ footer_meant (cut.lists_of zone.now).footer }
+    ensures lawful { IfSome result.now IsLawful }
+{
+    &zone.footer
 }

@@ -1,0 +1,5 @@
+use Rattle.zone_meaning.proofs.Types.{kept_types}
+use Rattle.zone_meaning.proofs.zone_type.lists.Goals as goal
+
+pub returns-clause-types : goal.returns-clause-types
+returns-clause-types c = kept_types _ _ _ c.zone.invariant

@@ -1,0 +1,95 @@
+//! The observances of a range (RFC 7808, section 5.4).
+ghost use Rattle.std.specs.Prelude.{◌≡◌, [], None, IfOk};
+ghost use Rattle.zone_meaning.specs.Observed.{observed, IsRange};
+ghost use Rattle.zone_meaning.specs.State.{zone_state};
+ghost use Rattle.zone_meaning.specs.WalkLeft.{HandsOut};
+
+use crate::Zone;
+use crate::lookup::{begun, state_when};
+use crate::walk::Walk;
+use std::alloc::Global;
+use std::marker::Model;
+use td_base::{Items, NoMemory};
+use td_civil::{Moment, Observance};
+
+/// The observances of a range, handed out one at a time in rising order. Contracts see it as the list of those that
+/// are left. Each step takes as long as the next change is transitions or onsets away, and no memory.
+#[derive(Debug, Drop)]
+pub struct Changes<'a> {
+    first: Option<Observance>,
+    walk: Walk<'a>,
+}
+
+impl<'a> Model for Changes<'a> {
+    ghost use Rattle.std.specs.Prelude.{List};
+    ghost use Rattle.td_civil.specs.declared.local_time.Observance.{Observance};
+
+    ghost Value = { List Observance };
+
+    ghost use Rattle.zone_meaning.specs.WalkLeft.{left, with_first, IsSound};
+
+    ghost view = { λ o. with_first o.first (left o.walk) };
+
+    ghost invariant = { λ o. IsSound o.walk };
+}
+
+impl<'a> Changes<'a> {
+    /// The observances from a moment to before another: how local time stands at the first, and each change after it.
+    /// It takes no memory, and looks at no transition that has come by the first moment but the last.
+    pub fn new(zone: &'a Zone, a: Moment, b: Moment) -> Self
+        requires { IsRange a.seconds b.seconds }
+        ensures { result ≡ observed (zone_state zone.now) a.seconds b.seconds }
+    {
+        let begun = begun(&zone.lists, a);
+        let state = state_when(&zone.lists, &zone.footer, begun, a);
+        let first = Observance {
+            onset: a,
+            from: state.offset,
+            to: state.offset,
+            dst: state.dst,
+            name: state.name.copy(),
+        };
+        let walk = Walk {
+            lists: &zone.lists,
+            footer: &zone.footer,
+            end: b,
+            at: a,
+            begun,
+            state,
+        };
+        Changes {
+            first: Some(first),
+            walk,
+        }
+    }
+
+    /// The next observance, until none is left.
+    pub fn next(&mut self) -> Option<Observance>
+        ensures next { HandsOut self.old result self.new }
+        ensures none { result ≡ None → self.new ≡ [] }
+    {
+        match self.first.take() {
+            Some(first) => Some(first),
+            None => self.walk.next(),
+        }
+    }
+}
+
+/// The observances from a moment to before another, in rising order: how local time stands at the first, with both
+/// offsets equal, and each moment after it at which offset, flag or name change (RFC 7808, section 5.4).
+pub fn observances(
+    alloc: Global,
+    zone: &Zone,
+    a: Moment,
+    b: Moment,
+) -> Result<Items<Observance>, NoMemory>
+    requires { IsRange a.seconds b.seconds }
+    ensures { IfOk result (λ list. list ≡ observed (zone_state zone.now) a.seconds b.seconds) }
+{
+    let mut rest = Changes::new(zone, a, b);
+    let mut list = Items::new(alloc);
+    while let Some(observance) = rest.next() {
+        list.push(observance)?;
+    }
+    Ok(list)
+}
