@@ -1,2 +1,14 @@
+pub mod AliasTokens
+pub mod Begun
+pub mod CapabilitiesDocument
+pub mod ExpansionDocument
+pub mod FaultPlace
+pub mod FaultText
+pub mod JsonTexts
+pub mod LeapDocument
 pub mod ListDocument
+pub mod ListReading
 pub mod PlainTexts
+pub mod ProblemDocument
+pub mod ToldZone
+pub mod TreeTokens

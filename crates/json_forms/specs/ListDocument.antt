@@ -1,19 +1,21 @@
--- The list of time zones (RFC 7808, section 6.2) as JSON, with the members of each object in rising order of name.
+-- The list of time zones (RFC 7808, section 6.2) as JSON. The members of each object are in rising
+-- order of name.
 use Rattle.std.specs.Prelude.{ℕ, List, [], ◌∷◌, map, codes}
-use Rattle.td_civil.specs.Texts.{text_of}
 use Rattle.serde_json.specs.Data.{Data, string, array, object, Members, no_members, member}
 use Rattle.serde_json.specs.View.{items_of}
 use Rattle.serde_json.specs.Written.{compact_text}
+use Rattle.td_civil.specs.Texts.{text_of}
 use Rattle.json_forms.specs.declared.zone_list.ListZone.{ListZone}
 
 -- an array of strings
 unfoldable pub strings : List (List ℕ) → Data
 strings texts = array (items_of (map string texts))
 
--- the members with the aliases in front, where there are any
+-- the members with the aliases before them, where there are any
 abbrev pub with_aliases : List (List ℕ) → Members → Members
 with_aliases [] members = members
-with_aliases (alias ∷ aliases) members = member (codes "aliases") (strings (alias ∷ aliases)) members
+with_aliases (alias ∷ aliases) members =
+    member (codes "aliases") (strings (alias ∷ aliases)) members
 
 -- the members that each zone has
 abbrev pub zone_members : ListZone → Members

@@ -1,12 +1,40 @@
-//! The JSON documents of the service (RFC 7808), written by `serde_json`: the list of time zones.
+//! The JSON documents of the service (RFC 7808, section 6, and RFC 7807), with exact texts.
+//!
+//! Each document is defined in `specs/` as a tree of `serde_json`'s data, and its text is the compact text of that
+//! tree: the list of time zones is `list_document`, the observances of one `expansion_document`, what the service can
+//! do `capabilities_document`, the table of leap seconds `leap_document`, and why a request is refused
+//! `problem_document`. Those that grow with the data are written token by token, and `ListWriter` and
+//! `ExpansionWriter` take one item at a time; the others are built as a `Value` and printed.
 #![tactic(auto)]
 
+mod capabilities_writer;
+mod expansion_writer;
+mod json_reader;
+mod laws;
+mod leap_writer;
+mod list_fault;
+mod list_judging;
+mod list_reader;
 mod list_writer;
+mod members;
+mod plain;
+mod problem_reader;
+mod problem_type;
+mod problem_writer;
 mod send_sync;
 #[cfg(test)]
 mod tests;
-mod texts;
+mod tree_writer;
 mod zone_list;
 
-pub use list_writer::list_text;
-pub use zone_list::ListZone;
+pub use capabilities_writer::capabilities_text;
+pub use expansion_writer::{ExpansionWriter, expand_text};
+pub use laws::{expansion_reads_back, leap_reads_back, list_reads_back, problem_reads_back};
+pub use leap_writer::leap_text;
+pub use list_fault::BadList;
+pub use list_reader::read_list;
+pub use list_writer::{ListWriter, list_text};
+pub use problem_reader::read_problem;
+pub use problem_type::Problem;
+pub use problem_writer::problem_text;
+pub use zone_list::{ListDoc, ListZone, ZoneTexts};

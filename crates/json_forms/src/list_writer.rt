@@ -1,21 +1,76 @@
-ghost use Rattle.std.specs.Prelude.{◌≡◌, ◌++◌, map, Some, IfOk, OnOk, OnErr};
+ghost use Rattle.std.specs.Prelude.{◌≡◌, [], ◌∷◌, ◌++◌, List, ℕ, IfOk, OnOk, OnErr};
 ghost use Rattle.std.specs.List.{AllByRecursion};
-ghost use Rattle.serde_json.specs.Data.{array};
-ghost use Rattle.serde_json.specs.Read.{read};
-ghost use Rattle.serde_json.specs.View.{view, items_of, members_view};
-ghost use Rattle.json_forms.specs.ListDocument.{zone_members, zone_data, list_data, list_document};
-ghost use Rattle.json_forms.specs.PlainTexts.{IsPlain, IsPlainZone};
+ghost use Rattle.td_base.specs.Names.{IsPlain};
+ghost use Rattle.json_forms.specs.declared.zone_list.ListZone.{ListZone};
+ghost use Rattle.json_forms.specs.AliasTokens.{alias_tokens};
+ghost use Rattle.json_forms.specs.Begun.{IsListBegun};
+ghost use Rattle.json_forms.specs.ListDocument.{zone_data, list_document};
+ghost use Rattle.json_forms.specs.PlainTexts.{IsPlainZone};
+ghost use Rattle.json_forms.specs.ToldZone.{told};
+ghost use Rattle.json_forms.specs.TreeTokens.{tree_tokens};
 
-use crate::ListZone;
-use crate::texts::{text_value, texts_value};
-use serde_json::{Map, Value, put};
+use crate::tree_writer::{put_member, put_moment, put_texts};
+use crate::{ListZone, ZoneTexts};
+use json::Writer;
 use std::alloc::Global;
+use std::marker::Model;
 use td_base::{Bytes, NoMemory};
-use td_civil::utc_text;
+
+/// A list of time zones that is being written as JSON (RFC 7808, sections 5.2 and 6.2), zone by zone. After
+/// `NoMemory` it is no longer the beginning of a list.
+#[derive(Drop)]
+pub struct ListWriter {
+    out: Writer,
+}
+
+impl Model for ListWriter {
+    ghost use Rattle.json.specs.Written.{Written};
+
+    ghost Value = { Written };
+
+    ghost view = { λ w. w.out };
+}
+
+impl ListWriter {
+    /// Begins the list with its synchronization token, after the bytes.
+    pub fn begin(before: Bytes, token: &[u8]) -> Result<ListWriter, NoMemory>
+        requires { IsPlain token.now }
+        ensures { IfOk result (IsListBegun before token.now []) }
+    {
+        let mut out = Writer::new(before.into_vec());
+        out.begin_object()?;
+        put_member(&mut out, "synctoken", token)?;
+        out.key("timezones")?;
+        out.begin_array()?;
+        Ok(ListWriter { out })
+    }
+
+    /// Writes one more zone.
+    pub fn zone(&mut self, zone: &ZoneTexts<'_>) -> Result<(), NoMemory>
+        requires { IsPlainZone (told zone.now) }
+        ensures { (before token : List ℕ) (zones : List ListZone)
+            → IsListBegun before token zones self.old
+            → OnOk result (IsListBegun before token (zones ++ told zone.now ∷ []) self.new) }
+    {
+        put_zone(&mut self.out, zone)?;
+        Ok(())
+    }
+
+    /// Ends the list. The bytes, and after them the list.
+    pub fn end(self) -> Result<Bytes, NoMemory>
+        ensures { (before token : List ℕ) (zones : List ListZone)
+            → IsListBegun before token zones self
+            → IfOk result (λ text. text ≡ before ++ list_document token zones) }
+    {
+        let ListWriter { mut out } = self;
+        out.end_array()?;
+        out.end_object()?;
+        Ok(Bytes::from(out.into_inner()))
+    }
+}
 
 /// Appends the list of the zones as JSON, with the synchronization token of the list (RFC 7808, sections 5.2 and
-/// 6.2). Where memory runs out nothing is appended.
-#[tactic(auto, using(crate::proofs::NoFloats::list_has_none, crate::proofs::Depths::list_is_shallow), unfolding(crate::specs::ListDocument::list_document))]
+/// 6.2).
 pub fn list_text(
     alloc: Global,
     out: &mut Bytes,
@@ -26,68 +81,52 @@ pub fn list_text(
     requires zones { AllByRecursion IsPlainZone zones.now }
     ensures ok { OnOk result (out.new ≡ out.old ++ list_document token.now zones.now) }
     ensures err { OnErr result (out.new ≡ out.old) }
-    ensures reads_back { OnOk result
-        (read (list_document token.now zones.now) ≡ Some (list_data token.now zones.now)) }
 {
-    let text = list_value(alloc, token, zones)?.to_string(alloc)?;
-    out.append(text.as_bytes())
+    let text = list_of(alloc, token, zones)?;
+    out.append(text.as_slice())
 }
 
-/// The list, with its synchronization token.
-#[tactic(auto, unfolding(crate::specs::ListDocument::list_data))]
-fn list_value(alloc: Global, token: &[u8], zones: &[ListZone]) -> Result<Value, NoMemory>
+/// The list of the zones.
+fn list_of(alloc: Global, token: &[u8], zones: &[ListZone]) -> Result<Bytes, NoMemory>
     requires token { IsPlain token.now }
     requires zones { AllByRecursion IsPlainZone zones.now }
-    ensures { IfOk result (λ v. view v ≡ list_data token.now zones.now) }
+    ensures { IfOk result (λ text. text ≡ list_document token.now zones.now) }
 {
-    let mut members = Map::new(alloc);
-    put(&mut members, alloc, "synctoken", text_value(alloc, token)?)?;
-    put(&mut members, alloc, "timezones", zones_value(alloc, zones)?)?;
-    Ok(Value::Object(members))
-}
-
-/// The zones of the list.
-fn zones_value(alloc: Global, zones: &[ListZone]) -> Result<Value, NoMemory>
-    requires { AllByRecursion IsPlainZone zones.now }
-    ensures { IfOk result (λ v. view v ≡ array (items_of (map zone_data zones.now))) }
-{
-    let mut values = Vec::new(alloc);
+    let mut list = ListWriter::begin(Bytes::new(alloc), token)?;
     for zone in zones {
-        values.push(zone_value(alloc, zone)?)?;
+        list.zone(&zone.texts())?;
     }
-    Ok(Value::Array(values))
+    list.end()
 }
 
-/// One zone of the list.
-#[tactic(auto, using(crate::proofs::Aliases::no_aliases, crate::proofs::Aliases::some_aliases), unfolding(crate::specs::ListDocument::zone_data))]
-fn zone_value(alloc: Global, zone: &ListZone) -> Result<Value, NoMemory>
-    requires { IsPlainZone zone.now }
-    ensures { IfOk result (λ v. view v ≡ zone_data zone.now) }
+/// Writes one zone.
+#[tactic(auto, unfolding(crate::specs::ListDocument::zone_data))]
+fn put_zone(out: &mut Writer, zone: &ZoneTexts<'_>) -> Result<(), NoMemory>
+    requires { IsPlainZone (told zone.now) }
+    ensures tokens { OnOk result
+        (out.new.tokens ≡ out.old.tokens ++ tree_tokens (zone_data (told zone.now))) }
+    ensures before { out.new.before ≡ out.old.before }
 {
-    let mut members = members_of(alloc, zone)?;
-    let aliases = zone.aliases.as_slice();
+    out.begin_object()?;
+    put_aliases(out, zone.aliases)?;
+    put_member(out, "etag", zone.etag)?;
+    put_moment(out, "last-modified", zone.stamp)?;
+    put_member(out, "publisher", zone.publisher)?;
+    put_member(out, "tzid", zone.tzid)?;
+    put_member(out, "version", zone.version)?;
+    out.end_object()?;
+    Ok(())
+}
+
+/// Writes the member of the aliases, where there are any.
+fn put_aliases(out: &mut Writer, aliases: &[Bytes]) -> Result<(), NoMemory>
+    requires { AllByRecursion IsPlain aliases.now }
+    ensures tokens { OnOk result (out.new.tokens ≡ out.old.tokens ++ alias_tokens aliases.now) }
+    ensures before { out.new.before ≡ out.old.before }
+{
     if aliases.is_empty() {
-        return Ok(Value::Object(members));
+        return Ok(());
     }
-    put(&mut members, alloc, "aliases", texts_value(alloc, aliases)?)?;
-    Ok(Value::Object(members))
-}
-
-/// The members that each zone has.
-fn members_of(alloc: Global, zone: &ListZone) -> Result<Map<String, Value>, NoMemory>
-    requires { IsPlainZone zone.now }
-    ensures { IfOk result (λ m. members_view m.entries ≡ zone_members zone.now) }
-{
-    let etag = text_value(alloc, zone.etag.as_slice())?;
-    let stamp = text_value(alloc, &utc_text(zone.stamp))?;
-    let publisher = text_value(alloc, zone.publisher.as_slice())?;
-    let tzid = text_value(alloc, zone.tzid.as_slice())?;
-    let version = text_value(alloc, zone.version.as_slice())?;
-    let mut members = Map::new(alloc);
-    put(&mut members, alloc, "etag", etag)?;
-    put(&mut members, alloc, "last-modified", stamp)?;
-    put(&mut members, alloc, "publisher", publisher)?;
-    put(&mut members, alloc, "tzid", tzid)?;
-    put(&mut members, alloc, "version", version)?;
-    Ok(members)
+    out.key("aliases")?;
+    put_texts(out, aliases)
 }

@@ -1,0 +1,137 @@
+ghost use Rattle.std.specs.Prelude.{◌≡◌, [], ◌∷◌, ◌++◌, List, ℕ, ℤ, IfOk, OnOk, OnErr};
+ghost use Rattle.std.specs.List.{AllByRecursion};
+ghost use Rattle.td_base.specs.Names.{IsPlain};
+ghost use Rattle.td_civil.specs.Bounds.{IsWithinBounds};
+ghost use Rattle.td_civil.specs.declared.local_time.Observance.{Observance};
+ghost use Rattle.json_forms.specs.Begun.{IsExpansionBegun};
+ghost use Rattle.json_forms.specs.ExpansionDocument.{observance_data, expansion_document};
+ghost use Rattle.json_forms.specs.PlainTexts.{IsPlainObservance};
+ghost use Rattle.json_forms.specs.TreeTokens.{tree_tokens};
+
+use crate::tree_writer::{put_integer, put_member, put_moment};
+use json::Writer;
+use std::alloc::Global;
+use std::marker::Model;
+use td_base::{Bytes, NoMemory};
+use td_civil::{Moment, Observance};
+
+/// The observances of a time zone in a range of time that are being written as JSON (RFC 7808, sections 5.4 and
+/// 6.3), one after another. After `NoMemory` it is no longer the beginning of such a document.
+#[derive(Drop)]
+pub struct ExpansionWriter {
+    out: Writer,
+}
+
+impl Model for ExpansionWriter {
+    ghost use Rattle.json.specs.Written.{Written};
+
+    ghost Value = { Written };
+
+    ghost view = { λ w. w.out };
+}
+
+impl ExpansionWriter {
+    /// Begins the document of a range with this end, after the bytes.
+    pub fn begin(before: Bytes, until: Moment) -> Result<ExpansionWriter, NoMemory>
+        requires { IsWithinBounds until.seconds }
+        ensures { IfOk result (IsExpansionBegun before until.seconds []) }
+    {
+        let mut out = Writer::new(before.into_vec());
+        out.begin_object()?;
+        put_moment(&mut out, "end", until)?;
+        out.key("observances")?;
+        out.begin_array()?;
+        Ok(ExpansionWriter { out })
+    }
+
+    /// Writes one more observance.
+    pub fn observance(&mut self, observance: &Observance) -> Result<(), NoMemory>
+        requires { IsPlainObservance observance.now }
+        ensures { (before : List ℕ) (until : ℤ) (observances : List Observance)
+            → IsExpansionBegun before until observances self.old
+            → OnOk result
+            (IsExpansionBegun before until (observances ++ observance.now ∷ []) self.new) }
+    {
+        put_observance(&mut self.out, observance)?;
+        Ok(())
+    }
+
+    /// Ends the document with the zone's name as it was asked for and the start of the range. The bytes, and after
+    /// them the document.
+    pub fn end(self, tzid: &[u8], from: Moment) -> Result<Bytes, NoMemory>
+        requires tzid { IsPlain tzid.now }
+        requires from { IsWithinBounds from.seconds }
+        ensures { (before : List ℕ) (until : ℤ) (observances : List Observance)
+            → IsExpansionBegun before until observances self
+            → IfOk result
+            (λ text. text ≡ before ++ expansion_document tzid.now from.seconds until observances) }
+    {
+        let ExpansionWriter { mut out } = self;
+        out.end_array()?;
+        put_moment(&mut out, "start", from)?;
+        put_member(&mut out, "tzid", tzid)?;
+        out.end_object()?;
+        Ok(Bytes::from(out.into_inner()))
+    }
+}
+
+/// Appends the observances of a time zone from one moment to another as JSON (RFC 7808, section 6.3), under the
+/// zone's name as it was asked for.
+pub fn expand_text(
+    alloc: Global,
+    out: &mut Bytes,
+    tzid: &[u8],
+    from: Moment,
+    until: Moment,
+    observances: &[Observance],
+) -> Result<(), NoMemory>
+    requires tzid { IsPlain tzid.now }
+    requires from { IsWithinBounds from.seconds }
+    requires until { IsWithinBounds until.seconds }
+    requires observances { AllByRecursion IsPlainObservance observances.now }
+    ensures ok { OnOk result (out.new ≡ out.old
+        ++ expansion_document tzid.now from.seconds until.seconds observances.now) }
+    ensures err { OnErr result (out.new ≡ out.old) }
+{
+    let text = expansion_of(alloc, tzid, from, until, observances)?;
+    out.append(text.as_slice())
+}
+
+/// The document.
+fn expansion_of(
+    alloc: Global,
+    tzid: &[u8],
+    from: Moment,
+    until: Moment,
+    observances: &[Observance],
+) -> Result<Bytes, NoMemory>
+    requires tzid { IsPlain tzid.now }
+    requires from { IsWithinBounds from.seconds }
+    requires until { IsWithinBounds until.seconds }
+    requires observances { AllByRecursion IsPlainObservance observances.now }
+    ensures { IfOk result
+        (λ text. text ≡ expansion_document tzid.now from.seconds until.seconds observances.now) }
+{
+    let mut expansion = ExpansionWriter::begin(Bytes::new(alloc), until)?;
+    for observance in observances {
+        expansion.observance(observance)?;
+    }
+    expansion.end(tzid, from)
+}
+
+/// Writes one observance.
+#[tactic(auto, unfolding(crate::specs::ExpansionDocument::observance_data))]
+fn put_observance(out: &mut Writer, observance: &Observance) -> Result<(), NoMemory>
+    requires { IsPlainObservance observance.now }
+    ensures tokens { OnOk result
+        (out.new.tokens ≡ out.old.tokens ++ tree_tokens (observance_data observance.now)) }
+    ensures before { out.new.before ≡ out.old.before }
+{
+    out.begin_object()?;
+    put_member(out, "name", observance.name.as_slice())?;
+    put_moment(out, "onset", observance.onset)?;
+    put_integer(out, "utc-offset-from", observance.from)?;
+    put_integer(out, "utc-offset-to", observance.to)?;
+    out.end_object()?;
+    Ok(())
+}

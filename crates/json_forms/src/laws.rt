@@ -1,0 +1,44 @@
+//! Laws of the documents.
+ghost use Rattle.std.specs.Prelude.{◌≡◌, ℕ, ℤ, List, Some};
+ghost use Rattle.std.specs.List.{AllByRecursion};
+ghost use Rattle.serde_json.specs.Read.{read};
+ghost use Rattle.td_civil.specs.declared.local_time.Observance.{Observance};
+ghost use Rattle.catalogue.specs.declared.release.Leaps.{Leaps};
+ghost use Rattle.json_forms.specs.declared.zone_list.ListZone.{ListZone};
+ghost use Rattle.json_forms.specs.declared.problem_type.Problem.{Problem};
+ghost use Rattle.json_forms.specs.ExpansionDocument.{expansion_data, expansion_document, HasOffsets};
+ghost use Rattle.json_forms.specs.LeapDocument.{leap_data, leap_document, HasOffset};
+ghost use Rattle.json_forms.specs.ListDocument.{list_data, list_document};
+ghost use Rattle.json_forms.specs.ProblemDocument.{problem_data, problem_document, problem_in};
+
+/// The text of a list reads as the tree that it is the text of.
+#[tactic(auto, using(crate::proofs::ListReads::list_reads))]
+pub fn list_reads_back()
+    ensures { (token : List ℕ) (zones : List ListZone)
+        → read (list_document token zones) ≡ Some (list_data token zones) }
+{}
+
+/// The text of a problem reads as the tree that it is the text of, and tells of that problem.
+#[tactic(auto, using(crate::proofs::ProblemReads::problem_reads, crate::proofs::ProblemReads::problem_found))]
+pub fn problem_reads_back()
+    ensures tree { (problem : Problem)
+        → read (problem_document problem) ≡ Some (problem_data problem) }
+    ensures problem { (problem : Problem)
+        → problem_in (problem_document problem) ≡ Some problem }
+{}
+
+/// The text of an expansion reads as the tree that it is the text of.
+#[tactic(auto, using(crate::proofs::ExpansionReads::expansion_reads))]
+pub fn expansion_reads_back()
+    ensures { (tzid : List ℕ) (from until : ℤ) (observances : List Observance)
+        → AllByRecursion HasOffsets observances
+        → read (expansion_document tzid from until observances)
+        ≡ Some (expansion_data tzid from until observances) }
+{}
+
+/// The text of a table of leap seconds reads as the tree that it is the text of.
+#[tactic(auto, using(crate::proofs::LeapReads::table_reads))]
+pub fn leap_reads_back()
+    ensures { (leaps : Leaps) (publisher version : List ℕ) → AllByRecursion HasOffset leaps.steps
+        → read (leap_document leaps publisher version) ≡ Some (leap_data leaps publisher version) }
+{}
