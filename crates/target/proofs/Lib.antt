@@ -1,0 +1,4 @@
+pub mod NameLemmas
+pub mod PlaceLemmas
+pub mod SegmentLemmas
+pub mod ValueLemmas

@@ -1,0 +1,4 @@
+pub mod Actions
+pub mod Names
+pub mod Parameters
+pub mod Paths
