@@ -1,0 +1,33 @@
+use Rattle.std.proofs.Common.{◌<◌, length, drop, Ok, sym, ap, ◌∙◌, arith, length-drop}
+use Rattle.std.proofs.lemmas.List.{take_rest}
+use Rattle.find_pattern.specs.Pieces.{first_piece}
+use Rattle.find_pattern.proofs.PieceLemmas.{past_byte, at_last_star, at_fault, at_end, inside}
+use Rattle.find_pattern.proofs.reading.read_from.Goals as goal
+
+pub pieces-preserved : goal.pieces-preserved
+pieces-preserved c =
+    let text = c.args.text.now in
+    let more : 0 < length (drop c.pieces.at text) = rw length-drop (omega arith) in
+    record {
+      inside = inside text c.pieces.at c.in-Byte.len c.pieces.invariant.inside c.in-Byte.ensures.len.1;
+      so_far = rw c.in_ok-push-in-Byte.ensures.ok
+          (past_byte text c.pieces.literal c.pieces.at _ c.pieces.invariant.so_far more c.in-Byte.byte c.in-Byte.len
+          (c.in-Byte.ensures.piece ∙ ap first_piece (take_rest text c.pieces.at)));
+    }
+
+pub returns-in-LastStar-clause-ok : goal.returns-in-LastStar-clause-ok
+returns-in-LastStar-clause-ok c =
+    let text = c.args.text.now in
+    let more : 0 < length (drop c.pieces.at text) = rw length-drop (omega arith) in
+    at_last_star text c.pieces.literal c.pieces.at _ c.pieces.invariant.so_far more
+    (c.in-LastStar.ensures.piece ∙ ap first_piece (take_rest text c.pieces.at)) ∙ ap Ok (sym c.plain.ensures)
+
+pub returns-in-Fault-clause-refused : goal.returns-in-Fault-clause-refused
+returns-in-Fault-clause-refused c =
+    let text = c.args.text.now in
+    let more : 0 < length (drop c.pieces.at text) = rw length-drop (omega arith) in
+    λ _. at_fault text c.pieces.literal c.pieces.at _ c.pieces.invariant.so_far more (c.in-Fault.ensures.piece ∙ ap first_piece (take_rest text c.pieces.at))
+
+pub returns-clause-ok : goal.returns-clause-ok
+returns-clause-ok c =
+    at_end c.args.text.now c.pieces.literal c.pieces.at _ c.pieces.invariant.so_far (omega arith) ∙ ap Ok (sym c.plain-2.ensures)

@@ -1,0 +1,5 @@
+pub mod FaultText
+pub mod Matching
+pub mod Patterns
+pub mod Pieces
+pub mod Spelling

@@ -1,0 +1,20 @@
+//! Patterns of the names of time zones (RFC 7808, section 5.5). [`read`] gives the pattern that
+//! `specs/Patterns.antt` reads from a text, and [`matches`] says, by `specs/Matching.antt`, whether
+//! a name matches it. [`reads_back`] is the law that each pattern is read from its text.
+#![tactic(auto)]
+
+mod folding;
+mod laws;
+mod matching;
+mod pattern_fault;
+mod pattern_type;
+mod reading;
+mod send_sync;
+#[cfg(test)]
+mod tests;
+
+pub use laws::reads_back;
+pub use matching::matches;
+pub use pattern_fault::BadPattern;
+pub use pattern_type::Pattern;
+pub use reading::read;

@@ -1,0 +1,40 @@
+use std::error::Error;
+use std::fmt;
+use td_base::NoMemory;
+
+/// Why a text is no pattern.
+#[derive(Clone, Copy, Debug, PartialEq, Eq)]
+pub enum BadPattern {
+    /// There is no memory for the pattern.
+    NoMemory,
+    /// At this place, counted from 0, stands a `*` that is neither first nor last, or a backslash
+    /// with neither `*` nor a backslash after it.
+    BadPattern(usize),
+}
+
+impl fmt::Display for BadPattern {
+    ghost use Rattle.std.specs.Prelude.{Some};
+    ghost use Rattle.find_pattern.specs.FaultText.{fault_text};
+
+    ghost output = { λ fault. Some (fault_text fault) };
+
+    fn fmt<W: fmt::Write>(&self, f: &mut fmt::Formatter<W>) -> fmt::Result {
+        match self {
+            BadPattern::NoMemory => write!(f, "0 NoMemory"),
+            BadPattern::BadPattern(place) => write!(f, "1 BadPattern {place}"),
+        }
+    }
+}
+
+impl Error for BadPattern {}
+
+impl From<NoMemory> for BadPattern {
+    ghost use Rattle.std.specs.Prelude.{◌≡◌};
+    ghost use Rattle.find_pattern.specs.declared.pattern_fault.BadPattern.TheVariants.{NoMemory};
+
+    ghost from_gives = { λ _ fault. fault ≡ NoMemory };
+
+    fn from(_: NoMemory) -> Self {
+        BadPattern::NoMemory
+    }
+}

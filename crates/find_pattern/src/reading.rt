@@ -1,0 +1,87 @@
+//! The pattern that a text is read as.
+ghost use Rattle.std.specs.Prelude.{◌≡◌, ◌≢◌, ◌<◌, ◌≤◌, length, drop, IfOk, IfErr, IfSome};
+ghost use Rattle.find_pattern.specs.Patterns as patterns;
+ghost use Rattle.find_pattern.specs.Pieces as pieces;
+
+use crate::{BadPattern, Pattern};
+use std::alloc::Global;
+use td_base::Bytes;
+
+/// What a text that is not at its end begins with.
+#[derive(Clone, Copy)]
+pub enum Piece {
+    /// A byte that stands for itself, and how many bytes it is written with.
+    Byte(u8, usize),
+    LastStar,
+    Fault,
+}
+
+/// What the rest of a text begins with.
+fn first_piece(left: &[u8]) -> Piece
+    requires { 0 < length left.now }
+    ensures piece { result ≡ pieces.first_piece left.now }
+    ensures len { pieces.IsWithin (length left.now) result }
+{
+    match left {
+        [b'*'] => Piece::LastStar,
+        [b'\\', byte @ (b'*' | b'\\'), ..] => Piece::Byte(*byte, 2),
+        [b'*' | b'\\', ..] => Piece::Fault,
+        [byte, ..] => Piece::Byte(*byte, 1),
+        [] => Piece::Fault,
+    }
+}
+
+/// The pattern that a text is read as, or the place of the first fault.
+#[tactic(auto, unfolding(crate::specs::Patterns::pattern))]
+pub fn read(alloc: Global, text: &[u8]) -> Result<Pattern, BadPattern>
+    ensures ok { IfOk result (λ p. patterns.pattern text.now ≡ Ok p) }
+    ensures refused { IfErr result
+        (λ fault. fault ≢ BadPattern.NoMemory → patterns.pattern text.now ≡ Err fault) }
+{
+    match text {
+        [b'*'] => Ok(Pattern {
+            lead: true,
+            trail: true,
+            text: Bytes::new(alloc),
+        }),
+        [b'*', ..] => Ok(Pattern {
+            lead: true,
+            ..read_from(alloc, text, 1)?
+        }),
+        _ => read_from(alloc, text, 0),
+    }
+}
+
+/// What the text is read as from a place on, where a star can only be the last.
+fn read_from(alloc: Global, text: &[u8], start: usize) -> Result<Pattern, BadPattern>
+    requires { start ≤ length text.now }
+    ensures ok { IfOk result (λ p. patterns.read_from start (drop start text.now) ≡ Ok p) }
+    ensures refused { IfErr result
+        (λ fault. fault ≢ BadPattern.NoMemory
+        → patterns.read_from start (drop start text.now) ≡ Err fault) }
+{
+    let mut literal = Bytes::new(alloc);
+    let mut at = start;
+    'pieces: while at < text.len() {
+        match first_piece(&text[at..]) {
+            Piece::Byte(byte, len) => {
+                literal.push(byte)?;
+                at += len;
+            }
+            Piece::LastStar => return Ok(plain(literal, true)),
+            Piece::Fault => return Err(BadPattern::BadPattern(at)),
+        }
+    }
+    Ok(plain(literal, false))
+}
+
+/// A pattern without a star at its start.
+fn plain(text: Bytes, trail: bool) -> Pattern
+    ensures { result ≡ patterns.literal text trail }
+{
+    Pattern {
+        lead: false,
+        trail,
+        text,
+    }
+}

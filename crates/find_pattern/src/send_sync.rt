@@ -1,0 +1,10 @@
+//! A pattern may cross threads and be shared by them.
+use crate::{BadPattern, Pattern};
+
+/// Only for types that threads may hand over and share.
+fn is_shared<T: Send + Sync>() {}
+
+fn types_are_shared() {
+    is_shared::<Pattern>();
+    is_shared::<BadPattern>();
+}
