@@ -1,0 +1,4 @@
+pub mod Choices
+pub mod Pieces
+pub mod Qualities
+pub mod Tags

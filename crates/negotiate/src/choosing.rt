@@ -1,0 +1,56 @@
+//! The choice of a format.
+ghost use Rattle.std.specs.Prelude.{◌≡◌, option_copied};
+ghost use Rattle.negotiate.specs.Choices as choices;
+
+use crate::qualities::quality_of_range;
+
+/// The formats in which the data of a zone is served.
+#[derive(Clone, Copy, Debug, PartialEq, Eq)]
+pub enum Format {
+    /// `text/calendar` (RFC 5545).
+    Calendar,
+    /// `application/tzif` (RFC 9636).
+    Tzif,
+}
+
+/// The format that an Accept field chooses (RFC 9110, section 12.5.1), if it accepts one.
+///
+/// Without a field that is the calendar. Ranges are compared without case. An element that names
+/// none of the formats, or has a malformed quality, is ignored, and so are all parameters but the
+/// first `q`. The quality of a format is that of the most specific range that names it.
+#[tactic(auto, unfolding(crate::specs::Choices::chosen))]
+pub fn choose(accept: Option<&[u8]>) -> Option<Format>
+    ensures { result ≡ choices.chosen (option_copied accept.entry) }
+{
+    let Some(field) = accept else {
+        return Some(Format::Calendar);
+    };
+    let calendar = quality_of(field, b"text/calendar", b"text/*");
+    let tzif = quality_of(field, b"application/tzif", b"application/*");
+    if tzif > calendar {
+        return Some(Format::Tzif);
+    }
+    if calendar == 0 {
+        return None;
+    }
+    Some(Format::Calendar)
+}
+
+/// The quality of a format, by its own range and by that of its group.
+#[tactic(auto, unfolding(crate::specs::Choices::quality_of))]
+fn quality_of(field: &[u8], exact: &[u8], group: &[u8]) -> u16
+    ensures { result ≡ choices.quality_of exact.now group.now field.now }
+{
+    first_of(
+        quality_of_range(field, exact),
+        quality_of_range(field, group),
+        quality_of_range(field, b"*/*"),
+    )
+}
+
+/// The first of the qualities that there is, or none at all.
+fn first_of(exact: Option<u16>, group: Option<u16>, any: Option<u16>) -> u16
+    ensures { result ≡ choices.first_of exact group any }
+{
+    exact.or(group).or(any).unwrap_or(0)
+}

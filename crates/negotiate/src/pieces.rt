@@ -1,0 +1,78 @@
+//! The pieces of a list in a field.
+ghost use Rattle.std.specs.Prelude.{◌≡◌, ◌∷◌, ◌<◌, length, take, drop, reverse, option_copied, IfSome};
+ghost use Rattle.std.specs.Str.{str_eq_ignore_ascii_case};
+ghost use Rattle.negotiate.specs.Pieces as pieces;
+
+/// The bytes before the first separator, and those after it, if there is one.
+#[tactic(auto, unfolding(crate::specs::Pieces::pieces))]
+pub fn cut(text: &[u8], separator: u8) -> (&[u8], Option<&[u8]>)
+    ensures cut { pieces.pieces separator text.now
+        ≡ result.0.now ∷ pieces.pieces_left separator (option_copied result.1) }
+    ensures shorter { IfSome result.1 (λ rest. length rest.now < length text.now) }
+{
+    for (at, byte) in text.iter().enumerate() {
+        if *byte == separator {
+            return (&text[..at], Some(&text[at + 1..]));
+        }
+    }
+    (text, None)
+}
+
+/// The text without spaces and tabs at its ends.
+#[tactic(auto, unfolding(crate::specs::Pieces::trim))]
+pub fn trim(text: &[u8]) -> &[u8]
+    ensures { result.now ≡ pieces.trim text.now }
+{
+    trim_end(trim_start(text))
+}
+
+/// The text without spaces and tabs at its start.
+fn trim_start(text: &[u8]) -> &[u8]
+    ensures { result.now ≡ pieces.skip_blanks text.now }
+{
+    let mut left = text;
+    'blanks: while let Some((first, rest)) = left.split_first() {
+        let byte = *first;
+        if byte != b' ' && byte != b'\t' {
+            return left;
+        }
+        left = rest;
+    }
+    left
+}
+
+/// The text without spaces and tabs at its end.
+fn trim_end(text: &[u8]) -> &[u8]
+    ensures { result.now ≡ reverse (pieces.skip_blanks (reverse text.now)) }
+{
+    let mut left = text;
+    'blanks: while let Some((last, rest)) = left.split_last() {
+        let byte = *last;
+        if byte != b' ' && byte != b'\t' {
+            return left;
+        }
+        left = rest;
+    }
+    left
+}
+
+/// The text without so many bytes at its start.
+pub fn skip(text: &[u8], count: usize) -> &[u8]
+    ensures { result.now ≡ drop count text.now }
+{
+    text.get(count..).unwrap_or(&[])
+}
+
+/// The first bytes of the text, so many if there are.
+pub fn start(text: &[u8], count: usize) -> &[u8]
+    ensures { result.now ≡ take count text.now }
+{
+    &text[..count.min(text.len())]
+}
+
+/// Whether two texts are the same without case.
+pub fn is_same(text: &[u8], other: &[u8]) -> bool
+    ensures { result ≡ str_eq_ignore_ascii_case text.now other.now }
+{
+    text.eq_ignore_ascii_case(other)
+}

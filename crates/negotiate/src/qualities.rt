@@ -1,0 +1,121 @@
+//! The qualities that an Accept field gives.
+ghost use Rattle.std.specs.Prelude.{◌≡◌, ◌<◌, ◌≤◌, ◌-◌, ◌==◌, ◌||◌, length, option_copied, IsTrue};
+ghost use Rattle.std.specs.Char.{is_ascii_digit};
+ghost use Rattle.std.specs.List.{list_all};
+ghost use Rattle.negotiate.specs.Pieces.{pieces_left, pieces};
+ghost use Rattle.negotiate.specs.Qualities as qualities;
+
+use crate::pieces::{cut, is_same, skip, start, trim};
+
+/// The largest quality that the field gives to a range, in thousandths.
+pub fn quality_of_range(field: &[u8], range: &[u8]) -> Option<u16>
+    ensures { result ≡ qualities.quality_of_range range.now field.now }
+{
+    let mut best = None;
+    let mut left = Some(field);
+    'elements: while let Some(rest) = left {
+        let (element, after) = cut(rest, b',');
+        best = larger(best, quality_for(element, range));
+        left = after;
+    }
+    best
+}
+
+/// The larger of the qualities that there are.
+fn larger(a: Option<u16>, b: Option<u16>) -> Option<u16>
+    ensures { result ≡ qualities.larger a b }
+{
+    match (a, b) {
+        (None, b) => b,
+        (Some(a), None) => Some(a),
+        (Some(a), Some(b)) => Some(a.max(b)),
+    }
+}
+
+/// The quality that an element gives to a range, if it names it and has a quality.
+fn quality_for(element: &[u8], range: &[u8]) -> Option<u16>
+    ensures { result ≡ qualities.quality_for range.now (pieces 59 element.now) }
+{
+    let (first, parameters) = cut(element, b';');
+    if !is_same(trim(first), range) {
+        return None;
+    }
+    quality_in(parameters)
+}
+
+/// The quality that the parameters give.
+#[tactic(auto, unfolding(crate::specs::Qualities::quality_in))]
+fn quality_in(parameters: Option<&[u8]>) -> Option<u16>
+    ensures { result ≡ qualities.quality_in (pieces_left 59 (option_copied parameters.entry)) }
+{
+    let mut left = parameters;
+    'parameters: while let Some(rest) = left {
+        let (parameter, after) = cut(rest, b';');
+        let text = trim(parameter);
+        if is_same(start(text, 2), b"q=") {
+            return quality_value(skip(text, 2));
+        }
+        left = after;
+    }
+    Some(1000)
+}
+
+/// A quality in thousandths, if the text is one.
+#[tactic(auto, unfolding(crate::specs::Qualities::quality_value))]
+fn quality_value(text: &[u8]) -> Option<u16>
+    ensures { result ≡ qualities.quality_value text.now }
+{
+    let (whole, rest) = text.split_first()?;
+    if !is_whole(*whole) || !is_fraction(rest) {
+        return None;
+    }
+    let value = 1000 * digit(*whole) + fraction(skip(rest, 1));
+    if value > 1000 { None } else { Some(value) }
+}
+
+/// Whether the byte is `0` or `1`.
+fn is_whole(byte: u8) -> bool
+    ensures { result ≡ (byte == 48 || byte == 49) }
+{
+    byte == b'0' || byte == b'1'
+}
+
+/// Whether nothing is left, or a point and up to three digits.
+fn is_fraction(rest: &[u8]) -> bool
+    ensures is { result ≡ qualities.is_fraction rest.now }
+    ensures short { IsTrue result → length rest.now ≤ 4 }
+{
+    match rest {
+        [] => true,
+        [point, digits @ ..] => *point == b'.' && digits.len() <= 3 && has_digits(digits),
+    }
+}
+
+/// Whether each byte is a digit.
+fn has_digits(digits: &[u8]) -> bool
+    ensures { result ≡ list_all is_ascii_digit digits.now }
+{
+    digits.iter().all(|byte| byte.is_ascii_digit())
+}
+
+/// The value of the digits after a point, in thousandths.
+fn fraction(digits: &[u8]) -> u16
+    requires { length digits.now ≤ 3 }
+    ensures value { result ≡ qualities.fraction 100 digits.now }
+    ensures small { result < 30000 }
+{
+    match digits {
+        [a] => 100 * digit(*a),
+        [a, b] => 100 * digit(*a) + 10 * digit(*b),
+        [a, b, c] => 100 * digit(*a) + 10 * digit(*b) + digit(*c),
+        _ => 0,
+    }
+}
+
+/// The value of a digit.
+fn digit(byte: u8) -> u16
+    ensures value { result ≡ byte - 48 }
+    ensures small { result < 256 }
+{
+    u16::from(byte.saturating_sub(b'0'))
+}
