@@ -1,0 +1,5 @@
+use Rattle.ical_lines.proofs.LawLemmas.{reads_back}
+use Rattle.ical_lines.proofs.laws.reads_back.Goals as goal
+
+pub returns : goal.returns
+returns c = reads_back

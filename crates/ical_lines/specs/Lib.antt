@@ -1,0 +1,4 @@
+pub mod FaultText
+pub mod LineLengths
+pub mod Lines
+pub mod Unfolding

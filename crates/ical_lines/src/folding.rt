@@ -1,0 +1,66 @@
+//! Content lines, written.
+ghost use Rattle.std.specs.Prelude.{◌≡◌, ℕ, List, ◌∷◌, ◌++◌, length, take, IfOk, OnOk, OnErr};
+ghost use Rattle.ical_lines.specs.Lines.{folded, content_line};
+
+use td_base::{Bytes, NoMemory};
+
+/// How many octets stand in a line at most, without its end.
+const MOST_OCTETS: usize = 75;
+
+/// Appends one content line: the name, a colon and the value, folded where the line is longer than
+/// 75 octets. Where memory runs out nothing is appended.
+///
+/// What is written is a content line of RFC 5545 only where name and value are ASCII without
+/// control bytes and the name begins with a letter.
+pub fn line(out: &mut Bytes, name: &[u8], value: &[u8]) -> Result<(), NoMemory>
+    ensures ok { OnOk result (out.new ≡ out.old ++ content_line (name.now ++ 58 ∷ value.now)) }
+    ensures err { OnErr result (out.new ≡ out.old) }
+{
+    let start = out.len();
+    if let Err(error) = append_line(out, name, value) {
+        out.truncate(start);
+        return Err(error);
+    }
+    Ok(())
+}
+
+/// Appends the line. Where memory runs out its beginning stays.
+fn append_line(out: &mut Bytes, name: &[u8], value: &[u8]) -> Result<(), NoMemory>
+    ensures ok { OnOk result (out.new ≡ out.old ++ content_line (name.now ++ 58 ∷ value.now)) }
+    ensures kept { take (length out.old) out.new ≡ out.old }
+{
+    let after_name = append_folded(out, MOST_OCTETS, name)?;
+    let after_colon = append_folded(out, after_name, b":")?;
+    append_folded(out, after_colon, value)?;
+    out.append(b"\r\n")?;
+    Ok(())
+}
+
+/// Appends octets to a line that has room for so many more, and answers the room after them.
+fn append_folded(out: &mut Bytes, room: usize, octets: &[u8]) -> Result<usize, NoMemory>
+    ensures ok { IfOk result (λ left. (rest : List ℕ)
+        → out.new ++ folded left rest ≡ out.old ++ folded room (octets.now ++ rest)) }
+    ensures kept { take (length out.old) out.new ≡ out.old }
+{
+    let mut left = room;
+    for octet in octets {
+        left = append_octet(out, left, *octet)?;
+    }
+    Ok(left)
+}
+
+/// Appends an octet to a line that has room for so many more, and answers the room after it.
+#[tactic(auto, unfolding(crate::specs::Lines::folded))]
+fn append_octet(out: &mut Bytes, room: usize, octet: u8) -> Result<usize, NoMemory>
+    ensures ok { IfOk result (λ left. (rest : List ℕ)
+        → out.new ++ folded left rest ≡ out.old ++ folded room (octet ∷ rest)) }
+    ensures kept { take (length out.old) out.new ≡ out.old }
+{
+    if room == 0 {
+        out.append(b"\r\n ")?;
+        out.push(octet)?;
+        return Ok(MOST_OCTETS - 2);
+    }
+    out.push(octet)?;
+    Ok(room - 1)
+}

@@ -1,0 +1,16 @@
+//! Content lines of iCalendar (RFC 5545, section 3.1): [`line`] writes one folded, as
+//! `specs/Lines.antt` says, and [`unfold`] reads lines back, as `specs/Unfolding.antt` says.
+//! [`reads_back`] is the law that ties them.
+#![tactic(auto)]
+
+mod folding;
+mod laws;
+mod line_fault;
+mod reading;
+#[cfg(test)]
+mod tests;
+
+pub use folding::line;
+pub use laws::reads_back;
+pub use line_fault::BadLine;
+pub use reading::unfold;

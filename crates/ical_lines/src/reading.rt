@@ -1,0 +1,103 @@
+//! Content lines, read.
+ghost use Rattle.std.specs.Prelude.{◌≡◌, ◌≢◌, ◌<◌, ◌≤◌, [], ◌++◌, ◌∷◌, ℕ, List, Ok, Err, IfOk, IfErr, IsTrue, length, if◌then◌else◌, Some, None, option_copied};
+ghost use Rattle.ical_lines.specs.Unfolding as spec;
+ghost use Rattle.ical_lines.specs.LineLengths.{line_len, joined_with};
+
+use crate::BadLine;
+use std::alloc::Global;
+use td_base::{Bytes, Items, NoMemory};
+
+/// The content lines of a text, unfolded and without their ends.
+///
+/// A line that begins with a space or a tab goes on with the one before it. A first line that does
+/// has none before it and stays as it is. An empty line is a line.
+pub fn unfold(alloc: Global, text: &[u8]) -> Result<Items<Bytes>, BadLine>
+    ensures ok { IfOk result (λ lines. spec.unfolded text.now ≡ Ok lines) }
+    ensures refused { IfErr result
+        (λ fault. fault ≢ BadLine.NoMemory → spec.unfolded text.now ≡ Err fault) }
+{
+    let mut lines = Items::new(alloc);
+    let mut begun = None;
+    let mut left = text;
+    'lines: while !left.is_empty() {
+        let (line, rest) = left.split_at(first_line_len(left));
+        let Some(content) = content_of(line) else {
+            return Err(BadLine::BadLine(text.len() - left.len()));
+        };
+        begun = Some(add_line(alloc, &mut lines, begun, content)?);
+        left = rest;
+    }
+    let lines = close(lines, begun)?;
+    Ok(lines)
+}
+
+/// The length of the first line with its line feed, or of all where there is none.
+fn first_line_len(text: &[u8]) -> usize
+    ensures len { result ≡ line_len text.now }
+    ensures inside { result ≤ length text.now }
+    ensures some { 0 < length text.now → 0 < result }
+{
+    for (at, byte) in text.iter().enumerate() {
+        if *byte == b'\n' {
+            return at + 1;
+        }
+    }
+    text.len()
+}
+
+/// The line without its end, if that is CRLF.
+#[tactic(auto, unfolding(crate::specs::Unfolding::is_whole))]
+fn content_of(line: &[u8]) -> Option<&[u8]>
+    ensures { option_copied result
+        ≡ (if spec.is_whole line.now then Some (spec.content line.now) else None) }
+{
+    let at = line.len().saturating_sub(2);
+    if &line[at..] == b"\r\n".as_slice() {
+        return Some(&line[..at]);
+    }
+    None
+}
+
+/// Reads one more line, where the last may still go on, and answers the line that may go on now.
+#[tactic(auto, unfolding(crate::specs::Unfolding::joined_on))]
+fn add_line(
+    alloc: Global,
+    lines: &mut Items<Bytes>,
+    begun: Option<Bytes>,
+    line: &[u8],
+) -> Result<Bytes, NoMemory>
+    ensures { IfOk result (λ now. (rest : List (List ℕ))
+        → lines.new ++ spec.joined_on now rest ≡ lines.old ++ joined_with begun (line.now ∷ rest)) }
+{
+    let Some(mut begun) = begun else {
+        return Bytes::from_slice(alloc, line);
+    };
+    if begins_blank(line) {
+        begun.append(&line[1..])?;
+        return Ok(begun);
+    }
+    lines.push(begun)?;
+    Bytes::from_slice(alloc, line)
+}
+
+/// Whether the line begins with a space or a tab.
+fn begins_blank(line: &[u8]) -> bool
+    ensures is { result ≡ spec.begins_blank line.now }
+    ensures inside { IsTrue result → 0 < length line.now }
+{
+    match line {
+        [] => false,
+        [first, ..] => *first == b' ' || *first == b'\t',
+    }
+}
+
+/// The lines, with the last, if there is one.
+#[tactic(auto, unfolding(crate::specs::Unfolding::joined_on))]
+fn close(mut lines: Items<Bytes>, last: Option<Bytes>) -> Result<Items<Bytes>, NoMemory>
+    ensures { IfOk result (λ all. all ≡ lines ++ joined_with last []) }
+{
+    if let Some(line) = last {
+        lines.push(line)?;
+    }
+    Ok(lines)
+}
