@@ -1,0 +1,10 @@
+pub mod AskLemmas
+pub mod EndLemmas
+pub mod HeldLemmas
+pub mod JoinLemmas
+pub mod LookLemmas
+pub mod MemberLemmas
+pub mod ReadLemmas
+pub mod ScanLemmas
+pub mod StepLemmas
+pub mod TakingLemmas

@@ -1,0 +1,117 @@
+-- The search keeps what the definition needs.
+use Rattle.std.proofs.Common.{◌≡◌, ◌≢◌, ℕ, ◌+◌, ◌<◌, ◌≤◌, List, [], ◌∷◌, ◌++◌, ◌==◌, ◌⊎◌, inl, inr, length, take, drop, get_or, Bool, true, false, not, ◌&&◌, ◌||◌, None, refl, sym, ap, ◌∙◌, arith, append_assoc, take-append-drop, length-take-le}
+use Rattle.std.proofs.lemmas.Bool.{eq-eqb, eqb-true, cases_eq, ne_eqb, and_parts}
+use Rattle.std.proofs.lemmas.List.{take_more, drop_more, take_all, append-nil}
+use Rattle.http_request.specs.Ends.{is_blank, feeds}
+use Rattle.http_request.specs.Scans.{IsScanned, ends_with, past, kind_of, line_past, is_other, Searches, end_from, head_end}
+use Rattle.http_request.specs.declared.scan.Scan.{Scan}
+use Rattle.http_request.specs.declared.scan.Line.TheVariants as line
+use Rattle.http_request.specs.declared.scan.Search.TheVariants as search
+use Rattle.http_request.proofs.EndLemmas.{end_last, end_line, end_within, end_none, feeds-append}
+
+pub blank_kind : (line : List ℕ) → is_blank line ≡ not (is_other (kind_of line))
+blank_kind [] = refl
+blank_kind (b ∷ []) = grind arith
+blank_kind (b ∷ c ∷ bs) = refl
+
+pub kind_past : (line : List ℕ) (b : ℕ) → line_past (kind_of line) b ≡ kind_of (line ++ b ∷ [])
+kind_past [] b = refl
+kind_past (a ∷ []) b = grind arith
+kind_past (a ∷ c ∷ bs) b = refl
+
+feeds-le-length : (xs : List ℕ) → feeds xs ≤ length xs
+feeds-le-length [] = omega arith
+feeds-le-length (x ∷ xs) = grind (arith, feeds-le-length xs)
+
+pub counted : (bytes : List ℕ) (scan : Scan) → IsScanned bytes scan → scan.feeds ≤ scan.seen
+counted bytes scan s = omega (arith, s.feeds, feeds-le-length (take scan.seen bytes), length-take-le scan.seen bytes s.within)
+
+-- one byte more
+ends_split : (begun : Bool) (line : List ℕ) (b : ℕ) → (b == 10 && (begun && not (is_other (kind_of line)))) ≡ true
+    → (b ≡ 10) × ((begun && is_blank line) ≡ true)
+ends_split begun line b e = rw (blank_kind line) (eqb-true b 10 (and_parts (b == 10) _ e).0, (and_parts (b == 10) _ e).1)
+
+feeds_more : (bytes : List ℕ) (i : ℕ) → i < length bytes → feeds (take (i + 1) bytes) ≡ feeds (take i bytes) + feeds (get_or bytes i 0 ∷ [])
+feeds_more bytes i h = ap feeds (take_more bytes i 0 h) ∙ feeds-append (take i bytes) (get_or bytes i 0 ∷ [])
+
+taken_more : (bytes next : List ℕ) (i : ℕ) → i < length bytes → take (i + 1) bytes ++ next ≡ take i bytes ++ get_or bytes i 0 ∷ next
+taken_more bytes next i h = ap (λ l. l ++ next) (take_more bytes i 0 h) ∙ append_assoc (take i bytes) (get_or bytes i 0 ∷ []) next
+
+past_feed : (scan : Scan) (b : ℕ) → b ≡ 10
+    → past scan b ≡ record { seen = scan.seen + 1; feeds = scan.feeds + 1; begun = scan.begun || is_other scan.line; line = line.Nothing }
+past_feed scan b e = rw e
+
+past_within : (scan : Scan) (b : ℕ) → b ≢ 10
+    → past scan b ≡ record { seen = scan.seen + 1; feeds = scan.feeds; begun = scan.begun; line = line_past scan.line b }
+past_within scan b e = rw (ne_eqb b 10 e)
+
+at_place : (bytes : List ℕ) (scan : Scan) (s : IsScanned bytes scan) → scan.seen < length bytes
+    → head_end bytes ≡ end_from scan.begun s.line scan.seen (get_or bytes scan.seen 0 ∷ drop (scan.seen + 1) bytes)
+at_place bytes scan s h =
+    ap head_end (sym (take-append-drop scan.seen bytes)) ∙ s.goes_on (drop scan.seen bytes)
+    ∙ ap (end_from scan.begun s.line scan.seen) (drop_more bytes scan.seen 0 h)
+
+feed_counts : (b : ℕ) → b ≡ 10 → feeds (b ∷ []) ≡ 1
+feed_counts b e = rw e
+
+other_counts : (b : ℕ) → b ≢ 10 → feeds (b ∷ []) ≡ 0
+other_counts b e = rw (ne_eqb b 10 e)
+
+other_is : (scan : Scan) (line : List ℕ) → scan.line ≡ kind_of line → is_other scan.line ≡ not (is_blank line)
+other_is scan line e = ap is_other e ∙ (sym (not_not (is_other (kind_of line))) ∙ ap not (sym (blank_kind line)))
+  where
+    not_not : (b : Bool) → not (not b) ≡ b
+    not_not true = refl
+    not_not false = refl
+
+pub scan_ends : (bytes : List ℕ) (scan : Scan) → IsScanned bytes scan → scan.seen < length bytes
+    → ends_with scan (get_or bytes scan.seen 0) ≡ true
+    → Searches bytes (search.End (past scan (get_or bytes scan.seen 0)).seen (past scan (get_or bytes scan.seen 0)).feeds)
+scan_ends bytes scan s h e =
+    let b = get_or bytes scan.seen 0 in
+    let parts : (b ≡ 10) × ((scan.begun && is_blank s.line) ≡ true) =
+    ends_split scan.begun s.line b (ap (λ k. b == 10 && (scan.begun && not (is_other k))) (sym s.kind) ∙ e) in
+    rw (past_feed scan b parts.0) (
+      at_place bytes scan s h ∙ end_last scan.begun s.line scan.seen b (drop (scan.seen + 1) bytes) parts.0 parts.1,
+      omega (arith, s.feeds, feeds_more bytes scan.seen h, feed_counts b parts.0),
+      omega (arith, h),
+    )
+
+-- not the end
+goes_on_at_feed : (begun other blank : Bool) → other ≡ not blank → (begun && not other) ≡ false → (begun && blank) ≡ false
+goes_on_at_feed begun other true e f = rw e at f
+goes_on_at_feed true other false e f = refl
+goes_on_at_feed false other false e f = refl
+
+pub scan_past : (bytes : List ℕ) (scan : Scan) → IsScanned bytes scan → scan.seen < length bytes
+    → ends_with scan (get_or bytes scan.seen 0) ≡ false → IsScanned bytes (past scan (get_or bytes scan.seen 0))
+scan_past bytes scan s h e = by_byte (cases_eq (get_or bytes scan.seen 0) 10)
+  where
+    by_byte : (get_or bytes scan.seen 0 ≡ 10) ⊎ (get_or bytes scan.seen 0 ≢ 10) → IsScanned bytes (past scan (get_or bytes scan.seen 0))
+    by_byte (inl f) =
+        let b = get_or bytes scan.seen 0 in
+        let not_end : (scan.begun && is_blank s.line) ≡ false
+        = goes_on_at_feed scan.begun (is_other scan.line) (is_blank s.line) (other_is scan s.line s.kind)
+        (ap (λ t. t && (scan.begun && not (is_other scan.line))) (sym (eq-eqb b 10 f)) ∙ e) in
+        rw (past_feed scan b f) (record {
+          line = [];
+          kind = refl;
+          within = omega (arith, h);
+          feeds = omega (arith, s.feeds, feeds_more bytes scan.seen h, feed_counts b f);
+          goes_on = λ next. ap head_end (taken_more bytes next scan.seen h) ∙ (s.goes_on (b ∷ next) ∙ (end_line scan.begun s.line scan.seen b next f not_end
+              ∙ ap (λ o. end_from (scan.begun || o) [] (scan.seen + 1) next) (sym (other_is scan s.line s.kind))));
+        })
+    by_byte (inr f) =
+        let b = get_or bytes scan.seen 0 in
+        rw (past_within scan b f) (record {
+          line = s.line ++ b ∷ [];
+          kind = ap (λ k. line_past k b) s.kind ∙ kind_past s.line b;
+          within = omega (arith, h);
+          feeds = omega (arith, s.feeds, feeds_more bytes scan.seen h, other_counts b f);
+          goes_on = λ next. ap head_end (taken_more bytes next scan.seen h) ∙ (s.goes_on (b ∷ next) ∙ end_within scan.begun s.line scan.seen b next f);
+        })
+
+-- at the end of the list
+pub scan_open : (bytes : List ℕ) (scan : Scan) → IsScanned bytes scan → scan.seen ≡ length bytes → head_end bytes ≡ None
+scan_open bytes scan s e =
+    ap head_end (sym (append-nil (take scan.seen bytes) ∙ take_all scan.seen bytes (omega (arith, e)))) ∙ (s.goes_on [] ∙ end_none scan.begun s.line scan.seen)

@@ -1,0 +1,101 @@
+ghost use Rattle.std.specs.Prelude.{◌≡◌, length, map, All, IfOk};
+ghost use Rattle.httparse.specs.Spans.{IsHeaderWithin, header_bytes};
+ghost use Rattle.td_base.specs.TargetForm.{begins_any_case, has_form};
+ghost use Rattle.http_request.specs.Judging.{asked, closes, is_served, is_well_formed, refusal};
+
+use crate::Head;
+use crate::fields::{all_zero, closes_any, count_named, joined};
+use crate::members::is_same;
+use http::header::{ACCEPT, CONTENT_LENGTH, HOST, IF_NONE_MATCH, TRANSFER_ENCODING};
+use http::{Method, StatusCode};
+use httparse::spans::HeaderSpan;
+use std::alloc::Global;
+use td_base::{Bytes, NoMemory};
+
+/// Whether the target is in origin form or in absolute form.
+#[tactic(auto, unfolding(td_base::specs::TargetForm::has_form))]
+fn is_target(target: &[u8]) -> bool
+    ensures { result ≡ has_form target.now }
+{
+    begins(target, b"/") || begins(target, b"http://") || begins(target, b"https://")
+}
+
+/// Whether the text begins with these bytes, whatever the case of letters.
+fn begins(text: &[u8], prefix: &[u8]) -> bool
+    ensures { result ≡ begins_any_case prefix.now text.now }
+{
+    let len = prefix.len().min(text.len());
+    is_same(&text[..len], prefix)
+}
+
+/// Whether the head may be served.
+fn is_sound(buf: &[u8], target: &[u8], minor: u8, fields: &[HeaderSpan]) -> bool
+    requires { All (IsHeaderWithin (length buf.now)) fields.now }
+    ensures { result
+        ≡ is_well_formed minor target.now (map (header_bytes buf.now) fields.now) }
+{
+    let hosts = count_named(buf, fields, HOST.as_str().as_bytes());
+    (hosts == 1 || (minor == 0 && hosts == 0))
+        && count_named(buf, fields, TRANSFER_ENCODING.as_str().as_bytes()) == 0
+        && all_zero(buf, fields, CONTENT_LENGTH.as_str().as_bytes())
+        && is_target(target)
+}
+
+/// Whether the connection is to be closed.
+fn is_last(buf: &[u8], minor: u8, fields: &[HeaderSpan]) -> bool
+    requires { All (IsHeaderWithin (length buf.now)) fields.now }
+    ensures { result ≡ closes minor (map (header_bytes buf.now) fields.now) }
+{
+    minor == 0 || closes_any(buf, fields)
+}
+
+/// The status with which the head is refused, if it is.
+#[tactic(auto, unfolding(crate::specs::Judging::refusal))]
+pub fn refusal(
+    buf: &[u8],
+    method: &[u8],
+    target: &[u8],
+    minor: u8,
+    fields: &[HeaderSpan],
+) -> Option<u16>
+    requires { All (IsHeaderWithin (length buf.now)) fields.now }
+    ensures { result
+        ≡ refusal method.now target.now minor (map (header_bytes buf.now) fields.now) }
+{
+    if !is_served(method) {
+        return Some(StatusCode::METHOD_NOT_ALLOWED.as_u16());
+    }
+    if !is_sound(buf, target, minor, fields) {
+        return Some(StatusCode::BAD_REQUEST.as_u16());
+    }
+    None
+}
+
+/// Whether the method is GET or HEAD.
+fn is_served(method: &[u8]) -> bool
+    ensures { result ≡ is_served method.now }
+{
+    method == Method::GET.as_str().as_bytes() || method == Method::HEAD.as_str().as_bytes()
+}
+
+/// What the head asks for.
+pub fn asked(
+    alloc: Global,
+    buf: &[u8],
+    method: &[u8],
+    target: &[u8],
+    minor: u8,
+    fields: &[HeaderSpan],
+) -> Result<Head, NoMemory>
+    requires { All (IsHeaderWithin (length buf.now)) fields.now }
+    ensures { IfOk result (λ head.
+        head ≡ asked method.now target.now minor (map (header_bytes buf.now) fields.now)) }
+{
+    Ok(Head {
+        head_only: method == Method::HEAD.as_str().as_bytes(),
+        target: Bytes::from_slice(alloc, target)?,
+        accept: joined(alloc, buf, fields, ACCEPT.as_str().as_bytes())?,
+        none_match: joined(alloc, buf, fields, IF_NONE_MATCH.as_str().as_bytes())?,
+        close: is_last(buf, minor, fields),
+    })
+}

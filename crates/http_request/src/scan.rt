@@ -1,0 +1,108 @@
+ghost use Rattle.std.specs.Prelude.{◌≡◌, ◌≤◌, ◌<◌, ◌+◌, ◌^◌, ℕ, List, length};
+ghost use Rattle.http_request.specs.Scans.{IsScanned, Searches, ends_with, past, line_past};
+
+/// What has come of a line.
+#[derive(Clone, Copy, Debug, PartialEq, Eq)]
+pub enum Line {
+    /// Nothing.
+    Nothing,
+    /// A carriage return.
+    Return,
+    /// Other bytes.
+    Other,
+}
+
+impl Line {
+    /// The line with one more byte, which is no line feed.
+    fn past(self, byte: u8) -> Line
+        ensures { result ≡ line_past self byte }
+    {
+        match self {
+            Line::Nothing if byte == b'\r' => Line::Return,
+            _ => Line::Other,
+        }
+    }
+}
+
+/// How far a list was searched for the end of its first head.
+#[derive(Clone, Copy, Debug)]
+pub struct Scan {
+    /// How many bytes were searched.
+    pub seen: usize,
+    /// How many line feeds are among them.
+    pub feeds: usize,
+    /// Whether a line that is not empty is among them.
+    pub begun: bool,
+    /// What they have of the line at their end.
+    pub line: Line,
+}
+
+/// Where a search ended.
+#[derive(Clone, Copy, Debug)]
+pub enum Search {
+    /// The head ends after so many bytes, with so many line feeds.
+    End(usize, usize),
+    /// It does not end in these bytes.
+    Open(Scan),
+}
+
+impl Scan {
+    /// Nothing was searched.
+    pub fn start() -> Scan
+        ensures { (bytes : List ℕ) → IsScanned bytes result }
+    {
+        Scan {
+            seen: 0,
+            feeds: 0,
+            begun: false,
+            line: Line::Nothing,
+        }
+    }
+
+    /// Whether the head ends with this byte.
+    fn is_ended_by(self, byte: u8) -> bool
+        ensures { result ≡ ends_with self byte }
+    {
+        byte == b'\n' && self.begun && !matches!(self.line, Line::Other)
+    }
+
+    /// Past a byte that does not end the head.
+    fn past(self, byte: u8) -> Scan
+        requires room { self.seen + 1 < 2 ^ 64 }
+        requires counted { self.feeds ≤ self.seen }
+        ensures { result ≡ past self byte }
+    {
+        if byte == b'\n' {
+            Scan {
+                seen: self.seen + 1,
+                feeds: self.feeds + 1,
+                begun: self.begun || matches!(self.line, Line::Other),
+                line: Line::Nothing,
+            }
+        } else {
+            Scan {
+                seen: self.seen + 1,
+                feeds: self.feeds,
+                begun: self.begun,
+                line: self.line.past(byte),
+            }
+        }
+    }
+}
+
+/// Searches on for the end of the first head.
+pub fn find_end(bytes: &[u8], from: Scan) -> Search
+    requires { IsScanned bytes.now from }
+    ensures { Searches bytes.now result }
+{
+    let mut scan = from;
+    'bytes: while scan.seen < bytes.len() {
+        let byte = bytes[scan.seen];
+        let ended = scan.is_ended_by(byte);
+        scan = scan.past(byte);
+        if ended {
+            return Search::End(scan.seen, scan.feeds);
+        }
+    }
+    Search::Open(scan)
+}
