@@ -1,0 +1,46 @@
+ghost use Rattle.std.specs.Prelude.{◌≡◌};
+ghost use Rattle.http_answer.specs.Parts.{text_of};
+ghost use Rattle.http_answer.specs.Replies.{close_lines, content, location_lines, type_lines};
+
+use crate::{Answer, Kind};
+
+/// The line of the body's type.
+#[tactic(auto, unfolding(crate::specs::Replies::type_lines))]
+pub fn type_line(kind: Option<Kind>) -> &'static [u8]
+    ensures { result.now ≡ text_of (type_lines kind) }
+{
+    match kind {
+        None => b"",
+        Some(Kind::Json) => b"Content-Type: application/json\r\n",
+        Some(Kind::Problem) => b"Content-Type: application/problem+json\r\n",
+        Some(Kind::Calendar) => b"Content-Type: text/calendar; charset=utf-8\r\n",
+        Some(Kind::Tzif) => b"Content-Type: application/tzif\r\n",
+    }
+}
+
+/// The line that tells where the service is found.
+#[tactic(auto, unfolding(crate::specs::Replies::location_lines))]
+pub fn location_line(moved: bool) -> &'static [u8]
+    ensures { result.now ≡ text_of (location_lines moved) }
+{
+    if moved { b"Location: /tzdist\r\n" } else { b"" }
+}
+
+/// The line that tells that the connection closes.
+#[tactic(auto, unfolding(crate::specs::Replies::close_lines))]
+pub fn close_line(close: bool) -> &'static [u8]
+    ensures { result.now ≡ text_of (close_lines close) }
+{
+    if close { b"Connection: close\r\n" } else { b"" }
+}
+
+/// The body, where it is written.
+pub fn content(answer: &Answer, head_only: bool) -> &[u8]
+    ensures { result.now ≡ content answer.now head_only }
+{
+    if answer.status == 304 || head_only {
+        b""
+    } else {
+        answer.body.as_slice()
+    }
+}
