@@ -1,0 +1,12 @@
+pub mod AllYear
+pub mod Apart
+pub mod Carrying
+pub mod InYear
+pub mod Months
+pub mod Onsets
+pub mod Places
+pub mod Rows
+pub mod Said
+pub mod SameDates
+pub mod Steady
+pub mod Windows

@@ -1,0 +1,29 @@
+//! Yearly rules of calendars (RFC 5545, section 3.3.10), and the footers of zone files carried to them.
+//!
+//! `carry` gives what a footer says of each year, wherever yearly rules can say it (`specs/Carried.antt` of
+//! `posix_footer`); by `specs/Occurs.antt` its rules fall on the footer's changes in every year. `occurrence` is the
+//! day on which a rule falls in a year. `Range` and `Part` are those of a VTIMEZONE.
+#![tactic(auto)]
+
+mod all_year;
+mod date_rules;
+mod footer_rules;
+mod laws;
+mod part_types;
+mod rule_types;
+mod send_sync;
+mod steady_dates;
+#[cfg(test)]
+mod test_rows;
+#[cfg(test)]
+mod tests;
+mod yearly;
+
+pub use footer_rules::carry;
+pub use laws::{
+    all_year_daylight, apart_in_each_year, falls_once, keeps_onsets, onset_in_year, onsets_ordered,
+    steady_dates_are,
+};
+pub use part_types::{Part, Range};
+pub use rule_types::{Carried, Form, Rule, RuleBeyond};
+pub use yearly::occurrence;
