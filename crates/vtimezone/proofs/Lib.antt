@@ -1,0 +1,12 @@
+pub mod CarriedPair
+pub mod InForce
+pub mod LastBefore
+pub mod Meaning
+pub mod Newest
+pub mod PartsMean
+pub mod ReadBack
+pub mod RuleParts
+pub mod Singles
+pub mod Whole
+pub mod Writable
+pub mod ZoneRange

@@ -1,0 +1,8 @@
+use Rattle.std.proofs.Common.{append_assoc}
+use Rattle.std.proofs.lemmas.List.{append-nil}
+use Rattle.vtimezone.specs.CalendarText.{tail_lines}
+use Rattle.vtimezone.proofs.calendar_text.append_tail.Goals as goal
+
+pub returns-clause-ok : goal.returns-clause-ok
+unfolding tail_lines
+returns-clause-ok c = rw (c.in_ok-line-2.ensures.ok, c.in_ok-line.ensures.ok) (simp (append_assoc, append-nil))

@@ -1,0 +1,5 @@
+pub mod CalendarText
+pub mod LastYear
+pub mod PartsOf
+pub mod Values
+pub mod ZoneParts

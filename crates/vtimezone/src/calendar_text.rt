@@ -1,0 +1,187 @@
+//! The text of a calendar with one time zone.
+ghost use Rattle.std.specs.Prelude.{◌≡◌, ◌++◌, length, take, All, IfSome, OnOk, OnErr};
+ghost use Rattle.std.specs.List.{flat_map};
+ghost use Rattle.std.specs.Option.{option_copied};
+ghost use Rattle.jiff_core.specs.Calendar.{IsWithin};
+ghost use Rattle.td_civil.specs.Bounds.{IsWithinBounds};
+ghost use Rattle.ical_lines.specs.Lines.{content_line, written};
+ghost use Rattle.recurrence.specs.Valid.{IsValidForm};
+ghost use Rattle.vtimezone.specs.CalendarText as text;
+ghost use Rattle.vtimezone.specs.Values.{offset_text};
+
+use crate::Part;
+use crate::values::{offset_value, rule_value, utc_value};
+use ical_lines::line;
+use recurrence::Rule;
+use td_base::{Bytes, NoMemory};
+use td_civil::{Moment, local_stamp};
+
+/// Appends the calendar of a time zone: an iCalendar object with one VTIMEZONE of these parts (RFC 5545, section
+/// 3.6.5). Where `tzid` is an alias, `alias_of` is the identifier of its zone. `until` is the end of the range, where
+/// it has one. It takes the memory of the text alone.
+pub fn write(
+    out: &mut Bytes,
+    tzid: &[u8],
+    alias_of: Option<&[u8]>,
+    parts: &[Part],
+    until: Option<Moment>,
+) -> Result<(), NoMemory>
+    requires parts { All text.IsWritable parts.now }
+    requires until { IfSome until (λ m. IsWithinBounds m.seconds) }
+    ensures ok { OnOk result (out.new ≡ out.old
+        ++ text.calendar tzid.now (option_copied alias_of.entry) parts.now until) }
+    ensures err { OnErr result (out.new ≡ out.old) }
+{
+    let start = out.len();
+    if let Err(error) = append_calendar(out, tzid, alias_of, parts, until) {
+        out.truncate(start);
+        return Err(error);
+    }
+    Ok(())
+}
+
+/// Appends the calendar. Where memory runs out its beginning stays.
+#[tactic(auto, unfolding(crate::specs::CalendarText::calendar_lines))]
+fn append_calendar(
+    out: &mut Bytes,
+    tzid: &[u8],
+    alias_of: Option<&[u8]>,
+    parts: &[Part],
+    until: Option<Moment>,
+) -> Result<(), NoMemory>
+    requires parts { All text.IsWritable parts.now }
+    requires until { IfSome until (λ m. IsWithinBounds m.seconds) }
+    ensures ok { OnOk result (out.new ≡ out.old
+        ++ text.calendar tzid.now (option_copied alias_of.entry) parts.now until) }
+    ensures kept { take (length out.old) out.new ≡ out.old }
+{
+    append_head(out, tzid)?;
+    append_alias(out, alias_of)?;
+    append_end(out, until)?;
+    append_parts(out, parts)?;
+    append_tail(out)?;
+    Ok(())
+}
+
+#[tactic(auto, unfolding(crate::specs::CalendarText::head_lines))]
+fn append_head(out: &mut Bytes, tzid: &[u8]) -> Result<(), NoMemory>
+    ensures ok { OnOk result (out.new ≡ out.old ++ written (text.head_lines tzid.now)) }
+    ensures kept { take (length out.old) out.new ≡ out.old }
+{
+    line(out, b"BEGIN", b"VCALENDAR")?;
+    line(out, b"VERSION", b"2.0")?;
+    line(out, b"PRODID", b"-//tzdistd//RFC 7808//EN")?;
+    line(out, b"BEGIN", b"VTIMEZONE")?;
+    line(out, b"TZID", tzid)?;
+    Ok(())
+}
+
+#[tactic(auto, unfolding(crate::specs::CalendarText::alias_lines))]
+fn append_alias(out: &mut Bytes, alias_of: Option<&[u8]>) -> Result<(), NoMemory>
+    ensures ok { OnOk result (out.new
+        ≡ out.old ++ written (text.alias_lines (option_copied alias_of.entry))) }
+    ensures kept { take (length out.old) out.new ≡ out.old }
+{
+    if let Some(tzid) = alias_of {
+        line(out, b"TZID-ALIAS-OF", tzid)?;
+    }
+    Ok(())
+}
+
+#[tactic(auto, unfolding(crate::specs::CalendarText::end_lines))]
+fn append_end(out: &mut Bytes, until: Option<Moment>) -> Result<(), NoMemory>
+    requires { IfSome until (λ m. IsWithinBounds m.seconds) }
+    ensures ok { OnOk result (out.new ≡ out.old ++ written (text.end_lines until)) }
+    ensures kept { take (length out.old) out.new ≡ out.old }
+{
+    if let Some(end) = until {
+        line(out, b"TZUNTIL", utc_value(end).as_slice())?;
+    }
+    Ok(())
+}
+
+#[tactic(auto, unfolding(crate::specs::CalendarText::tail_lines))]
+fn append_tail(out: &mut Bytes) -> Result<(), NoMemory>
+    ensures ok { OnOk result (out.new ≡ out.old ++ written text.tail_lines) }
+    ensures kept { take (length out.old) out.new ≡ out.old }
+{
+    line(out, b"END", b"VTIMEZONE")?;
+    line(out, b"END", b"VCALENDAR")?;
+    Ok(())
+}
+
+fn append_parts(out: &mut Bytes, parts: &[Part]) -> Result<(), NoMemory>
+    requires { All text.IsWritable parts.now }
+    ensures ok { OnOk result (out.new
+        ≡ out.old ++ written (flat_map text.part_lines parts.now)) }
+    ensures kept { take (length out.old) out.new ≡ out.old }
+{
+    for part in parts {
+        append_part(out, part)?;
+    }
+    Ok(())
+}
+
+fn kind(dst: bool) -> &'static [u8]
+    ensures { result.now ≡ text.kind_of dst }
+{
+    if dst { b"DAYLIGHT" } else { b"STANDARD" }
+}
+
+#[tactic(auto, unfolding(crate::specs::CalendarText::part_lines))]
+fn append_part(out: &mut Bytes, part: &Part) -> Result<(), NoMemory>
+    requires { text.IsWritable part.now }
+    ensures ok { OnOk result (out.new ≡ out.old ++ written (text.part_lines part.now)) }
+    ensures kept { take (length out.old) out.new ≡ out.old }
+{
+    line(out, b"BEGIN", kind(part.dst))?;
+    append_change(out, part)?;
+    append_rule(out, &part.rule, part.until)?;
+    line(out, b"END", kind(part.dst))?;
+    Ok(())
+}
+
+#[tactic(auto, unfolding(crate::specs::CalendarText::change_lines))]
+fn append_change(out: &mut Bytes, part: &Part) -> Result<(), NoMemory>
+    requires { text.IsWritable part.now }
+    ensures ok { OnOk result (out.new ≡ out.old ++ written (text.change_lines part.now)) }
+    ensures kept { take (length out.old) out.new ≡ out.old }
+{
+    append_start(out, part.start, part.from)?;
+    append_offset(out, b"TZOFFSETFROM", part.from)?;
+    append_offset(out, b"TZOFFSETTO", part.to)?;
+    line(out, b"TZNAME", part.name.as_slice())?;
+    Ok(())
+}
+
+#[tactic(auto, unfolding(crate::specs::CalendarText::start_line))]
+fn append_start(out: &mut Bytes, start: Moment, offset: i32) -> Result<(), NoMemory>
+    requires start { IsWithinBounds start.seconds }
+    requires offset { IsWithin 86_399 offset }
+    ensures ok { OnOk result (out.new ≡ out.old ++ content_line (text.start_line start offset)) }
+    ensures err { OnErr result (out.new ≡ out.old) }
+{
+    line(out, b"DTSTART", &local_stamp(start, offset))
+}
+
+fn append_offset(out: &mut Bytes, name: &[u8], offset: i32) -> Result<(), NoMemory>
+    requires { IsWithin 86_399 offset }
+    ensures ok { OnOk result (out.new
+        ≡ out.old ++ content_line (text.line name.now (offset_text offset))) }
+    ensures err { OnErr result (out.new ≡ out.old) }
+{
+    line(out, name, offset_value(offset).as_slice())
+}
+
+#[tactic(auto, unfolding(crate::specs::CalendarText::rule_lines))]
+fn append_rule(out: &mut Bytes, rule: &Option<Rule>, until: Option<Moment>) -> Result<(), NoMemory>
+    requires rule { IfSome rule.now (λ r. IsValidForm r.form) }
+    requires until { IfSome until (λ m. IsWithinBounds m.seconds) }
+    ensures ok { OnOk result (out.new ≡ out.old ++ written (text.rule_lines rule.now until)) }
+    ensures kept { take (length out.old) out.new ≡ out.old }
+{
+    if let Some(rule) = rule {
+        line(out, b"RRULE", rule_value(rule, until).as_slice())?;
+    }
+    Ok(())
+}

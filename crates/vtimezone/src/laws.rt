@@ -1,0 +1,38 @@
+//! What the parts of a zone mean, as the contracts of functions that do nothing.
+ghost use Rattle.std.specs.Prelude.{◌≡◌, ℕ, List, ℤ, None, Option, Ok, IfSome};
+ghost use Rattle.std.specs.List.{Contains, AllByRecursion};
+ghost use Rattle.td_civil.specs.Bounds.{HasMeaning};
+ghost use Rattle.tzif_reader.specs.Cut.{lists_of};
+ghost use Rattle.zone_meaning.specs.Faults.{zone_fault};
+ghost use Rattle.zone_meaning.specs.State.{zone_state, footer_meant};
+ghost use Rattle.recurrence.specs.InForce.{Gives, IsInForce};
+ghost use Rattle.recurrence.specs.declared.part_types.Part.{Part};
+ghost use Rattle.recurrence.specs.declared.part_types.Range.{Range};
+ghost use Rattle.ical_lines.specs.Unfolding.{unfolded};
+ghost use Rattle.td_civil.specs.declared.moment_type.Moment.{Moment};
+ghost use Rattle.vtimezone.specs.CalendarText.{calendar, calendar_lines, IsLineText, IsReadable};
+ghost use Rattle.vtimezone.specs.PartsOf.{IsEndOf, IsAmong, IsCarriedIfAny};
+ghost use Rattle.vtimezone.specs.ZoneParts.{end_in, parts_of};
+
+/// At each moment of a range, the part in force has the offset, the flag and the name of the zone file's state.
+pub fn parts_mean()
+    ensures { (file : List ℕ) (range : Range) → zone_fault file ≡ None
+        → IsCarriedIfAny (footer_meant (lists_of file).footer)
+        → HasMeaning range.from.seconds → IsEndOf range.from.seconds (end_in range)
+        → (t : ℤ) → IsAmong range.from.seconds (end_in range) t
+        → Gives (parts_of file range) t (zone_state file t) }
+{}
+
+/// At most one part is in force.
+pub fn one_in_force()
+    ensures { (parts : List Part) (t : ℤ) (p q : Part)
+        → IsInForce (Contains parts) t p → IsInForce (Contains parts) t q → p ≡ q }
+{}
+
+/// The text of a calendar is read as its lines (RFC 5545, section 3.1), where identifiers and names hold no line feed.
+pub fn calendar_reads_back()
+    ensures { (tzid : List ℕ) (alias_of : Option (List ℕ)) (parts : List Part)
+        (until : Option Moment) → IsLineText tzid → IfSome alias_of IsLineText → AllByRecursion IsReadable parts
+        → unfolded (calendar tzid alias_of parts until)
+        ≡ Ok (calendar_lines tzid alias_of parts until) }
+{}

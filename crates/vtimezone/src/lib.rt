@@ -1,0 +1,18 @@
+//! Calendars of time zones: the VTIMEZONE of a zone for a range (RFC 5545, section 3.6.5).
+//!
+//! `parts` gives the parts of `specs/ZoneParts.antt`: one for each change up to the end of the last transition's year,
+//! and then the rules of the footer. Its contract is what they mean: at each moment of the range, the part in force
+//! (`specs/InForce.antt` of `recurrence`) has the offset, the flag and the name of the zone's state. `write` appends
+//! the text of `specs/CalendarText.antt`.
+#![tactic(auto)]
+
+mod calendar_text;
+mod laws;
+mod rule_parts;
+mod values;
+mod zone_parts;
+
+pub use calendar_text::write;
+pub use laws::{calendar_reads_back, one_in_force, parts_mean};
+pub use recurrence::{Part, Range};
+pub use zone_parts::parts;

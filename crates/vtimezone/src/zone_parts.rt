@@ -1,0 +1,149 @@
+//! The parts of a zone for a range.
+ghost use Rattle.std.specs.Prelude.{◌≡◌, ◌<ℤ◌, map, pos, None, All, IfOk, OnOk};
+ghost use Rattle.jiff_core.specs.Calendar.{IsBetween, IsEpochDay, days_from_civil};
+ghost use Rattle.td_civil.specs.Bounds.{HasMeaning};
+ghost use Rattle.tzif_reader.specs.Cut as cut;
+ghost use Rattle.zone_meaning.specs.Faults.{zone_fault};
+ghost use Rattle.zone_meaning.specs.Observed.{observed, IsRange};
+ghost use Rattle.zone_meaning.specs.State.{zone_state, footer_meant};
+ghost use Rattle.vtimezone.specs.CalendarText.{IsWritable};
+ghost use Rattle.vtimezone.specs.PartsOf as spec;
+ghost use Rattle.vtimezone.specs.ZoneParts as zone_spec;
+
+use crate::rule_parts::{comes_before, push_rules};
+use crate::{Part, Range};
+use jiff::civil;
+use std::alloc::Global;
+use td_base::{Items, NoMemory};
+use td_civil::{Moment, Observance, year_of};
+use zone_meaning::{Changes, Zone, footer, lists};
+
+/// The parts of a zone for a range (RFC 5545, section 3.6.5), in rising order of their first onsets: the first has its
+/// onset at the beginning of the range, and those with rules come after all others. They take the memory of the list.
+pub fn parts(alloc: Global, zone: &Zone, range: Range) -> Result<Items<Part>, NoMemory>
+    requires from { HasMeaning range.from.seconds }
+    requires until { spec.IsEndOf range.from.seconds (zone_spec.end_in range) }
+    requires carried { spec.IsCarriedIfAny (footer_meant (cut.lists_of zone.now).footer) }
+    ensures exact { IfOk result (λ parts. parts ≡ zone_spec.parts_of zone.now range) }
+    ensures means { IfOk result (zone_spec.MeansZone zone.now range) }
+    ensures writable { IfOk result (λ parts. All IsWritable parts) }
+{
+    let parts = listed(alloc, zone, range)?;
+    Ok(parts)
+}
+
+/// The parts of the changes, and after them those of the footer's rules.
+#[tactic(auto, unfolding(crate::specs::ZoneParts::parts_of, crate::specs::PartsOf::parts_from))]
+fn listed(alloc: Global, zone: &Zone, range: Range) -> Result<Items<Part>, NoMemory>
+    requires from { HasMeaning range.from.seconds }
+    requires until { spec.IsEndOf range.from.seconds (zone_spec.end_in range) }
+    requires carried { spec.IsCarriedIfAny (footer_meant (cut.lists_of zone.now).footer) }
+    ensures exact { IfOk result (λ parts. parts ≡ zone_spec.parts_of zone.now range) }
+    ensures no_fault { OnOk result (zone_fault zone.now ≡ None) }
+{
+    let year = rule_year(zone, range.from);
+    let mut parts = single_parts(alloc, zone, range.from, single_end(year, range.until))?;
+    push_rules(&mut parts, footer(zone), year, range.until)?;
+    Ok(parts)
+}
+
+/// The first year of the rules: the one after the year, in UTC, of the last transition or of the range's beginning.
+fn rule_year(zone: &Zone, from: Moment) -> i32
+    requires { HasMeaning from.seconds }
+    ensures year { result ≡ zone_spec.rule_year zone.now from.seconds }
+    ensures bound { IsBetween (pos 1801) (pos 9999) result }
+    ensures after { from.seconds <ℤ spec.begin_of result }
+{
+    year_of(last_moment(zone, from)) + 1
+}
+
+/// The last transition of a zone, or the beginning of the range where that is later.
+fn last_moment(zone: &Zone, from: Moment) -> Moment
+    requires { HasMeaning from.seconds }
+    ensures moment { result.seconds
+        ≡ zone_spec.latest from.seconds (cut.lists_of zone.now).moments }
+    ensures meaning { HasMeaning result.seconds }
+    ensures no_fault { zone_fault zone.now ≡ None }
+{
+    latest(lists(zone).moments.as_slice(), from)
+}
+
+/// The last of moments, or another moment where that is later or there is none.
+fn latest(moments: &[Moment], from: Moment) -> Moment
+    ensures { result.seconds ≡ zone_spec.latest from.seconds moments.now }
+{
+    if moments.is_empty() {
+        return from;
+    }
+    let last = moments[moments.len() - 1];
+    if from.seconds < last.seconds {
+        last
+    } else {
+        from
+    }
+}
+
+/// Where the parts without rules end: where a year begins, or at the end of the range.
+fn single_end(year: i32, until: Option<Moment>) -> Moment
+    requires { IsBetween (pos 1801) (pos 9999) year }
+    ensures { result.seconds ≡ spec.end_of (spec.begin_of year) (spec.seconds_if_any until) }
+{
+    let turn = begin_of(year);
+    match until {
+        None => turn,
+        Some(end) => { if comes_before(end, turn) { end } else { turn } }
+    }
+}
+
+/// The moment at which a year begins in UTC.
+fn begin_of(year: i32) -> Moment
+    requires { IsBetween (pos 1801) (pos 9999) year }
+    ensures { result.seconds ≡ spec.begin_of year }
+{
+    Moment {
+        seconds: first_day(year as i16) * 86_400,
+    }
+}
+
+/// The day number of 1 January.
+fn first_day(year: i16) -> i64
+    requires { IsBetween (pos 1801) (pos 9999) year }
+    ensures value { result ≡ days_from_civil year 1 1 }
+    ensures bound { IsEpochDay result }
+{
+    i64::from(civil::date(year, 1, 1).to_plain().to_unix_epoch_day())
+}
+
+/// The parts of the changes from a moment to before another.
+fn single_parts(
+    alloc: Global,
+    zone: &Zone,
+    from: Moment,
+    end: Moment,
+) -> Result<Items<Part>, NoMemory>
+    requires { IsRange from.seconds end.seconds }
+    ensures { IfOk result (λ parts. parts
+        ≡ map spec.single_of (observed (zone_state zone.now) from.seconds end.seconds)) }
+{
+    let mut rest = Changes::new(zone, from, end);
+    let mut parts = Items::new(alloc);
+    while let Some(change) = rest.next() {
+        parts.push(single_part(change))?;
+    }
+    Ok(parts)
+}
+
+/// The part of one change.
+fn single_part(change: Observance) -> Part
+    ensures { result ≡ spec.single_of change }
+{
+    Part {
+        dst: change.dst,
+        start: change.onset,
+        from: change.from,
+        to: change.to,
+        name: change.name,
+        rule: None,
+        until: None,
+    }
+}
