@@ -1,0 +1,12 @@
+pub mod Judgement
+pub mod Looking
+pub mod ZoneFiles
+pub mod Prefixes
+pub mod Contents
+pub mod Names
+pub mod Fitting
+pub mod Folders
+pub mod OneFolder
+pub mod FaultTexts
+pub mod Repeats
+pub mod ZoneNames

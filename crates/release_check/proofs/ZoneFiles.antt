@@ -1,0 +1,110 @@
+-- The first fault of a zone's file, as the parts of its reading find it.
+use Rattle.std.proofs.Common.{◌≡◌, ◌≢◌, ℕ, ◌<◌, Bool, true, false, not, List, [], ◌∷◌, length, Option, None, Some, ap, sym, ◌∙◌, refl, arith}
+use Rattle.std.specs.Option.{option_map, option_or}
+use Rattle.tzif_reader.specs.Cut.{lists_of}
+use Rattle.tzif_reader.specs.Faults.{first_fault}
+use Rattle.tzif_reader.specs.declared.tzif_fault.TzifFault.{TzifFault}
+use Rattle.tzif_reader.specs.declared.tzif_fault.TzifFault.TheVariants as tzif
+use Rattle.tzif_reader.specs.declared.zone_file.LeapLine.{LeapLine}
+use Rattle.tzif_reader.specs.declared.zone_file.ZoneFile.{ZoneFile}
+use Rattle.posix_footer.specs.declared.footer_fault.FooterFault.{FooterFault}
+use Rattle.zone_meaning.specs.declared.zone_fault.ZoneFault.TheVariants as zone
+use Rattle.zone_meaning.specs.Faults.{zone_fault, footer_text_fault}
+use Rattle.zone_meaning.specs.Names.{has_printable_names}
+use Rattle.zone_meaning.specs.Sound.{IsSoundFile}
+use Rattle.td_base.specs.FirstFault.{◌or_else◌, when}
+use Rattle.release_check.specs.Judged.{of_reader}
+use Rattle.release_check.specs.ZoneFaults.{file_fault, lines_fault}
+use Rattle.release_check.specs.declared.check_fault.CheckFault.{CheckFault}
+use Rattle.release_check.specs.declared.check_fault.CheckFault.TheVariants as fault
+
+-- the faults in their order
+abbrev in_order : ℕ → Option TzifFault → List LeapLine → Option FooterFault → Bool → Option CheckFault
+in_order n read lines footer named =
+    option_map (fault.Tzif n) read or_else lines_fault n lines
+    or_else option_map (fault.FooterText n) footer or_else when (not named) (fault.NameBeyond n)
+
+file_fault-is : (n : ℕ) (bytes : List ℕ) (read : Option TzifFault) (lines : List LeapLine) (footer : Option FooterFault) (named : Bool)
+    → first_fault bytes ≡ read → (lists_of bytes).leaps ≡ lines → footer_text_fault (lists_of bytes).footer ≡ footer → has_printable_names bytes ≡ named
+    → file_fault n bytes ≡ in_order n read lines footer named
+unfolding file_fault
+file_fault-is n bytes read lines footer named r l f b = rw (← r, ← l, ← f, ← b) refl
+
+-- the reader's fault
+pub file_fault-tzif : (n : ℕ) (bytes : List ℕ) (f : TzifFault) → first_fault bytes ≡ Some f → file_fault n bytes ≡ Some (fault.Tzif n f)
+file_fault-tzif n bytes f is = file_fault-is n bytes (Some f) _ _ _ is refl refl refl
+
+-- leap lines
+some_lines : (n : ℕ) (lines : List LeapLine) (footer : Option FooterFault) (named : Bool) → 0 < length lines
+    → in_order n None lines footer named ≡ Some (fault.LeapsInZone n)
+some_lines n [] footer named some = absurd (omega arith)
+some_lines n (l ∷ ls) footer named some = refl
+
+pub file_fault-leaps : (n : ℕ) (bytes : List ℕ) (lists : ZoneFile) → first_fault bytes ≡ None → lists ≡ lists_of bytes → 0 < length lists.leaps
+    → file_fault n bytes ≡ Some (fault.LeapsInZone n)
+file_fault-leaps n bytes lists none is some =
+    file_fault-is n bytes None lists.leaps _ _ none (ap (λ z. z.leaps) (sym is)) refl refl ∙ some_lines n lists.leaps _ _ some
+
+-- no leap lines
+no_lines : (lines : List LeapLine) → length lines ≡ 0 → lines ≡ []
+no_lines [] none = refl
+no_lines (l ∷ ls) none = absurd (omega arith)
+
+pub no_leaps : (bytes : List ℕ) (lists : ZoneFile) → lists ≡ lists_of bytes → length lists.leaps ≡ 0 → (lists_of bytes).leaps ≡ []
+no_leaps bytes lists is none = ap (λ z. z.leaps) (sym is) ∙ no_lines lists.leaps none
+
+-- the TZ string's fault is what is left of a zone's
+footer_of_zone : (o : Option FooterFault) (f : FooterFault) → option_map zone.Footer o ≡ Some (zone.Footer f) → o ≡ Some f
+footer_of_zone None f e = cc
+footer_of_zone (Some g) f e = cc
+
+no_footer_of_zone : (o : Option FooterFault) → option_map zone.Footer o ≡ None → o ≡ None
+no_footer_of_zone None e = refl
+no_footer_of_zone (Some g) e = cc
+
+zone_fault-read : (bytes : List ℕ) → first_fault bytes ≡ None → zone_fault bytes ≡ option_map zone.Footer (footer_text_fault (lists_of bytes).footer)
+unfolding zone_fault
+zone_fault-read bytes none = ap (λ o. option_or (option_map zone.Tzif o) (option_map zone.Footer (footer_text_fault (lists_of bytes).footer))) none
+
+pub file_fault-footer : (n : ℕ) (bytes : List ℕ) (f : FooterFault) → first_fault bytes ≡ None → (lists_of bytes).leaps ≡ []
+    → zone_fault bytes ≡ Some (zone.Footer f) → file_fault n bytes ≡ Some (fault.FooterText n f)
+file_fault-footer n bytes f none leaps is =
+    file_fault-is n bytes None [] (Some f) _ none leaps (footer_of_zone _ f (sym (zone_fault-read bytes none) ∙ is)) refl
+
+-- names that cannot be printed, or no fault at all
+pub file_fault-named : (n : ℕ) (bytes : List ℕ) (named : Bool) → first_fault bytes ≡ None → (lists_of bytes).leaps ≡ [] → zone_fault bytes ≡ None
+    → named ≡ has_printable_names bytes → file_fault n bytes ≡ when (not named) (fault.NameBeyond n)
+file_fault-named n bytes named none leaps is names =
+    file_fault-is n bytes None [] None named none leaps (no_footer_of_zone _ (sym (zone_fault-read bytes none) ∙ is)) (sym names)
+
+-- what the reader refuses
+pub judged_by_reader : (n : ℕ) (bytes : List ℕ) (f : TzifFault) → (f ≢ tzif.NoMemory → first_fault bytes ≡ Some f)
+    → (of_reader n f ≢ fault.ReadFault) × (of_reader n f ≢ fault.NoMemory → file_fault n bytes ≡ Some (of_reader n f))
+judged_by_reader n bytes tzif.NoMemory h = (λ e. cc, λ ne. absurd (ne refl))
+judged_by_reader n bytes f h = (λ e. cc, λ _. file_fault-tzif n bytes _ (h (λ e. cc)))
+
+-- a file without a fault is sound
+record Clear (bytes : List ℕ) : Type 0 where
+  read : first_fault bytes ≡ None
+  lines : (lists_of bytes).leaps ≡ []
+  footer : footer_text_fault (lists_of bytes).footer ≡ None
+  named : has_printable_names bytes ≡ true
+
+clear : (n : ℕ) (bytes : List ℕ) (read : Option TzifFault) (lines : List LeapLine) (footer : Option FooterFault) (named : Bool)
+    → first_fault bytes ≡ read → (lists_of bytes).leaps ≡ lines → footer_text_fault (lists_of bytes).footer ≡ footer → has_printable_names bytes ≡ named
+    → in_order n read lines footer named ≡ None → Clear bytes
+clear n bytes (Some f) lines footer named r l f' b h = absurd (cc)
+clear n bytes None (x ∷ xs) footer named r l f b h = absurd (cc)
+clear n bytes None [] (Some g) named r l f b h = absurd (cc)
+clear n bytes None [] None false r l f b h = absurd (cc)
+clear n bytes None [] None true r l f b h = record { read = r; lines = l; footer = f; named = b }
+
+pub sound_file : (n : ℕ) (bytes : List ℕ) → file_fault n bytes ≡ None → IsSoundFile bytes
+sound_file n bytes h =
+    let is = clear n bytes (first_fault bytes) (lists_of bytes).leaps (footer_text_fault (lists_of bytes).footer) (has_printable_names bytes) refl refl refl refl
+    (sym (file_fault-is n bytes _ _ _ _ refl refl refl refl) ∙ h) in
+    record {
+      no_fault = zone_fault-read bytes is.read ∙ ap (option_map zone.Footer) is.footer;
+      no_leaps = is.lines;
+      names = is.named;
+    }

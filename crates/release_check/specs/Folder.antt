@@ -1,0 +1,74 @@
+-- Which release the files under a directory give, or which fault is the first.
+use Rattle.std.specs.Prelude.{◌≡◌, ℕ, ◌+◌, List, [], ◌∷◌, Option, None, Some, Result, Ok, Err}
+use Rattle.td_base.specs.Files.{File, file_at}
+use Rattle.catalogue.specs.Order.{rising_by}
+use Rattle.catalogue.specs.Releases.{ContentData, ReleaseData}
+use Rattle.release_manifest.specs.Reading.{IsManifestText, manifest_text_fault}
+use Rattle.release_manifest.specs.declared.manifest_type.Manifest.{Manifest}
+use Rattle.release_manifest.specs.declared.manifest_type.ManifestZone.{ManifestZone}
+use Rattle.release_manifest.specs.declared.manifest_fault.ManifestFault.{ManifestFault}
+use Rattle.release_check.specs.ManifestFaults.{manifest_fault}
+use Rattle.release_check.specs.Paths.{path_in, manifest_path}
+use Rattle.release_check.specs.ZoneFaults.{file_fault}
+use Rattle.release_check.specs.declared.check_fault.CheckFault.{CheckFault}
+use Rattle.release_check.specs.declared.check_fault.CheckFault.TheVariants as fault
+
+-- a result, unless there is a fault
+abbrev pub unless : {A : Type 0} → Option CheckFault → Result A CheckFault → Result A CheckFault
+unless (Some f) r = Err f
+unless None r = r
+
+-- the second step, where the first gave a value
+infixl 10 ◌>>=◌
+abbrev pub ◌>>=◌ : {A B : Type 0}
+    → Result A CheckFault → (A → Result B CheckFault) → Result B CheckFault
+(Ok x) >>= f = f x
+(Err e) >>= f = Err e
+
+-- a zone of a manifest, with the bytes of its file
+abbrev pub content_with : ManifestZone → List ℕ → ContentData
+content_with z bytes =
+    record { tzid = z.tzid; aliases = rising_by (λ a. a) z.aliases; file = bytes }
+
+-- the zone with this number over the file at its path
+abbrev pub content_from : ℕ → List ℕ → ManifestZone → Option (List ℕ)
+    → Result ContentData CheckFault
+content_from n path z None = Err (fault.Absent path)
+content_from n path z (Some bytes) = unless (file_fault n bytes) (Ok (content_with z bytes))
+
+unfoldable pub content_in : List File → List ℕ → ℕ → ManifestZone → Result ContentData CheckFault
+content_in files dir n z =
+    content_from n (path_in dir z.file) z (file_at files (path_in dir z.file))
+
+-- the zones from this number on, each in turn
+abbrev pub contents_in : List File → List ℕ → ℕ → List ManifestZone
+    → Result (List ContentData) CheckFault
+contents_in files dir n [] = Ok []
+contents_in files dir n (z ∷ zs) =
+    content_in files dir n z >>= λ c. contents_in files dir (n + 1) zs >>= λ cs. Ok (c ∷ cs)
+
+-- the release of a manifest, its zones in rising order
+abbrev pub release_with : Manifest → List ContentData → ReleaseData
+release_with m contents = record {
+  stamp = m.stamp.seconds;
+  publisher = m.publisher;
+  version = m.version;
+  contents = rising_by (λ c. c.tzid) contents;
+  leaps = None;
+}
+
+-- the release of a manifest and the files of its directory, or the first fault
+unfoldable pub release_in : List File → List ℕ → Manifest → Result ReleaseData CheckFault
+release_in files dir m =
+    unless (manifest_fault m) (contents_in files dir 0 m.zones >>= λ cs. Ok (release_with m cs))
+
+-- what a directory gives: a fault where the manifest is absent or refused, and else what the
+-- manifest and the files that it names give
+pub data FolderGives (files : List File) (dir : List ℕ)
+    : Result ReleaseData CheckFault → Type 0 where
+  absent : file_at files (manifest_path dir) ≡ None
+      → FolderGives files dir (Err (fault.Absent (manifest_path dir)))
+  refused : (text : List ℕ) (f : ManifestFault) → file_at files (manifest_path dir) ≡ Some text
+      → manifest_text_fault text ≡ Some f → FolderGives files dir (Err (fault.Manifest f))
+  read : (text : List ℕ) (m : Manifest) → file_at files (manifest_path dir) ≡ Some text
+      → IsManifestText text m → FolderGives files dir (release_in files dir m)

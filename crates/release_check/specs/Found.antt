@@ -1,0 +1,73 @@
+-- What looking into a folder answers. Out of memory and a failed read are tied to no file.
+use Rattle.std.specs.Prelude.{◌≡◌, ◌≢◌, ⊤, ℕ, List, [], ◌∷◌, take, map, None, Some, Result, Ok, Err, IfSome, IsErrOf}
+use Rattle.std.specs.Option.{option_map}
+use Rattle.td_base.specs.Cause.{StoreFailed}
+use Rattle.td_base.specs.Files.{File, file_at}
+use Rattle.td_base.specs.Later.{LaterStore}
+use Rattle.td_base.specs.Views.{StoreView}
+use Rattle.catalogue.specs.Order.{rising_by}
+use Rattle.catalogue.specs.Releases.{ContentData, content_data, release_data}
+use Rattle.catalogue.specs.declared.release.Content.{Content}
+use Rattle.catalogue.specs.declared.release.Release.{Release}
+use Rattle.release_manifest.specs.Reading.{IsManifestText}
+use Rattle.release_manifest.specs.declared.manifest_type.Manifest.{Manifest}
+use Rattle.release_manifest.specs.declared.manifest_type.ManifestZone.{ManifestZone}
+use Rattle.zone_meaning.specs.Sound.{IsSoundFile}
+use Rattle.release_check.specs.Folder.{FolderGives, content_in, contents_in}
+use Rattle.release_check.specs.Paths.{manifest_path}
+use Rattle.release_check.specs.declared.check_fault.CheckFault.{CheckFault}
+use Rattle.release_check.specs.declared.check_fault.CheckFault.TheVariants as fault
+
+-- A store was looked into: no file changed, the count of faults never falls, the answer is tied to
+-- the files where they are told, and a failed read is answered only where the store failed.
+pub record Finds {T : Type 0} (old new : StoreView) (result : Result T CheckFault)
+    (Told : List File → Type 0) : Type 0 where
+  pub later : LaterStore old new
+  pub told : IfSome old.files Told
+  pub failed : IsErrOf result fault.ReadFault → StoreFailed old new
+
+-- a fault that the files are answerable for
+abbrev pub Blames : CheckFault → Type 0 → Type 0
+Blames e P = e ≢ fault.NoMemory → e ≢ fault.ReadFault → P
+
+-- the first bytes of a file of the path, or there is none
+abbrev pub IsFile : List ℕ → ℕ → Result (List ℕ) CheckFault → List File → Type 0
+IsFile path most (Ok bytes) files = option_map (take most) (file_at files path) ≡ Some bytes
+IsFile path most (Err e) files = Blames e ((e ≡ fault.Absent path) × (file_at files path ≡ None))
+
+-- the manifest of a directory, or why there is none
+abbrev pub IsManifestIn : List ℕ → Result Manifest CheckFault → List File → Type 0
+IsManifestIn dir (Ok m) files =
+    (text : List ℕ) × (file_at files (manifest_path dir) ≡ Some text) × IsManifestText text m
+IsManifestIn dir (Err e) files = Blames e (FolderGives files dir (Err e))
+
+-- a zone with its file, or its first fault
+abbrev pub IsZoneIn : List ℕ → ℕ → ManifestZone → Result (Content (List ℕ)) CheckFault
+    → List File → Type 0
+IsZoneIn dir n z (Ok c) files = content_in files dir n z ≡ Ok (content_data (λ bytes. bytes) c)
+IsZoneIn dir n z (Err e) files = Blames e (content_in files dir n z ≡ Err e)
+
+-- all zones with their files, or the first fault of one
+abbrev pub AreZonesIn : List ℕ → List ManifestZone → Result (List (Content (List ℕ))) CheckFault
+    → List File → Type 0
+AreZonesIn dir zs (Ok cs) files =
+    contents_in files dir 0 zs ≡ Ok (map (content_data (λ bytes. bytes)) cs)
+AreZonesIn dir zs (Err e) files = Blames e (contents_in files dir 0 zs ≡ Err e)
+
+-- the release of a directory, or its first fault
+abbrev pub IsReleaseIn : List ℕ → Result (Release (List ℕ)) CheckFault → List File → Type 0
+IsReleaseIn dir (Ok r) files = FolderGives files dir (Ok (release_data (λ bytes. bytes) r))
+IsReleaseIn dir (Err e) files = Blames e (FolderGives files dir (Err e))
+
+-- the zone of the manifest, with a sound file
+pub record IsOf (z : ManifestZone) (c : ContentData) : Type 0 where
+  pub tzid : c.tzid ≡ z.tzid
+  pub aliases : c.aliases ≡ rising_by (λ a. a) z.aliases
+  pub file : IsSoundFile c.file
+
+-- the zones of the manifest, one for one
+abbrev pub AreOf : List ManifestZone → List ContentData → Type 0
+AreOf [] [] = ⊤
+AreOf [] (c ∷ cs) = ⊥
+AreOf (z ∷ zs) [] = ⊥
+AreOf (z ∷ zs) (c ∷ cs) = IsOf z c × AreOf zs cs

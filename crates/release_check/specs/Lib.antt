@@ -1,0 +1,7 @@
+pub mod Paths
+pub mod ManifestFaults
+pub mod ZoneFaults
+pub mod Folder
+pub mod FaultText
+pub mod Judged
+pub mod Found

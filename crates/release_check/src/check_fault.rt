@@ -1,0 +1,148 @@
+ghost use Rattle.std.specs.Prelude.{◌≡◌, ◌++◌, OnOk};
+ghost use Rattle.release_check.specs.FaultText.{readable, shown_text};
+
+use posix_footer::FooterFault;
+use release_manifest::ManifestFault;
+use std::alloc::Global;
+use std::error::Error;
+use std::{fmt, str};
+use td_base::{Bytes, NoMemory};
+use tzif_reader::TzifFault;
+
+/// Which number of a release is limited.
+#[derive(Clone, Copy, Debug, PartialEq, Eq)]
+pub enum Limited {
+    /// The zones, at most 1,024.
+    Zones,
+    /// The identifiers and aliases, at most 4,096.
+    Names,
+}
+
+impl fmt::Display for Limited {
+    ghost use Rattle.std.specs.Prelude.{Some};
+    ghost use Rattle.release_check.specs.FaultText.{limited_text};
+
+    ghost output = { λ which. Some (limited_text which) };
+
+    fn fmt<W: fmt::Write>(&self, f: &mut fmt::Formatter<W>) -> fmt::Result {
+        match self {
+            Limited::Zones => write!(f, "Zones"),
+            Limited::Names => write!(f, "Names"),
+        }
+    }
+}
+
+/// Why a folder gives no release. Zones are numbered from 0 in the manifest's order. The faults stand in the order
+/// in which they are looked for, but for Absent and ReadFault, which come at the file that was to be read, and for
+/// NotBuilt, which comes before the first zone file. Faults 8 to 14 are looked for zone by zone.
+#[derive(Debug, Drop)]
+pub enum CheckFault {
+    NoMemory,
+    /// The manifest is refused.
+    Manifest(ManifestFault),
+    /// There are too many zones or names.
+    Limit(Limited, usize),
+    /// A zone's identifier or one of its aliases is no identifier.
+    Identifier(usize),
+    /// The first name, in the manifest's order with each identifier before its aliases, that stood before.
+    Duplicate(Bytes),
+    /// The store has no file of the path.
+    Absent(Bytes),
+    /// The store failed.
+    ReadFault,
+    /// A zone's file is refused.
+    Tzif(usize, TzifFault),
+    /// A zone's file has leap seconds.
+    LeapsInZone(usize),
+    /// The TZ string of a zone's file is refused.
+    FooterText(usize, FooterFault),
+    /// A name of a zone's types or of its TZ string is empty, or has a byte other than a letter, a digit, `+` or `-`.
+    NameBeyond(usize),
+    /// The manifest names a file of leap seconds, which is not served yet.
+    NotBuilt,
+}
+
+impl From<NoMemory> for CheckFault {
+    ghost use Rattle.release_check.specs.declared.check_fault.CheckFault.TheVariants as fault;
+
+    ghost from_gives = { λ _ e. e ≡ fault.NoMemory };
+
+    fn from(_: NoMemory) -> Self {
+        CheckFault::NoMemory
+    }
+}
+
+/// Its number, its name and its values. A name or a path that is not UTF-8 is left out; [`CheckFault::put`] writes
+/// its bytes as they are.
+impl fmt::Display for CheckFault {
+    ghost use Rattle.std.specs.Prelude.{Some};
+    ghost use Rattle.release_check.specs.FaultText.{shown_text};
+
+    ghost output = { λ f. Some (shown_text f) };
+
+    fn fmt<W: fmt::Write>(&self, f: &mut fmt::Formatter<W>) -> fmt::Result {
+        match self {
+            CheckFault::NoMemory => write!(f, "0 NoMemory"),
+            CheckFault::Manifest(fault) => write!(f, "1 Manifest {fault}"),
+            CheckFault::Limit(which, count) => write!(f, "2 Limit {which} {count}"),
+            CheckFault::Identifier(zone) => write!(f, "4 Identifier {zone}"),
+            CheckFault::Duplicate(name) => {
+                let name = readable(name.as_slice());
+                write!(f, "5 Duplicate {name}")
+            }
+            CheckFault::Absent(path) => {
+                let path = readable(path.as_slice());
+                write!(f, "8 Absent {path}")
+            }
+            CheckFault::ReadFault => write!(f, "9 ReadFault"),
+            CheckFault::Tzif(zone, fault) => write!(f, "10 Tzif {zone} {fault}"),
+            CheckFault::LeapsInZone(zone) => write!(f, "11 LeapsInZone {zone}"),
+            CheckFault::FooterText(zone, fault) => write!(f, "12 FooterText {zone} {fault}"),
+            CheckFault::NameBeyond(zone) => write!(f, "14 NameBeyond {zone}"),
+            CheckFault::NotBuilt => write!(f, "18 NotBuilt"),
+        }
+    }
+}
+
+impl Error for CheckFault {}
+
+impl CheckFault {
+    ghost use Rattle.release_check.specs.FaultText.{fault_text};
+
+    /// Appends the fault as it is printed: its number, its name and its values, with a space between them.
+    pub fn put(&self, alloc: Global, out: &mut Bytes) -> Result<(), NoMemory>
+        ensures { OnOk result (out.new ≡ out.old ++ fault_text self.now) }
+    {
+        match self {
+            CheckFault::Duplicate(name) => put_bytes(out, b"5 Duplicate ", name),
+            CheckFault::Absent(path) => put_bytes(out, b"8 Absent ", path),
+            fault => put_shown(alloc, out, fault),
+        }
+    }
+}
+
+/// Appends a text, and bytes as they are.
+fn put_bytes(out: &mut Bytes, before: &[u8], bytes: &Bytes) -> Result<(), NoMemory>
+    ensures { OnOk result (out.new ≡ out.old ++ (before.now ++ bytes.now)) }
+{
+    out.append(before)?;
+    out.append(bytes.as_slice())
+}
+
+/// Appends a fault that is a text whatever it holds.
+fn put_shown(alloc: Global, out: &mut Bytes, fault: &CheckFault) -> Result<(), NoMemory>
+    ensures { OnOk result (out.new ≡ out.old ++ shown_text fault.now) }
+{
+    let text = fault.to_string(alloc)?;
+    out.append(text.as_bytes())
+}
+
+/// The text that bytes are, or nothing where they are not UTF-8.
+fn readable(bytes: &[u8]) -> &str
+    ensures { result.now ≡ readable bytes.now }
+{
+    match str::from_utf8(bytes) {
+        Ok(text) => text,
+        Err(_) => "",
+    }
+}

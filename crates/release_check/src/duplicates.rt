@@ -1,0 +1,36 @@
+ghost use Rattle.std.specs.Prelude.{◌≡◌, [], ℕ, List, ◌||◌, map, not, IfOk, OnOk};
+ghost use Rattle.std.specs.List.{list_any};
+ghost use Rattle.std.specs.Str.{bytes_eq};
+ghost use Rattle.release_check.specs.Judged.{JudgesUnread};
+ghost use Rattle.release_check.specs.ManifestFaults.{duplicate_fault};
+
+use crate::check_fault::CheckFault;
+use std::alloc::Global;
+use std::collections::BTreeSet;
+use td_base::{Bytes, NoMemory};
+
+/// Looks for the first name that stood before. The names before are kept in order, so that a name is compared with few
+/// of them.
+pub fn judge_duplicates(alloc: Global, names: &[&[u8]]) -> Result<(), CheckFault>
+    ensures { JudgesUnread (duplicate_fault [] (map (λ n. n.now) names.now)) result }
+{
+    let mut before = BTreeSet::new(alloc);
+    for name in names {
+        if !put_new(&mut before, name)? {
+            return Err(CheckFault::Duplicate(Bytes::from_slice(alloc, name)?));
+        }
+    }
+    Ok(())
+}
+
+/// Puts a name among those before, and tells whether it was none of them.
+fn put_new<'a>(before: &mut BTreeSet<&'a [u8]>, name: &'a [u8]) -> Result<bool, NoMemory>
+    ensures none { IfOk result (λ new.
+        new ≡ not (list_any (bytes_eq name.now) (map (λ n. n.now) before.old.keys))) }
+    ensures put { OnOk result ((text : List ℕ)
+        → list_any (bytes_eq text) (map (λ n. n.now) before.new.keys)
+        ≡ (bytes_eq text name.now || list_any (bytes_eq text) (map (λ n. n.now) before.old.keys))) }
+{
+    let new = before.insert(name)?;
+    Ok(new)
+}

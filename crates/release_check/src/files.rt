@@ -1,0 +1,51 @@
+ghost use Rattle.std.specs.Prelude.{◌≡◌, IfOk};
+ghost use Rattle.release_check.specs.Found.{Finds, IsFile};
+ghost use Rattle.release_check.specs.Paths.{path_in};
+
+use crate::check_fault::CheckFault;
+use std::alloc::Global;
+use td_base::{Bytes, FileRead, NoMemory, Store};
+
+/// The first bytes of a file of a directory, as many as asked for or all.
+pub fn read_in<S: Store>(
+    alloc: Global,
+    dir: &[u8],
+    name: &[u8],
+    most: u64,
+    store: &mut S,
+) -> Result<Bytes, CheckFault>
+    ensures { Finds (S.seen store.old) (S.seen store.new) result
+        (IsFile (path_in dir.now name.now) most result) }
+{
+    let path = path_in(alloc, dir, name)?;
+    read_path(alloc, path, most, store)
+}
+
+/// The first bytes of the file at a path, as many as asked for or all.
+fn read_path<S: Store>(
+    alloc: Global,
+    path: Bytes,
+    most: u64,
+    store: &mut S,
+) -> Result<Bytes, CheckFault>
+    ensures { Finds (S.seen store.old) (S.seen store.new) result (IsFile path most result) }
+{
+    match store.read_file(alloc, path.as_slice(), most) {
+        FileRead::Found(bytes) => Ok(bytes),
+        FileRead::Absent => Err(CheckFault::Absent(path)),
+        FileRead::Failed => Err(CheckFault::ReadFault),
+        FileRead::NoMemory => Err(CheckFault::NoMemory),
+    }
+}
+
+/// The path of a file in a directory. An empty directory gives the name alone.
+fn path_in(alloc: Global, dir: &[u8], name: &[u8]) -> Result<Bytes, NoMemory>
+    ensures { IfOk result (λ path. path ≡ path_in dir.now name.now) }
+{
+    let mut path = Bytes::from_slice(alloc, dir)?;
+    if !dir.is_empty() {
+        path.push(b'/')?;
+    }
+    path.append(name)?;
+    Ok(path)
+}

@@ -1,0 +1,92 @@
+ghost use Rattle.std.specs.Prelude.{◌≡◌, map, IfOk};
+ghost use Rattle.catalogue.specs.Releases.{content_data};
+ghost use Rattle.zone_meaning.specs.Sound.{IsSoundFile};
+ghost use Rattle.release_check.specs.Found.{Finds, IsZoneIn, AreZonesIn, IsOf, AreOf};
+ghost use Rattle.release_check.specs.Judged.{JudgesUnread, of_reader};
+ghost use Rattle.release_check.specs.ZoneFaults.{file_fault};
+
+use crate::check_fault::CheckFault;
+use crate::files::read_in;
+use crate::text_copies::copy_texts;
+use crate::zone_names::has_printable_names;
+use catalogue::Content;
+use release_manifest::ManifestZone;
+use std::alloc::Global;
+use td_base::{Bytes, Items, Store};
+use tzif_reader::TzifFault;
+use zone_meaning::{Zone, zone_from_lists};
+
+/// One byte more than a zone file may have, so that a longer one is seen to be longer.
+const ZONE_ROOM: u64 = 65_537;
+
+/// The zones of a manifest with their files, in its order, or the first fault.
+pub fn read_zones<S: Store>(
+    alloc: Global,
+    dir: &[u8],
+    zones: &[ManifestZone],
+    store: &mut S,
+) -> Result<Items<Content<Zone>>, CheckFault>
+    ensures found { Finds (S.seen store.old) (S.seen store.new) result
+        (AreZonesIn dir.now zones.now result) }
+    ensures of { IfOk result (λ cs. AreOf zones.now (map (content_data (λ bytes. bytes)) cs)) }
+{
+    let mut contents = Items::new(alloc);
+    for (number, zone) in zones.iter().enumerate() {
+        let content = read_zone(alloc, dir, number, zone, store)?;
+        contents.push(content)?;
+    }
+    Ok(contents)
+}
+
+/// The zone with this number in the manifest, with its file.
+fn read_zone<S: Store>(
+    alloc: Global,
+    dir: &[u8],
+    number: usize,
+    zone: &ManifestZone,
+    store: &mut S,
+) -> Result<Content<Zone>, CheckFault>
+    ensures found { Finds (S.seen store.old) (S.seen store.new) result
+        (IsZoneIn dir.now number zone.now result) }
+    ensures of { IfOk result (λ c. IsOf zone.now (content_data (λ bytes. bytes) c)) }
+{
+    let file = read_in(alloc, dir, zone.file.as_slice(), ZONE_ROOM, store)?;
+    let meant = zone_in(alloc, number, file)?;
+    Ok(Content {
+        tzid: Bytes::from_slice(alloc, zone.tzid.as_slice())?,
+        aliases: copy_texts(alloc, zone.aliases.as_slice())?,
+        zone: meant,
+    })
+}
+
+/// The zone of a file, which is to have no leap seconds and names that can be printed.
+fn zone_in(alloc: Global, number: usize, file: Bytes) -> Result<Zone, CheckFault>
+    ensures zone { IfOk result (λ zone. (zone ≡ file) × IsSoundFile file) }
+    ensures judged { JudgesUnread (file_fault number file) result }
+{
+    let lists = match tzif_reader::read(alloc, file.as_slice()) {
+        Ok(lists) => lists,
+        Err(fault) => return Err(of_reader(number, fault)),
+    };
+    if lists.leaps.len() > 0 {
+        return Err(CheckFault::LeapsInZone(number));
+    }
+    let zone = match zone_from_lists(file, lists) {
+        Ok(zone) => zone,
+        Err(fault) => return Err(CheckFault::FooterText(number, fault)),
+    };
+    if !has_printable_names(&zone) {
+        return Err(CheckFault::NameBeyond(number));
+    }
+    Ok(zone)
+}
+
+/// The reader's fault as that of a folder.
+fn of_reader(number: usize, fault: TzifFault) -> CheckFault
+    ensures { result ≡ of_reader number fault }
+{
+    match fault {
+        TzifFault::NoMemory => CheckFault::NoMemory,
+        fault => CheckFault::Tzif(number, fault),
+    }
+}
