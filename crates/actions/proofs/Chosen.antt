@@ -1,0 +1,62 @@
+-- The zones that a list shows, entry after entry.
+use Rattle.std.proofs.Common.{◌≡◌, ℕ, zero, suc, ◌+◌, List, [], ◌∷◌, ◌++◌, length, take, map, cond, Bool, true, false, Some, ap, sym, ◌∙◌, refl, add-one, arith}
+use Rattle.std.specs.Prelude.{filter}
+use Rattle.std.specs.List.{slice_get}
+use Rattle.std.proofs.lemmas.Int.{ints}
+use Rattle.std.specs.Prelude.{ℤ, ◌<ℤ◌}
+use Rattle.td_civil.specs.Bounds.{HasMeaning, IsWithinBounds}
+use Rattle.td_civil.specs.declared.moment_type.TheConstants.{HI}
+use Rattle.catalogue.specs.Histories.{EntryData}
+use Rattle.catalogue.specs.Plain.{IsPlainEntry}
+use Rattle.json_forms.specs.PlainTexts.{IsPlainZone}
+use Rattle.json_forms.specs.declared.zone_list.ListZone.{ListZone}
+use Rattle.actions.specs.Listing.{listed, listed_if}
+
+within_bounds : (m : ℤ) → HasMeaning m → IsWithinBounds m
+within_bounds m h = let below : m <ℤ HI = h.1 in (h.0, omega (arith, ints))
+
+-- the texts of an entry are those of its zone in a list
+pub listed_is_plain : (e : EntryData) → IsPlainEntry e → IsPlainZone (listed e)
+listed_is_plain e plain = record {
+  tzid = plain.tzid;
+  etag = plain.tag;
+  stamp = within_bounds e.stamp plain.stamp;
+  publisher = plain.publisher;
+  version = plain.version;
+  aliases = plain.aliases;
+}
+
+-- what one entry adds, where it is shown
+pub one_shown : (shows : EntryData → Bool) (e : EntryData) (z : ListZone) → shows e ≡ true → z ≡ listed e → listed_if shows e ≡ z ∷ []
+one_shown shows e z is same = rw (is, same) refl
+
+pub none_shown : (shows : EntryData → Bool) (e : EntryData) → shows e ≡ false → listed_if shows e ≡ []
+none_shown shows e is = rw is refl
+
+-- the zones of the entries that are shown
+abbrev pub chosen : (EntryData → Bool) → List EntryData → List ListZone
+chosen shows es = map listed (filter shows es)
+
+single : (b : Bool) (e : EntryData) → map listed (cond b (e ∷ []) []) ≡ cond b (listed e ∷ []) []
+single true e = refl
+single false e = refl
+
+longer : (b : Bool) (e : EntryData) (a c : List EntryData) (more : List ListZone) → map listed a ≡ map listed c ++ more
+    → map listed (cond b (e ∷ a) a) ≡ map listed (cond b (e ∷ c) c) ++ more
+longer true e a c more h = ap (λ zs. listed e ∷ zs) h
+longer false e a c more h = h
+
+chosen_more : (shows : EntryData → Bool) (es : List EntryData) (place : ℕ) (e : EntryData) → slice_get es place ≡ Some e
+    → chosen shows (take (suc place) es) ≡ chosen shows (take place es) ++ listed_if shows e
+chosen_more shows [] place e at = absurd cc
+chosen_more shows (x ∷ es) zero e at =
+    let same : x ≡ e = cc in
+    single (shows x) x ∙ ap (listed_if shows) same
+chosen_more shows (x ∷ es) (suc place) e at =
+    longer (shows x) x (filter shows (take (suc place) es)) (filter shows (take place es)) (listed_if shows e)
+    (chosen_more shows es place e at)
+
+-- one more entry of a list
+pub next_chosen : (shows : EntryData → Bool) (es : List EntryData) (place : ℕ) (e : EntryData) → slice_get es place ≡ Some e
+    → chosen shows (take place es) ++ listed_if shows e ≡ chosen shows (take (place + 1) es)
+next_chosen shows es place e at = rw (add-one place) (sym (chosen_more shows es place e at))

@@ -1,0 +1,35 @@
+-- The action `list` (RFC 7808, section 5.2).
+use Rattle.std.specs.Prelude.{ℕ, List, [], ◌∷◌, length, map, filter, Bool, true, if◌then◌else◌}
+use Rattle.catalogue.specs.Histories.{EntryData, meta, token_of}
+use Rattle.catalogue.specs.Releases.{ReleaseData}
+use Rattle.http_answer.specs.declared.answer.Answer.{Answer}
+use Rattle.json_forms.specs.ListDocument.{list_document}
+use Rattle.json_forms.specs.declared.zone_list.ListZone.{ListZone}
+use Rattle.target.specs.declared.asked_types.Param.{Param}
+use Rattle.target.specs.declared.asked_types.Param.TheVariants as param
+use Rattle.actions.specs.Documents.{with_document, unknown_action}
+
+-- a zone of a release, as a list shows it
+abbrev pub listed : EntryData → ListZone
+listed e = record {
+  tzid = e.content.tzid;
+  etag = e.tag;
+  stamp = record { seconds = e.stamp };
+  publisher = e.publisher;
+  version = e.version;
+  aliases = e.content.aliases;
+}
+
+-- the zones of the last release that pass the test, with the token of the last place
+unfoldable pub list_of : List ReleaseData → (EntryData → Bool) → List ℕ
+list_of H shows = list_document (token_of H (length H)) (map listed (filter shows (meta H)))
+
+-- all zones; a list of changes is not offered yet
+unfoldable pub list_answer : List ReleaseData → Param → Answer
+list_answer H param.Absent = with_document (list_of H (λ _. true))
+list_answer H (param.Once token) = unknown_action
+list_answer H param.Repeated = unknown_action
+
+-- what one entry adds to a list
+abbrev pub listed_if : (EntryData → Bool) → EntryData → List ListZone
+listed_if shows e = if shows e then listed e ∷ [] else []

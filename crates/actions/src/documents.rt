@@ -1,0 +1,42 @@
+ghost use Rattle.std.specs.Prelude.{◌≡◌, IfOk};
+ghost use Rattle.actions.specs.Documents.{with_document, with_problem, unknown_action};
+
+use http_answer::{Answer, Kind};
+use json_forms::{Problem, problem_text};
+use std::alloc::Global;
+use td_base::{Bytes, NoMemory};
+
+/// An answer with a JSON document.
+pub fn document(body: Bytes) -> Answer
+    ensures { result ≡ with_document body }
+{
+    Answer {
+        status: 200,
+        kind: Some(Kind::Json),
+        tag: None,
+        moved: false,
+        body,
+    }
+}
+
+/// A refusal, told by a problem document (RFC 7807).
+pub fn refusal(alloc: Global, problem: Problem) -> Result<Answer, NoMemory>
+    ensures { IfOk result (λ answer. answer ≡ with_problem problem) }
+{
+    let mut body = Bytes::new(alloc);
+    problem_text(alloc, &mut body, problem)?;
+    Ok(Answer {
+        status: problem.status(),
+        kind: Some(Kind::Problem),
+        tag: None,
+        moved: false,
+        body,
+    })
+}
+
+/// The refusal of a target that names no action.
+pub fn unknown_action(alloc: Global) -> Result<Answer, NoMemory>
+    ensures { IfOk result (λ answer. answer ≡ unknown_action) }
+{
+    refusal(alloc, Problem::InvalidAction)
+}

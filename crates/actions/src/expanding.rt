@@ -1,0 +1,92 @@
+ghost use Rattle.std.specs.Prelude.{◌≡◌, ◌++◌, ◌<ℤ◌, ◌≤ℤ◌, List, IfOk, OnOk};
+ghost use Rattle.td_base.specs.Names.{IsPlain};
+ghost use Rattle.td_civil.specs.Bounds.{HasMeaning};
+ghost use Rattle.http_answer.specs.Replies.{IsAnswerStatus};
+ghost use Rattle.json_forms.specs.ExpansionDocument.{expansion_document};
+ghost use Rattle.zone_meaning.specs.Observed.{IsRange, observed};
+ghost use Rattle.zone_meaning.specs.Sound.{IsSoundFile};
+ghost use Rattle.zone_meaning.specs.State.{zone_state};
+ghost use Rattle.zone_meaning.specs.ZoneHistories.{ForEachZoneHistory, HasZoneHistory};
+ghost use Rattle.actions.specs.Bounds as bounds;
+ghost use Rattle.actions.specs.Expanding.{expand_answer, expanded_from, expanded_to};
+
+use crate::bounds::{end_of, start_of};
+use crate::documents::{document, refusal};
+use catalogue::Catalogue;
+use http_answer::Answer;
+use json_forms::{ExpansionWriter, Problem};
+use std::alloc::Global;
+use target::Param;
+use td_base::{Bytes, NoMemory};
+use td_civil::Moment;
+use zone_meaning::{Changes, Zone};
+
+/// Answers the action `expand` (RFC 7808, section 5.4).
+pub fn expand(
+    alloc: Global,
+    catalogue: &Catalogue<Zone>,
+    name: &Bytes,
+    start: &Param,
+    end: &Param,
+) -> Result<Answer, NoMemory>
+    requires { HasZoneHistory catalogue.now }
+    ensures answer { ForEachZoneHistory catalogue.now (λ H.
+        IfOk result (λ answer. answer ≡ expand_answer H name.now start.now end.now)) }
+    ensures status { IfOk result (λ answer. IsAnswerStatus answer.status) }
+{
+    match catalogue.find_name(name.as_slice()) {
+        Some(place) => expand_zone(
+            alloc,
+            name,
+            &catalogue.entry(place).content.zone,
+            start,
+            end,
+        ),
+        None => refusal(alloc, Problem::TzidNotFound),
+    }
+}
+
+/// Answers for a zone that was found.
+fn expand_zone(
+    alloc: Global,
+    name: &Bytes,
+    zone: &Zone,
+    start: &Param,
+    end: &Param,
+) -> Result<Answer, NoMemory>
+    requires name { IsPlain name.now }
+    requires sound { IsSoundFile zone.now }
+    ensures answer { IfOk result (λ answer. answer
+        ≡ expanded_from name.now zone.now (bounds.start_of start.now) end.now) }
+    ensures status { IfOk result (λ answer. IsAnswerStatus answer.status) }
+{
+    let Some(from) = start_of(start) else {
+        return refusal(alloc, Problem::InvalidStart);
+    };
+    let Some(until) = end_of(from, end) else {
+        return refusal(alloc, Problem::InvalidEnd);
+    };
+    Ok(document(expansion(alloc, name, zone, from, until)?))
+}
+
+/// The document of a zone's observances from one moment to another.
+fn expansion(
+    alloc: Global,
+    name: &Bytes,
+    zone: &Zone,
+    from: Moment,
+    until: Moment,
+) -> Result<Bytes, NoMemory>
+    requires name { IsPlain name.now }
+    requires sound { IsSoundFile zone.now }
+    requires range { IsRange from.seconds until.seconds }
+    ensures { IfOk result (λ text. text ≡ expansion_document name.now from.seconds until.seconds
+        (observed (zone_state zone.now) from.seconds until.seconds)) }
+{
+    let mut changes = Changes::new(zone, from, until);
+    let mut text = ExpansionWriter::begin(Bytes::new(alloc), until)?;
+    'changes: while let Some(change) = changes.next() {
+        text.observance(&change)?;
+    }
+    text.end(name.as_slice(), from)
+}

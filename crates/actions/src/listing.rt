@@ -1,0 +1,106 @@
+ghost use Rattle.std.specs.Prelude.{◌≡◌, ◌++◌, List, ℕ, IfOk, OnOk, true};
+ghost use Rattle.catalogue.specs.HeldZones.{entry_data};
+ghost use Rattle.catalogue.specs.Plain.{IsPlainEntry};
+ghost use Rattle.json_forms.specs.Begun.{IsListBegun};
+ghost use Rattle.json_forms.specs.ToldZone.{told};
+ghost use Rattle.json_forms.specs.declared.zone_list.ListZone.{ListZone};
+ghost use Rattle.zone_meaning.specs.ZoneHistories.{ForEachZoneHistory, HasZoneHistory};
+ghost use Rattle.http_answer.specs.Replies.{IsAnswerStatus};
+ghost use Rattle.actions.specs.Documents.{with_document};
+ghost use Rattle.actions.specs.Listing.{list_answer, list_of, listed, listed_if};
+
+use crate::choice::Choice;
+use crate::documents::{document, unknown_action};
+use catalogue::{Catalogue, Entry};
+use http_answer::Answer;
+use json_forms::{ListWriter, ZoneTexts};
+use std::alloc::Global;
+use target::Param;
+use td_base::{Bytes, NoMemory};
+use zone_meaning::Zone;
+
+/// Answers the action `list` (RFC 7808, section 5.2).
+#[tactic(auto, unfolding(crate::specs::Listing::list_answer))]
+pub fn list(alloc: Global, catalogue: &Catalogue<Zone>, since: &Param) -> Result<Answer, NoMemory>
+    requires { HasZoneHistory catalogue.now }
+    ensures answer { ForEachZoneHistory catalogue.now (λ H.
+        IfOk result (λ answer. answer ≡ list_answer H since.now)) }
+    ensures status { IfOk result (λ answer. IsAnswerStatus answer.status) }
+{
+    match since {
+        Param::Absent => full_list(alloc, catalogue),
+        Param::Once(_) => unknown_action(alloc),
+        Param::Repeated => unknown_action(alloc),
+    }
+}
+
+/// Every zone of the release.
+struct Everything;
+
+impl Choice for Everything {
+    ghost use Rattle.std.specs.Prelude.{true};
+
+    ghost shows = { λ _ _. true };
+
+    fn takes(&self, _entry: &Entry<Zone>) -> bool {
+        true
+    }
+}
+
+/// The list of all zones.
+fn full_list(alloc: Global, catalogue: &Catalogue<Zone>) -> Result<Answer, NoMemory>
+    requires { HasZoneHistory catalogue.now }
+    ensures { ForEachZoneHistory catalogue.now (λ H.
+        IfOk result (λ answer. answer ≡ with_document (list_of H (λ _. true)))) }
+{
+    Ok(document(listing(alloc, catalogue, &Everything)?))
+}
+
+/// The list of the zones that a choice takes, with the token of the last place.
+pub fn listing<C: Choice>(
+    alloc: Global,
+    catalogue: &Catalogue<Zone>,
+    choice: &C,
+) -> Result<Bytes, NoMemory>
+    requires { HasZoneHistory catalogue.now }
+    ensures { ForEachZoneHistory catalogue.now (λ H.
+        IfOk result (λ text. text ≡ list_of H (C.shows choice.now))) }
+{
+    let token = catalogue.token(catalogue.count());
+    let mut list = ListWriter::begin(Bytes::new(alloc), token.as_slice())?;
+    for place in 0..catalogue.len() {
+        put_chosen(&mut list, catalogue.entry(place), choice)?;
+    }
+    list.end()
+}
+
+/// Writes a zone, where the choice takes it.
+fn put_chosen<C: Choice>(
+    list: &mut ListWriter,
+    entry: &Entry<Zone>,
+    choice: &C,
+) -> Result<(), NoMemory>
+    requires { IsPlainEntry (entry_data (λ z. z) entry.now) }
+    ensures { (before token : List ℕ) (zones : List ListZone) → IsListBegun before token zones list.old
+        → OnOk result (IsListBegun before token
+        (zones ++ listed_if (C.shows choice.now) (entry_data (λ z. z) entry.now)) list.new) }
+{
+    if choice.takes(entry) {
+        list.zone(&texts_of(entry))?;
+    }
+    Ok(())
+}
+
+/// What a list tells of a zone.
+fn texts_of(entry: &Entry<Zone>) -> ZoneTexts<'_>
+    ensures { told result ≡ listed (entry_data (λ z. z) entry.now) }
+{
+    ZoneTexts {
+        tzid: entry.content.tzid.as_slice(),
+        etag: entry.tag.as_slice(),
+        stamp: entry.stamp,
+        publisher: entry.publisher.as_slice(),
+        version: entry.version.as_slice(),
+        aliases: entry.content.aliases.as_slice(),
+    }
+}
