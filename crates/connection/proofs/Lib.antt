@@ -1,0 +1,5 @@
+pub mod ClosingLemmas
+pub mod Exchanging
+pub mod HearLemmas
+pub mod ServedLemmas
+pub mod ServingLemmas

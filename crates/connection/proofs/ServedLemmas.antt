@@ -1,0 +1,293 @@
+-- A connection that was served so far, and how each of its ends follows. `answer` is any way to answer a request at a
+-- place of a history of `count` releases.
+use Rattle.std.proofs.Common.{◌≡◌, ◌≢◌, lit<, lit≤, ℕ, ◌+◌, ◌<◌, ◌≤◌, List, [], ◌∷◌, ◌++◌, length, length-append, take, Bool, true, false, ◌||◌, ◌==◌, Option, inl, inr, refl, sym, ap, ◌∙◌, arith, append_assoc, append-nil}
+use Rattle.std.specs.List.{AllByRecursion, list_any}
+use Rattle.std.specs.Io.KnownBytes.{IsAtEnd}
+use Rattle.std.proofs.lemmas.Bool.{true≢false, eq-eqb}
+use Rattle.std.proofs.lemmas.List.Folds.{list_any-append}
+use Rattle.http_answer.specs.Replies.{fixed}
+use Rattle.http_answer.specs.declared.answer.Answer.{Answer}
+use Rattle.http_request.specs.Asks.{Asks, Bad, Gives, Rest}
+use Rattle.http_request.specs.Ends.{end_among, lines_from}
+use Rattle.http_request.specs.Steps.{IsStep, NotYet, Waiting}
+use Rattle.http_request.specs.declared.head.Head.{Head}
+use Rattle.td_base.specs.declared.report.End.TheVariants as end
+use Rattle.connection.specs.Replies.{IsOpen, is_last, replies, replies_after, reply_at}
+use Rattle.connection.specs.Served.{ArePlaces, ByInput, ByRefusal, ByRequest, IsNeeded, NeverFall, Served}
+
+-- each request so far was replied to, at the last place
+pub record HasReplied (answer : ℕ → Head → Answer) (count : ℕ) (given : List Head) (places written : List ℕ) : Type 0 where
+  pub each : AllByRecursion (λ p. (p ≡ count) × (1 ≤ p)) places
+  pub placed : length places ≡ length given
+  pub told : written ≡ replies answer given places
+
+-- ---- places
+
+all_more : (P : ℕ → Type 0) (ps : List ℕ) (p : ℕ) → AllByRecursion P ps → P p → AllByRecursion P (ps ++ p ∷ [])
+all_more P [] p a x = (x, tt)
+all_more P (q ∷ qs) p a x = (a.0, all_more P qs p a.1 x)
+
+each_within : (count : ℕ) (ps : List ℕ) → AllByRecursion (λ p. (p ≡ count) × (1 ≤ p)) ps → AllByRecursion (λ p. (1 ≤ p) × (p ≤ count)) ps
+each_within count [] a = tt
+each_within count (p ∷ ps) a = ((a.0.1, omega (arith, a.0.0)), each_within count ps a.1)
+
+pub each_last : (count : ℕ) (ps : List ℕ) → AllByRecursion (λ p. (p ≡ count) × (1 ≤ p)) ps → AllByRecursion (λ p. p ≡ count) ps
+each_last count [] a = tt
+each_last count (p ∷ ps) a = (a.0.0, each_last count ps a.1)
+
+each_above : (count p : ℕ) (ps : List ℕ) → p ≡ count → AllByRecursion (λ q. (q ≡ count) × (1 ≤ q)) ps → AllByRecursion (λ q. p ≤ q) ps
+each_above count p [] e a = tt
+each_above count p (q ∷ qs) e a = (omega (arith, e, a.0.0), each_above count p qs e a.1)
+
+each_rising : (count : ℕ) (ps : List ℕ) → AllByRecursion (λ p. (p ≡ count) × (1 ≤ p)) ps → NeverFall ps
+each_rising count [] a = tt
+each_rising count (p ∷ ps) a = (each_above count p ps a.0.0 a.1, each_rising count ps a.1)
+
+are_places : (count : ℕ) (ps : List ℕ) → AllByRecursion (λ p. (p ≡ count) × (1 ≤ p)) ps → ArePlaces count ps
+are_places count ps a = record { within = each_within count ps a; rising = each_rising count ps a }
+
+-- ---- one more reply
+
+replies_more : (answer : ℕ → Head → Answer) (before : ℕ) (heads : List Head) (head : Head) (places : List ℕ) (place : ℕ)
+    → length places ≡ length heads
+    → replies_after answer before (heads ++ head ∷ []) (places ++ place ∷ [])
+    ≡ replies_after answer before heads places ++ reply_at answer (before + length heads) head place
+unfolding replies_after
+replies_more answer before [] head [] place e =
+    append-nil (reply_at answer before head place) ∙ ap (λ n. reply_at answer n head place) (omega arith)
+replies_more answer before [] head (q ∷ qs) place e = absurd (omega (arith, e))
+replies_more answer before (h ∷ hs) head [] place e = absurd (omega (arith, e))
+replies_more answer before (h ∷ hs) head (q ∷ qs) place e =
+    ap (λ l. reply_at answer before h q ++ l) (replies_more answer (before + 1) hs head qs place (omega (arith, e)))
+    ∙ (ap (λ n. reply_at answer before h q ++ (replies_after answer (before + 1) hs qs ++ reply_at answer n head place)) (omega arith)
+    ∙ sym (append_assoc (reply_at answer before h q) (replies_after answer (before + 1) hs qs) (reply_at answer (before + length (h ∷ hs)) head place)))
+
+replies_next : (answer : ℕ → Head → Answer) (heads : List Head) (head : Head) (places : List ℕ) (place : ℕ) → length places ≡ length heads
+    → replies answer (heads ++ head ∷ []) (places ++ place ∷ []) ≡ replies answer heads places ++ reply_at answer (length heads) head place
+replies_next answer heads head places place e =
+    replies_more answer 0 heads head places place e
+    ∙ ap (λ n. replies answer heads places ++ reply_at answer n head place) (omega arith)
+
+one_longer : {A : Type 0} (xs : List A) (x : A) → length (xs ++ x ∷ []) ≡ length xs + 1
+one_longer xs x = length-append xs (x ∷ [])
+
+pub both_longer : (places : List ℕ) (place : ℕ) (heads : List Head) (head : Head) → length places ≡ length heads
+    → length (places ++ place ∷ []) ≡ length (heads ++ head ∷ [])
+both_longer places place heads head e = omega (arith, e, one_longer places place, one_longer heads head)
+
+pub replied_more : (answer : ℕ → Head → Answer) (count : ℕ) (given : List Head) (places written : List ℕ) (head : Head) (place : ℕ) (reply : List ℕ)
+    → HasReplied answer count given places written → place ≡ count → 1 ≤ place → reply ≡ reply_at answer (length given) head place
+    → HasReplied answer count (given ++ head ∷ []) (places ++ place ∷ []) (written ++ reply)
+replied_more answer count given places written head place reply h e some r = record {
+  each = all_more (λ p. (p ≡ count) × (1 ≤ p)) places place h.each (e, some);
+  placed = both_longer places place given head h.placed;
+  told = ap (λ w. w ++ reply) h.told
+      ∙ (ap (λ l. replies answer given places ++ l) r ∙ sym (replies_next answer given head places place h.placed));
+}
+
+-- ---- whether the connection is open
+
+any_more : (heads : List Head) (head : Head) → list_any (λ h. h.close) heads ≡ false → head.close ≡ false
+    → list_any (λ h. h.close) (heads ++ head ∷ []) ≡ false
+any_more heads head a e = list_any-append (λ h. h.close) heads (head ∷ []) ∙ rw (a, e) refl
+
+pub both_false : (a b : Bool) → (a || b) ≡ false → (a ≡ false) × (b ≡ false)
+both_false true b e = absurd (true≢false e)
+both_false false b e = (refl, e)
+
+not_equal : (n m : ℕ) → (n == m) ≡ false → n ≢ m
+not_equal n m e = λ f. true≢false (sym (eq-eqb n m f) ∙ e)
+
+few_more : (n : ℕ) → n < 1000 → n + 1 ≢ 1000 → n + 1 < 1000
+few_more n a b = omega (arith, a, b)
+
+pub open_more : (heads : List Head) (head : Head) → IsOpen heads → is_last (length heads) head ≡ false → IsOpen (heads ++ head ∷ [])
+open_more heads head o e =
+    let parts : (head.close ≡ false) × ((length heads + 1 == 1000) ≡ false) = both_false head.close (length heads + 1 == 1000) e in
+    record {
+      kept = any_more heads head o.kept parts.0;
+      few = rw (one_longer heads head) (few_more (length heads) o.few (not_equal (length heads + 1) 1000 parts.1));
+    }
+
+pub open_none : IsOpen []
+open_none = record { kept = refl; few = lit< tt }
+
+pub replied_none : (answer : ℕ → Head → Answer) (count : ℕ) → HasReplied answer count [] [] []
+unfolding replies_after
+replied_none answer count = record { each = tt; placed = refl; told = refl }
+
+-- ---- the ends
+
+pub closed_by_request : (answer : ℕ → Head → Answer) (count : ℕ) (read : List ℕ) (left : Option (List ℕ)) (written places : List ℕ)
+    (before : List Head) (last : Head) (held : List ℕ) (rf wf : Type 0)
+    → IsNeeded read → HasReplied answer count (before ++ last ∷ []) places written → Gives read (before ++ last ∷ []) held → IsOpen before
+    → is_last (length before) last ≡ true
+    → Served answer count (record { read = read; left = left; written = written; places = places }) rf wf end.Closed
+closed_by_request answer count read left written places before last held rf wf need h g o l = record {
+  needed = need;
+  places = are_places count places h.each;
+  ends = record {
+    heads = before ++ last ∷ [];
+    finish = ByRequest;
+    finishes = record {
+      before = before;
+      last = last;
+      held = held;
+      heads_are = refl;
+      gives = g;
+      open_before = o;
+      closes = l;
+    };
+    placed = h.placed;
+    written = h.told ∙ sym (append-nil (replies answer (before ++ last ∷ []) places));
+  };
+}
+
+pub closed_by_refusal : (answer : ℕ → Head → Answer) (count : ℕ) (read : List ℕ) (left : Option (List ℕ)) (written places : List ℕ)
+    (heads : List Head) (status : ℕ) (rf wf : Type 0)
+    → IsNeeded read → HasReplied answer count heads places written → Asks read heads (Bad status) → IsOpen heads
+    → Served answer count (record { read = read; left = left; written = written ++ fixed status; places = places }) rf wf end.Closed
+closed_by_refusal answer count read left written places heads status rf wf need h a o = record {
+  needed = need;
+  places = are_places count places h.each;
+  ends = record {
+    heads = heads;
+    finish = ByRefusal status;
+    finishes = (a, o);
+    placed = h.placed;
+    written = ap (λ w. w ++ fixed status) h.told;
+  };
+}
+
+pub closed_by_input : (answer : ℕ → Head → Answer) (count : ℕ) (read : List ℕ) (left : Option (List ℕ)) (written places : List ℕ)
+    (heads : List Head) (held : List ℕ) (rf wf : Type 0)
+    → IsNeeded read → HasReplied answer count heads places written → Asks read heads (Rest held) → IsOpen heads → IsAtEnd left
+    → Served answer count (record { read = read; left = left; written = written; places = places }) rf wf end.Closed
+closed_by_input answer count read left written places heads held rf wf need h a o e = record {
+  needed = need;
+  places = are_places count places h.each;
+  ends = record {
+    heads = heads;
+    finish = ByInput;
+    finishes = (held, a, o, e);
+    placed = h.placed;
+    written = h.told ∙ sym (append-nil (replies answer heads places));
+  };
+}
+
+pub read_failed : (answer : ℕ → Head → Answer) (count : ℕ) (read : List ℕ) (left : Option (List ℕ)) (written places : List ℕ)
+    (heads : List Head) (held : List ℕ) (rf wf : Type 0)
+    → IsNeeded read → HasReplied answer count heads places written → Asks read heads (Rest held) → IsOpen heads → rf
+    → Served answer count (record { read = read; left = left; written = written; places = places }) rf wf end.ReadFault
+read_failed answer count read left written places heads held rf wf need h a o f = record {
+  needed = need;
+  places = are_places count places h.each;
+  ends = record { heads = heads; held = held; asks = a; open_after = o; placed = h.placed; written = h.told; cause = f };
+}
+
+pub reply_cut : (answer : ℕ → Head → Answer) (count : ℕ) (read : List ℕ) (left : Option (List ℕ)) (written places : List ℕ)
+    (before : List Head) (last : Head) (held : List ℕ) (place : ℕ) (reply : List ℕ) (sent : ℕ) (rf wf : Type 0)
+    → IsNeeded read → HasReplied answer count before places written → Gives read (before ++ last ∷ []) held → IsOpen before
+    → place ≡ count → 1 ≤ place → reply ≡ reply_at answer (length before) last place → wf
+    → Served answer count (record { read = read; left = left; written = written ++ take sent reply; places = places ++ place ∷ [] }) rf wf end.WriteFault
+reply_cut answer count read left written places before last held place reply sent rf wf need h g o e some r f = record {
+  needed = need;
+  places = are_places count (places ++ place ∷ []) (all_more (λ p. (p ≡ count) × (1 ≤ p)) places place h.each (e, some));
+  ends = record {
+    cut = inl (record {
+      before = before;
+      last = last;
+      held = held;
+      gives = g;
+      open_before = o;
+      places = places;
+      place = place;
+      placed = (h.placed, refl);
+      sent = sent;
+      written = ap (λ w. w ++ take sent reply) h.told ∙ ap (λ l. replies answer before places ++ take sent l) r;
+    });
+    cause = f;
+  };
+}
+
+pub refusal_cut : (answer : ℕ → Head → Answer) (count : ℕ) (read : List ℕ) (left : Option (List ℕ)) (written places : List ℕ)
+    (heads : List Head) (status sent : ℕ) (rf wf : Type 0)
+    → IsNeeded read → HasReplied answer count heads places written → Asks read heads (Bad status) → IsOpen heads → wf
+    → Served answer count (record { read = read; left = left; written = written ++ take sent (fixed status); places = places }) rf wf end.WriteFault
+refusal_cut answer count read left written places heads status sent rf wf need h a o f = record {
+  needed = need;
+  places = are_places count places h.each;
+  ends = record {
+    cut = inr (record {
+      heads = heads;
+      status = status;
+      asks = a;
+      open_after = o;
+      placed = h.placed;
+      sent = sent;
+      written = ap (λ w. w ++ take sent (fixed status)) h.told;
+    });
+    cause = f;
+  };
+}
+
+pub gave_up : (answer : ℕ → Head → Answer) (count : ℕ) (read : List ℕ) (left : Option (List ℕ)) (written places : List ℕ)
+    (heads : List Head) (held : List ℕ) (sent : ℕ) (rf wf : Type 0)
+    → IsNeeded read → HasReplied answer count heads places written → Gives read heads held → IsOpen heads → (sent < length (fixed 503) → wf)
+    → Served answer count (record { read = read; left = left; written = written ++ take sent (fixed 503); places = places }) rf wf end.NoMemory
+gave_up answer count read left written places heads held sent rf wf need h g o f = record {
+  needed = need;
+  places = are_places count places h.each;
+  ends = record {
+    heads = heads;
+    places = places;
+    begun = [];
+    begins = (held, g);
+    open_after = o;
+    placed = (h.placed, sym (append-nil places));
+    sent = sent;
+    written = ap (λ w. w ++ take sent (fixed 503)) h.told;
+    whole = f;
+  };
+}
+
+pub gave_up_begun : (answer : ℕ → Head → Answer) (count : ℕ) (read : List ℕ) (left : Option (List ℕ)) (written places : List ℕ)
+    (heads : List Head) (next : Head) (held : List ℕ) (place sent : ℕ) (rf wf : Type 0)
+    → IsNeeded read → HasReplied answer count heads places written → Gives read (heads ++ next ∷ []) held → IsOpen heads
+    → place ≡ count → 1 ≤ place → (sent < length (fixed 503) → wf)
+    → Served answer count (record { read = read; left = left; written = written ++ take sent (fixed 503); places = places ++ place ∷ [] }) rf wf end.NoMemory
+gave_up_begun answer count read left written places heads next held place sent rf wf need h g o e some f = record {
+  needed = need;
+  places = are_places count (places ++ place ∷ []) (all_more (λ p. (p ≡ count) × (1 ≤ p)) places place h.each (e, some));
+  ends = record {
+    heads = heads;
+    places = places;
+    begun = place ∷ [];
+    begins = (next, held, g);
+    open_after = o;
+    placed = (h.placed, refl);
+    sent = sent;
+    written = ap (λ w. w ++ take sent (fixed 503)) h.told;
+    whole = f;
+  };
+}
+
+pub last_more : (count place : ℕ) (places : List ℕ) → AllByRecursion (λ p. (p ≡ count) × (1 ≤ p)) places → place ≡ count
+    → AllByRecursion (λ p. p ≡ count) (places ++ place ∷ [])
+last_more count place places a e = all_more (λ p. p ≡ count) places place (each_last count places a) e
+
+nothing_waits : IsStep [] Waiting
+unfolding lines_from end_among
+nothing_waits = record { found = NotYet; finds = (refl, refl); is = refl }
+
+pub needed_none : IsNeeded []
+needed_none = record {
+  earlier = [];
+  piece = [];
+  read_is = refl;
+  small = lit≤ tt;
+  heads = [];
+  held = [];
+  asks = (nothing_waits, refl);
+  open_after = open_none;
+}

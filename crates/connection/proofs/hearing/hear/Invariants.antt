@@ -1,0 +1,10 @@
+use Rattle.std.proofs.Common.{length, ◌-◌}
+use Rattle.http_request.specs.Ends.{most_bytes}
+use Rattle.connection.proofs.HearLemmas.{Listens}
+use Rattle.connection.proofs.hearing.hear.Given as goal
+
+abbrev pub invariant-pieces : goal.invariant-pieces
+invariant-pieces g l = Listens (g.C.Conn.seen l.fn.conn) (g.C.Conn.seen l.conn) l.fn.heads l.heads
+
+abbrev pub decreases-pieces : goal.decreases-pieces
+decreases-pieces g l = most_bytes - length l.heads

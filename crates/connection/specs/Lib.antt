@@ -1,0 +1,6 @@
+pub mod Exchanges
+pub mod Hearing
+pub mod Replies
+pub mod Sending
+pub mod Served
+pub mod Serving

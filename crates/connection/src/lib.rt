@@ -1,0 +1,18 @@
+//! One connection of HTTP/1.1, served request by request (RFC 9112, section 9).
+//!
+//! [`serve`] reads pieces only while no whole head has come, answers each request over a
+//! catalogue, and tells in its report how the connection ended and at which place of the history
+//! each request was answered. What it writes is `Served` of specs/Served.antt: four ends, each a
+//! record over the bytes that were read and those that were written.
+#![tactic(auto)]
+
+mod hearing;
+mod laws;
+mod replying;
+mod sending;
+mod serving;
+#[cfg(test)]
+mod tests;
+
+pub use laws::{nothing_needed, one_closing};
+pub use serving::serve;
