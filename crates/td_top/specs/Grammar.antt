@@ -23,20 +23,20 @@ if_meant m = if has_meaning m then Some m else None
 unfoldable pub meant_moment : List ℕ → Option ℤ
 meant_moment word = option_and_then if_meant (moment_in word)
 
--- `answer DIR`
-abbrev pub answer_of : List ℕ → List ℕ → Option Asked
-answer_of name folder =
-    if bytes_eq name (codes "answer") && is_path_word folder then Some (answer folder) else None
+-- `answer DIR`, by the words after its name
+abbrev pub answer_of : List (List ℕ) → Option Asked
+answer_of (folder ∷ []) = if is_path_word folder then Some (answer folder) else None
+answer_of _ = None
 
 -- `at FILE MOMENT`
-abbrev pub at_of : List ℕ → List ℕ → List ℕ → Option Asked
-at_of name file moment =
-    if bytes_eq name (codes "at") && is_path_word file
-    then option_map (λ m. at file m) (meant_moment moment)
-    else None
+abbrev pub at_of : List (List ℕ) → Option Asked
+at_of (file ∷ moment ∷ []) =
+    if is_path_word file then option_map (λ m. at file m) (meant_moment moment) else None
+at_of _ = None
 
--- the command that the words spell
+-- the command that the words spell: its name first, and then what stands after it
 abbrev pub command_of : List (List ℕ) → Option Asked
-command_of (name ∷ folder ∷ []) = answer_of name folder
-command_of (name ∷ file ∷ moment ∷ []) = at_of name file moment
-command_of _ = None
+command_of [] = None
+command_of (name ∷ words) =
+    if bytes_eq name (codes "answer") then answer_of words
+    else if bytes_eq name (codes "at") then at_of words else None

@@ -1,44 +1,24 @@
--- How the parts of `answer` end.
-use Rattle.std.specs.Prelude.{◌≡◌, ◌≢◌, List, ℕ, take, Option, IfSome, ◌⊎◌}
-use Rattle.std.specs.Io.KnownBytes.{Appends, Keeps}
+-- How the input and the output of a run were served, as one connection, over a history.
+use Rattle.std.specs.Prelude.{◌≡◌, ℕ, List, length}
+use Rattle.std.specs.Io.KnownBytes.{Appends, Consumes}
+use Rattle.std.specs.List.{AllByRecursion}
+use Rattle.td_base.specs.Cause.{SinkFailed, SourceFailed}
+use Rattle.td_base.specs.declared.report.End.{End}
+use Rattle.td_base.specs.declared.report.Role.TheVariants as role
 use Rattle.catalogue.specs.Releases.{ReleaseData}
-use Rattle.td_top.specs.CheckFaults.{fault_text}
-use Rattle.td_top.specs.Ends.{IsReply}
-use Rattle.td_top.specs.Lines.{refused_line}
-use Rattle.td_top.specs.Output.{AppendsFront, Prints}
-use Rattle.td_top.specs.Replies.{unavailable}
-use Rattle.td_top.specs.declared.check_fault.CheckFault.{CheckFault}
-use Rattle.td_top.specs.declared.check_fault.CheckFault.TheVariants as fault
-use Rattle.td_top.specs.declared.status.Status.{Status}
-use Rattle.td_top.specs.declared.status.Status.TheVariants as status
+use Rattle.connection.specs.Served.{Served}
+use Rattle.connection.specs.Serving.{answer_at}
+use Rattle.td_top.specs.Outside.{Outside}
 
--- for the fault of a folder
-abbrev pub Refuses : CheckFault → Status → Option (List ℕ) → Option (List ℕ) → Type 0 → Type 0
-Refuses f status.Done old new Output = ⊥
-Refuses f status.Usage old new Output = ⊥
-Refuses f status.Refused old new Output =
-    (f ≢ fault.NoMemory) × (f ≢ fault.ReadFault) × Prints old new Output (refused_line (fault_text f))
-Refuses f status.NotRead old new Output = (f ≡ fault.ReadFault) × Keeps old new
-Refuses f status.NotWritten old new Output = ⊥
-Refuses f status.NoMemory old new Output = Keeps old new
-
--- with the reply to a request, over a history
-abbrev pub Replies : List ReleaseData → List ℕ → Status → Option (List ℕ) → Option (List ℕ) → Type 0 → Type 0
-Replies H request status.Done old new Output = (reply : List ℕ) × IsReply H request reply × Appends old new reply
-Replies H request status.Usage old new Output = ⊥
-Replies H request status.Refused old new Output = ⊥
-Replies H request status.NotRead old new Output = ⊥
-Replies H request status.NotWritten old new Output =
-    Output × ((reply : List ℕ) × IsReply H request reply × AppendsFront old new reply)
-Replies H request status.NoMemory old new Output = Prints old new Output unavailable
-
--- with the reply to the input, over a history
-abbrev pub Serves : List ReleaseData → Status → Option (List ℕ) → Option (List ℕ) → Option (List ℕ) → Type 0 → Type 0 → Type 0
-Serves H status.Done input old new Input Output =
-    IfSome input (λ i. (reply : List ℕ) × IsReply H (take 16385 i) reply × Appends old new reply)
-Serves H status.Usage input old new Input Output = ⊥
-Serves H status.Refused input old new Input Output = ⊥
-Serves H status.NotRead input old new Input Output = Input × Keeps old new
-Serves H status.NotWritten input old new Input Output =
-    Output × IfSome input (λ i. (reply : List ℕ) × IsReply H (take 16385 i) reply × AppendsFront old new reply)
-Serves H status.NoMemory input old new Input Output = Keeps old new ⊎ Prints old new Output unavailable
+-- what was read of the input and written to the output is that of a served connection; each request
+-- was answered at the last place of the history
+pub record Serves (H : List ReleaseData) (before after : Outside) (end : End) : Type 0 where
+  pub read : List ℕ
+  pub written : List ℕ
+  pub places : List ℕ
+  pub consumed : Consumes before.input.left after.input.left read
+  pub appended : Appends before.output.taken after.output.taken written
+  pub served : Served (answer_at H role.Primary) (length H)
+      (record { read = read; left = after.input.left; written = written; places = places })
+      (SourceFailed before.input after.input) (SinkFailed before.output after.output) end
+  pub latest : AllByRecursion (λ place. place ≡ length H) places

@@ -1,5 +1,7 @@
 -- The statuses with which the program ends, by their numbers.
 use Rattle.std.specs.Prelude.{ℕ}
+use Rattle.td_base.specs.declared.report.End.{End}
+use Rattle.td_base.specs.declared.report.End.TheVariants as end
 use Rattle.td_top.specs.declared.status.Status.{Status}
 use Rattle.td_top.specs.declared.status.Status.TheVariants as status
 
@@ -10,3 +12,10 @@ number_of status.Refused = 2
 number_of status.NotRead = 3
 number_of status.NotWritten = 4
 number_of status.NoMemory = 70
+
+-- the status for the end of the one connection of a run
+abbrev pub status_of : End → Status
+status_of end.Closed = status.Done
+status_of end.ReadFault = status.NotRead
+status_of end.WriteFault = status.NotWritten
+status_of end.NoMemory = status.NoMemory

@@ -1,4 +1,4 @@
-ghost use Rattle.std.specs.Prelude.{◌≡◌, IfSome};
+ghost use Rattle.std.specs.Prelude.{◌≡◌, [], ◌∷◌, IfSome};
 ghost use Rattle.std.specs.Option.{option_map};
 ghost use Rattle.td_civil.specs.Bounds.{HasMeaning};
 ghost use Rattle.td_top.specs.Grammar.{command_of, answer_of, at_of, if_meant, is_path_word, meant_moment};
@@ -24,20 +24,43 @@ pub fn read_words(words: &[Bytes]) -> Option<Command<'_>>
     ensures spelled { option_map plain_command result ≡ command_of words.now }
     ensures meant { IfSome result IsMeantCommand }
 {
-    match words.len() {
-        2 => read_answer(&words[0], &words[1]),
-        3 => read_at(&words[0], &words[1], &words[2]),
-        _ => None,
+    match words {
+        [] => None,
+        [name, words @ ..] => read_named(name.as_slice(), words),
+    }
+}
+
+/// The command of this name with these words after it.
+fn read_named<'a>(name: &[u8], words: &'a [Bytes]) -> Option<Command<'a>>
+    ensures spelled { option_map plain_command result ≡ command_of (name.now ∷ words.now) }
+    ensures meant { IfSome result IsMeantCommand }
+{
+    if name == b"answer".as_slice() {
+        read_answer(words)
+    } else if name == b"at".as_slice() {
+        read_at(words)
+    } else {
+        None
     }
 }
 
 /// `answer DIR`
-fn read_answer<'a>(name: &'a Bytes, folder: &'a Bytes) -> Option<Command<'a>>
-    ensures spelled { option_map plain_command result ≡ answer_of name.now folder.now }
+fn read_answer(words: &[Bytes]) -> Option<Command<'_>>
+    ensures spelled { option_map plain_command result ≡ answer_of words.now }
     ensures meant { IfSome result IsMeantCommand }
 {
-    let folder = folder.as_slice();
-    if name.as_slice() == b"answer".as_slice() && is_path_word(folder) {
+    match words {
+        [folder] => answer_over(folder.as_slice()),
+        _ => None,
+    }
+}
+
+/// The command over a folder, if the word may name one.
+fn answer_over(folder: &[u8]) -> Option<Command<'_>>
+    ensures spelled { option_map plain_command result ≡ answer_of (folder.now ∷ []) }
+    ensures meant { IfSome result IsMeantCommand }
+{
+    if is_path_word(folder) {
         Some(Command::Answer { folder })
     } else {
         None
@@ -45,15 +68,25 @@ fn read_answer<'a>(name: &'a Bytes, folder: &'a Bytes) -> Option<Command<'a>>
 }
 
 /// `at FILE MOMENT`
-fn read_at<'a>(name: &'a Bytes, file: &'a Bytes, moment: &'a Bytes) -> Option<Command<'a>>
-    ensures spelled { option_map plain_command result ≡ at_of name.now file.now moment.now }
+fn read_at(words: &[Bytes]) -> Option<Command<'_>>
+    ensures spelled { option_map plain_command result ≡ at_of words.now }
     ensures meant { IfSome result IsMeantCommand }
 {
-    let file = file.as_slice();
-    if name.as_slice() != b"at".as_slice() || !is_path_word(file) {
+    match words {
+        [file, moment] => at_moment(file.as_slice(), moment.as_slice()),
+        _ => None,
+    }
+}
+
+/// The command over a file at a moment, if the word may name a file and the moment has a meaning.
+fn at_moment<'a>(file: &'a [u8], moment: &[u8]) -> Option<Command<'a>>
+    ensures spelled { option_map plain_command result ≡ at_of (file.now ∷ moment.now ∷ []) }
+    ensures meant { IfSome result IsMeantCommand }
+{
+    if !is_path_word(file) {
         return None;
     }
-    let moment = meant_moment(moment.as_slice())?;
+    let moment = meant_moment(moment)?;
     Some(Command::At { file, moment })
 }
 

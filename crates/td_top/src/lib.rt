@@ -1,24 +1,16 @@
 //! The top call of the program: what its words, the files of its store and its input make it write, and with which
-//! status it ends.
+//! status it ends. [`run`] is the call; what words call for and how a run ends are `specs/Called.antt` and
+//! `specs/Ends.antt`.
 #![tactic(auto)]
 
 mod answering;
-mod check_fault;
 mod command;
-mod files;
-mod folder;
-mod judging;
-mod list_reply;
-mod printed;
 mod printing;
-mod reply;
-mod request;
 mod running;
+mod serving;
 mod state_line;
 mod status;
 #[cfg(test)]
 mod tests;
-mod text_copies;
-mod zone_files;
 
-pub use running::{one_folder, run};
+pub use running::run;

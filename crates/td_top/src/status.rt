@@ -1,5 +1,7 @@
 ghost use Rattle.std.specs.Prelude.{◌≡◌};
-ghost use Rattle.td_top.specs.Statuses.{number_of};
+ghost use Rattle.td_top.specs.Statuses.{number_of, status_of};
+
+use td_base::End;
 
 /// How a run ends.
 #[derive(Clone, Copy, Debug, PartialEq, Eq)]
@@ -31,5 +33,17 @@ impl Status {
             Status::NotWritten => 4,
             Status::NoMemory => 70,
         }
+    }
+}
+
+/// The status for the end of the one connection of a run.
+pub fn status_of(end: End) -> Status
+    ensures { result ≡ status_of end }
+{
+    match end {
+        End::Closed => Status::Done,
+        End::ReadFault => Status::NotRead,
+        End::WriteFault => Status::NotWritten,
+        End::NoMemory => Status::NoMemory,
     }
 }

@@ -43,26 +43,51 @@ pub const CAIRO: Plan<'static> = Plan {
 };
 
 /// The zone files that tests name.
-pub const FILES: [(&str, Plan<'static>); 9] = [
-    ("utc", UTC),
-    ("ny", NEW_YORK),
-    ("cai", CAIRO),
+pub const FILES: [(&[u8], Plan<'static>); 12] = [
+    (b"utc", UTC),
+    (b"ny", NEW_YORK),
+    (b"cai", CAIRO),
     (
-        "bare",
+        b"bare",
         Plan {
             footer: b"",
             ..NEW_YORK
         },
     ),
+    // A type that no transition names has a name that cannot be printed, or an empty one.
     (
-        "right",
+        b"spaced",
+        Plan {
+            types: &[(0, 0, 0), (3_600, 0, 4)],
+            names: b"UTC\0A_B\0",
+            ..UTC
+        },
+    ),
+    (
+        b"spaced-half",
+        Plan {
+            types: &[(0, 0, 0), (3_600, 0, 4)],
+            names: b"UTC\0A_B\0",
+            footer: b"EST",
+            ..UTC
+        },
+    ),
+    (
+        b"nameless",
+        Plan {
+            types: &[(0, 0, 0), (3_600, 0, 3)],
+            ..UTC
+        },
+    ),
+    (
+        b"right",
         Plan {
             leaps: &[(78_796_800, 1)],
             ..UTC
         },
     ),
     (
-        "right-half",
+        b"right-half",
         Plan {
             leaps: &[(78_796_800, 1)],
             footer: b"EST",
@@ -70,21 +95,21 @@ pub const FILES: [(&str, Plan<'static>); 9] = [
         },
     ),
     (
-        "half",
+        b"half",
         Plan {
             footer: b"EST",
             ..NEW_YORK
         },
     ),
     (
-        "ruleless",
+        b"ruleless",
         Plan {
             footer: b"EST5EDT",
             ..NEW_YORK
         },
     ),
     (
-        "endless",
+        b"endless",
         Plan {
             footer: b"EST5EDT,M3.2.0",
             ..NEW_YORK
@@ -169,7 +194,7 @@ pub fn zone_files(alloc: Global, front: &str) -> Result<MemoryStore, NoMemory> {
     let mut store = MemoryStore::new(alloc);
     for (name, plan) in &FILES {
         let mut path = Bytes::from_slice(alloc, front.as_bytes())?;
-        path.append(name.as_bytes())?;
+        path.append(name)?;
         store.put(path, slim(alloc, plan)?)?;
     }
     let mut path = Bytes::from_slice(alloc, front.as_bytes())?;

@@ -6,12 +6,25 @@ use std::test::Fail;
 use td_base::{Bytes, MemorySink, MemorySource, MemoryStore, NoMemory};
 
 /// Room for the longest output.
-pub const ROOM: usize = 200_000;
+pub const ROOM: usize = 300_000;
 
 pub const LIST: &str = "GET /tzdist/zones HTTP/1.1\r\nHost: x\r\n\r\n";
 
-pub const BAD_REQUEST: &str =
-    "HTTP/1.1 400 Bad Request\r\nContent-Length: 0\r\nConnection: close\r\n\r\n";
+/// The lines of a reply that hands out the list of Etc/UTC alone, the line that closes the connection, the end of a
+/// head, and the list.
+pub const OK_HEAD: &str =
+    "HTTP/1.1 200 OK\r\nContent-Type: application/json\r\nContent-Length: 185\r\n";
+
+pub const CLOSE: &str = "Connection: close\r\n";
+
+pub const END: &str = "\r\n";
+
+pub const BODY: &str =
+    "{\"synctoken\":\"1-e2b2cb478d218163\",\"timezones\":[{\"etag\":\"b9b07a4d02b54496f4440279edbde39c\",\"last-modified\":\"2025-01-20T00:00:00Z\",\"publisher\":\"Test\",\"tzid\":\"Etc/UTC\",\"version\":\"2025a\"}]}";
+
+/// The reply for a target that names no action.
+pub const BAD_ACTION: &str =
+    "HTTP/1.1 400 Bad Request\r\nContent-Type: application/problem+json\r\nContent-Length: 92\r\n\r\n{\"status\":400,\"title\":\"Unknown action\",\"type\":\"urn:ietf:params:tzdist:error:invalid-action\"}";
 
 pub const USAGE: &str = "usage: tzdistd answer|serve|mirror|check|at|load\n";
 

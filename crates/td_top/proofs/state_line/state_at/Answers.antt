@@ -1,10 +1,22 @@
-use Rattle.td_top.proofs.StateLines.{at_found, at_absent}
+use Rattle.std.proofs.Common.{Some, refl}
+use Rattle.td_base.proofs.LaterLemmas.{looks_later}
+use Rattle.td_top.specs.Grammar.{at}
+use Rattle.td_top.proofs.Endings.{ends_shown, ends_absent, ends_unread, ends_empty}
 use Rattle.td_top.proofs.state_line.state_at.Goals as goal
 
-pub returns-in-Found-clause-ends : goal.returns-in-Found-clause-ends
-returns-in-Found-clause-ends g c =
-    at_found _ c.show.result c.args.file.now c.in-Found.bytes c.args.moment.seconds _ _ _ _ c.in-Found.ensures.told c.show.ensures.shown
+pub returns-in-Found : goal.returns-in-Found
+returns-in-Found g c = λ input.
+    ends_shown c.args.file.now c.in-Found.bytes c.args.moment.seconds _ _ input _ _ _ c.in-Found.ensures.look c.show.ensures
 
-pub returns-in-Absent-clause-ends : goal.returns-in-Absent-clause-ends
-returns-in-Absent-clause-ends g c =
-    at_absent _ c.refuse_absent.result c.args.file.now c.args.moment.seconds _ _ _ _ c.in-Absent.ensures.told c.refuse_absent.ensures.refused
+pub returns-in-Absent : goal.returns-in-Absent
+returns-in-Absent g c = λ input.
+    ends_absent c.args.file.now c.args.moment.seconds _ _ input _ _ _ c.in-Absent.ensures.look c.refuse_absent.ensures
+
+pub returns-in-Failed : goal.returns-in-Failed
+returns-in-Failed g c = λ input.
+    ends_unread (Some (at c.args.file.now c.args.moment.seconds)) _ _ input _ _ _ refl (c.in-Failed.ensures.look.failed refl)
+    (looks_later _ _ _ _ _ c.in-Failed.ensures.look) refl refl
+
+pub returns-in-NoMemory : goal.returns-in-NoMemory
+returns-in-NoMemory g c = λ input.
+    ends_empty (Some (at c.args.file.now c.args.moment.seconds)) _ _ input _ _ _ refl (looks_later _ _ _ _ _ c.in-NoMemory.ensures.look) refl refl

@@ -1,7 +1,0 @@
-use Rattle.std.proofs.Common.{◌≡◌, ◌++◌, ◌∷◌, map, drop}
-use Rattle.td_top.proofs.judging.add_names.Given as goal
-
-abbrev pub invariant-loop-alias : goal.invariant-loop-alias
-invariant-loop-alias l =
-    map (λ n. n.now) l.names.items ++ drop l.alias-index l.alias-items
-    ≡ map (λ n. n.now) l.fn.names.items ++ l.zone.tzid ∷ l.zone.aliases

@@ -1,6 +1,0 @@
-use Rattle.std.proofs.Common.{◌≡◌, ◌++◌, map, drop}
-use Rattle.td_top.specs.Folder.{names_in}
-use Rattle.td_top.proofs.judging.names_in.Given as goal
-
-abbrev pub invariant-loop-zone : goal.invariant-loop-zone
-invariant-loop-zone l = map (λ n. n.now) l.names.items ++ names_in (drop l.zone-index l.zones) ≡ names_in l.zones

@@ -1,0 +1,63 @@
+-- What the calls below a run come to.
+use Rattle.std.specs.Prelude.{◌≡◌, ℕ, List, Option, None, Some, ◌⊎◌, ℤ}
+use Rattle.td_base.specs.Later.{LaterSink, LaterSource}
+use Rattle.td_base.specs.Views.{SinkView, SourceView, StoreView}
+use Rattle.td_base.specs.declared.report.End.{End}
+use Rattle.catalogue.specs.Releases.{ReleaseData}
+use Rattle.release_check.specs.FaultText.{fault_text as folder_text}
+use Rattle.release_check.specs.declared.check_fault.CheckFault.{CheckFault}
+use Rattle.release_check.specs.declared.check_fault.CheckFault.TheVariants as fault
+use Rattle.zone_meaning.specs.Faults.{zone_fault}
+use Rattle.zone_meaning.specs.FaultText.{fault_text as zone_text}
+use Rattle.zone_meaning.specs.State.{zone_state}
+use Rattle.zone_meaning.specs.declared.zone_fault.ZoneFault.{ZoneFault}
+use Rattle.td_top.specs.Ends.{Ends, Printed}
+use Rattle.td_top.specs.Grammar.{Asked}
+use Rattle.td_top.specs.Lines.{refused_line, state_line}
+use Rattle.td_top.specs.Outside.{Outside, Later, outside}
+use Rattle.td_top.specs.Served.{Serves}
+use Rattle.td_top.specs.declared.status.Status.{Status}
+use Rattle.td_top.specs.declared.status.Status.TheVariants as status
+
+-- a run ended, and nothing else was done to the outside than calls do
+pub record EndsLater (asked : Option Asked) (before after : Outside) (end : Status) : Type 0 where
+  pub ends : Ends asked before after end
+  pub later : Later before after
+
+-- the input and the output were served, and nothing else was done to them than calls do; the store
+-- has no part in it
+pub record ServesLater (H : List ReleaseData) (i j : SourceView) (old new : SinkView) (end : End)
+    : Type 0 where
+  pub serves : (s t : StoreView) → Serves H (outside s i old) (outside t j new) end
+  pub input : LaterSource i j
+  pub output : LaterSink old new
+
+-- a text that may end a run with this status
+abbrev pub CanPrint : Status → Type 0
+CanPrint called = (called ≡ status.Done) ⊎ ((called ≡ status.Usage) ⊎ (called ≡ status.Refused))
+
+-- the output is left alone
+abbrev pub IsLeft : SinkView → SinkView → Status → Status → Type 0
+IsLeft old new end is = (end ≡ is) × (new ≡ old)
+
+-- a text that is called for is printed, or memory ran out before
+abbrev pub Tells : Status → List ℕ → SinkView → SinkView → Status → Type 0
+Tells called text old new end = Printed called text old new end ⊎ IsLeft old new end status.NoMemory
+
+-- something is refused for this reason
+abbrev pub Refuses : List ℕ → SinkView → SinkView → Status → Type 0
+Refuses why old new end = Tells status.Refused (refused_line why) old new end
+
+-- the fault of a folder ends a run
+abbrev pub RefusesFolder : CheckFault → SinkView → SinkView → Status → Type 0
+RefusesFolder fault.NoMemory old new end = IsLeft old new end status.NoMemory
+RefusesFolder fault.ReadFault old new end = IsLeft old new end status.NotRead
+RefusesFolder f old new end = Refuses (folder_text f) old new end
+
+-- the state of a zone file ends a run, or the file's fault does
+abbrev pub ShowsBy : List ℕ → ℤ → Option ZoneFault → SinkView → SinkView → Status → Type 0
+ShowsBy bytes m None old new end = Tells status.Done (state_line (zone_state bytes m)) old new end
+ShowsBy bytes m (Some f) old new end = Refuses (zone_text f) old new end
+
+abbrev pub Shows : List ℕ → ℤ → SinkView → SinkView → Status → Type 0
+Shows bytes m old new end = ShowsBy bytes m (zone_fault bytes) old new end
