@@ -1,48 +1,59 @@
-ghost use Rattle.std.specs.Prelude.{◌≡◌, ◌==◌, MatchResult, if◌then◌else◌};
+ghost use Rattle.std.specs.Prelude.{◌≡◌, ◌≤◌, None};
+ghost use Rattle.td_base.specs.Cause.{Rose};
 
-use std::io;
-use std::io::Write;
+use std::io::{ErrorKind, Write};
 use td_base::{Sink, WriteStep};
 
-/// A real stream that is written. It tells of its bytes what the stream tells. Its faults count its failed writes.
+/// A real stream that is written. It tells of its bytes what the stream tells. Its faults count its
+/// failed writes.
 #[derive(Drop)]
 pub struct RealSink<W> {
     stream: W,
     faults: u64,
+    failure: Option<ErrorKind>,
 }
 
 impl<W> RealSink<W> {
     /// The stream, of which no write failed yet.
     pub fn new(stream: W) -> RealSink<W>
-        ensures { result ≡ record { stream = stream; faults = 0 } }
+        ensures { result ≡ record { stream = stream; faults = 0; failure = None } }
     {
-        RealSink { stream, faults: 0 }
+        RealSink {
+            stream,
+            faults: 0,
+            failure: None,
+        }
+    }
+
+    /// Why the write that failed last did so.
+    pub fn failure(&self) -> Option<ErrorKind>
+        ensures { result ≡ self.now.failure }
+    {
+        self.failure
+    }
+
+    /// Counts a failed write.
+    fn fail(&mut self, kind: ErrorKind) -> WriteStep
+        ensures stream { self.new.stream ≡ self.old.stream }
+        ensures later { self.old.faults ≤ self.new.faults }
+        ensures rose { Rose self.old.faults self.new.faults }
+        ensures failed { result ≡ WriteStep.Failed }
+    {
+        self.faults = self.faults.saturating_add(1);
+        self.failure = Some(kind);
+        WriteStep::Failed
     }
 }
 
 impl<W: Write> Sink for RealSink<W> {
-    ghost taken = { λ s. W.contents s.stream };
+    ghost seen = { λ s. record { taken = W.contents s.stream; faults = s.faults } };
 
-    ghost faults = { λ s. s.faults };
-
+    /// A write that takes nothing of a piece with a byte failed.
     fn write(&mut self, piece: &[u8]) -> WriteStep {
-        let step = step_of(self.stream.write(piece));
-        if step == WriteStep::Failed {
-            self.faults = self.faults.saturating_add(1);
+        match self.stream.write(piece) {
+            Ok(0) => self.fail(ErrorKind::WriteZero),
+            Ok(count) => WriteStep::Took(count),
+            Err(error) => self.fail(error.kind()),
         }
-        step
-    }
-}
-
-/// What a write of a piece with a byte did: one that took nothing failed.
-fn step_of(outcome: io::Result<usize>) -> WriteStep
-    ensures { MatchResult outcome
-        (λ count. result ≡ (if count == 0 then WriteStep.Failed else WriteStep.Took count))
-        (λ _. result ≡ WriteStep.Failed) }
-{
-    match outcome {
-        Ok(0) => WriteStep::Failed,
-        Ok(count) => WriteStep::Took(count),
-        Err(_) => WriteStep::Failed,
     }
 }

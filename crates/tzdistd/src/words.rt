@@ -18,7 +18,8 @@ pub fn collect<E: Env>(alloc: Global, env: &E) -> Result<Vec<Bytes>, NoMemory> {
     Ok(words)
 }
 
-/// The word at a place, or `None` where the words end before it. A longer word is tried in twice the room.
+/// The word at a place, or `None` where the words end before it. A longer word is tried in twice
+/// the room.
 fn read_word<E: Env>(alloc: Global, env: &E, at: usize) -> Result<Option<Bytes>, NoMemory> {
     let mut size = ROOM;
     for _ in 0..usize::BITS {
