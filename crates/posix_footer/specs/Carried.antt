@@ -1,6 +1,6 @@
 -- Which footers yearly rules of a calendar can say (RFC 5545, section 3.3.10): those whose dates are the same in every
 -- year, after their times have moved them. The years 2001 and 2004 stand for years without and with 29 February.
-use Rattle.std.specs.Prelude.{ℕ, Bool, true, false, not, ◌&&◌, ◌||◌, ◌==◌, ℤ, pos, ◌+ℤ◌, ◌-ℤ◌, int_le, Option, None, Some}
+use Rattle.std.specs.Prelude.{◌≡◌, ℕ, Bool, true, false, not, ◌&&◌, ◌||◌, ◌==◌, ℤ, pos, ◌+ℤ◌, ◌-ℤ◌, int_le, Option, None, Some, ⊤}
 use Rattle.std.specs.Ordering.{int_eq}
 use Rattle.std.specs.Int.{int_div_euclid}
 use Rattle.posix_footer.specs.declared.rule_types.DayForm.{DayForm}
@@ -101,3 +101,8 @@ beyond_if_any std (Some rule) = not (is_all_year std rule) && not (is_carried_ru
 -- no yearly rules say what the footer says
 abbrev pub beyond : Footer → Bool
 beyond footer = beyond_if_any footer.std.offset footer.dst
+
+-- yearly rules say what the footer says, if there is one
+abbrev pub IsCarriedIfAny : Option Footer → Type 0
+IsCarriedIfAny None = ⊤
+IsCarriedIfAny (Some footer) = beyond footer ≡ false

@@ -19,7 +19,7 @@ use Rattle.posix_footer.specs.declared.rule_types.Edge.{Edge}
 use Rattle.posix_footer.specs.declared.rule_types.Edge.TheVariants as edge
 use Rattle.posix_footer.specs.declared.rule_types.DstRule.{DstRule}
 use Rattle.posix_footer.specs.declared.rule_types.Footer.{Footer}
-use Rattle.posix_footer.specs.Carried.{is_all_year, is_carried_rule, beyond_if_any}
+use Rattle.posix_footer.specs.Carried.{is_all_year, is_carried_rule, beyond_if_any, IsCarriedIfAny}
 use Rattle.posix_footer.specs.Lawful.{IsLawfulOffset, IsLawfulRule, IsLawfulIfAny, IsLawful}
 use Rattle.posix_footer.specs.Onset.{onset_of}
 use Rattle.zone_meaning.specs.Faults.{zone_fault}
@@ -31,7 +31,7 @@ use Rattle.recurrence.specs.declared.part_types.Range.{Range}
 use Rattle.recurrence.proofs.InYear.{onset_in_year}
 use Rattle.recurrence.proofs.Onsets.{keeps_onsets}
 use Rattle.vtimezone.specs.CalendarText.{IsWritable}
-use Rattle.vtimezone.specs.PartsOf.{single_of, last_before, rule_part, part_until, rule_part_if, rule_parts, rules_if_any, rules_of, end_of, parts_from, IsEndOf, IsCarriedIfAny}
+use Rattle.vtimezone.specs.PartsOf.{single_of, last_before, rule_part, part_until, rule_part_if, rule_parts, rules_if_any, rules_of, end_of, parts_from, IsEndOf}
 use Rattle.vtimezone.specs.ZoneParts.{end_in, latest, rule_year, parts_of}
 use Rattle.vtimezone.proofs.InForce.{first_not_later}
 use Rattle.vtimezone.proofs.LastBefore.{lt_is}

@@ -20,6 +20,7 @@ use Rattle.td_civil.specs.declared.local_time.Local.{Local}
 use Rattle.tzif_reader.specs.declared.zone_file.ZoneFile.{ZoneFile}
 use Rattle.tzif_reader.specs.Cut.{lists_of}
 use Rattle.posix_footer.specs.declared.rule_types.Footer.{Footer}
+use Rattle.posix_footer.specs.Carried.{IsCarriedIfAny}
 use Rattle.posix_footer.specs.StateAt.{state_of}
 use Rattle.posix_footer.proofs.YearLemmas.{year_in_range}
 use Rattle.zone_meaning.specs.Faults.{zone_fault}
@@ -28,7 +29,7 @@ use Rattle.zone_meaning.specs.Rules.{FollowsRules, by_footer_or}
 use Rattle.zone_meaning.proofs.RuleLemmas.{zone_follows}
 use Rattle.recurrence.specs.InForce.{Gives}
 use Rattle.recurrence.specs.declared.part_types.Range.{Range}
-use Rattle.vtimezone.specs.PartsOf.{IsEndOf, IsAmong, IsCarriedIfAny}
+use Rattle.vtimezone.specs.PartsOf.{IsEndOf, IsAmong}
 use Rattle.vtimezone.proofs.Whole.{IsRange, IsLawfulAndCarried, goes_on}
 use Rattle.recurrence.proofs.AllYear.{year_9999}
 use Rattle.posix_footer.specs.Grammar.{footer_in}

@@ -12,7 +12,7 @@ use Rattle.posix_footer.specs.declared.rule_types.Edge.TheVariants as edge
 use Rattle.posix_footer.specs.declared.rule_types.Date.{Date}
 use Rattle.posix_footer.specs.declared.rule_types.DstRule.{DstRule}
 use Rattle.posix_footer.specs.declared.rule_types.Footer.{Footer}
-use Rattle.posix_footer.specs.Carried.{is_all_year, beyond}
+use Rattle.posix_footer.specs.Carried.{is_all_year}
 use Rattle.posix_footer.specs.Onset.{onset_of}
 use Rattle.posix_footer.specs.StateAt.{state_after}
 use Rattle.zone_meaning.specs.Observed.{observed}
@@ -116,11 +116,6 @@ pub record IsAmong (a : ℤ) (b : Option ℤ) (t : ℤ) : Type 0 where
   pub from : a ≤ℤ t
   pub before : IsBeforeEnd b t
   pub meant : HasMeaning t
-
--- yearly rules say what the footer says, if there is one
-abbrev pub IsCarriedIfAny : Option Footer → Type 0
-IsCarriedIfAny None = ⊤
-IsCarriedIfAny (Some footer) = beyond footer ≡ false
 
 abbrev pub seconds_if_any : Option Moment → Option ℤ
 seconds_if_any moment = option_map (λ m. m.seconds) moment

@@ -2,6 +2,7 @@
 ghost use Rattle.std.specs.Prelude.{◌≡◌, ℕ, List, ℤ, None, Option, Ok, IfSome};
 ghost use Rattle.std.specs.List.{Contains, AllByRecursion};
 ghost use Rattle.td_civil.specs.Bounds.{HasMeaning};
+ghost use Rattle.posix_footer.specs.Carried.{IsCarriedIfAny};
 ghost use Rattle.tzif_reader.specs.Cut.{lists_of};
 ghost use Rattle.zone_meaning.specs.Faults.{zone_fault};
 ghost use Rattle.zone_meaning.specs.State.{zone_state, footer_meant};
@@ -11,7 +12,7 @@ ghost use Rattle.recurrence.specs.declared.part_types.Range.{Range};
 ghost use Rattle.ical_lines.specs.Unfolding.{unfolded};
 ghost use Rattle.td_civil.specs.declared.moment_type.Moment.{Moment};
 ghost use Rattle.vtimezone.specs.CalendarText.{calendar, calendar_lines, IsLineText, IsReadable};
-ghost use Rattle.vtimezone.specs.PartsOf.{IsEndOf, IsAmong, IsCarriedIfAny};
+ghost use Rattle.vtimezone.specs.PartsOf.{IsEndOf, IsAmong};
 ghost use Rattle.vtimezone.specs.ZoneParts.{end_in, parts_of};
 
 /// At each moment of a range, the part in force has the offset, the flag and the name of the zone file's state.

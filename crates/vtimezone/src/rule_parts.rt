@@ -2,7 +2,7 @@
 ghost use Rattle.std.specs.Prelude.{◌≡◌, ◌++◌, ◌≤ℤ◌, ◌-ℤ◌, pos, int_lt, true, false, unsigned_abs, Some, OnOk, option_to_list, IfSome};
 ghost use Rattle.jiff_core.specs.Calendar.{IsBetween};
 ghost use Rattle.td_civil.specs.Bounds.{IsWithinBounds};
-ghost use Rattle.posix_footer.specs.Carried.{is_carried_rule, beyond};
+ghost use Rattle.posix_footer.specs.Carried.{is_carried_rule, beyond, IsCarriedIfAny};
 ghost use Rattle.posix_footer.specs.Lawful.{IsLawful, IsLawfulRule};
 ghost use Rattle.posix_footer.specs.Onset.{onset_of};
 ghost use Rattle.posix_footer.specs.declared.rule_types.Edge.{Edge};
@@ -210,7 +210,7 @@ pub(crate) fn push_rules(
     until: Option<Moment>,
 ) -> Result<(), NoMemory>
     requires lawful { IfSome footer.now IsLawful }
-    requires carried { spec.IsCarriedIfAny footer.now }
+    requires carried { IsCarriedIfAny footer.now }
     requires year { IsBetween (pos 1801) (pos 9999) year }
     requires until { spec.IsMeantIfAny until }
     ensures { OnOk result (parts.new

@@ -2,6 +2,7 @@
 ghost use Rattle.std.specs.Prelude.{◌≡◌, ◌<ℤ◌, map, pos, None, All, IfOk, OnOk};
 ghost use Rattle.jiff_core.specs.Calendar.{IsBetween, IsEpochDay, days_from_civil};
 ghost use Rattle.td_civil.specs.Bounds.{HasMeaning};
+ghost use Rattle.posix_footer.specs.Carried.{IsCarriedIfAny};
 ghost use Rattle.tzif_reader.specs.Cut as cut;
 ghost use Rattle.zone_meaning.specs.Faults.{zone_fault};
 ghost use Rattle.zone_meaning.specs.Observed.{observed, IsRange};
@@ -23,7 +24,7 @@ use zone_meaning::{Changes, Zone, footer, lists};
 pub fn parts(alloc: Global, zone: &Zone, range: Range) -> Result<Items<Part>, NoMemory>
     requires from { HasMeaning range.from.seconds }
     requires until { spec.IsEndOf range.from.seconds (zone_spec.end_in range) }
-    requires carried { spec.IsCarriedIfAny (footer_meant (cut.lists_of zone.now).footer) }
+    requires carried { IsCarriedIfAny (footer_meant (cut.lists_of zone.now).footer) }
     ensures exact { IfOk result (λ parts. parts ≡ zone_spec.parts_of zone.now range) }
     ensures means { IfOk result (zone_spec.MeansZone zone.now range) }
     ensures writable { IfOk result (λ parts. All IsWritable parts) }
@@ -37,7 +38,7 @@ pub fn parts(alloc: Global, zone: &Zone, range: Range) -> Result<Items<Part>, No
 fn listed(alloc: Global, zone: &Zone, range: Range) -> Result<Items<Part>, NoMemory>
     requires from { HasMeaning range.from.seconds }
     requires until { spec.IsEndOf range.from.seconds (zone_spec.end_in range) }
-    requires carried { spec.IsCarriedIfAny (footer_meant (cut.lists_of zone.now).footer) }
+    requires carried { IsCarriedIfAny (footer_meant (cut.lists_of zone.now).footer) }
     ensures exact { IfOk result (λ parts. parts ≡ zone_spec.parts_of zone.now range) }
     ensures no_fault { OnOk result (zone_fault zone.now ≡ None) }
 {

@@ -9,6 +9,7 @@ pub mod Walks
 pub mod WalkLeft
 pub mod Names
 pub mod FaultLemmas
+pub mod Agreement
 pub mod Sound
 pub mod Lengths
 pub mod ZoneHistories
