@@ -1,0 +1,3 @@
+pub mod Dated
+pub mod Rising
+pub mod Tables

@@ -1,0 +1,132 @@
+//! Single leap lines, each beside the one before it.
+ghost use Rattle.std.specs.Prelude.{◌≡◌, ◌<◌, ◌≤◌, [], ◌∷◌, ◌+ℤ◌, ◌-ℤ◌, ◌≤ℤ◌, ◌<ℤ◌, int_rem, pos, false, true, length, IfOk, IfErr, OnOk, option_to_list};
+ghost use Rattle.std.specs.Int.{int_div_euclid};
+ghost use Rattle.std.specs.Ordering.{int_eq};
+ghost use Rattle.leap_table.specs.Faults.{of_cause};
+ghost use Rattle.leap_table.specs.Steps.{HasRisen, pairs_of};
+ghost use Rattle.tzif_reader.specs.LeapSteps as spec;
+
+use crate::LeapFault;
+use catalogue::LeapStep;
+use td_civil::HI;
+use tzif_reader::LeapLine;
+
+/// The line before one: before the first the beginning of 1972 and no correction.
+fn line_before(lines: &[LeapLine], number: usize) -> LeapLine
+    requires { number < length lines.now }
+    ensures { result ≡ spec.line_before lines.now number }
+{
+    if number == 0 {
+        return LeapLine {
+            at: 63_072_000,
+            correction: 0,
+        };
+    }
+    lines[number - 1]
+}
+
+/// The line of this number.
+fn line_at(lines: &[LeapLine], number: usize) -> LeapLine
+    requires { number < length lines.now }
+    ensures { result ≡ spec.line_at lines.now number }
+{
+    lines[number]
+}
+
+/// Whether a line tells how long the table holds.
+#[tactic(auto, unfolding(tzif_reader::specs::LeapSteps::is_expiry))]
+fn is_expiry(lines: &[LeapLine], number: usize) -> bool
+    requires { number < length lines.now }
+    ensures { result ≡ spec.is_expiry lines.now number }
+{
+    let before = line_before(lines, number);
+    number > 0 && number + 1 == lines.len() && lines[number].correction == before.correction
+}
+
+/// Whether a line is later than the one before, and before the end of the moments that have a meaning.
+#[tactic(auto, unfolding(tzif_reader::specs::LeapSteps::is_in_time))]
+fn is_in_time(lines: &[LeapLine], number: usize) -> bool
+    requires { number < length lines.now }
+    ensures { result ≡ spec.is_in_time lines.now number }
+{
+    let line = lines[number];
+    line_before(lines, number).at < line.at && line.at < HI
+}
+
+/// Whether the correction of a line is one second more than that of the one before.
+#[tactic(auto, unfolding(tzif_reader::specs::LeapSteps::is_one_on))]
+fn is_one_on(lines: &[LeapLine], number: usize) -> bool
+    requires inside { number < length lines.now }
+    requires few { length lines.now ≤ 65536 }
+    requires risen { HasRisen (spec.line_before lines.now number) number }
+    ensures { result ≡ spec.is_one_on lines.now number }
+{
+    let next = line_before(lines, number).correction + 1;
+    lines[number].correction == next
+}
+
+/// Whether a line goes one second on from the one before, or tells how long the table holds.
+#[tactic(auto, unfolding(tzif_reader::specs::LeapSteps::is_step))]
+fn is_step(lines: &[LeapLine], number: usize) -> bool
+    requires inside { number < length lines.now }
+    requires few { length lines.now ≤ 65536 }
+    requires risen { HasRisen (spec.line_before lines.now number) number }
+    ensures { result ≡ spec.is_step lines.now number }
+{
+    is_in_time(lines, number) && (is_expiry(lines, number) || is_one_on(lines, number))
+}
+
+/// The second of UTC at which the correction of a line begins, after the line before.
+fn second_after(line: LeapLine, before: LeapLine) -> i64
+    requires line { (pos 0 ≤ℤ line.at) × (line.at <ℤ HI) }
+    requires before { (pos 0 ≤ℤ before.correction) × (before.correction ≤ℤ pos 65536) }
+    ensures { result ≡ line.at -ℤ before.correction }
+{
+    line.at - before.correction as i64
+}
+
+/// Whether a second begins a day of UTC.
+fn begins_day(second: i64) -> bool
+    ensures { result ≡ int_eq (int_rem second (pos 86400)) (pos 0) }
+{
+    second % 86_400 == 0
+}
+
+/// The step of a correction that begins at a second of UTC.
+fn step_from(second: i64, correction: i32) -> LeapStep
+    requires { correction ≤ℤ pos 65536 }
+    ensures { pairs_of (result ∷ [])
+        ≡ (int_div_euclid second (pos 86400), pos 10 +ℤ correction) ∷ [] }
+{
+    LeapStep {
+        day: second.div_euclid(86_400),
+        offset: 10 + correction,
+    }
+}
+
+/// The step of a line, or none where it tells how long the table holds.
+#[tactic(auto, unfolding(tzif_reader::specs::LeapSteps::is_no_line, tzif_reader::specs::LeapSteps::is_midnight))]
+pub fn step_at(lines: &[LeapLine], number: usize) -> Result<Option<LeapStep>, LeapFault>
+    requires inside { number < length lines.now }
+    requires few { length lines.now ≤ 65536 }
+    requires risen { HasRisen (spec.line_before lines.now number) number }
+    ensures step { IfOk result (λ step.
+        pairs_of (option_to_list step) ≡ spec.step_of lines.now number) }
+    ensures fits { OnOk result (spec.is_no_line lines.now number ≡ false) }
+    ensures no_line { IfErr result (λ e. spec.is_no_line lines.now number ≡ true) }
+    ensures cause { IfErr result (λ e. e ≡ of_cause (spec.cause_of lines.now number)) }
+{
+    if !is_step(lines, number) {
+        return Err(LeapFault::Step(number));
+    }
+    if is_expiry(lines, number) {
+        return Ok(None);
+    }
+    let line = line_at(lines, number);
+    let second = second_after(line, line_before(lines, number));
+    if !begins_day(second) {
+        return Err(LeapFault::Midnight(number));
+    }
+    let step = step_from(second, line.correction);
+    Ok(Some(step))
+}

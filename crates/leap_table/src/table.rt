@@ -1,0 +1,76 @@
+//! The table of a file's leap lines.
+ghost use Rattle.std.specs.Prelude.{◌≡◌, ◌≢◌, ◌<◌, ◌≤◌, ◌++◌, false, true, length, IfOk, IfErr, OnOk};
+ghost use Rattle.td_base.specs.FirstFault.{Judges};
+ghost use Rattle.leap_table.specs.Faults.{of_cause, table_fault};
+ghost use Rattle.leap_table.specs.Steps.{HasRisen, pairs_of};
+ghost use Rattle.tzif_reader.specs.LeapSteps.{cause_of, is_no_line, leap_steps, line_before, step_of};
+ghost use Rattle.tzif_reader.specs.declared.zone_file.TheConstants.{MOST_BYTES};
+
+use crate::LeapFault;
+use crate::leap_lines::step_at;
+use catalogue::{LeapStep, Leaps};
+use std::alloc::Global;
+use td_base::{Bytes, Items};
+use tzif_reader::{LeapLine, ZoneFile};
+
+/// The table of leap seconds of a zone file, with the bytes of that file and the date up to which the table is known to
+/// hold. A file that was read has no more leap lines than bytes may be in it (`leap_lines_fit` of `tzif_reader`).
+pub fn from_file(
+    alloc: Global,
+    file: &ZoneFile,
+    bytes: &[u8],
+    expires: &[u8],
+) -> Result<Leaps, LeapFault>
+    requires few { length file.now.leaps ≤ MOST_BYTES }
+    ensures file { IfOk result (λ table. table.file ≡ bytes.now) }
+    ensures expires { IfOk result (λ table. table.expires ≡ expires.now) }
+    ensures steps { IfOk result (λ table. pairs_of table.steps ≡ leap_steps file.now.leaps) }
+    ensures fault { Judges LeapFault.NoMemory (table_fault file.now.leaps) result }
+{
+    let steps = steps_of(alloc, file.leaps.as_slice())?;
+    Ok(Leaps {
+        file: Bytes::from_slice(alloc, bytes)?,
+        expires: Bytes::from_slice(alloc, expires)?,
+        steps,
+    })
+}
+
+/// The steps of lines: 1972-01-01, when the difference was 10 seconds, and then those of the lines.
+fn steps_of(alloc: Global, lines: &[LeapLine]) -> Result<Items<LeapStep>, LeapFault>
+    requires few { length lines.now ≤ MOST_BYTES }
+    ensures steps { IfOk result (λ steps. pairs_of steps ≡ leap_steps lines.now) }
+    ensures fault { Judges LeapFault.NoMemory (table_fault lines.now) result }
+{
+    let mut steps = Items::new(alloc);
+    steps.push(LeapStep {
+        day: 730,
+        offset: 10,
+    })?;
+    for number in 0..lines.len() {
+        add_step(&mut steps, lines, number)?;
+    }
+    Ok(steps)
+}
+
+/// Appends the step of a line, unless the line tells how long the table holds.
+fn add_step(
+    steps: &mut Items<LeapStep>,
+    lines: &[LeapLine],
+    number: usize,
+) -> Result<(), LeapFault>
+    requires inside { number < length lines.now }
+    requires few { length lines.now ≤ 65536 }
+    requires risen { HasRisen (line_before lines.now number) number }
+    ensures step { OnOk result (pairs_of steps.new ≡ pairs_of steps.old ++ step_of lines.now number) }
+    ensures fits { OnOk result (is_no_line lines.now number ≡ false) }
+    ensures no_line { IfErr result (λ e. e ≢ LeapFault.NoMemory
+        → is_no_line lines.now number ≡ true) }
+    ensures cause { IfErr result (λ e. e ≢ LeapFault.NoMemory
+        → e ≡ of_cause (cause_of lines.now number)) }
+{
+    let step = step_at(lines, number)?;
+    if let Some(step) = step {
+        steps.push(step)?;
+    }
+    Ok(())
+}
