@@ -53,11 +53,7 @@ fn steps_of(alloc: Global, lines: &[LeapLine]) -> Result<Items<LeapStep>, LeapFa
 }
 
 /// Appends the step of a line, unless the line tells how long the table holds.
-fn add_step(
-    steps: &mut Items<LeapStep>,
-    lines: &[LeapLine],
-    number: usize,
-) -> Result<(), LeapFault>
+fn add_step(steps: &mut Items<LeapStep>, lines: &[LeapLine], number: usize) -> Result<(), LeapFault>
     requires inside { number < length lines.now }
     requires few { length lines.now ≤ 65536 }
     requires risen { HasRisen (line_before lines.now number) number }

@@ -10,8 +10,8 @@ pub returns-in_err-add_step-clause-fault : goal.returns-in_err-add_step-clause-f
 returns-in_err-add_step-clause-fault c =
     let p = err_from_is_err_and c.from_residual-in_err-add_step.result c.from_residual-in_err-add_step.ensures.1 in
     rw (p.1, p.2) (λ other. fault_here c.args.lines.now c.loop-number.steps c.loop-number.number c.in_err-add_step.field-0.0
-      c.loop-number-test.true c.loop-number.invariant
-      (c.in_err-add_step.ensures.no_line other) (c.in_err-add_step.ensures.cause other))
+    c.loop-number-test.true c.loop-number.invariant
+    (c.in_err-add_step.ensures.no_line other) (c.in_err-add_step.ensures.cause other))
 
 pub loop-number-preserved : goal.loop-number-preserved
 loop-number-preserved c =
