@@ -5,6 +5,7 @@ pub mod Standing
 pub mod AnyOrder
 pub mod PlainEntries
 pub mod NameIndex
+pub mod NamesHeld
 pub mod LastRelease
 pub mod Growing
 pub mod SameZones

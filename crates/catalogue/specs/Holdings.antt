@@ -1,6 +1,7 @@
 -- Which histories a catalogue stands for.
 use Rattle.std.specs.Prelude.{ℕ, List, length, map, ◌≡◌, Some}
-use Rattle.catalogue.specs.Releases.{ContentData, ReleaseData}
+use Rattle.catalogue.specs.Order.{rising_by}
+use Rattle.catalogue.specs.Releases.{ContentData, ReleaseData, names_of}
 use Rattle.catalogue.specs.Digests.{chain_of, content_digest}
 use Rattle.catalogue.specs.Histories.{last_release, IsHistory, meta, tokens_of}
 use Rattle.catalogue.specs.HeldZones.{held_content, held_digest, held_entry}
@@ -20,6 +21,10 @@ release_of head contents = record {
 -- the release that a catalogue holds
 abbrev pub release_held : {Z : Type 0} → (Z → List ℕ) → Catalogue Z → ReleaseData
 release_held bytes c = release_of c.head (map (held_content bytes) c.held)
+
+-- all names of that release, in rising order
+unfoldable pub names_held : {Z : Type 0} → (Z → List ℕ) → Catalogue Z → List (List ℕ)
+names_held bytes c = rising_by (λ name. name) (names_of (release_held bytes c).contents)
 
 -- how many zones a catalogue holds, and how many releases its history has
 abbrev pub zone_count : {Z : Type 0} → Catalogue Z → ℕ

@@ -9,7 +9,7 @@ ghost use Rattle.catalogue.specs.Plain.{IsPlainEntry};
 
 use crate::entries::Held;
 use crate::head::Head;
-use crate::names::Name;
+use crate::names::{Name, text_at};
 use crate::{Entry, Leaps, ZoneData};
 use std::sync::Arc;
 use td_base::{Items, Token};
@@ -32,6 +32,7 @@ pub struct Catalogue<Z> {
 
 impl<Z: ZoneData> Catalogue<Z> {
     ghost use Rattle.catalogue.specs.Holdings.{ForEachHistory, zone_count, place_count};
+    ghost use Rattle.catalogue.specs.Holdings.{names_held, release_held};
 
     /// How many releases the history has, which is the last place.
     pub fn count(&self) -> u32
@@ -70,9 +71,25 @@ impl<Z: ZoneData> Catalogue<Z> {
         self.tokens.as_slice()[n as usize - 1].copy()
     }
 
+    /// How many names, identifiers and aliases, the zones of the last release have.
+    pub fn name_count(&self) -> usize
+        ensures { result ≡ length (names_held Z.bytes self.now) }
+    {
+        self.names.len()
+    }
+
+    /// The name at a position in the rising order of all names of the last release, counted from 0.
+    pub fn name(&self, i: usize) -> &[u8]
+        requires { i < length (names_held Z.bytes self.now) }
+        ensures { slice_get (names_held Z.bytes self.now) i ≡ Some result.now }
+    {
+        text_at(self.names.as_slice(), i)
+    }
+
     /// The stamp of the last release.
     pub fn last_stamp(&self) -> Moment
-        ensures { ForEachHistory Z.bytes Z.sound self.now (λ H.
+        ensures held { result.seconds ≡ (release_held Z.bytes self.now).stamp }
+        ensures last { ForEachHistory Z.bytes Z.sound self.now (λ H.
             IsSomeAnd (last_release H) (λ r. result.seconds ≡ r.stamp)) }
     {
         self.head.stamp

@@ -1,4 +1,5 @@
-ghost use Rattle.std.specs.Prelude.{◌≡◌, ◌<◌, ◌∷◌, ◌++◌, ◌^◌, IfOk, OnOk, length, map};
+ghost use Rattle.std.specs.Prelude.{◌≡◌, ◌<◌, ◌∷◌, ◌++◌, ◌^◌, IfOk, OnOk, Some, length, map};
+ghost use Rattle.std.specs.List.{slice_get};
 ghost use Rattle.std.specs.Cmp.Lexicographic.{slice_cmp};
 ghost use Rattle.std.specs.Ordering.{nat_cmp};
 ghost use Rattle.catalogue.specs.Order.{rising_by};
@@ -25,6 +26,14 @@ impl Ranked for Name {
     fn text(&self) -> &[u8] {
         self.text.as_slice()
     }
+}
+
+/// The text of a name.
+pub fn text_at(names: &[Name], i: usize) -> &[u8]
+    requires { i < length names.now }
+    ensures { slice_get (map (λ n. n.text) names.now) i ≡ Some result.now }
+{
+    names[i].text.as_slice()
 }
 
 /// How a name compares with a text, by bytes.

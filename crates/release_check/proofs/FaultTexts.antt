@@ -1,16 +1,24 @@
 -- How faults are printed and shown.
-use Rattle.std.proofs.Common.{◌≡◌, ◌≢◌, List, [], ℕ, Bool, true, false, if◌then◌else◌, IsUtf8, refl}
+use Rattle.std.proofs.Common.{◌≡◌, ◌≢◌, List, [], ℕ, Bool, true, false, if◌then◌else◌, IsUtf8, refl, sym, ap, ◌∙◌, ◌<◌, ◌≤◌, arith, ℤ}
 use Rattle.std.proofs.lemmas.Str.{IsUtf8-from_is_utf8, is_utf8-from_IsUtf8}
 use Rattle.std.specs.Str.{is_utf8}
-use Rattle.release_check.specs.FaultText.{fault_text, readable, shown_text}
+use Rattle.std.specs.List.{All}
+use Rattle.std.proofs.lemmas.Str.{IsUtf8-from_ascii}
+use Rattle.std.proofs.lemmas.Str.Ascii.{IsAscii-from_all}
+use Rattle.td_civil.specs.Bounds.{has_meaning}
+use Rattle.td_civil.specs.Texts.{text_of}
+use Rattle.td_civil.specs.declared.moment_type.Moment.{Moment}
+use Rattle.td_civil.proofs.TextBytes.{text_all}
+use Rattle.release_check.specs.FaultText.{fault_text, readable, shown_text, stamp_text}
 use Rattle.release_check.specs.declared.check_fault.CheckFault.{CheckFault}
 use Rattle.release_check.specs.declared.check_fault.CheckFault.TheVariants as fault
 
-pub shown_text-is : (f : CheckFault) → ((name : List ℕ) → f ≢ fault.Duplicate name) → ((path : List ℕ) → f ≢ fault.Absent path)
+pub shown_text-is : (f : CheckFault) → ((name : List ℕ) → f ≢ fault.Duplicate name) → ((name : List ℕ) → f ≢ fault.Drops name) → ((path : List ℕ) → f ≢ fault.Absent path)
     → shown_text f ≡ fault_text f
-shown_text-is (fault.Duplicate name) no_name no_path = absurd (no_name name refl)
-shown_text-is (fault.Absent path) no_name no_path = absurd (no_path path refl)
-shown_text-is f no_name no_path = refl
+shown_text-is (fault.Duplicate name) no_name no_drop no_path = absurd (no_name name refl)
+shown_text-is (fault.Drops name) no_name no_drop no_path = absurd (no_drop name refl)
+shown_text-is (fault.Absent path) no_name no_drop no_path = absurd (no_path path refl)
+shown_text-is f no_name no_drop no_path = refl
 
 -- bytes that are a text, and bytes that are none
 pub readable-text : (bytes : List ℕ) → IsUtf8 bytes → bytes ≡ readable bytes
@@ -24,3 +32,21 @@ not_chosen false bytes never = refl
 pub readable-none : (bytes : List ℕ) → ¬ (IsUtf8 bytes) → [] ≡ readable bytes
 unfolding readable
 readable-none bytes never = not_chosen (is_utf8 bytes) bytes (λ t. never (IsUtf8-from_is_utf8 bytes t))
+
+-- the text of a stamp is one
+text_is_utf8 : (m : ℤ) → IsUtf8 (text_of m)
+text_is_utf8 m = IsUtf8-from_ascii (text_of m) (IsAscii-from_all (text_of m) (text_all (λ b. b < 128) (λ b low high. omega arith) m))
+
+nothing : (b : Bool) → ◌≡◌ {A = List ℕ} (if b then [] else []) []
+nothing true = refl
+nothing false = refl
+
+readable_if : (b : Bool) (text : List ℕ) → text ≡ readable text → readable (if b then text else []) ≡ (if b then text else [])
+unfolding readable
+readable_if true text h = sym h
+readable_if false text h = nothing (is_utf8 [])
+
+pub readable_stamp : (text : List ℕ) (m : Moment) → text ≡ stamp_text m → readable text ≡ stamp_text m
+unfolding stamp_text
+readable_stamp text m is =
+    ap readable is ∙ readable_if (has_meaning m.seconds) (text_of m.seconds) (readable-text (text_of m.seconds) (text_is_utf8 m.seconds))

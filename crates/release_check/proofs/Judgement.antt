@@ -2,14 +2,19 @@
 use Rattle.std.proofs.Common.{◌≡◌, ◌≢◌, ℕ, List, [], Option, None, Some, length, refl, ap, ◌∙◌}
 use Rattle.release_manifest.specs.declared.manifest_type.Manifest.{Manifest}
 use Rattle.td_base.specs.FirstFault.{◌or_else◌}
-use Rattle.release_check.specs.ManifestFaults.{names_in, limit_fault, identifier_fault, duplicate_fault, leaps_fault, manifest_fault}
+use Rattle.release_check.specs.Before.{Before}
+use Rattle.release_check.specs.HistoryFaults.{stamp_fault, drop_fault, place_fault}
+use Rattle.release_check.specs.ManifestFaults.{names_in, limit_fault, identifier_fault, duplicate_fault, manifest_fault}
 use Rattle.release_check.specs.declared.check_fault.CheckFault.{CheckFault}
 use Rattle.release_check.specs.declared.check_fault.CheckFault.TheVariants as fault
 
 -- the searches, over the names and the numbers that were found
-pub searches : (m : Manifest) (names : List (List ℕ)) (zones count : ℕ) → names ≡ names_in m.zones → zones ≡ length m.zones → count ≡ length names → manifest_fault m ≡ (limit_fault zones count or_else (identifier_fault 0 m.zones or_else (duplicate_fault [] names or_else leaps_fault m.leaps)))
+pub searches : (before : Before) (m : Manifest) (names : List (List ℕ)) (zones count : ℕ) → names ≡ names_in m.zones → zones ≡ length m.zones → count ≡ length names
+    → manifest_fault before m
+    ≡ (limit_fault zones count or_else (stamp_fault before.last m.stamp or_else (identifier_fault 0 m.zones
+    or_else (duplicate_fault [] names or_else (drop_fault before.last names or_else place_fault before.count)))))
 unfolding manifest_fault
-searches m names zones count n z k = rw (k, z, n) refl
+searches before m names zones count n z k = rw (k, z, n) refl
 
 -- the fault of the first search that finds one is that of the whole
 pub judged_first : (a rest all : Option CheckFault) (e : CheckFault) → all ≡ (a or_else rest) → (e ≢ fault.NoMemory → a ≡ Some e) → e ≢ fault.NoMemory → all ≡ Some e

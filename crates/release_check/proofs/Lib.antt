@@ -1,11 +1,14 @@
 pub mod Judgement
+pub mod Missing
 pub mod Looking
 pub mod ZoneFiles
 pub mod Prefixes
+pub mod LeapFiles
 pub mod Contents
 pub mod Names
 pub mod Fitting
 pub mod Folders
+pub mod Histories
 pub mod OneFolder
 pub mod FaultTexts
 pub mod Repeats

@@ -3,11 +3,15 @@ use Rattle.std.specs.Prelude.{◌≡◌, ℕ, ◌+◌, List, [], ◌∷◌, Opti
 use Rattle.td_base.specs.Files.{File, file_at}
 use Rattle.catalogue.specs.Order.{rising_by}
 use Rattle.catalogue.specs.Releases.{ContentData, ReleaseData}
+use Rattle.catalogue.specs.declared.release.Leaps.{Leaps}
 use Rattle.release_manifest.specs.Reading.{IsManifestText, manifest_text_fault}
 use Rattle.release_manifest.specs.declared.manifest_type.Manifest.{Manifest}
 use Rattle.release_manifest.specs.declared.manifest_type.ManifestZone.{ManifestZone}
+use Rattle.release_manifest.specs.declared.manifest_type.ManifestLeaps.{ManifestLeaps}
 use Rattle.release_manifest.specs.declared.manifest_fault.ManifestFault.{ManifestFault}
-use Rattle.release_check.specs.ManifestFaults.{manifest_fault}
+use Rattle.release_check.specs.Before.{Before}
+use Rattle.release_check.specs.LeapFile.{leap_file_fault, table_of}
+use Rattle.release_check.specs.ManifestFaults.{form_fault, manifest_fault}
 use Rattle.release_check.specs.Paths.{path_in, manifest_path}
 use Rattle.release_check.specs.ZoneFaults.{file_fault}
 use Rattle.release_check.specs.declared.check_fault.CheckFault.{CheckFault}
@@ -47,28 +51,50 @@ contents_in files dir n [] = Ok []
 contents_in files dir n (z ∷ zs) =
     content_in files dir n z >>= λ c. contents_in files dir (n + 1) zs >>= λ cs. Ok (c ∷ cs)
 
+-- the table of leap seconds over the file at its path
+abbrev pub table_from : List ℕ → List ℕ → Option (List ℕ) → Result (Option Leaps) CheckFault
+table_from path expires None = Err (fault.Absent path)
+table_from path expires (Some bytes) =
+    unless (leap_file_fault bytes) (Ok (Some (table_of bytes expires)))
+
+-- the table that a manifest names, if it names one
+abbrev pub table_in : List File → List ℕ → Option ManifestLeaps → Result (Option Leaps) CheckFault
+table_in files dir None = Ok None
+table_in files dir (Some leaps) =
+    table_from (path_in dir leaps.file) leaps.expires (file_at files (path_in dir leaps.file))
+
 -- the release of a manifest, its zones in rising order
-abbrev pub release_with : Manifest → List ContentData → ReleaseData
-release_with m contents = record {
+abbrev pub release_with : Manifest → List ContentData → Option Leaps → ReleaseData
+release_with m contents leaps = record {
   stamp = m.stamp.seconds;
   publisher = m.publisher;
   version = m.version;
   contents = rising_by (λ c. c.tzid) contents;
-  leaps = None;
+  leaps = leaps;
 }
 
--- the release of a manifest and the files of its directory, or the first fault
-unfoldable pub release_in : List File → List ℕ → Manifest → Result ReleaseData CheckFault
-release_in files dir m =
-    unless (manifest_fault m) (contents_in files dir 0 m.zones >>= λ cs. Ok (release_with m cs))
+-- the release of the files that a manifest names, the table of leap seconds last, or the first fault
+abbrev pub files_in : List File → List ℕ → Manifest → Result ReleaseData CheckFault
+files_in files dir m =
+    contents_in files dir 0 m.zones >>= λ cs. table_in files dir m.leaps >>= λ leaps.
+    Ok (release_with m cs leaps)
 
--- what a directory gives: a fault where the manifest is absent or refused, and else what the
+-- the release of a manifest and the files of its directory after what stands before it, or the first
+-- fault
+unfoldable pub release_in : List File → List ℕ → Before → Manifest → Result ReleaseData CheckFault
+release_in files dir before m = unless (manifest_fault before m) (files_in files dir m)
+
+-- the same of a manifest value, whose texts are judged first
+abbrev pub examined_in : List File → List ℕ → Before → Manifest → Result ReleaseData CheckFault
+examined_in files dir before m = unless (form_fault m) (release_in files dir before m)
+
+-- what a directory gives after what stands before it: a fault where the manifest is absent or refused, and else what the
 -- manifest and the files that it names give
-pub data FolderGives (files : List File) (dir : List ℕ)
+pub data FolderGives (files : List File) (dir : List ℕ) (before : Before)
     : Result ReleaseData CheckFault → Type 0 where
   absent : file_at files (manifest_path dir) ≡ None
-      → FolderGives files dir (Err (fault.Absent (manifest_path dir)))
+      → FolderGives files dir before (Err (fault.Absent (manifest_path dir)))
   refused : (text : List ℕ) (f : ManifestFault) → file_at files (manifest_path dir) ≡ Some text
-      → manifest_text_fault text ≡ Some f → FolderGives files dir (Err (fault.Manifest f))
+      → manifest_text_fault text ≡ Some f → FolderGives files dir before (Err (fault.Manifest f))
   read : (text : List ℕ) (m : Manifest) → file_at files (manifest_path dir) ≡ Some text
-      → IsManifestText text m → FolderGives files dir (release_in files dir m)
+      → IsManifestText text m → FolderGives files dir before (release_in files dir before m)

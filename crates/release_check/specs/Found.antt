@@ -1,19 +1,22 @@
 -- What looking into a folder answers. Out of memory and a failed read are tied to no file.
-use Rattle.std.specs.Prelude.{◌≡◌, ◌≢◌, ⊤, ℕ, List, [], ◌∷◌, take, map, None, Some, Result, Ok, Err, IfSome, IsErrOf}
+use Rattle.std.specs.Prelude.{◌≡◌, ◌≢◌, ⊤, ℕ, Option, List, [], ◌∷◌, take, map, None, Some, Result, Ok, Err, IfSome, IsErrOf}
 use Rattle.std.specs.Option.{option_map}
 use Rattle.td_base.specs.Cause.{StoreFailed}
 use Rattle.td_base.specs.Files.{File, file_at}
 use Rattle.td_base.specs.Later.{LaterStore}
 use Rattle.td_base.specs.Views.{StoreView}
 use Rattle.catalogue.specs.Order.{rising_by}
-use Rattle.catalogue.specs.Releases.{ContentData, content_data, release_data}
+use Rattle.catalogue.specs.Releases.{ContentData, ReleaseData, content_data, release_data}
+use Rattle.catalogue.specs.declared.release.Leaps.{Leaps}
 use Rattle.catalogue.specs.declared.release.Content.{Content}
 use Rattle.catalogue.specs.declared.release.Release.{Release}
 use Rattle.release_manifest.specs.Reading.{IsManifestText}
 use Rattle.release_manifest.specs.declared.manifest_type.Manifest.{Manifest}
 use Rattle.release_manifest.specs.declared.manifest_type.ManifestZone.{ManifestZone}
+use Rattle.release_manifest.specs.declared.manifest_type.ManifestLeaps.{ManifestLeaps}
 use Rattle.zone_meaning.specs.Sound.{IsSoundFile}
-use Rattle.release_check.specs.Folder.{FolderGives, content_in, contents_in}
+use Rattle.release_check.specs.Before.{Before}
+use Rattle.release_check.specs.Folder.{FolderGives, content_in, contents_in, examined_in, release_in, table_in}
 use Rattle.release_check.specs.Paths.{manifest_path}
 use Rattle.release_check.specs.declared.check_fault.CheckFault.{CheckFault}
 use Rattle.release_check.specs.declared.check_fault.CheckFault.TheVariants as fault
@@ -36,10 +39,10 @@ IsFile path most (Ok bytes) files = option_map (take most) (file_at files path) 
 IsFile path most (Err e) files = Blames e ((e ≡ fault.Absent path) × (file_at files path ≡ None))
 
 -- the manifest of a directory, or why there is none
-abbrev pub IsManifestIn : List ℕ → Result Manifest CheckFault → List File → Type 0
-IsManifestIn dir (Ok m) files =
+abbrev pub IsManifestIn : List ℕ → Before → Result Manifest CheckFault → List File → Type 0
+IsManifestIn dir before (Ok m) files =
     (text : List ℕ) × (file_at files (manifest_path dir) ≡ Some text) × IsManifestText text m
-IsManifestIn dir (Err e) files = Blames e (FolderGives files dir (Err e))
+IsManifestIn dir before (Err e) files = Blames e (FolderGives files dir before (Err e))
 
 -- a zone with its file, or its first fault
 abbrev pub IsZoneIn : List ℕ → ℕ → ManifestZone → Result (Content (List ℕ)) CheckFault
@@ -54,10 +57,32 @@ AreZonesIn dir zs (Ok cs) files =
     contents_in files dir 0 zs ≡ Ok (map (content_data (λ bytes. bytes)) cs)
 AreZonesIn dir zs (Err e) files = Blames e (contents_in files dir 0 zs ≡ Err e)
 
--- the release of a directory, or its first fault
-abbrev pub IsReleaseIn : List ℕ → Result (Release (List ℕ)) CheckFault → List File → Type 0
-IsReleaseIn dir (Ok r) files = FolderGives files dir (Ok (release_data (λ bytes. bytes) r))
-IsReleaseIn dir (Err e) files = Blames e (FolderGives files dir (Err e))
+-- the table that a manifest names, or its fault
+abbrev pub IsTableIn : List ℕ → Option ManifestLeaps → Result (Option Leaps) CheckFault → List File
+    → Type 0
+IsTableIn dir named (Ok table) files = table_in files dir named ≡ Ok table
+IsTableIn dir named (Err e) files = Blames e (table_in files dir named ≡ Err e)
+
+-- an answer that is this result
+abbrev pub Answers : Result ReleaseData CheckFault → Result (Release (List ℕ)) CheckFault → Type 0
+Answers given (Ok r) = given ≡ Ok (release_data (λ bytes. bytes) r)
+Answers given (Err e) = Blames e (given ≡ Err e)
+
+-- the release of a manifest and the files of a directory after what stands before it, or the first
+-- fault, where the texts of the manifest have their forms and where they are judged
+abbrev pub IsOfManifest : List ℕ → Manifest → Before → Result (Release (List ℕ)) CheckFault → List File
+    → Type 0
+IsOfManifest dir m before result files = Answers (release_in files dir before m) result
+
+abbrev pub IsExaminedIn : List ℕ → Manifest → Before → Result (Release (List ℕ)) CheckFault → List File
+    → Type 0
+IsExaminedIn dir m before result files = Answers (examined_in files dir before m) result
+
+-- the release of a directory after what stands before it, or its first fault
+abbrev pub IsReleaseIn : List ℕ → Before → Result (Release (List ℕ)) CheckFault → List File → Type 0
+IsReleaseIn dir before (Ok r) files =
+    FolderGives files dir before (Ok (release_data (λ bytes. bytes) r))
+IsReleaseIn dir before (Err e) files = Blames e (FolderGives files dir before (Err e))
 
 -- the zone of the manifest, with a sound file
 pub record IsOf (z : ManifestZone) (c : ContentData) : Type 0 where

@@ -6,6 +6,9 @@ use Rattle.tzif_reader.specs.declared.tzif_fault.TzifFault.TheVariants as tzif
 use Rattle.release_manifest.specs.Reading.{manifest_text_fault}
 use Rattle.release_manifest.specs.declared.manifest_fault.ManifestFault.{ManifestFault}
 use Rattle.release_manifest.specs.declared.manifest_fault.ManifestFault.TheVariants as manifest
+use Rattle.leap_table.specs.declared.leap_fault.LeapFault.{LeapFault}
+use Rattle.leap_table.specs.declared.leap_fault.LeapFault.TheVariants as table
+use Rattle.release_check.specs.declared.check_fault.LeapFileFault.TheVariants as leap
 use Rattle.release_check.specs.declared.check_fault.CheckFault.{CheckFault}
 use Rattle.release_check.specs.declared.check_fault.CheckFault.TheVariants as fault
 
@@ -13,6 +16,16 @@ use Rattle.release_check.specs.declared.check_fault.CheckFault.TheVariants as fa
 abbrev pub of_reader : ℕ → TzifFault → CheckFault
 of_reader n tzif.NoMemory = fault.NoMemory
 of_reader n f = fault.Tzif n f
+
+-- the reader's fault of the file of leap seconds, and that of its lines
+abbrev pub of_leap_reader : TzifFault → CheckFault
+of_leap_reader tzif.NoMemory = fault.NoMemory
+of_leap_reader f = fault.Leap (leap.File f)
+
+abbrev pub of_table : LeapFault → CheckFault
+of_table table.NoMemory = fault.NoMemory
+of_table (table.Step line) = fault.Leap (leap.Step line)
+of_table (table.Midnight line) = fault.Leap (leap.Midnight line)
 
 -- the fault of a manifest's text
 abbrev pub of_manifest : ManifestFault → CheckFault

@@ -1,4 +1,7 @@
 pub mod Paths
+pub mod Before
+pub mod HistoryFaults
+pub mod LeapFile
 pub mod ManifestFaults
 pub mod ZoneFaults
 pub mod Folder

@@ -1,13 +1,21 @@
--- What is wrong with a release as its manifest tells it, before any file that it names is read.
-use Rattle.std.specs.Prelude.{ℕ, ◌+◌, List, [], ◌∷◌, ◌++◌, length, nat_lt, if◌then◌else◌, Option, None, Some}
+-- What is wrong with a release as its manifest tells it, before any file that it names is read: by itself, and
+-- against the history before it (`HistoryFaults`).
+use Rattle.std.specs.Prelude.{ℕ, ◌+◌, List, [], ◌∷◌, ◌++◌, length, nat_lt, if◌then◌else◌, Option, None, Some, Bool, true, not, IsTrue}
 use Rattle.std.specs.List.{list_all, list_any}
 use Rattle.std.specs.Str.{bytes_eq}
 use Rattle.td_base.specs.FirstFault.{◌or_else◌, when}
-use Rattle.td_base.specs.Names.{is_identifier}
+use Rattle.td_base.specs.Names.{is_identifier, is_label}
+use Rattle.td_civil.specs.Bounds.{HasMeaning, has_meaning}
+use Rattle.td_civil.specs.Reading.{is_date_text}
 use Rattle.catalogue.specs.declared.limits.TheConstants.{MOST_ZONES, MOST_NAMES}
 use Rattle.release_manifest.specs.declared.manifest_type.Manifest.{Manifest}
 use Rattle.release_manifest.specs.declared.manifest_type.ManifestZone.{ManifestZone}
 use Rattle.release_manifest.specs.declared.manifest_type.ManifestLeaps.{ManifestLeaps}
+use Rattle.release_manifest.specs.declared.manifest_fault.ManifestFault.TheVariants as manifest
+use Rattle.release_manifest.specs.declared.manifest_fault.Path.{Path}
+use Rattle.release_manifest.specs.declared.manifest_fault.Path.TheVariants as path
+use Rattle.release_check.specs.Before.{Before}
+use Rattle.release_check.specs.HistoryFaults.{stamp_fault, drop_fault, place_fault}
 use Rattle.release_check.specs.declared.check_fault.Limited.TheVariants as limited
 use Rattle.release_check.specs.declared.check_fault.CheckFault.{CheckFault}
 use Rattle.release_check.specs.declared.check_fault.CheckFault.TheVariants as fault
@@ -37,16 +45,35 @@ duplicate_fault before (name ∷ names) =
     if list_any (bytes_eq name) before then Some (fault.Duplicate name)
     else duplicate_fault (before ++ name ∷ []) names
 
--- leap seconds are not served yet
-abbrev pub leaps_fault : Option ManifestLeaps → Option CheckFault
-leaps_fault None = None
-leaps_fault (Some leaps) = Some fault.NotBuilt
-
--- The first fault of what a manifest says. Faults against the releases before come to stand among
--- these, each in its place, as further rows.
-unfoldable pub manifest_fault : Manifest → Option CheckFault
-manifest_fault m =
+-- The first fault of what a manifest says, by itself and against what stands before it.
+unfoldable pub manifest_fault : Before → Manifest → Option CheckFault
+manifest_fault before m =
     limit_fault (length m.zones) (length (names_in m.zones))
+    or_else stamp_fault before.last m.stamp
     or_else identifier_fault 0 m.zones
     or_else duplicate_fault [] (names_in m.zones)
-    or_else leaps_fault m.leaps
+    or_else drop_fault before.last (names_in m.zones)
+    or_else place_fault before.count
+
+-- a text of a manifest that has not its form; a manifest that was read from a text has none
+abbrev pub text_fault : Bool → Path → Option CheckFault
+text_fault fits at = when (not fits) (fault.Manifest (manifest.Text at))
+
+abbrev pub has_date : Option ManifestLeaps → Bool
+has_date None = true
+has_date (Some leaps) = is_date_text leaps.expires
+
+-- the first of the texts of a manifest value that has not its form
+unfoldable pub form_fault : Manifest → Option CheckFault
+form_fault m =
+    text_fault (is_label m.publisher) path.Publisher
+    or_else text_fault (is_label m.version) path.Version
+    or_else text_fault (has_meaning m.stamp.seconds) path.Stamp
+    or_else text_fault (has_date m.leaps) path.Expires
+
+-- each of these texts has its form
+pub record IsFormed (m : Manifest) : Type 0 where
+  pub publisher : IsTrue (is_label m.publisher)
+  pub version : IsTrue (is_label m.version)
+  pub stamp : HasMeaning m.stamp.seconds
+  pub expires : IsTrue (has_date m.leaps)

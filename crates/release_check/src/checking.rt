@@ -1,16 +1,20 @@
-ghost use Rattle.std.specs.Prelude.{◌≡◌, [], List, ℕ, IfOk, IfErr};
+ghost use Rattle.std.specs.Prelude.{◌≡◌, List, ℕ, option_copied, IfOk, IfErr};
 ghost use Rattle.catalogue.specs.Releases.{release_data};
 ghost use Rattle.catalogue.specs.Histories.{Fits};
 ghost use Rattle.release_manifest.specs.Reading.{IsManifestText};
 ghost use Rattle.zone_meaning.specs.Sound.{IsSound};
-ghost use Rattle.release_check.specs.Found.{Finds, IsManifestIn, IsReleaseIn};
+ghost use Rattle.release_check.specs.Before.{Before as Earlier, ForEachBefore, Follows, before_held, before_of};
+ghost use Rattle.release_check.specs.Found.{Finds, IsExaminedIn, IsManifestIn, IsOfManifest, IsReleaseIn};
 ghost use Rattle.release_check.specs.Judged.{of_manifest, RefusesText};
+ghost use Rattle.release_check.specs.ManifestFaults.{IsFormed};
 
 use crate::check_fault::CheckFault;
 use crate::files::read_in;
+use crate::form_judging::judge_form;
+use crate::leap_files::read_table;
 use crate::manifest_judging::judge;
 use crate::zone_files::read_zones;
-use catalogue::Release;
+use catalogue::{Catalogue, Release};
 use release_manifest::{Manifest, ManifestFault};
 use std::alloc::Global;
 use td_base::{Bytes, Store};
@@ -20,38 +24,119 @@ use zone_meaning::Zone;
 const MANIFEST_ROOM: u64 = 1_048_577;
 
 /// The release of a folder of the store, or the folder's first fault: an absent manifest, one that is refused, what the
-/// manifest says, and then zone by zone what their files say. An empty `dir` stands for the store's own top.
+/// manifest says by itself and against the history that a catalogue stands for, then zone by zone what their files say,
+/// and the file of leap seconds last. Without a catalogue the release is the first. An empty `dir` stands for the
+/// store's own top.
 pub fn check<S: Store>(
     alloc: Global,
     dir: &[u8],
     store: &mut S,
+    last: Option<&Catalogue<Zone>>,
 ) -> Result<Release<Zone>, CheckFault>
-    ensures found { Finds (S.seen store.old) (S.seen store.new) result (IsReleaseIn dir.now result) }
+    ensures held { Finds (S.seen store.old) (S.seen store.new) result
+        (IsReleaseIn dir.now (before_held (option_copied last.entry)) result) }
+    ensures found { Finds (S.seen store.old) (S.seen store.new) result (λ files.
+        ForEachBefore (option_copied last.entry) (λ H. IsReleaseIn dir.now (before_of H) result files)) }
     ensures sound { IfOk result (λ r. IsSound (release_data (λ bytes. bytes) r)) }
-    ensures fits { IfOk result (λ r. Fits [] (release_data (λ bytes. bytes) r)) }
+    ensures follows { IfOk result (λ r. Follows (before_held (option_copied last.entry))
+        (release_data (λ bytes. bytes) r)) }
+    ensures fits { IfOk result (λ r. ForEachBefore (option_copied last.entry) (λ H.
+        Fits H (release_data (λ bytes. bytes) r))) }
+{
+    release_in(alloc, dir, store, last)
+}
+
+/// The release of a manifest that is at hand, over the files of a folder of the store, or the first fault: a text of the
+/// manifest that has not its form, and then those that `check` tells.
+pub fn examine<S: Store>(
+    alloc: Global,
+    manifest: &Manifest,
+    dir: &[u8],
+    store: &mut S,
+    last: Option<&Catalogue<Zone>>,
+) -> Result<Release<Zone>, CheckFault>
+    ensures held { Finds (S.seen store.old) (S.seen store.new) result
+        (IsExaminedIn dir.now manifest.now (before_held (option_copied last.entry)) result) }
+    ensures found { Finds (S.seen store.old) (S.seen store.new) result (λ files.
+        ForEachBefore (option_copied last.entry) (λ H.
+        IsExaminedIn dir.now manifest.now (before_of H) result files)) }
+    ensures sound { IfOk result (λ r. IsSound (release_data (λ bytes. bytes) r)) }
+    ensures follows { IfOk result (λ r. Follows (before_held (option_copied last.entry))
+        (release_data (λ bytes. bytes) r)) }
+    ensures fits { IfOk result (λ r. ForEachBefore (option_copied last.entry) (λ H.
+        Fits H (release_data (λ bytes. bytes) r))) }
+{
+    examined_in(alloc, manifest, dir, store, last)
+}
+
+/// The release of a folder, after what a catalogue holds.
+fn release_in<S: Store>(
+    alloc: Global,
+    dir: &[u8],
+    store: &mut S,
+    last: Option<&Catalogue<Zone>>,
+) -> Result<Release<Zone>, CheckFault>
+    ensures found { Finds (S.seen store.old) (S.seen store.new) result
+        (IsReleaseIn dir.now (before_held (option_copied last.entry)) result) }
+    ensures sound { IfOk result (λ r. IsSound (release_data (λ bytes. bytes) r)) }
+    ensures follows { IfOk result (λ r. Follows (before_held (option_copied last.entry))
+        (release_data (λ bytes. bytes) r)) }
 {
     let manifest = read_manifest(alloc, dir, store)?;
-    judge(alloc, &manifest)?;
-    let contents = read_zones(alloc, dir, manifest.zones.as_slice(), store)?;
-    let Manifest {
-        publisher,
-        version,
-        stamp,
-        zones: _,
-        leaps: _,
-    } = manifest;
+    let release = release_of(alloc, &manifest, dir, store, last)?;
+    Ok(release)
+}
+
+/// The release of a manifest that is at hand, after what a catalogue holds.
+fn examined_in<S: Store>(
+    alloc: Global,
+    manifest: &Manifest,
+    dir: &[u8],
+    store: &mut S,
+    last: Option<&Catalogue<Zone>>,
+) -> Result<Release<Zone>, CheckFault>
+    ensures found { Finds (S.seen store.old) (S.seen store.new) result
+        (IsExaminedIn dir.now manifest.now (before_held (option_copied last.entry)) result) }
+    ensures sound { IfOk result (λ r. IsSound (release_data (λ bytes. bytes) r)) }
+    ensures follows { IfOk result (λ r. Follows (before_held (option_copied last.entry))
+        (release_data (λ bytes. bytes) r)) }
+{
+    judge_form(manifest)?;
+    let release = release_of(alloc, manifest, dir, store, last)?;
+    Ok(release)
+}
+
+/// The release of a manifest whose texts have their forms.
+fn release_of<S: Store>(
+    alloc: Global,
+    manifest: &Manifest,
+    dir: &[u8],
+    store: &mut S,
+    last: Option<&Catalogue<Zone>>,
+) -> Result<Release<Zone>, CheckFault>
+    requires { IsFormed manifest.now }
+    ensures found { Finds (S.seen store.old) (S.seen store.new) result
+        (IsOfManifest dir.now manifest.now (before_held (option_copied last.entry)) result) }
+    ensures sound { IfOk result (λ r. IsSound (release_data (λ bytes. bytes) r)) }
+    ensures follows { IfOk result (λ r. Follows (before_held (option_copied last.entry))
+        (release_data (λ bytes. bytes) r)) }
+{
+    judge(alloc, manifest, last)?;
+    let zones = read_zones(alloc, dir, manifest.zones.as_slice(), store)?;
+    let leaps = read_table(alloc, dir, &manifest.leaps, store)?;
     Ok(Release {
-        stamp,
-        publisher,
-        version,
-        zones: contents,
-        leaps: None,
+        stamp: manifest.stamp,
+        publisher: Bytes::from_slice(alloc, manifest.publisher.as_slice())?,
+        version: Bytes::from_slice(alloc, manifest.version.as_slice())?,
+        zones,
+        leaps,
     })
 }
 
 /// The manifest of a folder.
 fn read_manifest<S: Store>(alloc: Global, dir: &[u8], store: &mut S) -> Result<Manifest, CheckFault>
-    ensures found { Finds (S.seen store.old) (S.seen store.new) result (IsManifestIn dir.now result) }
+    ensures found { (before : Earlier) → Finds (S.seen store.old) (S.seen store.new) result
+        (IsManifestIn dir.now before result) }
     ensures meant { IfOk result (λ m. (text : List ℕ) × IsManifestText text m) }
 {
     let text = read_in(alloc, dir, b"manifest.json", MANIFEST_ROOM, store)?;

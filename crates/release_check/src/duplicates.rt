@@ -9,10 +9,16 @@ use std::alloc::Global;
 use std::collections::BTreeSet;
 use td_base::{Bytes, NoMemory};
 
-/// Looks for the first name that stood before. The names before are kept in order, so that a name is compared with few
-/// of them.
-pub fn judge_duplicates(alloc: Global, names: &[&[u8]]) -> Result<(), CheckFault>
-    ensures { JudgesUnread (duplicate_fault [] (map (λ n. n.now) names.now)) result }
+/// Looks for the first name that stood before, and gives all names. They are kept in order, so that a name is compared
+/// with few of them.
+pub fn judge_duplicates<'a>(
+    alloc: Global,
+    names: &[&'a [u8]],
+) -> Result<BTreeSet<&'a [u8]>, CheckFault>
+    ensures first { JudgesUnread (duplicate_fault [] (map (λ n. n.now) names.now)) result }
+    ensures kept { IfOk result (λ kept. (text : List ℕ)
+        → list_any (bytes_eq text) (map (λ n. n.now) kept.keys)
+        ≡ list_any (bytes_eq text) (map (λ n. n.now) names.now)) }
 {
     let mut before = BTreeSet::new(alloc);
     for name in names {
@@ -20,7 +26,7 @@ pub fn judge_duplicates(alloc: Global, names: &[&[u8]]) -> Result<(), CheckFault
             return Err(CheckFault::Duplicate(Bytes::from_slice(alloc, name)?));
         }
     }
-    Ok(())
+    Ok(before)
 }
 
 /// Puts a name among those before, and tells whether it was none of them.

@@ -1,27 +1,36 @@
-ghost use Rattle.std.specs.Prelude.{◌≡◌, List, [], ℕ, Ok, Result};
+ghost use Rattle.std.specs.Prelude.{◌≡◌, List, ℕ, Ok, Result, Some};
 ghost use Rattle.td_base.specs.Files.{File};
-ghost use Rattle.catalogue.specs.Histories.{Fits};
+ghost use Rattle.catalogue.specs.Holdings.{StandsFor};
 ghost use Rattle.catalogue.specs.Releases.{ReleaseData};
+ghost use Rattle.catalogue.specs.declared.holding.Catalogue.{Catalogue};
 ghost use Rattle.zone_meaning.specs.Sound.{IsSound};
+ghost use Rattle.release_check.specs.Before.{Before, Follows, before_held, before_of};
 ghost use Rattle.release_check.specs.Folder.{FolderGives};
 ghost use Rattle.release_check.specs.declared.check_fault.CheckFault.{CheckFault};
 
 use release_manifest::one_reading;
 
-/// A folder gives a release or a first fault, and one of them alone.
+/// A folder gives a release or a first fault, and one of them alone, after whatever stands before it.
 pub fn one_folder()
-    ensures some { (files : List File) (dir : List ℕ)
-        → (r : Result ReleaseData CheckFault) × FolderGives files dir r }
-    ensures one { (files : List File) (dir : List ℕ) (a b : Result ReleaseData CheckFault)
-        → FolderGives files dir a → FolderGives files dir b → a ≡ b }
+    ensures some { (files : List File) (dir : List ℕ) (before : Before)
+        → (r : Result ReleaseData CheckFault) × FolderGives files dir before r }
+    ensures one { (files : List File) (dir : List ℕ) (before : Before)
+        (a b : Result ReleaseData CheckFault)
+        → FolderGives files dir before a → FolderGives files dir before b → a ≡ b }
 {
     one_reading();
 }
 
-/// A release that a folder gives is sound, and may be the first of a history.
+/// A release that a folder gives is sound, and may follow what stands before it.
 pub fn fitting_release()
-    ensures sound { (files : List File) (dir : List ℕ) (r : ReleaseData)
-        → FolderGives files dir (Ok r) → IsSound r }
-    ensures fits { (files : List File) (dir : List ℕ) (r : ReleaseData)
-        → FolderGives files dir (Ok r) → Fits [] r }
+    ensures sound { (files : List File) (dir : List ℕ) (before : Before) (r : ReleaseData)
+        → FolderGives files dir before (Ok r) → IsSound r }
+    ensures follows { (files : List File) (dir : List ℕ) (before : Before) (r : ReleaseData)
+        → FolderGives files dir before (Ok r) → Follows before r }
+{}
+
+/// What a catalogue holds is what each history leaves that it stands for.
+pub fn held_before()
+    ensures { (c : Catalogue (List ℕ)) (H : List ReleaseData)
+        → StandsFor (λ file. file) IsSound c H → before_of H ≡ before_held (Some c) }
 {}

@@ -1,22 +1,26 @@
-//! Judges the folder of a release: reads its manifest and the zone files that the manifest names, and gives the
-//! release, or the first fault of the folder. [`check`] is the main call; what a folder gives is `FolderGives` in
-//! `specs/Folder.antt`.
+//! Judges the folder of a release against the history before it: reads its manifest and the files that the manifest
+//! names, and gives the release, or the first fault of the folder. [`check`] is the main call; what a folder gives is
+//! `FolderGives` in `specs/Folder.antt`. [`examine`] judges a manifest that is at hand.
 #![tactic(auto)]
 
 mod check_fault;
 mod checking;
 mod duplicates;
 mod files;
+mod form_judging;
+mod history_judging;
 mod laws;
+mod leap_files;
 mod manifest_judging;
 mod send_sync;
 mod text_copies;
 mod zone_files;
+mod zone_judging;
 mod zone_names;
 
-pub use check_fault::{CheckFault, Limited};
-pub use checking::check;
-pub use laws::{fitting_release, one_folder};
+pub use check_fault::{CheckFault, LeapFileFault, Limited};
+pub use checking::{check, examine};
+pub use laws::{fitting_release, held_before, one_folder};
 
 #[cfg(test)]
 mod tests;

@@ -1,29 +1,37 @@
-ghost use Rattle.std.specs.Prelude.{◌≡◌, ◌∷◌, ◌++◌, [], map, IfOk, OnOk};
+ghost use Rattle.std.specs.Prelude.{◌≡◌, ◌∷◌, ◌++◌, [], map, option_copied, IfOk, OnOk};
 ghost use Rattle.std.specs.List.{list_all};
 ghost use Rattle.td_base.specs.Names.{is_identifier};
+ghost use Rattle.release_check.specs.Before.{before_held};
 ghost use Rattle.release_check.specs.ManifestFaults.{names_in, limit_fault, identifier_fault, manifest_fault};
 ghost use Rattle.release_check.specs.Judged.{JudgesUnread};
 
 use crate::check_fault::{CheckFault, Limited};
 use crate::duplicates::judge_duplicates;
-use catalogue::{MOST_NAMES, MOST_ZONES};
+use crate::history_judging::{judge_drops, judge_places, judge_stamp};
+use catalogue::{Catalogue, MOST_NAMES, MOST_ZONES};
 use release_manifest::{Manifest, ManifestZone};
 use std::alloc::Global;
 use td_base::{Bytes, NoMemory, is_identifier};
+use zone_meaning::Zone;
 
-/// Looks for the first fault of what a manifest says, before any file that it names is read.
-pub fn judge(alloc: Global, manifest: &Manifest) -> Result<(), CheckFault>
-    ensures { JudgesUnread (manifest_fault manifest.now) result }
+/// Looks for the first fault of what a manifest says, by itself and against the history that a catalogue stands for,
+/// before any file that it names is read.
+pub fn judge<'a>(
+    alloc: Global,
+    manifest: &'a Manifest,
+    last: Option<&'a Catalogue<Zone>>,
+) -> Result<(), CheckFault>
+    ensures { JudgesUnread (manifest_fault (before_held (option_copied last.entry)) manifest.now) result }
 {
     let zones = manifest.zones.as_slice();
     let names = names_in(alloc, zones)?;
     judge_limits(zones.len(), names.len())?;
+    judge_stamp(manifest.stamp, last)?;
     judge_identifiers(zones)?;
-    judge_duplicates(alloc, names.as_slice())?;
-    match &manifest.leaps {
-        None => Ok(()),
-        Some(_) => Err(CheckFault::NotBuilt),
-    }
+    let kept = judge_duplicates(alloc, names.as_slice())?;
+    judge_drops(alloc, &kept, last)?;
+    judge_places(last)?;
+    Ok(())
 }
 
 /// The names of the zones in the manifest's order, each identifier before its aliases.

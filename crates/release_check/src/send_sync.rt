@@ -1,9 +1,10 @@
 //! The types of this crate may be sent to other threads and shared with them.
-use crate::{CheckFault, Limited};
+use crate::{CheckFault, LeapFileFault, Limited};
 
 fn is_shared<T: Send + Sync>() {}
 
 fn types_are_shared() {
     is_shared::<CheckFault>();
+    is_shared::<LeapFileFault>();
     is_shared::<Limited>();
 }

@@ -1,4 +1,8 @@
 //! Folders of a store in memory.
+mod folders;
+mod histories;
+mod slim_files;
+
 use crate::{CheckFault, check};
 use std::alloc::Global;
 use std::test::Fail;
@@ -21,7 +25,7 @@ fn put(alloc: Global, store: &mut MemoryStore, path: &str, bytes: &[u8]) -> Resu
 
 /// The publisher of the release that a folder gives, or the fault as it is printed and as it is shown.
 fn outcome(alloc: Global, dir: &str, store: &mut MemoryStore) -> Result<Bytes, NoMemory> {
-    match check(alloc, dir.as_bytes(), store) {
+    match check(alloc, dir.as_bytes(), store, None) {
         Ok(release) => Bytes::from_slice(alloc, release.publisher.as_slice()),
         Err(fault) => texts_of(alloc, &fault),
     }

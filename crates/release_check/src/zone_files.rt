@@ -8,7 +8,7 @@ ghost use Rattle.release_check.specs.ZoneFaults.{file_fault};
 use crate::check_fault::CheckFault;
 use crate::files::read_in;
 use crate::text_copies::copy_texts;
-use crate::zone_names::has_printable_names;
+use crate::zone_judging::judge_zone;
 use catalogue::Content;
 use release_manifest::ManifestZone;
 use std::alloc::Global;
@@ -59,7 +59,7 @@ fn read_zone<S: Store>(
     })
 }
 
-/// The zone of a file, which is to have no leap seconds and names that can be printed.
+/// The zone of a file, which is to have no leap seconds, and to mean what a release may say.
 fn zone_in(alloc: Global, number: usize, file: Bytes) -> Result<Zone, CheckFault>
     ensures zone { IfOk result (λ zone. (zone ≡ file) × IsSoundFile file) }
     ensures judged { JudgesUnread (file_fault number file) result }
@@ -75,9 +75,7 @@ fn zone_in(alloc: Global, number: usize, file: Bytes) -> Result<Zone, CheckFault
         Ok(zone) => zone,
         Err(fault) => return Err(CheckFault::FooterText(number, fault)),
     };
-    if !has_printable_names(&zone) {
-        return Err(CheckFault::NameBeyond(number));
-    }
+    judge_zone(number, &zone)?;
     Ok(zone)
 }
 

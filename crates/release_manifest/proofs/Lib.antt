@@ -1,3 +1,4 @@
 pub mod CheckLemmas
 pub mod MeaningLemmas
 pub mod ReadingLemmas
+pub mod Expiry

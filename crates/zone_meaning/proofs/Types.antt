@@ -1,7 +1,9 @@
 -- The types of a file without fault.
 use Rattle.std.specs.Prelude.{ℤ, int_le, slice_index}
 use Rattle.std.specs.Option.{IfSome}
-use Rattle.std.proofs.Common.{◌≡◌, ◌≤◌, ◌==◌, ℕ, zero, suc, Option, ap, subst, List, length, None, Some, ◌∙◌, sym, arith, to_z, of_z, to_z-of_z, w32, FitsSigned}
+use Rattle.std.specs.List.{slice_get}
+use Rattle.td_civil.specs.declared.moment_type.TheConstants.{HI}
+use Rattle.std.proofs.Common.{◌≡◌, ◌≤◌, ◌-◌, ◌<ℤ◌, ◌==◌, ℕ, zero, suc, Option, ap, subst, List, length, None, Some, ◌∙◌, sym, arith, to_z, of_z, to_z-of_z, w32, FitsSigned}
 use Rattle.std.proofs.lemmas.Bool.{cond_both}
 use Rattle.std.proofs.lemmas.List.Sums.{count_by-le-length}
 use Rattle.jiff_core.proofs.SignedLemmas.{signed_arith}
@@ -34,6 +36,13 @@ types_in bytes z is =
 
 pub has_types : (bytes : List ℕ) → zone_fault bytes ≡ None → HasTypes (lists_of bytes)
 has_types bytes h = types_in bytes (lists_of bytes) (zone_file_of bytes (file_clear bytes h))
+
+-- the last transition of a zone comes before the end of the moments that have a meaning
+pub kept_end : (file : List ℕ) (lists : ZoneFile) (footer : Option Footer) → IsReadFrom file lists footer
+    → IfSome (slice_get lists.moments (length lists.moments - 1)) (λ m. m.seconds <ℤ HI)
+kept_end file lists footer k =
+    let P : ZoneFile → Type 0 = λ z. IfSome (slice_get z.moments (length z.moments - 1)) (λ m. m.seconds <ℤ HI) in
+    subst P (sym k.lists_are) (zone_file_of file (file_clear file k.no_fault)).second_block_is.ends
 
 -- what a zone keeps has types, and gives the state that its file does
 pub kept_types : (file : List ℕ) (lists : ZoneFile) (footer : Option Footer) → IsReadFrom file lists footer → HasTypes lists

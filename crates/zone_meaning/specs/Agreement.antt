@@ -1,6 +1,6 @@
 -- Whether a footer goes on from where the transitions end (RFC 9636, section 3.3).
-use Rattle.std.specs.Prelude.{length, Bool, true, ◌||◌, int_lt, Option, None, Some}
-use Rattle.std.specs.List.{last_or}
+use Rattle.std.specs.Prelude.{◌-◌, length, Bool, true, ◌||◌, int_lt, Option, None, Some}
+use Rattle.std.specs.List.{slice_get}
 use Rattle.td_civil.specs.declared.moment_type.Moment.{Moment}
 use Rattle.td_civil.specs.declared.moment_type.TheConstants.{LO}
 use Rattle.td_civil.specs.SameLocal.{same_local}
@@ -23,4 +23,5 @@ goes_on_if_any z (Some footer) (Some last) = goes_on z footer last
 
 -- whether the footer of a zone file does
 unfoldable pub footer_agrees : ZoneFile → Bool
-footer_agrees z = goes_on_if_any z (footer_meant z.footer) (last_or None z.moments)
+footer_agrees z =
+    goes_on_if_any z (footer_meant z.footer) (slice_get z.moments (length z.moments - 1))

@@ -1,6 +1,7 @@
 //! Zones: a zone file (RFC 9636) together with what it means, the state of local time at each moment.
 #![tactic(auto)]
 
+mod agreement;
 mod laws;
 mod lookup;
 mod observing;
@@ -12,6 +13,7 @@ mod walk;
 mod zone_fault;
 mod zone_type;
 
+pub use agreement::footer_agrees;
 pub use laws::{last_observance_tells_the_state, names_are_printable, observances_are_the_changes};
 pub use lookup::at;
 pub use observing::{Changes, observances};

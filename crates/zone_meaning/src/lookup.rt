@@ -69,7 +69,7 @@ pub(crate) fn begun(lists: &ZoneFile, t: Moment) -> usize
 }
 
 /// The state that the types give after so many transitions.
-fn state_after(lists: &ZoneFile, begun: usize) -> Local
+pub(crate) fn state_after(lists: &ZoneFile, begun: usize) -> Local
     requires types { HasTypes lists.now }
     requires bound { begun ≤ length lists.now.moments }
     ensures { result ≡ state.after lists.now begun }

@@ -1,0 +1,84 @@
+//! What is wrong with a release against the history that a catalogue stands for.
+ghost use Rattle.std.specs.Prelude.{◌≡◌, ℕ, List, map, option_copied};
+ghost use Rattle.std.specs.List.{list_any};
+ghost use Rattle.std.specs.Str.{bytes_eq};
+ghost use Rattle.catalogue.specs.Holdings.{names_held};
+ghost use Rattle.release_check.specs.Before.{before_held};
+ghost use Rattle.release_check.specs.HistoryFaults.{drop_fault, first_missing, place_fault, stamp_fault};
+ghost use Rattle.release_check.specs.Judged.{JudgesUnread};
+
+use crate::check_fault::CheckFault;
+use catalogue::{Catalogue, MOST_PLACES};
+use std::alloc::Global;
+use std::collections::BTreeSet;
+use td_base::Bytes;
+use td_civil::Moment;
+use zone_meaning::Zone;
+
+/// Whether a release is earlier than the last one.
+pub fn judge_stamp(stamp: Moment, last: Option<&Catalogue<Zone>>) -> Result<(), CheckFault>
+    ensures { JudgesUnread (stamp_fault (before_held (option_copied last.entry)).last stamp) result }
+{
+    match last {
+        None => Ok(()),
+        Some(last) => {
+            let old = last.last_stamp();
+            if stamp.seconds < old.seconds {
+                return Err(CheckFault::StampBack(old, stamp));
+            }
+            Ok(())
+        }
+    }
+}
+
+/// Looks for the least name of the last release that is none of the new ones, which are kept in order.
+pub fn judge_drops<'a>(
+    alloc: Global,
+    new: &BTreeSet<&'a [u8]>,
+    last: Option<&'a Catalogue<Zone>>,
+) -> Result<(), CheckFault>
+    ensures { (names : List (List ℕ))
+        → ((text : List ℕ)
+        → list_any (bytes_eq text) (map (λ n. n.now) new.now.keys) ≡ list_any (bytes_eq text) names)
+        → JudgesUnread (drop_fault (before_held (option_copied last.entry)).last names) result }
+{
+    match last {
+        None => Ok(()),
+        Some(last) => judge_names(alloc, new, last),
+    }
+}
+
+/// The same of the names that a catalogue holds, in their order.
+fn judge_names<'a>(
+    alloc: Global,
+    new: &BTreeSet<&'a [u8]>,
+    last: &'a Catalogue<Zone>,
+) -> Result<(), CheckFault>
+    ensures { JudgesUnread (first_missing (names_held (λ file. file) last.now)
+        (map (λ n. n.now) new.now.keys)) result }
+{
+    for at in 0..last.name_count() {
+        let name = last.name(at);
+        if !is_among(name, new) {
+            return Err(CheckFault::Drops(Bytes::from_slice(alloc, name)?));
+        }
+    }
+    Ok(())
+}
+
+/// Whether a name is one of those that are kept in order.
+fn is_among<'a>(name: &'a [u8], names: &BTreeSet<&'a [u8]>) -> bool
+    ensures { result ≡ list_any (bytes_eq name.now) (map (λ n. n.now) names.now.keys) }
+{
+    names.contains(&name)
+}
+
+/// Whether the history has as many releases as it may have.
+pub fn judge_places(last: Option<&Catalogue<Zone>>) -> Result<(), CheckFault>
+    ensures { JudgesUnread (place_fault (before_held (option_copied last.entry)).count) result }
+{
+    match last {
+        Some(last) if MOST_PLACES <= last.count() => Err(CheckFault::HistoryFull),
+        _ => Ok(()),
+    }
+}

@@ -1,0 +1,41 @@
+//! What a zone of a release may mean.
+ghost use Rattle.std.specs.Prelude.{◌≡◌, false, is_err};
+ghost use Rattle.std.specs.Option.{option_map_or};
+ghost use Rattle.posix_footer.specs.Carried.{beyond};
+ghost use Rattle.tzif_reader.specs.Cut.{lists_of};
+ghost use Rattle.zone_meaning.specs.State.{footer_meant};
+ghost use Rattle.release_check.specs.Judged.{JudgesUnread};
+ghost use Rattle.release_check.specs.ZoneFaults.{meaning_fault};
+
+use crate::check_fault::CheckFault;
+use crate::zone_names::has_printable_names;
+use recurrence::carry;
+use zone_meaning::{Zone, footer, footer_agrees};
+
+/// Looks for the first fault of what a zone means: its footer does not go on from its last transition, a name cannot
+/// be printed, or no yearly rules say what its footer says.
+#[tactic(auto, unfolding(crate::specs::ZoneFaults::meaning_fault))]
+pub fn judge_zone(number: usize, zone: &Zone) -> Result<(), CheckFault>
+    ensures { JudgesUnread (meaning_fault number zone.now) result }
+{
+    if !footer_agrees(zone) {
+        return Err(CheckFault::FooterDisagrees(number));
+    }
+    if !has_printable_names(zone) {
+        return Err(CheckFault::NameBeyond(number));
+    }
+    if is_beyond(zone) {
+        return Err(CheckFault::RuleBeyond(number));
+    }
+    Ok(())
+}
+
+/// Whether no yearly rules say what the zone's footer says.
+fn is_beyond(zone: &Zone) -> bool
+    ensures { result ≡ option_map_or beyond (footer_meant (lists_of zone.now).footer) false }
+{
+    match footer(zone) {
+        None => false,
+        Some(footer) => carry(footer).is_err(),
+    }
+}
