@@ -3,3 +3,4 @@ pub mod Chosen
 pub mod Expansions
 pub mod LastRelease
 pub mod Named
+pub mod ChangedZones

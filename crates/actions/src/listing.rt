@@ -7,13 +7,15 @@ ghost use Rattle.json_forms.specs.declared.zone_list.ListZone.{ListZone};
 ghost use Rattle.zone_meaning.specs.ZoneHistories.{ForEachZoneHistory, HasZoneHistory};
 ghost use Rattle.http_answer.specs.Replies.{IsAnswerStatus};
 ghost use Rattle.actions.specs.Documents.{with_document};
+ghost use Rattle.catalogue.specs.Lookups.{place_of};
+ghost use Rattle.actions.specs.Listing as listing;
 ghost use Rattle.actions.specs.Listing.{list_answer, list_of, listed, listed_if};
 
 use crate::choice::Choice;
-use crate::documents::{document, unknown_action};
+use crate::documents::{document, refusal};
 use catalogue::{Catalogue, Entry};
 use http_answer::Answer;
-use json_forms::{ListWriter, ZoneTexts};
+use json_forms::{ListWriter, Problem, ZoneTexts};
 use std::alloc::Global;
 use target::Param;
 use td_base::{Bytes, NoMemory};
@@ -29,9 +31,41 @@ pub fn list(alloc: Global, catalogue: &Catalogue<Zone>, since: &Param) -> Result
 {
     match since {
         Param::Absent => full_list(alloc, catalogue),
-        Param::Once(_) => unknown_action(alloc),
-        Param::Repeated => unknown_action(alloc),
+        Param::Once(token) => changes_since(alloc, catalogue, token),
+        Param::Repeated => refusal(alloc, Problem::InvalidChangedsince),
     }
+}
+
+/// Answers with the changes since the place of which this is the token.
+fn changes_since(
+    alloc: Global,
+    catalogue: &Catalogue<Zone>,
+    token: &Bytes,
+) -> Result<Answer, NoMemory>
+    requires { HasZoneHistory catalogue.now }
+    ensures answer { ForEachZoneHistory catalogue.now (λ H.
+        IfOk result (λ answer. answer ≡ listing.changes_since H (place_of H token.now))) }
+    ensures status { IfOk result (λ answer. IsAnswerStatus answer.status) }
+{
+    match catalogue.place_of(token.as_slice()) {
+        Some(place) => Ok(document(change_list(alloc, catalogue, place)?)),
+        None => refusal(alloc, Problem::InvalidChangedsince),
+    }
+}
+
+/// The list of the zones that changed after a place, with the token of the last place.
+fn change_list(alloc: Global, catalogue: &Catalogue<Zone>, place: u32) -> Result<Bytes, NoMemory>
+    requires { HasZoneHistory catalogue.now }
+    ensures { ForEachZoneHistory catalogue.now (λ H.
+        IfOk result (λ text. text ≡ listing.change_list H place)) }
+{
+    let changed = catalogue.changed_since(alloc, place)?;
+    let token = catalogue.token(catalogue.count());
+    let mut list = ListWriter::begin(Bytes::new(alloc), token.as_slice())?;
+    for at in changed.as_slice() {
+        list.zone(&texts_of(catalogue.entry(*at)))?;
+    }
+    list.end()
 }
 
 /// Every zone of the release.

@@ -1,4 +1,4 @@
-use Rattle.std.proofs.Common.{[], length, List, IfOk, subst, sym, take, ◌≡◌, ap, arith}
+use Rattle.std.proofs.Common.{[], length, List, IfOk, subst, ◌≡◌, ap, arith}
 use Rattle.std.proofs.lemmas.List.{take_all}
 use Rattle.catalogue.specs.Histories.{meta, token_of}
 use Rattle.json_forms.specs.Begun.{IsListBegun}
