@@ -1,5 +1,5 @@
 -- The observances of a sound zone are plain, and how far a document of them is written.
-use Rattle.std.proofs.Common.{◌≡◌, ℕ, List, [], ◌∷◌, ◌++◌, Bool, true, false, IsTrue, refl, ap, sym, subst, ◌∙◌, arith, append_assoc, append-nil, ◌⊎◌, inl, inr}
+use Rattle.std.proofs.Common.{◌≡◌, ℕ, List, [], ◌∷◌, ◌++◌, true, refl, ap, sym, subst, ◌∙◌, arith, append_assoc, append-nil, ◌⊎◌, inl, inr}
 use Rattle.std.proofs.lemmas.Bool.{and_parts}
 use Rattle.std.proofs.lemmas.Bool.Decides.{nat_tests}
 use Rattle.std.proofs.lemmas.Int.{ints}
@@ -13,7 +13,7 @@ use Rattle.td_civil.specs.declared.local_time.Local.{Local}
 use Rattle.td_civil.specs.declared.local_time.Observance.{Observance}
 use Rattle.json_forms.specs.Begun.{IsExpansionBegun}
 use Rattle.json_forms.specs.PlainTexts.{IsPlainObservance}
-use Rattle.zone_meaning.specs.Names.{is_name_byte, is_printable_name, has_printable_names}
+use Rattle.zone_meaning.specs.Names.{is_name_byte, is_printable_name}
 use Rattle.zone_meaning.specs.Observed.{IsRange, first_at, observed}
 use Rattle.zone_meaning.specs.RangeLaws.{IsChangeBetween}
 use Rattle.zone_meaning.specs.Sound.{IsSoundFile}

@@ -17,6 +17,7 @@ use Rattle.zone_meaning.specs.Sound.{IsSound, IsSoundFile}
 use Rattle.actions.specs.Bounds.{start_of}
 use Rattle.actions.specs.Documents.{with_problem}
 use Rattle.actions.specs.Expanding.{expanded_from, expand_answer}
+use Rattle.actions.specs.Getting.{got, get_answer}
 
 -- the first position at which a test passes, or a later one
 split : (b : Bool) (at : ℕ) (later : Option ℕ) (n : ℕ) → cond b (Some at) later ≡ Some n → ((b ≡ true) × (at ≡ n)) ⊎ (later ≡ Some n)
@@ -96,6 +97,16 @@ pub missing_is : (H : List ReleaseData) (name : List ℕ) (start end : Param) �
     → with_problem problem.TzidNotFound ≡ expand_answer H name start end
 unfolding expand_answer
 missing_is H name start end found = rw (sym found) refl
+
+pub got_is : (H : List ReleaseData) (accept field : Option (List ℕ)) (name : List ℕ) (place : ℕ) (e : EntryData) (start end : Param)
+    → Some place ≡ place_named H name → slice_get (meta H) place ≡ Some e → got name (Some e) accept field start end ≡ get_answer H accept field name start end
+unfolding get_answer
+got_is H accept field name place e start end found there = rw (sym found, there) refl
+
+pub nothing_is : (H : List ReleaseData) (accept field : Option (List ℕ)) (name : List ℕ) (start end : Param) → None ≡ place_named H name
+    → with_problem problem.TzidNotFound ≡ get_answer H accept field name start end
+unfolding get_answer
+nothing_is H accept field name start end found = rw (sym found) refl
 
 -- an answer that is one thing is what that is
 pub answered : (r : Result Answer NoMemory) (a b : Answer) → IfOk r (λ x. x ≡ a) → a ≡ b → IfOk r (λ x. x ≡ b)

@@ -11,19 +11,22 @@ use Rattle.actions.specs.Describing.{capabilities_answer, redirect}
 use Rattle.actions.specs.Documents.{unknown_action}
 use Rattle.actions.specs.Expanding.{expand_answer}
 use Rattle.actions.specs.Finding.{find_answer}
+use Rattle.actions.specs.Getting.{get_answer}
+use Rattle.actions.specs.LeapSeconds.{leap_answer}
 use Rattle.actions.specs.Listing.{list_answer}
 
--- the answer to what was asked
-abbrev pub answer_for : List ReleaseData → Role → Asked → Answer
-answer_for H role ask.Capabilities = capabilities_answer H role
-answer_for H role (ask.List since) = list_answer H since
-answer_for H role (ask.Find pattern) = find_answer H pattern
-answer_for H role (ask.Get tzid start end) = unknown_action
-answer_for H role (ask.Expand tzid start end) = expand_answer H tzid start end
-answer_for H role ask.LeapSeconds = unknown_action
-answer_for H role ask.WellKnown = redirect
-answer_for H role ask.Unknown = unknown_action
+-- the answer to what was asked; only the data of a zone depend on fields of the head
+abbrev pub answer_for : List ReleaseData → Role → Head → Asked → Answer
+answer_for H role head ask.Capabilities = capabilities_answer H role
+answer_for H role head (ask.List since) = list_answer H since
+answer_for H role head (ask.Find pattern) = find_answer H pattern
+answer_for H role head (ask.Get tzid start end) =
+    get_answer H head.accept head.none_match tzid start end
+answer_for H role head (ask.Expand tzid start end) = expand_answer H tzid start end
+answer_for H role head ask.LeapSeconds = leap_answer H
+answer_for H role head ask.WellKnown = redirect
+answer_for H role head ask.Unknown = unknown_action
 
 -- the answer to a request
 unfoldable pub action : List ReleaseData → Role → Head → Answer
-action H role head = answer_for H role (asks head.target)
+action H role head = answer_for H role head (asks head.target)

@@ -1,5 +1,5 @@
--- The action `find` (RFC 7808, section 5.6).
-use Rattle.std.specs.Prelude.{ℕ, List, Bool, ◌||◌, Result, Ok, Err}
+-- The action `find` (RFC 7808, section 5.5).
+use Rattle.std.specs.Prelude.{List, Bool, ◌||◌, Result, Ok, Err}
 use Rattle.std.specs.List.{list_any}
 use Rattle.catalogue.specs.Histories.{EntryData}
 use Rattle.catalogue.specs.Releases.{ReleaseData}

@@ -4,4 +4,8 @@ pub mod Describing
 pub mod Documents
 pub mod Expanding
 pub mod Finding
+pub mod Getting
+pub mod LeapSeconds
 pub mod Listing
+pub mod Ranges
+pub mod Tags

@@ -9,6 +9,8 @@ use crate::describing::{capabilities, redirect};
 use crate::documents::unknown_action;
 use crate::expanding::expand;
 use crate::finding::find;
+use crate::getting::get;
+use crate::leap_seconds::leap_seconds;
 use crate::listing::list;
 use catalogue::Catalogue;
 use http_answer::Answer;
@@ -34,7 +36,7 @@ pub fn answer(
     ensures status { IfOk result (λ answer. IsAnswerStatus answer.status) }
 {
     let asked = read(alloc, head.target.as_slice())?;
-    answer_to(alloc, catalogue, role, &asked)
+    answer_to(alloc, catalogue, role, head, &asked)
 }
 
 /// Answers what was asked.
@@ -42,12 +44,13 @@ fn answer_to(
     alloc: Global,
     catalogue: &Catalogue<Zone>,
     role: &Role,
+    head: &Head,
     asked: &Asked,
 ) -> Result<Answer, NoMemory>
     requires history { HasZoneHistory catalogue.now }
     requires role { IsPlainRole role.now }
     ensures answer { ForEachZoneHistory catalogue.now (λ H.
-        IfOk result (λ answer. answer ≡ answer_for H role.now asked.now)) }
+        IfOk result (λ answer. answer ≡ answer_for H role.now head.now asked.now)) }
     ensures status { IfOk result (λ answer. IsAnswerStatus answer.status) }
 {
     match asked {
@@ -56,8 +59,8 @@ fn answer_to(
         Asked::Find(pattern) => find(alloc, catalogue, pattern),
         Asked::Expand { tzid, start, end } => expand(alloc, catalogue, tzid, start, end),
         Asked::WellKnown => Ok(redirect(alloc)),
-        Asked::Get { .. } => unknown_action(alloc),
-        Asked::LeapSeconds => unknown_action(alloc),
+        Asked::Get { tzid, start, end } => get(alloc, catalogue, head, tzid, start, end),
+        Asked::LeapSeconds => leap_seconds(alloc, catalogue),
         Asked::Unknown => unknown_action(alloc),
     }
 }

@@ -25,7 +25,8 @@ pub fn capabilities(
     ensures status { IfOk result (λ answer. IsAnswerStatus answer.status) }
 {
     let mut body = Bytes::new(alloc);
-    capabilities_text(alloc, &mut body, role, catalogue.publisher(), false)?;
+    let with_leaps = catalogue.leaps().is_some();
+    capabilities_text(alloc, &mut body, role, catalogue.publisher(), with_leaps)?;
     Ok(document(body))
 }
 

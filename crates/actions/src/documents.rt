@@ -1,5 +1,5 @@
 ghost use Rattle.std.specs.Prelude.{◌≡◌, IfOk};
-ghost use Rattle.actions.specs.Documents.{with_document, with_problem, unknown_action};
+ghost use Rattle.actions.specs.Documents.{with_data, with_document, with_problem, unchanged, unknown_action};
 
 use http_answer::{Answer, Kind};
 use json_forms::{Problem, problem_text};
@@ -39,4 +39,30 @@ pub fn unknown_action(alloc: Global) -> Result<Answer, NoMemory>
     ensures { IfOk result (λ answer. answer ≡ unknown_action) }
 {
     refusal(alloc, Problem::InvalidAction)
+}
+
+/// An answer with the data of a zone.
+pub fn zone_data(kind: Kind, tag: Bytes, body: Bytes) -> Answer
+    ensures { result ≡ with_data kind tag body }
+{
+    Answer {
+        status: 200,
+        kind: Some(kind),
+        tag: Some(tag),
+        moved: false,
+        body,
+    }
+}
+
+/// The answer to a client that holds the data of this tag.
+pub fn unchanged(alloc: Global, tag: Bytes) -> Answer
+    ensures { result ≡ unchanged tag }
+{
+    Answer {
+        status: 304,
+        kind: None,
+        tag: Some(tag),
+        moved: false,
+        body: Bytes::new(alloc),
+    }
 }

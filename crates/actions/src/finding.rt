@@ -18,7 +18,7 @@ use target::Param;
 use td_base::{Bytes, NoMemory};
 use zone_meaning::Zone;
 
-/// Answers the action `find` (RFC 7808, section 5.6).
+/// Answers the action `find` (RFC 7808, section 5.5).
 #[tactic(auto, unfolding(crate::specs::Finding::find_answer))]
 pub fn find(alloc: Global, catalogue: &Catalogue<Zone>, pattern: &Param) -> Result<Answer, NoMemory>
     requires { HasZoneHistory catalogue.now }

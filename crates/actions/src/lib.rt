@@ -10,6 +10,10 @@ mod describing;
 mod documents;
 mod expanding;
 mod finding;
+mod getting;
+mod leap_seconds;
 mod listing;
+mod ranges;
+mod tags;
 
 pub use answering::answer;

@@ -1,3 +1,4 @@
+use Rattle.std.proofs.Common.{rules}
 use Rattle.actions.proofs.LastRelease.{publisher_is_plain, capabilities_are}
 use Rattle.actions.proofs.describing.capabilities.Goals as goal
 
@@ -9,4 +10,4 @@ pub returns-clause-answer : goal.returns-clause-answer
 returns-clause-answer c =
     λ H stands.
     rw (c.document.ensures, c.in_ok-capabilities_text.ensures.ok, c.new-body.ensures)
-    (capabilities_are H c.args.role.now _ stands.history (c.publisher.ensures H stands))
+    (capabilities_are H c.args.role.now _ _ _ (c.publisher.ensures H stands) (c.leaps.ensures H stands) (search rules))

@@ -1,0 +1,62 @@
+ghost use Rattle.std.specs.Prelude.{◌≡◌, ◌++◌, IfOk, OnOk, IfSome};
+ghost use Rattle.td_civil.specs.Bounds.{IsWithinBounds};
+ghost use Rattle.actions.specs.Ranges.{end_if_any};
+ghost use Rattle.actions.specs.Tags as tags;
+
+use crate::ranges::Bound;
+use std::alloc::Global;
+use td_base::{Bytes, NoMemory};
+use td_civil::utc_text;
+
+/// The entity tag of a zone's file, by the tag of its content.
+#[tactic(auto, unfolding(crate::specs::Tags::file_tag))]
+pub fn file_tag(alloc: Global, tag: &[u8]) -> Result<Bytes, NoMemory>
+    ensures { IfOk result (λ text. text ≡ tags.file_tag tag.now) }
+{
+    let mut text = Bytes::from_slice(alloc, b"\"")?;
+    text.append(tag)?;
+    text.append(b".t\"")?;
+    Ok(text)
+}
+
+/// The entity tag of a zone's calendar between two bounds.
+#[tactic(auto, unfolding(crate::specs::Tags::calendar_tag))]
+pub fn calendar_tag(alloc: Global, tag: &[u8], start: Bound, end: Bound) -> Result<Bytes, NoMemory>
+    requires start { IfSome (end_if_any start) (λ m. IsWithinBounds m.seconds) }
+    requires end { IfSome (end_if_any end) (λ m. IsWithinBounds m.seconds) }
+    ensures { IfOk result (λ text. text ≡ tags.calendar_tag tag.now start end) }
+{
+    let mut text = Bytes::from_slice(alloc, b"\"")?;
+    text.append(tag)?;
+    text.append(b".c")?;
+    append_bounds(&mut text, start, end)?;
+    text.append(b"\"")?;
+    Ok(text)
+}
+
+/// Appends both bounds, unless both are open.
+fn append_bounds(text: &mut Bytes, start: Bound, end: Bound) -> Result<(), NoMemory>
+    requires start { IfSome (end_if_any start) (λ m. IsWithinBounds m.seconds) }
+    requires end { IfSome (end_if_any end) (λ m. IsWithinBounds m.seconds) }
+    ensures { OnOk result (text.new ≡ text.old ++ tags.bounds_text start end) }
+{
+    if let (Bound::Open, Bound::Open) = (start, end) {
+        return Ok(());
+    }
+    append_after_point(text, start)?;
+    append_after_point(text, end)?;
+    Ok(())
+}
+
+#[tactic(auto, unfolding(crate::specs::Tags::after_point))]
+fn append_after_point(text: &mut Bytes, bound: Bound) -> Result<(), NoMemory>
+    requires { IfSome (end_if_any bound) (λ m. IsWithinBounds m.seconds) }
+    ensures { OnOk result (text.new ≡ text.old ++ tags.after_point bound) }
+{
+    text.append(b".")?;
+    match bound {
+        Bound::Open => text.append(b"-")?,
+        Bound::At(moment) => text.append(&utc_text(moment))?,
+    }
+    Ok(())
+}
