@@ -15,5 +15,7 @@ mod leap_seconds;
 mod listing;
 mod ranges;
 mod tags;
+#[cfg(test)]
+mod tests;
 
 pub use answering::answer;
