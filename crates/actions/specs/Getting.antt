@@ -55,19 +55,17 @@ abbrev pub calendar_from : List ℕ → EntryData → Option (List ℕ) → Opti
 calendar_from name e field (Some start) end = calendar_to name e field start (upper start end)
 calendar_from name e field None end = with_problem problem.InvalidStart
 
-abbrev pub is_absent : Param → Bool
-is_absent param.Absent = true
-is_absent (param.Once text) = false
-is_absent param.Repeated = false
+abbrev pub is_present : Param → Bool
+is_present param.Absent = false
+is_present (param.Once text) = true
+is_present param.Repeated = true
 
 -- the file, which is whole: it takes no bounds
 abbrev pub whole_file : EntryData → Option (List ℕ) → Param → Param → Answer
 whole_file e field start end =
-    if is_absent start
-    then (if is_absent end
-    then unless_held field kind.Tzif (file_tag e.tag) e.content.file
-    else with_problem problem.InvalidEnd)
-    else with_problem problem.InvalidStart
+    if is_present start then with_problem problem.InvalidStart
+    else if is_present end then with_problem problem.InvalidEnd
+    else unless_held field kind.Tzif (file_tag e.tag) e.content.file
 
 -- the zone in the format that was chosen, if one was
 abbrev pub got_as : Option Format → List ℕ → EntryData → Option (List ℕ) → Param → Param → Answer

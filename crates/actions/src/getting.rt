@@ -97,10 +97,10 @@ fn get_file(
         ≡ getting.whole_file (entry_data (λ z. z) entry.now) field.now start.now end.now) }
     ensures status { IfOk result (λ answer. IsAnswerStatus answer.status) }
 {
-    if !is_absent(start) {
+    if is_present(start) {
         return refusal(alloc, Problem::InvalidStart);
     }
-    if !is_absent(end) {
+    if is_present(end) {
         return refusal(alloc, Problem::InvalidEnd);
     }
     let tag = file_tag(alloc, &entry.tag)?;
@@ -111,13 +111,13 @@ fn get_file(
     Ok(zone_data(Kind::Tzif, tag, body))
 }
 
-fn is_absent(parameter: &Param) -> bool
-    ensures { result ≡ getting.is_absent parameter.now }
+fn is_present(parameter: &Param) -> bool
+    ensures { result ≡ getting.is_present parameter.now }
 {
     match parameter {
-        Param::Absent => true,
-        Param::Once(_) => false,
-        Param::Repeated => false,
+        Param::Absent => false,
+        Param::Once(_) => true,
+        Param::Repeated => true,
     }
 }
 

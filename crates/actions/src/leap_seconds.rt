@@ -1,12 +1,10 @@
 ghost use Rattle.std.specs.Prelude.{◌≡◌, IfOk};
 ghost use Rattle.http_answer.specs.Replies.{IsAnswerStatus};
-ghost use Rattle.json_forms.specs.LeapDocument.{IsPlainTable, leap_document};
-ghost use Rattle.td_base.specs.Names.{IsPlain};
 ghost use Rattle.zone_meaning.specs.ZoneHistories.{ForEachZoneHistory, HasZoneHistory};
 ghost use Rattle.actions.specs.LeapSeconds.{leap_answer};
 
 use crate::documents::{document, unknown_action};
-use catalogue::{Catalogue, Leaps};
+use catalogue::Catalogue;
 use http_answer::Answer;
 use json_forms::leap_text;
 use leap_table::{dates_are_plain, steps_are_dated};
