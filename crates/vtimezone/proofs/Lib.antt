@@ -1,12 +1,17 @@
+pub mod CalendarBack
 pub mod CarriedPair
 pub mod InForce
 pub mod LastBefore
 pub mod Meaning
 pub mod Newest
+pub mod NumbersBack
 pub mod PartsMean
 pub mod ReadBack
 pub mod RuleParts
+pub mod RulesBack
 pub mod Singles
+pub mod ValuesBack
 pub mod Whole
 pub mod Writable
 pub mod ZoneRange
+pub mod ZoneSpelled

@@ -40,13 +40,13 @@ use Rattle.vtimezone.proofs.Singles.{single_part, singles, IsSingle, single_is, 
 use Rattle.vtimezone.proofs.Whole.{IsLawfulAndCarried}
 use Rattle.vtimezone.proofs.ZoneRange.{zone_range, begin_most, lawful_footer}
 
-all_from : (P : Part → Type 0) (xs : List Part) → ((p : Part) → Contains xs p → P p) → All P xs
+pub all_from : (P : Part → Type 0) (xs : List Part) → ((p : Part) → Contains xs p → P p) → All P xs
 all_from P xs h = λ k d lt. h _ (All-contains_itself xs k d lt)
 
-all_none : (P : Part → Type 0) → All P []
+pub all_none : (P : Part → Type 0) → All P []
 all_none P = λ k d lt. absurd (omega arith)
 
-all_one : (P : Part → Type 0) (p : Part) → P p → (k : ℕ) (d : Part) → k < 1 → P (slice_index_or (p ∷ []) k d)
+pub all_one : (P : Part → Type 0) (p : Part) → P p → (k : ℕ) (d : Part) → k < 1 → P (slice_index_or (p ∷ []) k d)
 all_one P p h zero d lt = h
 all_one P p h (suc k) d lt = absurd (omega arith)
 
@@ -154,7 +154,7 @@ module _ (std : Local) (rule : DstRule) (y0 : ℤ) (h : IsLawfulRule std.offset 
       (λ lt. All-append IsWritable xs ys (if_writable a b edge.Start end) (if_writable a b edge.End end))
       (λ ge. All-append IsWritable ys xs (if_writable a b edge.End end) (if_writable a b edge.Start end))
 
-not_beyond : (x y : Bool) → (not x && not y) ≡ false → x ≡ false → y ≡ true
+pub not_beyond : (x y : Bool) → (not x && not y) ≡ false → x ≡ false → y ≡ true
 not_beyond true y e f = absurd (true≢false f)
 not_beyond false true e f = refl
 not_beyond false false e f = absurd (true≢false e)

@@ -1,5 +1,10 @@
 pub mod CalendarText
+pub mod Cutting
 pub mod LastYear
 pub mod PartsOf
+pub mod ReadRules
+pub mod ReadValues
+pub mod Spellable
+pub mod Spelled
 pub mod Values
 pub mod ZoneParts

@@ -1,10 +1,11 @@
 //! What the parts of a zone mean, as the contracts of functions that do nothing.
-ghost use Rattle.std.specs.Prelude.{◌≡◌, ℕ, List, ℤ, None, Option, Ok, IfSome};
+ghost use Rattle.std.specs.Prelude.{◌≡◌, ℕ, List, ℤ, None, Some, Option, Ok, IfSome, IsTrue};
 ghost use Rattle.std.specs.List.{Contains, AllByRecursion};
 ghost use Rattle.td_civil.specs.Bounds.{HasMeaning};
 ghost use Rattle.posix_footer.specs.Carried.{IsCarriedIfAny};
 ghost use Rattle.tzif_reader.specs.Cut.{lists_of};
 ghost use Rattle.zone_meaning.specs.Faults.{zone_fault};
+ghost use Rattle.zone_meaning.specs.Names.{has_printable_names};
 ghost use Rattle.zone_meaning.specs.State.{zone_state, footer_meant};
 ghost use Rattle.recurrence.specs.InForce.{Gives, IsInForce};
 ghost use Rattle.recurrence.specs.declared.part_types.Part.{Part};
@@ -13,6 +14,8 @@ ghost use Rattle.ical_lines.specs.Unfolding.{unfolded};
 ghost use Rattle.td_civil.specs.declared.moment_type.Moment.{Moment};
 ghost use Rattle.vtimezone.specs.CalendarText.{calendar, calendar_lines, IsLineText, IsReadable};
 ghost use Rattle.vtimezone.specs.PartsOf.{IsEndOf, IsAmong};
+ghost use Rattle.vtimezone.specs.Spellable.{IsSpellable};
+ghost use Rattle.vtimezone.specs.Spelled.{spelled};
 ghost use Rattle.vtimezone.specs.ZoneParts.{end_in, parts_of};
 
 /// At each moment of a range, the part in force has the offset, the flag and the name of the zone file's state.
@@ -36,4 +39,23 @@ pub fn calendar_reads_back()
         (until : Option Moment) → IsLineText tzid → IfSome alias_of IsLineText → AllByRecursion IsReadable parts
         → unfolded (calendar tzid alias_of parts until)
         ≡ Ok (calendar_lines tzid alias_of parts until) }
+{}
+
+/// The text of a calendar spells its parts: cut into lines, groups and values and read by the grammar of RFC 5545, it
+/// gives them back.
+pub fn calendar_spells()
+    ensures { (tzid : List ℕ) (alias_of : Option (List ℕ)) (parts : List Part)
+        (until : Option Moment) → IsLineText tzid → IfSome alias_of IsLineText → AllByRecursion IsSpellable parts
+        → spelled (calendar tzid alias_of parts until) ≡ Some parts }
+{}
+
+/// So the calendar of a zone for a range spells the parts of the zone, where its names can be printed.
+pub fn zone_calendar_spells()
+    ensures { (file : List ℕ) (range : Range) (tzid : List ℕ) (alias_of : Option (List ℕ))
+        → zone_fault file ≡ None → IsTrue (has_printable_names file)
+        → IsCarriedIfAny (footer_meant (lists_of file).footer)
+        → HasMeaning range.from.seconds → IsEndOf range.from.seconds (end_in range)
+        → IsLineText tzid → IfSome alias_of IsLineText
+        → spelled (calendar tzid alias_of (parts_of file range) range.until)
+        ≡ Some (parts_of file range) }
 {}

@@ -1,0 +1,273 @@
+-- Rules that are written are read back.
+use Rattle.std.proofs.Common.{◌≡◌, ◌⊎◌, inl, inr, ℕ, zero, suc, ◌+◌, ◌*◌, ◌-◌, ◌/◌, ◌%◌, ◌^◌, ◌<◌, ◌≤◌, ◌==◌, Bool, true, false, not, ◌&&◌, if◌then◌else◌, refl, sym, ap, subst, ◌∙◌, arith, append_assoc, append-nil, ℤ, pos, negsuc, ◌+ℤ◌, unsigned_abs, Option, None, Some, List, [], ◌∷◌, ◌++◌, codes, length, take, drop, decimal}
+use Rattle.std.specs.Fmt.{signed_decimal}
+use Rattle.std.specs.List.{list_all, flat_map, slice_split, onto_first}
+use Rattle.std.specs.Option.{IfSome, option_map, option_and_then}
+use Rattle.std.proofs.lemmas.List.{length-append}
+use Rattle.std.proofs.Math.Seq.{take-append_seam, drop-append_seam}
+use Rattle.std.specs.Ordering.{int_eq}
+use Rattle.std.proofs.lemmas.Bool.{cond_both, cond-true, cond-false, and_from, and_parts}
+use Rattle.std.proofs.lemmas.Bool.Decides.{nat_tests}
+use Rattle.std.proofs.lemmas.Int.{ints}
+use Rattle.std.proofs.lemmas.Fmt.{decimal_by_steps, decimal_nonempty}
+use Rattle.std.proofs.lemmas.List.Folds.{list_all-append}
+use Rattle.jiff_core.proofs.CalendarLemmas.{days_in_month_bounds}
+use Rattle.jiff_core.proofs.SignedLemmas.{signed_arith, one_part}
+use Rattle.td_civil.specs.declared.moment_type.Moment.{Moment}
+use Rattle.td_civil.specs.Bounds.{HasText, IsWithinBounds}
+use Rattle.td_civil.specs.Calendar.{stamp_of}
+use Rattle.td_civil.specs.Stamp.{two_digits, four_digits}
+use Rattle.td_civil.specs.Texts.{local_text_of}
+use Rattle.td_civil.proofs.Shown.{bounds_text}
+use Rattle.recurrence.specs.declared.rule_types.Form.{Form}
+use Rattle.recurrence.specs.declared.rule_types.Form.TheVariants as form
+use Rattle.recurrence.specs.declared.rule_types.Rule.{Rule}
+use Rattle.recurrence.specs.Valid.{IsValidForm, IsFirstDay, IsMonth, IsPlace}
+use Rattle.jiff_core.specs.Calendar.{days_in_month}
+use Rattle.vtimezone.specs.Cutting.{Named, cut_at, cut_first, all_read, put_before}
+use Rattle.vtimezone.specs.ReadRules.{Day, Recur, number_in, numbers_in, are_in_a_row, week_from, weekday_in, day_of, nth_in, day_in, days_in, form_read, form_in, month_days_form, recur_with, recur_of, recur_in}
+use Rattle.vtimezone.specs.ReadValues.{utc_in}
+use Rattle.vtimezone.specs.Values.{utc_basic, weekday_name, next_number, seven_numbers, by_month, by_weekday, by_nth_weekday, by_month_day, by_month_days, by_year_days, form_text, until_text, rule_text}
+use Rattle.vtimezone.proofs.ValuesBack.{number_back, weekday_back, utc_back}
+
+use Rattle.vtimezone.proofs.NumbersBack.{uncut, uncut-append, after_each, are_uncut, cut_each, signed_uncut, weekday_uncut, utc_uncut, read_more, IsShort, one_number_back, next_numbers, seven_back, seven_uncut, row_back, weekday_alone, nth_weekday, one_day}
+
+-- ---- the words of a rule
+
+abbrev form_words : Form → List (List ℕ)
+form_words (form.NthDay month nth weekday) =
+    (codes "BYMONTH=" ++ signed_decimal (pos month)) ∷ (codes "BYDAY=" ++ (signed_decimal nth ++ weekday_name weekday)) ∷ []
+form_words (form.MonthDays month first weekday) =
+    (codes "BYMONTH=" ++ signed_decimal (pos month)) ∷ (codes "BYMONTHDAY=" ++ seven_numbers (pos first))
+    ∷ (codes "BYDAY=" ++ weekday_name weekday) ∷ []
+form_words (form.YearDays first weekday) = (codes "BYYEARDAY=" ++ seven_numbers first) ∷ (codes "BYDAY=" ++ weekday_name weekday) ∷ []
+form_words (form.FixedDate month day) =
+    (codes "BYMONTH=" ++ signed_decimal (pos month)) ∷ (codes "BYMONTHDAY=" ++ signed_decimal (pos day)) ∷ []
+
+abbrev until_words : Option Moment → List (List ℕ)
+until_words None = []
+until_words (Some last) = (codes "UNTIL=" ++ utc_basic last.seconds) ∷ []
+
+abbrev words_of : Form → Option Moment → List (List ℕ)
+words_of f until = form_words f ++ until_words until
+
+form_joined : (f : Form) → form_text f ≡ after_each 59 (form_words f)
+unfolding by_month by_weekday by_nth_weekday by_month_day by_month_days by_year_days
+form_joined (form.NthDay month nth weekday) = simp (append_assoc, append-nil)
+form_joined (form.MonthDays month first weekday) = simp (append_assoc, append-nil)
+form_joined (form.YearDays first weekday) = simp (append_assoc, append-nil)
+form_joined (form.FixedDate month day) = simp (append_assoc, append-nil)
+
+until_joined : (until : Option Moment) → until_text until ≡ after_each 59 (until_words until)
+unfolding until_text
+until_joined None = refl
+until_joined (Some last) = sym (append-nil (codes ";UNTIL=" ++ utc_basic last.seconds))
+
+joined-append : (s : ℕ) (xs ys : List (List ℕ)) → after_each s (xs ++ ys) ≡ after_each s xs ++ after_each s ys
+joined-append s [] ys = refl
+joined-append s (x ∷ xs) ys = ap (λ t. (s ∷ x) ++ t) (joined-append s xs ys) ∙ sym (append_assoc (s ∷ x) (after_each s xs) (after_each s ys))
+
+rule_joined : (rule : Rule) (until : Option Moment) → rule_text rule until ≡ codes "FREQ=YEARLY" ++ after_each 59 (words_of rule.form until)
+unfolding rule_text
+rule_joined rule until =
+    append_assoc (codes "FREQ=YEARLY") (form_text rule.form) (until_text until)
+    ∙ ap (λ t. codes "FREQ=YEARLY" ++ t)
+    (ap (λ t. t ++ until_text until) (form_joined rule.form) ∙ ap (λ t. after_each 59 (form_words rule.form) ++ t) (until_joined until)
+    ∙ sym (joined-append 59 (form_words rule.form) (until_words until)))
+
+first_small : (z : ℤ) → IsFirstDay z → (k : ℕ) → k ≤ 6 → IsShort 3 366 (z +ℤ pos k)
+first_small (pos n) h k le = record {
+  some = omega arith;
+  low = omega (arith, signed_arith, h, one_part (pos n +ℤ pos k));
+  high = omega (arith, signed_arith, h, one_part (pos n +ℤ pos k));
+  short = omega (arith, signed_arith, h, one_part (pos n +ℤ pos k));
+  small = omega (arith, signed_arith, h, one_part (pos n +ℤ pos k));
+}
+first_small (negsuc n) h k le = record {
+  some = omega arith;
+  low = omega (arith, signed_arith, h, one_part (negsuc n +ℤ pos k));
+  high = omega (arith, signed_arith, h, one_part (negsuc n +ℤ pos k));
+  short = omega (arith, signed_arith, h, one_part (negsuc n +ℤ pos k));
+  small = omega (arith, signed_arith, h, one_part (negsuc n +ℤ pos k));
+}
+
+-- a number of a month or of a day of a month
+small_number : (n most : ℕ) → 1 ≤ n → n ≤ most → most ≤ 31 → IsShort 2 most (pos n)
+small_number n most low high least = record {
+  some = omega arith;
+  low = low;
+  high = high;
+  short = omega arith;
+  small = omega arith;
+}
+
+place_short : (z : ℤ) → IsPlace z → IsShort 2 53 z
+place_short (pos n) h = record { some = omega arith; low = h.0; high = omega (arith, h); short = omega (arith, h); small = omega (arith, h) }
+place_short (negsuc n) h = record {
+  some = omega arith;
+  low = omega (arith, signed_arith);
+  high = omega (arith, signed_arith, h);
+  short = omega (arith, signed_arith, h);
+  small = omega (arith, signed_arith, h);
+}
+
+month_short : (m : ℕ) → IsMonth m → IsShort 2 12 (pos m)
+month_short m h = small_number m 12 h.0 h.1 (omega arith)
+
+month_days_short : (m first k : ℕ) → 1 ≤ first → first + 6 ≤ days_in_month (pos 2001) m → k ≤ 6 → IsShort 2 31 (pos first +ℤ pos k)
+month_days_short m first k low high le =
+    let long = days_in_month_bounds (pos 2001) m in
+    small_number (first + k) 31 (omega arith) (omega (arith, long)) (omega arith)
+
+-- ---- the words, cut and read
+
+-- what is read of a list that is joined
+some_cons : {B : Type 0} (o : Option B) (r : Option (List B)) (us : List B) → put_before o r ≡ Some us
+    → (b : B) × (bs : List B) × (o ≡ Some b) × (r ≡ Some bs) × (us ≡ b ∷ bs)
+some_cons None r us e = absurd (cc)
+some_cons (Some b) None us e = absurd (cc)
+some_cons (Some b) (Some bs) us e = (b, bs, refl, refl, cc)
+
+pub read_append : {A B : Type 0} (f : A → Option B) (xs ys : List A) (us bs : List B) → all_read f xs ≡ Some us → all_read f ys ≡ Some bs
+    → all_read f (xs ++ ys) ≡ Some (us ++ bs)
+read_append f [] ys [] bs e r = r
+read_append f [] ys (a ∷ us) bs e r = absurd (cc)
+read_append f (x ∷ xs) ys us bs e r =
+    let parts = some_cons (f x) (all_read f xs) us e in
+    rw parts.4 (read_more f x (xs ++ ys) parts.0 (parts.1 ++ bs) parts.2 (read_append f xs ys parts.1 bs parts.3 r))
+
+abbrev named : List ℕ → List ℕ → Named
+named name value = record { name = name; value = value }
+
+abbrev form_named : Form → List Named
+form_named (form.NthDay month nth weekday) =
+    named (codes "BYMONTH") (signed_decimal (pos month)) ∷ named (codes "BYDAY") (signed_decimal nth ++ weekday_name weekday) ∷ []
+form_named (form.MonthDays month first weekday) =
+    named (codes "BYMONTH") (signed_decimal (pos month)) ∷ named (codes "BYMONTHDAY") (seven_numbers (pos first))
+    ∷ named (codes "BYDAY") (weekday_name weekday) ∷ []
+form_named (form.YearDays first weekday) = named (codes "BYYEARDAY") (seven_numbers first) ∷ named (codes "BYDAY") (weekday_name weekday) ∷ []
+form_named (form.FixedDate month day) =
+    named (codes "BYMONTH") (signed_decimal (pos month)) ∷ named (codes "BYMONTHDAY") (signed_decimal (pos day)) ∷ []
+
+abbrev until_named : Option Moment → List Named
+until_named None = []
+until_named (Some last) = named (codes "UNTIL") (utc_basic last.seconds) ∷ []
+
+form_cut : (f : Form) → all_read (cut_first 61) (form_words f) ≡ Some (form_named f)
+form_cut (form.NthDay month nth weekday) = refl
+form_cut (form.MonthDays month first weekday) = refl
+form_cut (form.YearDays first weekday) = refl
+form_cut (form.FixedDate month day) = refl
+
+until_cut : (until : Option Moment) → all_read (cut_first 61) (until_words until) ≡ Some (until_named until)
+until_cut None = refl
+until_cut (Some last) = refl
+
+abbrev yearly : Named
+yearly = named (codes "FREQ") (codes "YEARLY")
+
+words_cut : (f : Form) (until : Option Moment)
+    → all_read (cut_first 61) (codes "FREQ=YEARLY" ∷ words_of f until) ≡ Some (yearly ∷ (form_named f ++ until_named until))
+words_cut f until =
+    ap (put_before (Some yearly)) (read_append (cut_first 61) (form_words f) (until_words until) (form_named f) (until_named until) (form_cut f) (until_cut until))
+
+-- what is read of the words of a form, and of the last moment
+abbrev read_form : Form → Option Form
+read_form (form.NthDay month nth weekday) =
+    form_read (option_map Some (numbers_in 2 12 (signed_decimal (pos month)))) (Some None) (Some None)
+    (option_map Some (days_in (signed_decimal nth ++ weekday_name weekday)))
+read_form (form.MonthDays month first weekday) =
+    form_read (option_map Some (numbers_in 2 12 (signed_decimal (pos month)))) (option_map Some (numbers_in 2 31 (seven_numbers (pos first)))) (Some None)
+    (option_map Some (days_in (weekday_name weekday)))
+read_form (form.YearDays first weekday) =
+    form_read (Some None) (Some None) (option_map Some (numbers_in 3 366 (seven_numbers first))) (option_map Some (days_in (weekday_name weekday)))
+read_form (form.FixedDate month day) =
+    form_read (option_map Some (numbers_in 2 12 (signed_decimal (pos month)))) (option_map Some (numbers_in 2 31 (signed_decimal (pos day)))) (Some None)
+    (Some None)
+
+abbrev read_until : Option Moment → Option (Option Moment)
+read_until None = Some None
+read_until (Some last) = option_map Some (utc_in (utc_basic last.seconds))
+
+words_read : (f : Form) (until : Option Moment) → recur_of (yearly ∷ (form_named f ++ until_named until)) ≡ recur_with (read_form f) (read_until until)
+words_read (form.NthDay month nth weekday) None = refl
+words_read (form.NthDay month nth weekday) (Some last) = refl
+words_read (form.MonthDays month first weekday) None = refl
+words_read (form.MonthDays month first weekday) (Some last) = refl
+words_read (form.YearDays first weekday) None = refl
+words_read (form.YearDays first weekday) (Some last) = refl
+words_read (form.FixedDate month day) None = refl
+words_read (form.FixedDate month day) (Some last) = refl
+
+abbrev days : Option ℤ → ℕ → Option (Option (List Day))
+days nth weekday = Some (Some (record { nth = nth; weekday = weekday } ∷ []))
+
+alone_back : (w : ℕ) → w ≤ 6 → days_in (weekday_name w) ≡ Some (record { nth = None; weekday = w } ∷ [])
+alone_back w h = one_day (weekday_name w) (record { nth = None; weekday = w }) (weekday_uncut 44 w (inl refl) h) (weekday_alone w h)
+
+form_back : (f : Form) → IsValidForm f → read_form f ≡ Some f
+form_back (form.NthDay month nth weekday) h =
+    let text = signed_decimal nth ++ weekday_name weekday in
+    let place = place_short nth h.1 in
+    let day = one_day text (record { nth = Some nth; weekday = weekday })
+        (uncut-append 44 (signed_decimal nth) (weekday_name weekday) (signed_uncut 44 nth (inl refl) place.small) (weekday_uncut 44 weekday (inl refl) h.2))
+        (nth_weekday nth weekday place h.2) in
+    ap (λ o. form_read (option_map Some o) (Some None) (Some None) (option_map Some (days_in text))) (one_number_back 2 12 (pos month) (month_short month h.0))
+    ∙ ap (λ o. form_read (Some (Some (pos month ∷ []))) (Some None) (Some None) (option_map Some o)) day
+form_back (form.MonthDays month first weekday) h =
+    let dates = pos first ∷ next_numbers (pos first) in
+    ap (λ o. form_read (option_map Some o) (option_map Some (numbers_in 2 31 (seven_numbers (pos first)))) (Some None)
+        (option_map Some (days_in (weekday_name weekday)))) (one_number_back 2 12 (pos month) (month_short month h.0))
+    ∙ ap (λ o. form_read (Some (Some (pos month ∷ []))) (option_map Some o) (Some None) (option_map Some (days_in (weekday_name weekday))))
+        (seven_back (pos first) 2 31 (λ k le. month_days_short month first k h.1.0 h.1.1 le))
+    ∙ ap (λ o. form_read (Some (Some (pos month ∷ []))) (Some (Some dates)) (Some None) (option_map Some o)) (alone_back weekday h.2)
+    ∙ ap (month_days_form month weekday) (row_back (pos first))
+form_back (form.YearDays first weekday) h =
+    let dates = first ∷ next_numbers first in
+    ap (λ o. form_read (Some None) (Some None) (option_map Some o) (option_map Some (days_in (weekday_name weekday))))
+        (seven_back first 3 366 (first_small first h.0))
+    ∙ ap (λ o. form_read (Some None) (Some None) (Some (Some dates)) (option_map Some o)) (alone_back weekday h.1)
+    ∙ ap (option_map (λ z. form.YearDays z weekday)) (row_back first)
+form_back (form.FixedDate month day) h =
+    let long = days_in_month_bounds (pos 2001) month in
+    let date = small_number day 31 h.1.0 (omega (arith, h.1, long)) (omega arith) in
+    ap (λ o. form_read (option_map Some o) (option_map Some (numbers_in 2 31 (signed_decimal (pos day)))) (Some None) (Some None))
+        (one_number_back 2 12 (pos month) (month_short month h.0))
+    ∙ ap (λ o. form_read (Some (Some (pos month ∷ []))) (option_map Some o) (Some None) (Some None)) (one_number_back 2 31 (pos day) date)
+
+until_back : (until : Option Moment) → IfSome until (λ m. IsWithinBounds m.seconds) → read_until until ≡ Some until
+until_back None h = refl
+until_back (Some last) h = ap (option_map Some) (utc_back last (bounds_text last.seconds h))
+
+form_uncut : (f : Form) → IsValidForm f → are_uncut 59 (form_words f) ≡ true
+form_uncut (form.NthDay month nth weekday) h =
+    let place = place_short nth h.1 in
+    and_from _ _ (signed_uncut 59 (pos month) (inr refl) ((month_short month h.0).small))
+    (and_from _ true (uncut-append 59 (signed_decimal nth) (weekday_name weekday) (signed_uncut 59 nth (inr refl) place.small) (weekday_uncut 59 weekday (inr refl) h.2)) refl)
+form_uncut (form.MonthDays month first weekday) h =
+    and_from _ _ (signed_uncut 59 (pos month) (inr refl) ((month_short month h.0).small))
+    (and_from _ _ (seven_uncut (pos first) 2 31 (λ k le. month_days_short month first k h.1.0 h.1.1 le)) (and_from _ true (weekday_uncut 59 weekday (inr refl) h.2) refl))
+form_uncut (form.YearDays first weekday) h =
+    and_from _ _ (seven_uncut first 3 366 (first_small first h.0)) (and_from _ true (weekday_uncut 59 weekday (inr refl) h.1) refl)
+form_uncut (form.FixedDate month day) h =
+    let long = days_in_month_bounds (pos 2001) month in
+    let date = small_number day 31 h.1.0 (omega (arith, h.1, long)) (omega arith) in
+    and_from _ _ (signed_uncut 59 (pos month) (inr refl) ((month_short month h.0).small)) (and_from _ true (signed_uncut 59 (pos day) (inr refl) date.small) refl)
+
+until_uncut : (until : Option Moment) → are_uncut 59 (until_words until) ≡ true
+until_uncut None = refl
+until_uncut (Some last) = and_from _ true (utc_uncut last.seconds) refl
+
+pub recur_back : (rule : Rule) (until : Option Moment) → IsValidForm rule.form → IfSome until (λ m. IsWithinBounds m.seconds)
+    → recur_in (rule_text rule until) ≡ Some (record { form = rule.form; until = until })
+unfolding recur_in
+recur_back rule until h within =
+    let f = rule.form in
+    let whole = list_all-append (uncut 59) (form_words f) (until_words until) ∙ and_from _ _ (form_uncut f h) (until_uncut until) in
+    let cut = cut_each 59 (codes "FREQ=YEARLY") (words_of f until) refl whole in
+    ap (λ t. option_and_then recur_of (all_read (cut_first 61) (cut_at 59 t))) (rule_joined rule until)
+    ∙ ap (λ ws. option_and_then recur_of (all_read (cut_first 61) ws)) cut
+    ∙ ap (option_and_then recur_of) (words_cut f until)
+    ∙ words_read f until
+    ∙ ap (λ o. recur_with o (read_until until)) (form_back f h)
+    ∙ ap (recur_with (Some f)) (until_back until within)

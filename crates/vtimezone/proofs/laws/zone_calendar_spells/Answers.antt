@@ -1,0 +1,5 @@
+use Rattle.vtimezone.proofs.ZoneSpelled.{zone_spelled}
+use Rattle.vtimezone.proofs.laws.zone_calendar_spells.Goals as goal
+
+pub returns : goal.returns
+returns c = zone_spelled
