@@ -92,7 +92,8 @@ change_back : (dst : Bool) (start : Moment) (from to : ℤ) (name : List ℕ) (o
     ≡ part_with dst (Some (stamp_of (start.seconds +ℤ from))) (Some from) (Some to) (Some name) o
 change_back dst start from to name o rule until h =
     let w = h.writable in
-    rw (local_back start.seconds from (local_bounds_text start.seconds from w.start w.from), offset_back from w.from, offset_back to w.to, text_back name h.name) refl
+    rw (local_back start.seconds from (local_bounds_text start.seconds from w.start w.from), offset_back from w.from, offset_back to w.to,
+    text_back name h.name) refl
 
 content_back : (dst : Bool) (start : Moment) (from to : ℤ) (name : List ℕ) (rule : Option Rule) (until : Option Moment)
     → IsSpellable (part_by dst start from to name rule until)

@@ -49,7 +49,7 @@ cut_more s (b ∷ bs) y h =
     cond-false (b == s) ([] ∷ cut_at s (bs ++ s ∷ y)) (onto_first b (cut_at s (bs ++ s ∷ y))) (other b s both.0)
     ∙ ap (onto_first b) (cut_more s bs y both.1)
 
-cut_last : (s : ℕ) (x : List ℕ) → uncut s x ≡ true → cut_at s x ≡ x ∷ []
+pub cut_last : (s : ℕ) (x : List ℕ) → uncut s x ≡ true → cut_at s x ≡ x ∷ []
 cut_last s [] h = refl
 cut_last s (b ∷ bs) h =
     let both = and_parts (not (b == s)) (uncut s bs) h in
@@ -160,7 +160,7 @@ pub record IsShort (places most : ℕ) (z : ℤ) : Type 0 where
   pub short : unsigned_abs z < 10 ^ places
   pub small : unsigned_abs z ≤ 1000
 
-short_back : (places most : ℕ) (z : ℤ) → IsShort places most z → number_in places most (signed_decimal z) ≡ Some z
+pub short_back : (places most : ℕ) (z : ℤ) → IsShort places most z → number_in places most (signed_decimal z) ≡ Some z
 short_back places most z h =
     let low = h.low in
     let small = h.small in
@@ -217,7 +217,8 @@ seven_back z places most h =
     let cut = cut_each 44 (signed_decimal z) (next_texts z) (signed_uncut 44 z (inl refl) first.small) (texts_uncut z 1 6 places most h (omega arith)) in
     ap (numbers_in places most) (seven_are z)
     ∙ ap (all_read (number_in places most)) cut
-    ∙ read_more (number_in places most) (signed_decimal z) (next_texts z) z (next_numbers z) (short_back places most z first) (texts_read z 1 6 places most h (omega arith))
+    ∙ read_more (number_in places most) (signed_decimal z) (next_texts z) z (next_numbers z) (short_back places most z first)
+    (texts_read z 1 6 places most h (omega arith))
 
 after_uncut : (z : ℤ) (k n : ℕ) (places most : ℕ) → AreShort places most z → k + n ≤ 7 → uncut 59 (after_each 44 (texts_after z k n)) ≡ true
 after_uncut z k zero places most h le = refl

@@ -2,6 +2,7 @@
 use Rattle.std.proofs.Common.{◌≡◌, ◌⊎◌, inl, inr, ℕ, zero, suc, ◌+◌, ◌*◌, ◌-◌, ◌/◌, ◌%◌, ◌^◌, ◌<◌, ◌≤◌, ◌==◌, Bool, true, false, not, ◌&&◌, if◌then◌else◌, refl, sym, ap, subst, ◌∙◌, arith, append_assoc, append-nil, ℤ, pos, negsuc, ◌+ℤ◌, unsigned_abs, Option, None, Some, List, [], ◌∷◌, ◌++◌, codes, length, take, drop, decimal}
 use Rattle.std.specs.Fmt.{signed_decimal}
 use Rattle.std.specs.List.{list_all, flat_map, slice_split, onto_first}
+use Rattle.std.specs.Str.{all_ascii_digits}
 use Rattle.std.specs.Option.{IfSome, option_map, option_and_then}
 use Rattle.std.proofs.lemmas.List.{length-append}
 use Rattle.std.proofs.Math.Seq.{take-append_seam, drop-append_seam}
@@ -25,12 +26,11 @@ use Rattle.recurrence.specs.declared.rule_types.Rule.{Rule}
 use Rattle.recurrence.specs.Valid.{IsValidForm, IsFirstDay, IsMonth, IsPlace}
 use Rattle.jiff_core.specs.Calendar.{days_in_month}
 use Rattle.vtimezone.specs.Cutting.{Named, cut_at, cut_first, all_read, put_before}
-use Rattle.vtimezone.specs.ReadRules.{Day, Recur, number_in, numbers_in, are_in_a_row, week_from, weekday_in, day_of, nth_in, day_in, days_in, form_read, form_in, month_days_form, recur_with, recur_of, recur_in}
+use Rattle.vtimezone.specs.ReadRules.{Day, Recur, number_in, month_in, months_in, numbers_in, are_in_a_row, week_from, weekday_in, day_of, nth_in, day_in, days_in, form_read, form_in, month_days_form, recur_with, recur_of, recur_in}
 use Rattle.vtimezone.specs.ReadValues.{utc_in}
 use Rattle.vtimezone.specs.Values.{utc_basic, weekday_name, next_number, seven_numbers, by_month, by_weekday, by_nth_weekday, by_month_day, by_month_days, by_year_days, form_text, until_text, rule_text}
-use Rattle.vtimezone.proofs.ValuesBack.{number_back, weekday_back, utc_back}
-
-use Rattle.vtimezone.proofs.NumbersBack.{uncut, uncut-append, after_each, are_uncut, cut_each, signed_uncut, weekday_uncut, utc_uncut, read_more, IsShort, one_number_back, next_numbers, seven_back, seven_uncut, row_back, weekday_alone, nth_weekday, one_day}
+use Rattle.vtimezone.proofs.ValuesBack.{all_digits, utc_back}
+use Rattle.vtimezone.proofs.NumbersBack.{cut_last, short_back, uncut, uncut-append, after_each, are_uncut, cut_each, signed_uncut, weekday_uncut, utc_uncut, read_more, IsShort, one_number_back, next_numbers, seven_back, seven_uncut, row_back, weekday_alone, nth_weekday, one_day}
 
 -- ---- the words of a rule
 
@@ -169,20 +169,21 @@ yearly = named (codes "FREQ") (codes "YEARLY")
 words_cut : (f : Form) (until : Option Moment)
     → all_read (cut_first 61) (codes "FREQ=YEARLY" ∷ words_of f until) ≡ Some (yearly ∷ (form_named f ++ until_named until))
 words_cut f until =
-    ap (put_before (Some yearly)) (read_append (cut_first 61) (form_words f) (until_words until) (form_named f) (until_named until) (form_cut f) (until_cut until))
+    ap (put_before (Some yearly))
+    (read_append (cut_first 61) (form_words f) (until_words until) (form_named f) (until_named until) (form_cut f) (until_cut until))
 
 -- what is read of the words of a form, and of the last moment
 abbrev read_form : Form → Option Form
 read_form (form.NthDay month nth weekday) =
-    form_read (option_map Some (numbers_in 2 12 (signed_decimal (pos month)))) (Some None) (Some None)
+    form_read (option_map Some (months_in (signed_decimal (pos month)))) (Some None) (Some None)
     (option_map Some (days_in (signed_decimal nth ++ weekday_name weekday)))
 read_form (form.MonthDays month first weekday) =
-    form_read (option_map Some (numbers_in 2 12 (signed_decimal (pos month)))) (option_map Some (numbers_in 2 31 (seven_numbers (pos first)))) (Some None)
+    form_read (option_map Some (months_in (signed_decimal (pos month)))) (option_map Some (numbers_in 2 31 (seven_numbers (pos first)))) (Some None)
     (option_map Some (days_in (weekday_name weekday)))
 read_form (form.YearDays first weekday) =
     form_read (Some None) (Some None) (option_map Some (numbers_in 3 366 (seven_numbers first))) (option_map Some (days_in (weekday_name weekday)))
 read_form (form.FixedDate month day) =
-    form_read (option_map Some (numbers_in 2 12 (signed_decimal (pos month)))) (option_map Some (numbers_in 2 31 (signed_decimal (pos day)))) (Some None)
+    form_read (option_map Some (months_in (signed_decimal (pos month)))) (option_map Some (numbers_in 2 31 (signed_decimal (pos day)))) (Some None)
     (Some None)
 
 abbrev read_until : Option Moment → Option (Option Moment)
@@ -205,34 +206,44 @@ days nth weekday = Some (Some (record { nth = nth; weekday = weekday } ∷ []))
 alone_back : (w : ℕ) → w ≤ 6 → days_in (weekday_name w) ≡ Some (record { nth = None; weekday = w } ∷ [])
 alone_back w h = one_day (weekday_name w) (record { nth = None; weekday = w }) (weekday_uncut 44 w (inl refl) h) (weekday_alone w h)
 
+month_back : (m : ℕ) → IsMonth m → months_in (signed_decimal (pos m)) ≡ Some (pos m ∷ [])
+unfolding month_in
+month_back m h =
+    let short = month_short m h in
+    let month : month_in (decimal m) ≡ Some (pos m) =
+    cond-true (all_ascii_digits (decimal m)) (number_in 2 12 (decimal m)) None (all_digits m (omega (arith, h)))
+    ∙ short_back 2 12 (pos m) short in
+    ap (all_read month_in) (cut_last 44 (decimal m) (signed_uncut 44 (pos m) (inl refl) short.small))
+    ∙ read_more month_in (decimal m) [] (pos m) [] month refl
+
 form_back : (f : Form) → IsValidForm f → read_form f ≡ Some f
 form_back (form.NthDay month nth weekday) h =
     let text = signed_decimal nth ++ weekday_name weekday in
     let place = place_short nth h.1 in
     let day = one_day text (record { nth = Some nth; weekday = weekday })
-        (uncut-append 44 (signed_decimal nth) (weekday_name weekday) (signed_uncut 44 nth (inl refl) place.small) (weekday_uncut 44 weekday (inl refl) h.2))
-        (nth_weekday nth weekday place h.2) in
-    ap (λ o. form_read (option_map Some o) (Some None) (Some None) (option_map Some (days_in text))) (one_number_back 2 12 (pos month) (month_short month h.0))
+    (uncut-append 44 (signed_decimal nth) (weekday_name weekday) (signed_uncut 44 nth (inl refl) place.small) (weekday_uncut 44 weekday (inl refl) h.2))
+    (nth_weekday nth weekday place h.2) in
+    ap (λ o. form_read (option_map Some o) (Some None) (Some None) (option_map Some (days_in text))) (month_back month h.0)
     ∙ ap (λ o. form_read (Some (Some (pos month ∷ []))) (Some None) (Some None) (option_map Some o)) day
 form_back (form.MonthDays month first weekday) h =
     let dates = pos first ∷ next_numbers (pos first) in
     ap (λ o. form_read (option_map Some o) (option_map Some (numbers_in 2 31 (seven_numbers (pos first)))) (Some None)
-        (option_map Some (days_in (weekday_name weekday)))) (one_number_back 2 12 (pos month) (month_short month h.0))
+    (option_map Some (days_in (weekday_name weekday)))) (month_back month h.0)
     ∙ ap (λ o. form_read (Some (Some (pos month ∷ []))) (option_map Some o) (Some None) (option_map Some (days_in (weekday_name weekday))))
-        (seven_back (pos first) 2 31 (λ k le. month_days_short month first k h.1.0 h.1.1 le))
+    (seven_back (pos first) 2 31 (λ k le. month_days_short month first k h.1.0 h.1.1 le))
     ∙ ap (λ o. form_read (Some (Some (pos month ∷ []))) (Some (Some dates)) (Some None) (option_map Some o)) (alone_back weekday h.2)
     ∙ ap (month_days_form month weekday) (row_back (pos first))
 form_back (form.YearDays first weekday) h =
     let dates = first ∷ next_numbers first in
     ap (λ o. form_read (Some None) (Some None) (option_map Some o) (option_map Some (days_in (weekday_name weekday))))
-        (seven_back first 3 366 (first_small first h.0))
+    (seven_back first 3 366 (first_small first h.0))
     ∙ ap (λ o. form_read (Some None) (Some None) (Some (Some dates)) (option_map Some o)) (alone_back weekday h.1)
     ∙ ap (option_map (λ z. form.YearDays z weekday)) (row_back first)
 form_back (form.FixedDate month day) h =
     let long = days_in_month_bounds (pos 2001) month in
     let date = small_number day 31 h.1.0 (omega (arith, h.1, long)) (omega arith) in
     ap (λ o. form_read (option_map Some o) (option_map Some (numbers_in 2 31 (signed_decimal (pos day)))) (Some None) (Some None))
-        (one_number_back 2 12 (pos month) (month_short month h.0))
+    (month_back month h.0)
     ∙ ap (λ o. form_read (Some (Some (pos month ∷ []))) (option_map Some o) (Some None) (Some None)) (one_number_back 2 31 (pos day) date)
 
 until_back : (until : Option Moment) → IfSome until (λ m. IsWithinBounds m.seconds) → read_until until ≡ Some until
@@ -243,16 +254,19 @@ form_uncut : (f : Form) → IsValidForm f → are_uncut 59 (form_words f) ≡ tr
 form_uncut (form.NthDay month nth weekday) h =
     let place = place_short nth h.1 in
     and_from _ _ (signed_uncut 59 (pos month) (inr refl) ((month_short month h.0).small))
-    (and_from _ true (uncut-append 59 (signed_decimal nth) (weekday_name weekday) (signed_uncut 59 nth (inr refl) place.small) (weekday_uncut 59 weekday (inr refl) h.2)) refl)
+    (and_from _ true (uncut-append 59 (signed_decimal nth) (weekday_name weekday) (signed_uncut 59 nth (inr refl) place.small)
+    (weekday_uncut 59 weekday (inr refl) h.2)) refl)
 form_uncut (form.MonthDays month first weekday) h =
     and_from _ _ (signed_uncut 59 (pos month) (inr refl) ((month_short month h.0).small))
-    (and_from _ _ (seven_uncut (pos first) 2 31 (λ k le. month_days_short month first k h.1.0 h.1.1 le)) (and_from _ true (weekday_uncut 59 weekday (inr refl) h.2) refl))
+    (and_from _ _ (seven_uncut (pos first) 2 31 (λ k le. month_days_short month first k h.1.0 h.1.1 le))
+    (and_from _ true (weekday_uncut 59 weekday (inr refl) h.2) refl))
 form_uncut (form.YearDays first weekday) h =
     and_from _ _ (seven_uncut first 3 366 (first_small first h.0)) (and_from _ true (weekday_uncut 59 weekday (inr refl) h.1) refl)
 form_uncut (form.FixedDate month day) h =
     let long = days_in_month_bounds (pos 2001) month in
     let date = small_number day 31 h.1.0 (omega (arith, h.1, long)) (omega arith) in
-    and_from _ _ (signed_uncut 59 (pos month) (inr refl) ((month_short month h.0).small)) (and_from _ true (signed_uncut 59 (pos day) (inr refl) date.small) refl)
+    and_from _ _ (signed_uncut 59 (pos month) (inr refl) ((month_short month h.0).small))
+    (and_from _ true (signed_uncut 59 (pos day) (inr refl) date.small) refl)
 
 until_uncut : (until : Option Moment) → are_uncut 59 (until_words until) ≡ true
 until_uncut None = refl

@@ -67,7 +67,8 @@ stamp_back s h =
     let text = basic_spelling s in
     let back = fields_back s h in
     let valid : is_stamp (fields_in text) ≡ true = ap is_stamp back ∙ stamp_from s h in
-    cond-true (is_date_time text && is_stamp (fields_in text)) (Some (fields_in text)) None (and_from (is_date_time text) (is_stamp (fields_in text)) (is_written s) valid)
+    cond-true (is_date_time text && is_stamp (fields_in text)) (Some (fields_in text)) None
+    (and_from (is_date_time text) (is_stamp (fields_in text)) (is_written s) valid)
     ∙ ap Some back
 
 pub local_back : (m o : ℤ) → HasText (m +ℤ o) → local_in (local_text_of m o) ≡ Some (stamp_of (m +ℤ o))
@@ -173,7 +174,7 @@ weekday_back (suc (suc (suc (suc (suc (suc (suc w))))))) h = absurd (omega arith
 own : IsNumeralModel (λ ds. all_ascii_digits ds ≡ true) (digits_value 10)
 own = numerals_by_value (λ ds. all_ascii_digits ds ≡ true) tells_all_ascii_digits
 
-all_digits : (n : ℕ) → n < 2 ^ 64 → all_ascii_digits (decimal n) ≡ true
+pub all_digits : (n : ℕ) → n < 2 ^ 64 → all_ascii_digits (decimal n) ≡ true
 all_digits n h = digits_decimal own n h
 
 value_is : (n : ℕ) → n < 2 ^ 64 → digits_value 10 (decimal n) ≡ n
@@ -208,7 +209,8 @@ told places most text n z digits value size some low high short fits =
     let first = decimal_nonempty n fits in
     let last = length-decimal-le places n some short fits in
     cond-true (is_number places most text) (Some (signed_digits_value 10 text)) None
-    (and_from _ _ (and_from _ _ (and_from _ _ (and_from _ _ all (le-leb _ _ (omega arith))) (le-leb _ _ (omega arith))) (le-leb _ _ (omega arith))) (le-leb _ _ (omega arith)))
+    (and_from _ _ (and_from _ _ (and_from _ _ (and_from _ _ all (le-leb _ _ (omega arith))) (le-leb _ _ (omega arith))) (le-leb _ _ (omega arith)))
+    (le-leb _ _ (omega arith)))
     ∙ ap Some value
 
 pub number_back : (places most : ℕ) (z : ℤ) → 0 < places → 1 ≤ unsigned_abs z → unsigned_abs z ≤ most → unsigned_abs z < 10 ^ places

@@ -75,7 +75,8 @@ map_told (o ∷ os) h =
 
 -- ---- parts with rules
 
-time_left : (rule : Rule) (offset y onset : ℤ) → rule.second < 86400 → FallsAt rule offset y onset → pos rule.second ≡ int_rem_euclid (onset +ℤ offset) (pos 86400)
+time_left : (rule : Rule) (offset y onset : ℤ) → rule.second < 86400 → FallsAt rule offset y onset
+    → pos rule.second ≡ int_rem_euclid (onset +ℤ offset) (pos 86400)
 time_left rule offset y onset below falls = omega (arith, signed_arith, falls.moment_is)
 
 module _ (std : Local) (rule : DstRule) (y0 : ℤ) (h : IsLawfulRule std.offset rule) (carried : is_carried_rule rule ≡ true)
@@ -154,9 +155,10 @@ parts_told file range h names carried meaning end =
 each_spellable : (ps : List Part) → All IsWritable ps → All IsTold ps → AllByRecursion IsSpellable ps
 each_spellable [] h k = tt
 each_spellable (p ∷ ps) h k =
-    let told = k 0 p (omega arith) in
-    (record { writable = h 0 p (omega arith); name = told.name; time = told.time },
-    each_spellable ps (λ i d lt. h (suc i) d (omega arith)) (λ i d lt. k (suc i) d (omega arith)))
+    let told = k 0 p (omega arith) in (
+      record { writable = h 0 p (omega arith); name = told.name; time = told.time },
+      each_spellable ps (λ i d lt. h (suc i) d (omega arith)) (λ i d lt. k (suc i) d (omega arith)),
+    )
 
 pub zone_spelled : (file : List ℕ) (range : Range) (tzid : List ℕ) (alias_of : Option (List ℕ)) → zone_fault file ≡ None → IsTrue (has_printable_names file)
     → IsCarriedIfAny (footer_meant (lists_of file).footer) → HasMeaning range.from.seconds → IsEndOf range.from.seconds (end_in range)

@@ -1,4 +1,5 @@
--- Rules of each year, read (RFC 5545, section 3.3.10): words between semicolons, each a name, `=` and a value.
+-- Rules of each year, read (RFC 5545, section 3.3.10): words between semicolons, each a name, `=`
+-- and a value.
 use Rattle.std.specs.Prelude.{ℕ, ◌+◌, ◌-◌, ◌==◌, nat_le, List, [], ◌∷◌, length, take, drop, codes, Bool, true, false, ◌&&◌, ◌||◌, if◌then◌else◌, ℤ, pos, ◌+ℤ◌, unsigned_abs, Option, None, Some}
 use Rattle.std.specs.List.{list_all}
 use Rattle.std.specs.Option.{option_map, option_and_then}
@@ -11,7 +12,7 @@ use Rattle.recurrence.specs.declared.rule_types.Form.TheVariants as form
 use Rattle.vtimezone.specs.Cutting.{Named, cut_at, cut_first, values_of, all_read, one_if_any}
 use Rattle.vtimezone.specs.ReadValues.{utc_in}
 
--- one to so many digits, after a sign or none, that write a number from 1 to `most` without the sign
+-- one to so many digits, after a sign or none, and without the sign a number from 1 to `most`
 abbrev pub is_number : ℕ → ℕ → List ℕ → Bool
 is_number places most text =
     all_ascii_digits (without_leading_sign text)
@@ -27,6 +28,13 @@ number_in places most text =
 -- numbers between commas
 abbrev pub numbers_in : ℕ → ℕ → List ℕ → Option (List ℤ)
 numbers_in places most text = all_read (number_in places most) (cut_at 44 text)
+
+-- a month has no sign
+unfoldable pub month_in : List ℕ → Option ℤ
+month_in text = if all_ascii_digits text then number_in 2 12 text else None
+
+abbrev pub months_in : List ℕ → Option (List ℤ)
+months_in text = all_read month_in (cut_at 44 text)
 
 -- a weekday, where Sunday is 0
 unfoldable pub weekday_in : List ℕ → Option ℕ
@@ -78,7 +86,8 @@ month_days_form month weekday (Some (pos first)) = Some (form.MonthDays month fi
 month_days_form month weekday first = None
 
 -- the form of months, days of the month and days of the year, with one weekday
-abbrev pub form_on : Option (List ℤ) → Option (List ℤ) → Option (List ℤ) → Option ℤ → ℕ → Option Form
+abbrev pub form_on : Option (List ℤ) → Option (List ℤ) → Option (List ℤ) → Option ℤ → ℕ
+    → Option Form
 form_on (Some (pos month ∷ [])) None None (Some nth) weekday = Some (form.NthDay month nth weekday)
 form_on (Some (pos month ∷ [])) (Some days) None None weekday =
     month_days_form month weekday (week_from days)
@@ -91,20 +100,22 @@ abbrev pub form_without : Option (List ℤ) → Option (List ℤ) → Option (Li
 form_without (Some (pos month ∷ [])) (Some (pos day ∷ [])) None = Some (form.FixedDate month day)
 form_without months month_days year_days = None
 
-abbrev pub form_of : Option (List ℤ) → Option (List ℤ) → Option (List ℤ) → Option (List Day) → Option Form
+abbrev pub form_of : Option (List ℤ) → Option (List ℤ) → Option (List ℤ) → Option (List Day)
+    → Option Form
 form_of months month_days year_days None = form_without months month_days year_days
 form_of months month_days year_days (Some (d ∷ [])) =
     form_on months month_days year_days d.nth d.weekday
 form_of months month_days year_days (Some days) = None
 
-abbrev pub form_read : Option (Option (List ℤ)) → Option (Option (List ℤ)) → Option (Option (List ℤ)) → Option (Option (List Day)) → Option Form
+abbrev pub form_read : Option (Option (List ℤ)) → Option (Option (List ℤ))
+    → Option (Option (List ℤ)) → Option (Option (List Day)) → Option Form
 form_read (Some months) (Some month_days) (Some year_days) (Some days) =
     form_of months month_days year_days days
 form_read months month_days year_days days = None
 
 abbrev pub form_in : List Named → Option Form
 form_in words =
-    form_read (one_if_any (numbers_in 2 12) (values_of (codes "BYMONTH") words))
+    form_read (one_if_any months_in (values_of (codes "BYMONTH") words))
     (one_if_any (numbers_in 2 31) (values_of (codes "BYMONTHDAY") words))
     (one_if_any (numbers_in 3 366) (values_of (codes "BYYEARDAY") words))
     (one_if_any days_in (values_of (codes "BYDAY") words))

@@ -11,7 +11,8 @@ use Rattle.vtimezone.specs.ReadValues.{is_safe}
 abbrev pub IsSafe : List ℕ → Type 0
 IsSafe text = list_all is_safe text ≡ true
 
--- a rule's time of day is that of the first onset, by the clocks before it; only a rule has a last onset
+-- a rule's time of day is that of the first onset, by the clocks before it; a part without a rule
+-- has no last onset
 abbrev pub HasTime : Part → Option Rule → Type 0
 HasTime p None = p.until ≡ None
 HasTime p (Some rule) =

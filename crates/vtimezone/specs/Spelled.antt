@@ -1,6 +1,7 @@
--- The parts that the text of a calendar spells, read from it (RFC 5545, sections 3.1, 3.4, 3.6.5 and 3.8.3): the text
--- is lines, each a name, a colon and a value; the lines of its time zone hold groups from BEGIN to END; and the values
--- of each group's lines give its part. Names stand in capitals and have no parameters.
+-- The parts that the text of a calendar spells, read from it (RFC 5545, sections 3.1, 3.4, 3.6.5 and
+-- 3.8.3). The text is lines, each a name, a colon and a value. The lines of its time zone hold groups
+-- from BEGIN to END, and the values of a group's lines give its part. Names stand in capitals and
+-- have no parameters.
 use Rattle.std.specs.Prelude.{◌≡◌, ℕ, ◌+◌, ◌*◌, List, [], ◌∷◌, ◌++◌, codes, Bool, true, false, ◌&&◌, ◌||◌, if◌then◌else◌, ℤ, ◌-ℤ◌, Option, None, Some}
 use Rattle.std.specs.List.{list_all}
 use Rattle.std.specs.Option.{option_map, option_and_then}
@@ -22,10 +23,11 @@ is_part_line l =
     || bytes_eq l.name (codes "TZOFFSETTO") || bytes_eq l.name (codes "TZNAME")
     || bytes_eq l.name (codes "RRULE")
 
--- the moment at which clocks so many seconds east of UTC show these fields, and the second of their day
+-- the moment at which clocks so many seconds east of UTC show these fields
 abbrev pub shown_at : Stamp → ℤ → Moment
 shown_at s offset = record { seconds = moment_at s -ℤ offset }
 
+-- and the second of their day
 abbrev pub second_of_day : Stamp → ℕ
 second_of_day s = 3600 * s.hour + 60 * s.minute + s.second
 
@@ -33,7 +35,8 @@ abbrev pub rule_at : Stamp → Recur → Rule
 rule_at s r = record { form = r.form; second = second_of_day s }
 
 -- the start is shown by the clocks before it, and a rule has its time of day from it
-abbrev pub part_with : Bool → Option Stamp → Option ℤ → Option ℤ → Option (List ℕ) → Option (Option Recur) → Option Part
+abbrev pub part_with : Bool → Option Stamp → Option ℤ → Option ℤ → Option (List ℕ)
+    → Option (Option Recur) → Option Part
 part_with dst (Some start) (Some from) (Some to) (Some name) (Some recur) = Some (record {
   dst = dst;
   start = shown_at start from;
@@ -50,10 +53,10 @@ unfoldable pub part_of_lines : Bool → List Named → Option Part
 part_of_lines dst lines =
     if list_all is_part_line lines
     then part_with dst (one_read local_in (values_of (codes "DTSTART") lines))
-        (one_read offset_in (values_of (codes "TZOFFSETFROM") lines))
-        (one_read offset_in (values_of (codes "TZOFFSETTO") lines))
-        (one_read text_in (values_of (codes "TZNAME") lines))
-        (one_if_any recur_in (values_of (codes "RRULE") lines))
+    (one_read offset_in (values_of (codes "TZOFFSETFROM") lines))
+    (one_read offset_in (values_of (codes "TZOFFSETTO") lines))
+    (one_read text_in (values_of (codes "TZNAME") lines))
+    (one_if_any recur_in (values_of (codes "RRULE") lines))
     else None
 
 abbrev pub is_line : List ℕ → List ℕ → Named → Bool
@@ -79,7 +82,7 @@ parts_among (Some dst) held (l ∷ ls) =
     then put_before (part_of_lines dst held) (parts_among None [] ls)
     else if is_mark l then None else parts_among (Some dst) (held ++ l ∷ []) ls
 
--- the lines after the first that is BEGIN of a component, and those before the first that is its END
+-- the lines after the BEGIN of a component, and those before its END
 unfoldable pub after_begin : List ℕ → List Named → Option (List Named)
 after_begin component [] = None
 after_begin component (l ∷ ls) =
@@ -100,7 +103,8 @@ zone_lines lines = option_and_then (inside (codes "VTIMEZONE")) (inside (codes "
 
 unfoldable pub spelled_by : List (List ℕ) → Option (List Part)
 spelled_by lines =
-    option_and_then (parts_among None []) (option_and_then zone_lines (all_read (cut_first 58) lines))
+    option_and_then (parts_among None [])
+    (option_and_then zone_lines (all_read (cut_first 58) lines))
 
 -- the parts that a text spells, if it spells any
 abbrev pub spelled : List ℕ → Option (List Part)

@@ -18,8 +18,10 @@ use td_civil::{Moment, local_stamp};
 
 /// Appends the calendar of a time zone: an iCalendar object with one VTIMEZONE of these parts (RFC 5545, section
 /// 3.6.5). Where `tzid` is an alias, `alias_of` is the identifier of its zone. `until` is the end of the range, where
-/// it has one. It takes the memory of the text alone. `calendar_spells` says that this text, read from its lines,
-/// gives the parts back, and `zone_calendar_spells` that it does so for what `parts` gives.
+/// it has one. It takes the memory of the text alone.
+///
+/// By `calendar_spells` this text, read from its lines on, gives the parts back; by
+/// `zone_calendar_spells` it does so for what `parts` gives.
 pub fn write(
     out: &mut Bytes,
     tzid: &[u8],

@@ -41,15 +41,17 @@ pub fn calendar_reads_back()
         ≡ Ok (calendar_lines tzid alias_of parts until) }
 {}
 
-/// The text of a calendar spells its parts: cut into lines, groups and values and read by the grammar of RFC 5545, it
-/// gives them back.
+/// The text of a calendar spells its parts: cut into lines, groups and values, and read by the
+/// grammar of RFC 5545, it gives them back.
 pub fn calendar_spells()
     ensures { (tzid : List ℕ) (alias_of : Option (List ℕ)) (parts : List Part)
-        (until : Option Moment) → IsLineText tzid → IfSome alias_of IsLineText → AllByRecursion IsSpellable parts
+        (until : Option Moment) → IsLineText tzid → IfSome alias_of IsLineText
+        → AllByRecursion IsSpellable parts
         → spelled (calendar tzid alias_of parts until) ≡ Some parts }
 {}
 
-/// So the calendar of a zone for a range spells the parts of the zone, where its names can be printed.
+/// So the calendar of a zone for a range spells the parts of the zone, where its names can be
+/// printed.
 pub fn zone_calendar_spells()
     ensures { (file : List ℕ) (range : Range) (tzid : List ℕ) (alias_of : Option (List ℕ))
         → zone_fault file ≡ None → IsTrue (has_printable_names file)

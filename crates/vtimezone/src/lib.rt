@@ -2,17 +2,29 @@
 //!
 //! `parts` gives the parts of `specs/ZoneParts.antt`: one for each change up to the end of the last transition's year,
 //! and then the rules of the footer. Its contract is what they mean: at each moment of the range, the part in force
-//! (`specs/InForce.antt` of `recurrence`) has the offset, the flag and the name of the zone's state. `write` appends
-//! the text of `specs/CalendarText.antt`, and that text, read as `specs/Spelled.antt` says, gives the parts back.
+//! (`specs/InForce.antt` of `recurrence`) has the offset, the flag and the name of the zone's state.
+//!
+//! `write` appends the text of `specs/CalendarText.antt`, and that text, read as `specs/Spelled.antt` says, gives the
+//! parts back.
 #![tactic(auto)]
 
 mod calendar_text;
+#[cfg(test)]
+mod form_rows;
 mod laws;
 mod rule_parts;
+#[cfg(test)]
+mod slim_files;
+#[cfg(test)]
+mod test_rows;
+#[cfg(test)]
+mod tests;
 mod values;
 mod zone_parts;
 
 pub use calendar_text::write;
-pub use laws::{calendar_reads_back, calendar_spells, one_in_force, parts_mean, zone_calendar_spells};
+pub use laws::{
+    calendar_reads_back, calendar_spells, one_in_force, parts_mean, zone_calendar_spells,
+};
 pub use recurrence::{Part, Range};
 pub use zone_parts::parts;
