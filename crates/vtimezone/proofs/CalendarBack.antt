@@ -1,5 +1,5 @@
 -- The text of a calendar spells its parts.
-use Rattle.std.proofs.Common.{◌≡◌, ℕ, ◌+◌, ◌*◌, ◌%◌, ◌/◌, ◌<◌, ◌≤◌, ◌==◌, Bool, true, false, not, ◌&&◌, refl, sym, ap, ◌∙◌, arith, append-nil, ℤ, pos, ◌+ℤ◌, ◌-ℤ◌, Option, None, Some, List, [], ◌∷◌, ◌++◌, codes}
+use Rattle.std.proofs.Common.{◌≡◌, ℕ, Bool, true, false, not, refl, sym, ap, ◌∙◌, arith, append-nil, ℤ, pos, ◌+ℤ◌, ◌-ℤ◌, Option, None, Some, List, [], ◌∷◌, ◌++◌, codes}
 use Rattle.std.specs.Int.{int_rem_euclid}
 use Rattle.std.specs.List.{list_all, flat_map, AllByRecursion}
 use Rattle.std.specs.Option.{IfSome, option_map, option_and_then}
@@ -11,8 +11,8 @@ use Rattle.std.proofs.lemmas.List.Folds.{list_all-append}
 use Rattle.jiff_core.proofs.SignedLemmas.{signed_arith}
 use Rattle.td_civil.specs.declared.moment_type.Moment.{Moment}
 use Rattle.td_civil.specs.Bounds.{HasText}
-use Rattle.td_civil.specs.Calendar.{stamp_of, elapsed}
-use Rattle.td_civil.specs.Stamp.{Stamp, moment_at}
+use Rattle.td_civil.specs.Calendar.{stamp_of}
+use Rattle.td_civil.specs.Stamp.{moment_at}
 use Rattle.td_civil.specs.Texts.{local_text_of}
 use Rattle.td_civil.proofs.Shown.{elapsed_is, local_bounds_text, stamp_of_moment}
 use Rattle.ical_lines.specs.Unfolding.{is_feed}
@@ -22,8 +22,8 @@ use Rattle.vtimezone.specs.CalendarText.{line, kind_of, start_line, change_lines
 use Rattle.vtimezone.specs.Cutting.{Named, cut_first, all_read, put_before}
 use Rattle.vtimezone.specs.ReadRules.{Recur, recur_in}
 use Rattle.vtimezone.specs.ReadValues.{is_safe, local_in, offset_in, text_in}
-use Rattle.vtimezone.specs.Spellable.{IsSafe, HasTime, IsSpellable}
-use Rattle.vtimezone.specs.Spelled.{shown_at, second_of_day, rule_at, part_with, part_of_lines, is_line, parts_among, after_begin, before_end, inside, zone_lines, spelled_by, spelled}
+use Rattle.vtimezone.specs.Spellable.{IsSafe, IsSpellable}
+use Rattle.vtimezone.specs.Spelled.{shown_at, second_of_day, part_with, part_of_lines, is_line, parts_among, after_begin, before_end, inside, zone_lines, spelled_by, spelled}
 use Rattle.vtimezone.specs.Values.{offset_text, utc_basic, rule_text}
 use Rattle.vtimezone.proofs.ReadBack.{calendar_read_back}
 use Rattle.vtimezone.proofs.RulesBack.{read_append, recur_back}
@@ -92,8 +92,12 @@ change_back : (dst : Bool) (start : Moment) (from to : ℤ) (name : List ℕ) (o
     ≡ part_with dst (Some (stamp_of (start.seconds +ℤ from))) (Some from) (Some to) (Some name) o
 change_back dst start from to name o rule until h =
     let w = h.writable in
-    rw (local_back start.seconds from (local_bounds_text start.seconds from w.start w.from), offset_back from w.from, offset_back to w.to,
-    text_back name h.name) refl
+    rw (
+      local_back start.seconds from (local_bounds_text start.seconds from w.start w.from),
+      offset_back from w.from,
+      offset_back to w.to,
+      text_back name h.name,
+    ) refl
 
 content_back : (dst : Bool) (start : Moment) (from to : ℤ) (name : List ℕ) (rule : Option Rule) (until : Option Moment)
     → IsSpellable (part_by dst start from to name rule until)

@@ -1,7 +1,7 @@
 -- The newest change by a moment, of both edges and all years.
-use Rattle.std.proofs.Common.{◌≡◌, ◌⊎◌, true, inl, inr, refl, sym, subst, ap, ◌∙◌, arith, ℤ, pos, ◌+ℤ◌, ◌*ℤ◌, ◌≤ℤ◌, ◌<ℤ◌, Some}
+use Rattle.std.proofs.Common.{◌≡◌, ◌⊎◌, true, inl, inr, refl, sym, subst, ap, ◌∙◌, arith, ℤ, pos, ◌+ℤ◌, ◌≤ℤ◌, ◌<ℤ◌, Some}
 use Rattle.std.proofs.lemmas.Int.{by_lt_z}
-use Rattle.jiff_core.specs.Calendar.{days_from_civil, IsYear, IsBetween}
+use Rattle.jiff_core.specs.Calendar.{IsYear, IsBetween}
 use Rattle.jiff_core.proofs.SignedLemmas.{signed_arith}
 use Rattle.td_civil.specs.Calendar.{IsInYear}
 use Rattle.td_civil.specs.declared.local_time.Local.{Local}

@@ -1,34 +1,24 @@
 -- Numbers and weekdays between commas are read back, and hold no semicolon.
-use Rattle.std.proofs.Common.{◌≡◌, ◌⊎◌, inl, inr, ℕ, zero, suc, ◌+◌, ◌*◌, ◌-◌, ◌/◌, ◌%◌, ◌^◌, ◌<◌, ◌≤◌, ◌==◌, Bool, true, false, not, ◌&&◌, if◌then◌else◌, refl, sym, ap, subst, ◌∙◌, arith, append_assoc, append-nil, ℤ, pos, negsuc, ◌+ℤ◌, unsigned_abs, Option, None, Some, List, [], ◌∷◌, ◌++◌, codes, length, take, drop, decimal}
+use Rattle.std.proofs.Common.{◌≡◌, ◌⊎◌, inl, inr, ℕ, zero, suc, ◌+◌, ◌-◌, ◌/◌, ◌%◌, ◌^◌, ◌<◌, ◌≤◌, ◌==◌, Bool, true, false, not, refl, ap, subst, ◌∙◌, arith, append_assoc, append-nil, ℤ, pos, negsuc, ◌+ℤ◌, unsigned_abs, Option, None, Some, List, [], ◌∷◌, ◌++◌, codes, length, take, drop, decimal}
 use Rattle.std.specs.Fmt.{signed_decimal}
-use Rattle.std.specs.List.{list_all, flat_map, slice_split, onto_first}
-use Rattle.std.specs.Option.{IfSome, option_map, option_and_then}
+use Rattle.std.specs.List.{list_all, onto_first}
+use Rattle.std.specs.Option.{option_map}
 use Rattle.std.proofs.lemmas.List.{length-append}
 use Rattle.std.proofs.Math.Seq.{take-append_seam, drop-append_seam}
 use Rattle.std.specs.Ordering.{int_eq}
-use Rattle.std.proofs.lemmas.Bool.{cond_both, cond-true, cond-false, and_from, and_parts}
+use Rattle.std.proofs.lemmas.Bool.{cond-true, cond-false, and_from, and_parts}
 use Rattle.std.proofs.lemmas.Bool.Decides.{nat_tests}
 use Rattle.std.proofs.lemmas.Int.{ints}
 use Rattle.std.proofs.lemmas.Fmt.{decimal_by_steps, decimal_nonempty}
 use Rattle.std.proofs.lemmas.List.Folds.{list_all-append}
-use Rattle.jiff_core.proofs.CalendarLemmas.{days_in_month_bounds}
-use Rattle.jiff_core.proofs.SignedLemmas.{signed_arith, one_part}
-use Rattle.td_civil.specs.declared.moment_type.Moment.{Moment}
-use Rattle.td_civil.specs.Bounds.{HasText, IsWithinBounds}
+use Rattle.jiff_core.proofs.SignedLemmas.{signed_arith}
 use Rattle.td_civil.specs.Calendar.{stamp_of}
 use Rattle.td_civil.specs.Stamp.{two_digits, four_digits}
 use Rattle.td_civil.specs.Texts.{local_text_of}
-use Rattle.td_civil.proofs.Shown.{bounds_text}
-use Rattle.recurrence.specs.declared.rule_types.Form.{Form}
-use Rattle.recurrence.specs.declared.rule_types.Form.TheVariants as form
-use Rattle.recurrence.specs.declared.rule_types.Rule.{Rule}
-use Rattle.recurrence.specs.Valid.{IsValidForm, IsFirstDay, IsMonth, IsPlace}
-use Rattle.jiff_core.specs.Calendar.{days_in_month}
-use Rattle.vtimezone.specs.Cutting.{Named, cut_at, cut_first, all_read, put_before}
-use Rattle.vtimezone.specs.ReadRules.{Day, Recur, number_in, numbers_in, are_in_a_row, week_from, weekday_in, day_of, nth_in, day_in, days_in, form_read, form_in, month_days_form, recur_with, recur_of, recur_in}
-use Rattle.vtimezone.specs.ReadValues.{utc_in}
-use Rattle.vtimezone.specs.Values.{utc_basic, weekday_name, next_number, seven_numbers, by_month, by_weekday, by_nth_weekday, by_month_day, by_month_days, by_year_days, form_text, until_text, rule_text}
-use Rattle.vtimezone.proofs.ValuesBack.{number_back, weekday_back, utc_back}
+use Rattle.vtimezone.specs.Cutting.{cut_at, all_read, put_before}
+use Rattle.vtimezone.specs.ReadRules.{Day, number_in, numbers_in, are_in_a_row, week_from, weekday_in, day_of, nth_in, day_in, days_in}
+use Rattle.vtimezone.specs.Values.{utc_basic, weekday_name, next_number, seven_numbers}
+use Rattle.vtimezone.proofs.ValuesBack.{number_back, weekday_back}
 
 -- ---- texts without a separator, and where they are cut
 

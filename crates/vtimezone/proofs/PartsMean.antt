@@ -1,5 +1,5 @@
 -- The parts of a range mean the state.
-use Rattle.std.proofs.Common.{◌≡◌, ◌-◌, Bool, true, false, true≢false, not, ◌&&◌, refl, sym, subst, ap, ◌∙◌, arith, ℤ, pos, neg_ℤ, ◌-ℤ◌, ◌*ℤ◌, ◌≤ℤ◌, ◌<ℤ◌, int_lt, unsigned_abs, Option, None, Some, List, [], ◌++◌, map}
+use Rattle.std.proofs.Common.{◌≡◌, ◌-◌, Bool, true, false, true≢false, not, ◌&&◌, refl, sym, subst, ap, ◌∙◌, arith, ℤ, pos, neg_ℤ, ◌-ℤ◌, ◌*ℤ◌, ◌≤ℤ◌, ◌<ℤ◌, int_lt, unsigned_abs, Option, None, Some, List, [], ◌++◌}
 use Rattle.std.specs.List.{Contains}
 use Rattle.std.proofs.lemmas.Bool.{cond_both}
 use Rattle.std.proofs.lemmas.List.{append-nil}
@@ -16,7 +16,7 @@ use Rattle.recurrence.specs.declared.part_types.Part.{Part}
 use Rattle.posix_footer.specs.Carried.{is_carried_rule, is_all_year, beyond_if_any}
 use Rattle.vtimezone.proofs.Whole.{AreSingles, IsWhole, IsRange, IsLawfulAndCarried, Means}
 use Rattle.vtimezone.specs.PartsOf.{IsBeforeEnd}
-use Rattle.vtimezone.specs.PartsOf.{IsEndOf, single_of, rule_parts, end_of, rules_if_any, rules_of, parts_from}
+use Rattle.vtimezone.specs.PartsOf.{IsEndOf, rule_parts, end_of, rules_if_any, rules_of, parts_from}
 use Rattle.recurrence.proofs.AllYear.{all_year_daylight, year_9999}
 use Rattle.vtimezone.proofs.Meaning.{singles_mean, singles_stay, listed_parts_mean}
 use Rattle.vtimezone.proofs.RuleParts.{are_rule_parts, IsMeant}

@@ -1,5 +1,5 @@
 -- The text of a calendar is read as its lines.
-use Rattle.std.proofs.Common.{◌≡◌, ℕ, suc, ◌+◌, ◌%◌, ◌/◌, ◌^◌, ◌<◌, ◌≤◌, ◌==◌, Bool, true, not, ◌&&◌, if◌then◌else◌, refl, ◌∙◌, arith, ℤ, pos, negsuc, ◌+ℤ◌, int_lt, unsigned_abs, Option, None, Some, Ok, List, [], ◌∷◌, ◌++◌, codes, decimal}
+use Rattle.std.proofs.Common.{◌≡◌, ℕ, suc, ◌+◌, ◌%◌, ◌/◌, ◌^◌, ◌<◌, ◌≤◌, ◌==◌, Bool, true, not, if◌then◌else◌, refl, ◌∙◌, arith, ℤ, pos, negsuc, ◌+ℤ◌, int_lt, unsigned_abs, Option, None, Some, Ok, List, [], ◌∷◌, ◌++◌, codes, decimal}
 use Rattle.std.specs.Fmt.{signed_decimal}
 use Rattle.std.specs.List.{list_all, flat_map, AllByRecursion}
 use Rattle.std.specs.Option.{IfSome}
@@ -13,7 +13,6 @@ use Rattle.td_civil.specs.declared.moment_type.Moment.{Moment}
 use Rattle.td_civil.specs.Calendar.{stamp_of}
 use Rattle.td_civil.specs.Stamp.{two_digits, four_digits}
 use Rattle.td_civil.specs.Texts.{local_text_of}
-use Rattle.ical_lines.specs.Lines.{written}
 use Rattle.ical_lines.specs.Unfolding.{is_feed, begins_blank, is_plain, unfolded}
 use Rattle.ical_lines.proofs.LawLemmas.{reads_back}
 use Rattle.recurrence.specs.declared.part_types.Part.{Part}

@@ -1,5 +1,5 @@
 -- Values that are written are read back.
-use Rattle.std.proofs.Common.{◌≡◌, ◌≢◌, ℕ, zero, suc, ◌+◌, ◌*◌, ◌-◌, ◌/◌, ◌%◌, ◌^◌, ◌<◌, ◌≤◌, ◌==◌, nat_le, nat_lt, Bool, true, false, true≢false, not, ◌&&◌, ◌||◌, if◌then◌else◌, refl, sym, ap, subst, ◌∙◌, arith, ℤ, pos, negsuc, neg_ℤ, ◌+ℤ◌, int_lt, unsigned_abs, Option, None, Some, List, [], ◌∷◌, ◌++◌, codes, length, take, drop, decimal, get_or}
+use Rattle.std.proofs.Common.{◌≡◌, ◌≢◌, ℕ, zero, suc, ◌+◌, ◌*◌, ◌-◌, ◌/◌, ◌%◌, ◌^◌, ◌<◌, ◌≤◌, ◌==◌, nat_lt, true, false, not, ◌&&◌, if◌then◌else◌, refl, sym, ap, subst, ◌∙◌, arith, ℤ, pos, negsuc, neg_ℤ, ◌+ℤ◌, int_lt, unsigned_abs, Option, None, Some, List, [], ◌∷◌, ◌++◌, length, take, drop, decimal, get_or}
 use Rattle.std.specs.Char.{is_ascii_digit}
 use Rattle.std.specs.Fmt.{signed_decimal}
 use Rattle.std.specs.List.{list_all}
@@ -24,7 +24,7 @@ use Rattle.td_civil.proofs.Shown.{stamp_of_valid, stamp_of_moment}
 use Rattle.td_civil.proofs.Spelled.{stamp_from}
 use Rattle.vtimezone.specs.Cutting.{put_before}
 use Rattle.vtimezone.specs.ReadRules.{is_number, number_in, weekday_in}
-use Rattle.vtimezone.specs.ReadValues.{fields_in, is_date_time, local_in, utc_in, seconds_in, is_hours, size_in, signed_by, offset_in, is_safe, text_after, text_in}
+use Rattle.vtimezone.specs.ReadValues.{fields_in, is_date_time, local_in, utc_in, is_hours, size_in, signed_by, offset_in, is_safe, text_after, text_in}
 use Rattle.vtimezone.specs.Spellable.{IsSafe}
 use Rattle.vtimezone.specs.Values.{sign_of, seconds_text, offset_text, utc_basic, weekday_name}
 

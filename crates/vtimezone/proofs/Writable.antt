@@ -1,11 +1,11 @@
 -- The parts of a zone have texts.
-use Rattle.std.proofs.Common.{◌≡◌, ℕ, zero, suc, ◌-◌, ◌<◌, Bool, true, false, true≢false, not, ◌&&◌, inl, inr, refl, sym, subst, ◌∙◌, arith, ℤ, pos, neg_ℤ, ◌+ℤ◌, ◌-ℤ◌, ◌*ℤ◌, ◌≤ℤ◌, ◌<ℤ◌, int_lt, unsigned_abs, Option, None, Some, List, [], ◌∷◌, ◌++◌, map, slice_index_or}
+use Rattle.std.proofs.Common.{◌≡◌, ℕ, zero, suc, ◌-◌, ◌<◌, Bool, true, false, true≢false, not, ◌&&◌, inl, inr, refl, sym, subst, arith, ℤ, pos, neg_ℤ, ◌+ℤ◌, ◌-ℤ◌, ◌*ℤ◌, ◌≤ℤ◌, ◌<ℤ◌, int_lt, unsigned_abs, Option, None, Some, List, [], ◌∷◌, ◌++◌, map, slice_index_or}
 use Rattle.std.specs.List.{All, Contains}
 use Rattle.std.specs.Option.{IfSome}
 use Rattle.std.specs.Ordering.{int_eq}
 use Rattle.std.proofs.lemmas.Bool.{cond_both}
 use Rattle.std.proofs.lemmas.List.Elements.{All-append, All-contains_itself}
-use Rattle.jiff_core.specs.Calendar.{days_from_civil, IsYear, IsBetween}
+use Rattle.jiff_core.specs.Calendar.{days_from_civil, IsBetween}
 use Rattle.jiff_core.proofs.MarchLemmas.{day_count-early}
 use Rattle.jiff_core.proofs.CalendarLemmas.{days_from_civil-day_count}
 use Rattle.jiff_core.proofs.SignedLemmas.{signed_arith, one_part}
@@ -32,11 +32,11 @@ use Rattle.recurrence.proofs.InYear.{onset_in_year}
 use Rattle.recurrence.proofs.Onsets.{keeps_onsets}
 use Rattle.vtimezone.specs.CalendarText.{IsWritable}
 use Rattle.vtimezone.specs.PartsOf.{single_of, last_before, rule_part, part_until, rule_part_if, rule_parts, rules_if_any, rules_of, end_of, parts_from, IsEndOf}
-use Rattle.vtimezone.specs.ZoneParts.{end_in, latest, rule_year, parts_of}
+use Rattle.vtimezone.specs.ZoneParts.{end_in, rule_year, parts_of}
 use Rattle.vtimezone.proofs.InForce.{first_not_later}
 use Rattle.vtimezone.proofs.LastBefore.{lt_is}
 use Rattle.vtimezone.proofs.PartsMean.{end_after, end_most}
-use Rattle.vtimezone.proofs.Singles.{single_part, singles, IsSingle, single_is, same_int, observed_singles}
+use Rattle.vtimezone.proofs.Singles.{single_part, singles, single_is, same_int, observed_singles}
 use Rattle.vtimezone.proofs.Whole.{IsLawfulAndCarried}
 use Rattle.vtimezone.proofs.ZoneRange.{zone_range, begin_most, lawful_footer}
 

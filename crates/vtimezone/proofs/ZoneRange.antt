@@ -1,19 +1,18 @@
 -- A zone's state goes on from its last transition.
-use Rattle.std.proofs.Common.{◌≡◌, ℕ, zero, suc, ◌+◌, ◌-◌, ◌<◌, ◌≤◌, List, [], ◌∷◌, length, refl, sym, subst, ap, ◌∙◌, arith, ℤ, pos, neg_ℤ, ◌+ℤ◌, ◌*ℤ◌, ◌≤ℤ◌, ◌<ℤ◌, Option, None, Some, Result, Ok, Err}
+use Rattle.std.proofs.Common.{◌≡◌, ℕ, suc, ◌-◌, List, [], ◌∷◌, length, refl, sym, subst, ap, ◌∙◌, arith, ℤ, pos, ◌+ℤ◌, ◌*ℤ◌, ◌≤ℤ◌, ◌<ℤ◌, Option, None, Some, Result, Ok, Err}
 use Rattle.std.specs.Prelude.{slice_index, slice_index_or, slice_get}
 use Rattle.std.specs.Option.{IfSome}
 use Rattle.std.proofs.lemmas.Option.{slice_get-get_or}
 use Rattle.td_civil.specs.declared.moment_type.TheConstants.{LO, HI}
 use Rattle.tzif_reader.proofs.Whole.{zone_file_of}
 use Rattle.zone_meaning.specs.FaultLemmas.{file_clear}
-use Rattle.std.specs.Int.{int_max}
 use Rattle.std.proofs.lemmas.Int.{int_max_is}
-use Rattle.jiff_core.specs.Calendar.{days_from_civil, IsBetween}
+use Rattle.jiff_core.specs.Calendar.{days_from_civil}
 use Rattle.jiff_core.proofs.SignedLemmas.{signed_arith}
 use Rattle.std.proofs.lemmas.Int.{by_lt_z}
 use Rattle.td_civil.proofs.Years.{year_is_long}
 use Rattle.td_civil.specs.Bounds.{HasMeaning}
-use Rattle.td_civil.specs.Calendar.{stamp_of, IsInYear}
+use Rattle.td_civil.specs.Calendar.{stamp_of}
 use Rattle.td_civil.proofs.Shown.{shown_year, bounds_text}
 use Rattle.td_civil.specs.declared.moment_type.Moment.{Moment}
 use Rattle.td_civil.specs.declared.local_time.Local.{Local}
@@ -21,10 +20,9 @@ use Rattle.tzif_reader.specs.declared.zone_file.ZoneFile.{ZoneFile}
 use Rattle.tzif_reader.specs.Cut.{lists_of}
 use Rattle.posix_footer.specs.declared.rule_types.Footer.{Footer}
 use Rattle.posix_footer.specs.Carried.{IsCarriedIfAny}
-use Rattle.posix_footer.specs.StateAt.{state_of}
 use Rattle.posix_footer.proofs.YearLemmas.{year_in_range}
 use Rattle.zone_meaning.specs.Faults.{zone_fault}
-use Rattle.zone_meaning.specs.State.{zone_state, footer_meant, state_of_type}
+use Rattle.zone_meaning.specs.State.{zone_state, footer_meant}
 use Rattle.zone_meaning.specs.Rules.{FollowsRules, by_footer_or}
 use Rattle.zone_meaning.proofs.RuleLemmas.{zone_follows}
 use Rattle.recurrence.specs.InForce.{Gives}

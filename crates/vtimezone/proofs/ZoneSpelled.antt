@@ -1,5 +1,5 @@
 -- The calendar of a zone spells the parts of the zone.
-use Rattle.std.proofs.Common.{◌≡◌, ℕ, zero, suc, ◌<◌, Bool, true, false, ◌&&◌, IsTrue, refl, sym, subst, ap, ◌∙◌, arith, ℤ, pos, ◌+ℤ◌, ◌-ℤ◌, ◌*ℤ◌, ◌≤ℤ◌, ◌<ℤ◌, int_lt, unsigned_abs, Option, None, Some, List, [], ◌∷◌, ◌++◌, map, length}
+use Rattle.std.proofs.Common.{◌≡◌, ℕ, suc, ◌<◌, true, false, ◌&&◌, IsTrue, refl, sym, ◌∙◌, arith, ℤ, pos, ◌+ℤ◌, ◌-ℤ◌, ◌*ℤ◌, ◌<ℤ◌, int_lt, unsigned_abs, Option, None, Some, List, [], ◌∷◌, ◌++◌, map}
 use Rattle.std.specs.Int.{int_rem_euclid}
 use Rattle.std.specs.List.{All, AllByRecursion, Contains, list_all}
 use Rattle.std.specs.Option.{IfSome}
@@ -7,7 +7,7 @@ use Rattle.std.proofs.lemmas.Bool.{cond_both, and_from, and_parts}
 use Rattle.std.proofs.lemmas.Bool.Decides.{nat_tests}
 use Rattle.std.proofs.lemmas.List.Elements.{All-append}
 use Rattle.std.proofs.lemmas.List.Folds.{list_all-append}
-use Rattle.jiff_core.specs.Calendar.{days_from_civil, IsYear, IsBetween}
+use Rattle.jiff_core.specs.Calendar.{days_from_civil, IsBetween}
 use Rattle.jiff_core.proofs.SignedLemmas.{signed_arith}
 use Rattle.td_civil.specs.Bounds.{HasMeaning}
 use Rattle.td_civil.specs.declared.local_time.Local.{Local}
@@ -27,7 +27,7 @@ use Rattle.zone_meaning.specs.Observed.{observed}
 use Rattle.zone_meaning.specs.State.{zone_state, footer_meant}
 use Rattle.zone_meaning.proofs.Members.{member_first, member_later}
 use Rattle.zone_meaning.proofs.NameLemmas.{observance_name}
-use Rattle.recurrence.specs.Occurs.{FallsAt, moment_of}
+use Rattle.recurrence.specs.Occurs.{FallsAt}
 use Rattle.recurrence.specs.declared.part_types.Part.{Part}
 use Rattle.recurrence.specs.declared.part_types.Range.{Range}
 use Rattle.recurrence.specs.declared.rule_types.Rule.{Rule}

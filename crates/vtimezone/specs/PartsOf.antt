@@ -1,6 +1,6 @@
 -- The parts of a VTIMEZONE (RFC 5545, section 3.6.5): one for each change before a year, and from that year on the
 -- rules of a footer.
-use Rattle.std.specs.Prelude.{◌≡◌, ◌≤ℤ◌, ◌<ℤ◌, ℕ, zero, suc, List, [], ◌∷◌, ◌++◌, map, false, if◌then◌else◌, ℤ, pos, ◌+ℤ◌, ◌-ℤ◌, ◌*ℤ◌, int_lt, unsigned_abs, Option, None, Some, option_map, ⊤}
+use Rattle.std.specs.Prelude.{◌≤ℤ◌, ◌<ℤ◌, ℕ, zero, suc, List, [], ◌∷◌, ◌++◌, map, if◌then◌else◌, ℤ, pos, ◌+ℤ◌, ◌-ℤ◌, ◌*ℤ◌, int_lt, unsigned_abs, Option, None, Some, option_map, ⊤}
 use Rattle.jiff_core.specs.Calendar.{days_from_civil}
 use Rattle.td_civil.specs.Bounds.{HasMeaning, IsWithinBounds}
 use Rattle.td_civil.specs.declared.moment_type.TheConstants.{HI}

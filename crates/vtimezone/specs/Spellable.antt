@@ -1,5 +1,5 @@
 -- The parts that a text can spell.
-use Rattle.std.specs.Prelude.{◌≡◌, true, ℕ, List, ℤ, pos, ◌+ℤ◌, Option, None, Some}
+use Rattle.std.specs.Prelude.{◌≡◌, true, ℕ, List, pos, ◌+ℤ◌, Option, None, Some}
 use Rattle.std.specs.Int.{int_rem_euclid}
 use Rattle.std.specs.List.{list_all}
 use Rattle.recurrence.specs.declared.part_types.Part.{Part}

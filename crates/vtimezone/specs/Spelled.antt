@@ -2,7 +2,7 @@
 -- 3.8.3). The text is lines, each a name, a colon and a value. The lines of its time zone hold groups
 -- from BEGIN to END, and the values of a group's lines give its part. Names stand in capitals and
 -- have no parameters.
-use Rattle.std.specs.Prelude.{◌≡◌, ℕ, ◌+◌, ◌*◌, List, [], ◌∷◌, ◌++◌, codes, Bool, true, false, ◌&&◌, ◌||◌, if◌then◌else◌, ℤ, ◌-ℤ◌, Option, None, Some}
+use Rattle.std.specs.Prelude.{ℕ, ◌+◌, ◌*◌, List, [], ◌∷◌, ◌++◌, codes, Bool, true, false, ◌&&◌, ◌||◌, if◌then◌else◌, ℤ, ◌-ℤ◌, Option, None, Some}
 use Rattle.std.specs.List.{list_all}
 use Rattle.std.specs.Option.{option_map, option_and_then}
 use Rattle.std.specs.Result.{result_ok}

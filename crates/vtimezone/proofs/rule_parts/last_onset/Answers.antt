@@ -1,4 +1,4 @@
-use Rattle.std.proofs.Common.{rules, ◌≡◌, sym, ap, ◌∙◌, arith, ℤ, ◌<ℤ◌, ◌≤ℤ◌, int_lt, pos, ◌-ℤ◌, w32, FitsSigned, to_z-of_z}
+use Rattle.std.proofs.Common.{rules, ◌≡◌, sym, ap, ◌∙◌, arith, ◌<ℤ◌, ◌≤ℤ◌, int_lt, pos, ◌-ℤ◌, w32, FitsSigned, to_z-of_z}
 use Rattle.jiff_core.proofs.SignedLemmas.{signed_arith}
 use Rattle.posix_footer.specs.Onset.{onset_of}
 use Rattle.vtimezone.proofs.LastBefore.{found_at, lt_is, ge_is, none_early, found_here, none_here, found_last}

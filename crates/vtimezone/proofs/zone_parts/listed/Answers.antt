@@ -1,4 +1,4 @@
-use Rattle.std.proofs.Common.{rules, ◌≡◌, arith, pos, ◌+ℤ◌, ◌*ℤ◌, ◌≤ℤ◌, ◌<ℤ◌, w32, FitsSigned, to_z-of_z}
+use Rattle.std.proofs.Common.{rules, ◌≡◌, arith, pos, ◌≤ℤ◌, ◌<ℤ◌, w32, FitsSigned, to_z-of_z}
 use Rattle.jiff_core.proofs.SignedLemmas.{signed_arith}
 use Rattle.vtimezone.specs.PartsOf.{begin_of, end_of}
 use Rattle.vtimezone.specs.ZoneParts.{end_in}

@@ -1,4 +1,4 @@
-use Rattle.std.proofs.Common.{◌≡◌, sym, subst, List}
+use Rattle.std.proofs.Common.{sym, subst, List}
 use Rattle.std.specs.List.{All}
 use Rattle.recurrence.specs.declared.part_types.Part.{Part}
 use Rattle.recurrence.specs.InForce.{Gives}

@@ -1,4 +1,4 @@
-use Rattle.std.proofs.Common.{rules, ◌≡◌, ◌∙◌, ap, arith, ℤ, pos, ◌+ℤ◌, ◌<ℤ◌, w32, FitsSigned, to_z-of_z}
+use Rattle.std.proofs.Common.{◌∙◌, ap, arith, pos, ◌+ℤ◌, ◌<ℤ◌, w32, FitsSigned, to_z-of_z}
 use Rattle.jiff_core.proofs.SignedLemmas.{signed_arith}
 use Rattle.td_civil.specs.Calendar.{stamp_of}
 use Rattle.vtimezone.proofs.ZoneRange.{rule_year_is}
