@@ -76,11 +76,6 @@ unfoldable pub week_from : List ℤ → Option ℤ
 week_from [] = None
 week_from (z ∷ zs) = if length zs == 6 && are_in_a_row z zs then Some z else None
 
--- a number that has no sign
-abbrev pub plain_number : ℤ → Option ℕ
-plain_number (pos n) = Some n
-plain_number z = None
-
 abbrev pub month_days_form : ℕ → ℕ → Option ℤ → Option Form
 month_days_form month weekday (Some (pos first)) = Some (form.MonthDays month first weekday)
 month_days_form month weekday first = None
