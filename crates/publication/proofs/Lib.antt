@@ -1,0 +1,5 @@
+pub mod Beginnings
+pub mod StepLemmas
+pub mod LastSet
+pub mod EnteringLemmas
+pub mod AddingLemmas

@@ -1,0 +1,46 @@
+use Rattle.std.proofs.Common.{Some, length, sym, ap, ◌∙◌}
+use Rattle.publication.specs.Histories.{last_of, values, ended_in}
+use Rattle.publication.proofs.Beginnings.{prefix_self, added_mark}
+use Rattle.publication.proofs.publisher.PublisherOf.end.Goals as goal
+
+pub marked-told-requires-clause-last : goal.marked-told-requires-clause-last
+marked-told-requires-clause-last g c =
+    let free = c.self.invariant.2 c.if-stuck.false in
+    let mark = added_mark _ _ c.if-not-finish.ensures.added in
+    ap last_of (mark.1 ∙ ap values free.0) ∙ (c.self.inside.last.is_last ∙ ap Some (sym c.in-Ok.ensures))
+
+pub marked-told-requires-clause-number : goal.marked-told-requires-clause-number
+marked-told-requires-clause-number g c =
+    let free = c.self.invariant.2 c.if-stuck.false in
+    let mark = added_mark _ _ c.if-not-finish.ensures.added in
+    c.self.inside.last.numbered ∙ ap length (sym (mark.1 ∙ ap values free.0))
+
+pub marked-told-requires-clause-ended : goal.marked-told-requires-clause-ended
+marked-told-requires-clause-ended g c = (added_mark _ _ c.if-not-finish.ensures.added).0
+
+pub marked-edition-requires-clause-number : goal.marked-edition-requires-clause-number
+marked-edition-requires-clause-number g c =
+    let free = c.self.invariant.2 c.if-stuck.false in
+    let mark = added_mark _ _ c.if-not-finish.ensures.added in
+    c.self.inside.last.numbered ∙ ap length (sym (mark.1 ∙ ap values free.0))
+
+pub marked-edition-requires-clause-ended : goal.marked-edition-requires-clause-ended
+marked-edition-requires-clause-ended g c = (added_mark _ _ c.if-not-finish.ensures.added).0
+
+pub show-stage-requires-clause-longer : goal.show-stage-requires-clause-longer
+show-stage-requires-clause-longer g c =
+    let free = c.self.invariant.2 c.if-stuck.false in
+    let mark = added_mark _ _ c.if-not-finish.ensures.added in
+    let old = rw c.unwrap-stage.ensures at c.self.invariant.0 in
+    rw (old.2, ap (λ s. values s.log) c.marked-edition.ensures.0 ∙ (mark.1 ∙ ap values free.0)) (prefix_self _)
+
+pub invariant_of-result : goal.invariant_of-result
+invariant_of-result g c = ap (λ s. ended_in s.log) c.marked-told.ensures.0 ∙ (added_mark _ _ c.if-not-finish.ensures.added).0
+
+pub returns : goal.returns
+returns g c =
+    let free = c.self.invariant.2 c.if-stuck.false in
+    let mark = added_mark _ _ c.if-not-finish.ensures.added in (
+      ap (λ s. s.book) c.marked-told.ensures.0 ∙ (c.if-not-finish.ensures.book ∙ ap (λ s. s.pair) c.self.view_is),
+      ap (λ s. values s.log) c.marked-told.ensures.0 ∙ (mark.1 ∙ (ap values free.0 ∙ ap (λ s. s.list) c.self.view_is)),
+    )

@@ -1,0 +1,38 @@
+-- A history of published values: each value in order, and a mark at the end, where it has ended.
+use Rattle.std.specs.Prelude.{◌≡◌, List, [], ◌∷◌, ◌++◌, map}
+use Rattle.std.specs.Prelude.{Option, Some, None, Bool, true, false}
+
+-- the last value, if there is one
+abbrev pub last_of : {A : Type 0} → List A → Option A
+last_of [] = None
+last_of (x ∷ []) = Some x
+last_of (x ∷ y ∷ ys) = last_of (y ∷ ys)
+
+module _ {A : Type 0} where
+  -- the values of a history
+  abbrev pub values : List (Option A) → List A
+  values [] = []
+  values (Some x ∷ log) = x ∷ values log
+  values (None ∷ log) = values log
+
+  -- whether a history has the mark of the end
+  abbrev pub ended_in : List (Option A) → Bool
+  ended_in [] = false
+  ended_in (Some x ∷ log) = ended_in log
+  ended_in (None ∷ log) = true
+
+  -- nothing follows the mark
+  abbrev pub Sealed : List (Option A) → Type 0
+  Sealed [] = Unit {0}
+  Sealed (Some x ∷ log) = Sealed log
+  Sealed (None ∷ log) = log ≡ []
+
+-- each value stands for the list of the last elements of the values up to it
+module _ {V E : Type 0} (last : V → E) (stands : V → List E → Type 0) where
+  abbrev pub StandFrom : List V → List V → Type 0
+  StandFrom before [] = Unit {0}
+  StandFrom before (x ∷ xs) =
+      stands x (map last (before ++ x ∷ [])) × StandFrom (before ++ x ∷ []) xs
+
+  abbrev pub Stand : List V → Type 0
+  Stand xs = StandFrom [] xs

@@ -1,0 +1,193 @@
+ghost use Rattle.std.specs.Prelude.{◌≡◌, ◌+◌, ◌≤◌, length, map, max, true, option_map};
+ghost use Rattle.std.specs.Prelude.{Some, None, IfSome, MatchOption, OnOk, OnErr};
+ghost use Rattle.std.specs.Arc.{arc_value};
+ghost use mathlib.Core.List.{IsPrefix};
+ghost use Rattle.left_right.specs.Sides.{view};
+ghost use Rattle.publication.specs.declared.view.SeatRole.TheVariants.{Desk as AtDesk};
+ghost use Rattle.publication.specs.Histories.{last_of, values, ended_in};
+ghost use Rattle.publication.specs.ShownRule.{home_of};
+ghost use Rattle.publication.specs.ShownRule.{told_of};
+ghost use Rattle.publication.specs.Entering.{HasEntered};
+
+use crate::edition::Edition;
+use crate::history::{Front, learn};
+use crate::receipt::Receipt;
+use crate::rule::{DeskReader, Entering};
+use crate::shown::Shown;
+use std::marker::Model;
+use td_base::{NoMemory, Value};
+
+/// A desk holds the value that it saw last. One thread has it.
+#[derive(Drop)]
+pub struct Desk<V: Value> {
+    // `None` only while the desk enters.
+    reader: Option<DeskReader<V>>,
+    held: Edition<V>,
+}
+
+impl<V: Value> Model for Desk<V> {
+    ghost use Rattle.std.specs.Prelude.{◌≡◌, [], IsSomeAnd};
+    ghost use Rattle.std.specs.Option.{option_map_or};
+    ghost use Rattle.publication.specs.declared.view.SeatRole.TheVariants.{Desk as AtDesk};
+    ghost use Rattle.publication.specs.Histories.{values, ended_in};
+    ghost use Rattle.publication.specs.ShownRule.{home_of};
+    ghost use Rattle.publication.specs.Views.{DeskView};
+
+    ghost Value = { DeskView V };
+
+    ghost view = { λ d. record {
+      pair = d.held.front.book;
+      seen = values d.held.front.log;
+      ended = ended_in d.held.front.log;
+      entered = option_map_or (λ r. r.place.me.0.client.list) d.reader [];
+      enters = option_map_or (λ r. r.place.me.0.client.enters) d.reader 0;
+    } };
+
+    ghost invariant = { λ d. IsSomeAnd d.reader (λ r.
+        (r.place.me.0.client.role ≡ AtDesk)
+        × (r.place.me.0.client.home ≡ home_of d.held.front.book)) };
+}
+
+/// What an enter found: the history up to what was shown, how many values that has, and what was
+/// shown, unless its copy was refused.
+#[derive(Drop)]
+pub struct Found<V: Value> {
+    pub front: Front<V>,
+    pub number: u32,
+    pub edition: Option<Edition<V>>,
+}
+
+// What is shown, copied. Only the copy of the value's `Arc` may be refused.
+fn copy_shown<V: Value>(shown: &Shown<V>) -> Option<Found<V>>
+    ensures { MatchOption result
+        (option_map (λ i. told_of (values i.front.log) (home_of i.front.book)) shown.now.edition
+        ≡ None)
+        (λ f. (option_map (λ i. told_of (values i.front.log) (home_of i.front.book))
+        shown.now.edition ≡ Some (told_of (values f.front.log) (home_of f.front.book)))
+        × (f.number ≡ length (values f.front.log))
+        × IfSome f.edition (λ i. i.front ≡ f.front)) }
+{
+    match &shown.edition {
+        None => None,
+        Some(edition) => Some(Found {
+            front: edition.front.again(),
+            number: edition.number,
+            edition: edition.again().ok(),
+        }),
+    }
+}
+
+// One enter: takes what is shown, copies it and leaves. `None` where the enter is refused.
+fn enter_once<V: Value>(reader: DeskReader<V>) -> (DeskReader<V>, Option<Found<V>>)
+    requires { (view reader.place).role ≡ AtDesk }
+    ensures { MatchOption result.1
+        (view result.0.place ≡ view reader.place)
+        (λ f. HasEntered (view reader.place) (home_of f.front.book) (values f.front.log)
+        (view result.0.place)
+        × (f.number ≡ length (values f.front.log))
+        × IfSome f.edition (λ i. i.front ≡ f.front)) }
+{
+    match reader.enter_as::<Entering>() {
+        Err(reader) => (reader, None),
+        Ok(reading) => {
+            let found = copy_shown(reading.get());
+            (reading.leave(), found)
+        }
+    }
+}
+
+/// A desk that holds the edition of which its reader was told.
+pub(crate) fn desk_over<V: Value>(reader: DeskReader<V>, edition: Edition<V>) -> Desk<V>
+    requires role { (view reader.place).role ≡ AtDesk }
+    requires list { (view reader.place).list ≡ values edition.front.log }
+    requires home { (view reader.place).home ≡ home_of edition.front.book }
+    requires enters { (view reader.place).enters ≡ 0 }
+    ensures list { (result.seen ≡ values edition.front.log)
+        × (result.entered ≡ values edition.front.log)
+        × (result.ended ≡ ended_in edition.front.log) }
+    ensures rest { (result.pair ≡ edition.front.book) × (result.enters ≡ 0) }
+{
+    Desk {
+        reader: Some(reader),
+        held: edition,
+    }
+}
+
+impl<V: Value> Desk<V> {
+    /// Enters what is shown, copies its value and leaves at once. It waits for nobody.
+    ///
+    /// `NoMemory` where the enter or the copy is refused; the desk then holds what it held.
+    pub fn enter(&mut self) -> Result<(), NoMemory>
+        ensures ok { OnOk result
+            ((self.new.enters ≡ self.old.enters + 1) × (self.new.seen ≡ self.new.entered)) }
+        ensures err { OnErr result
+            ((self.new.seen ≡ self.old.seen) × (self.new.ended ≡ self.old.ended)
+            × (self.old.enters ≤ self.new.enters) × (self.new.enters ≤ self.old.enters + 1)) }
+        ensures pair { self.new.pair ≡ self.old.pair }
+        ensures seen { IsPrefix self.old.seen self.new.seen }
+        ensures entered { IsPrefix self.old.entered self.new.entered }
+        ensures ended { self.old.ended ≡ true
+            → (self.new.seen ≡ self.old.seen) × (self.new.ended ≡ true) }
+    {
+        let (reader, found) = enter_once(self.reader.take().unwrap());
+        self.reader = Some(reader);
+        let Some(found) = found else {
+            return Err(NoMemory);
+        };
+        let Found {
+            front,
+            number,
+            edition,
+        } = found;
+        let mut both = self.held.front.again();
+        learn(&mut both, &front);
+        // What is shown is never older than what the desk was told of, but the two rules are
+        // apart, and neither says so. No schedule comes here.
+        if number < self.held.number {
+            return Err(NoMemory);
+        }
+        if number == self.held.number {
+            return Ok(());
+        }
+        let Some(edition) = edition else {
+            return Err(NoMemory);
+        };
+        self.held = edition;
+        Ok(())
+    }
+
+    /// The value that the desk holds: the last that it has seen.
+    pub fn value(&self) -> &V
+        ensures last { last_of self.now.seen ≡ Some result.now }
+        ensures stands { V.stands result.now (map V.last self.now.seen) }
+    {
+        let mut seen = self.held.front.again();
+        learn(&mut seen, &self.held.front);
+        &self.held.value
+    }
+
+    /// Takes in what the publisher told. The desk then holds the later value, its own or the
+    /// receipt's.
+    pub fn learn(&mut self, receipt: Receipt<V>)
+        requires { receipt.pair ≡ self.old.pair }
+        ensures told { IsPrefix receipt.list self.new.seen }
+        ensures seen { IsPrefix self.old.seen self.new.seen }
+        ensures larger { length self.new.seen
+            ≡ max (length self.old.seen) (length receipt.list) }
+        ensures whole { receipt.ended ≡ true
+            → (self.new.seen ≡ receipt.list) × (self.new.ended ≡ true) }
+        ensures ended { self.old.ended ≡ true
+            → (self.new.seen ≡ self.old.seen) × (self.new.ended ≡ true) }
+        ensures rest { (self.new.pair ≡ self.old.pair) × (self.new.entered ≡ self.old.entered)
+            × (self.new.enters ≡ self.old.enters) }
+    {
+        let Receipt { edition } = receipt;
+        let mut both = self.held.front.again();
+        learn(&mut both, &edition.front);
+        if edition.ended {
+            self.held = edition;
+        } else if edition.number > self.held.number {
+            self.held = edition;
+        }
+    }
+}

@@ -1,0 +1,37 @@
+ghost use Rattle.std.specs.Prelude.{◌≡◌, length, Some, IfOk};
+ghost use Rattle.std.specs.Arc.{arc_value};
+ghost use Rattle.publication.specs.Histories.{last_of, values, ended_in};
+
+use crate::history::Front;
+use std::alloc::AllocError;
+use std::sync::Arc;
+use td_base::Value;
+
+/// What is shown: a value, the history up to it, its place there, counted from 1, and whether that
+/// history has ended.
+#[derive(Drop)]
+pub struct Edition<V: Value> {
+    pub value: Arc<V>,
+    pub front: Front<V>,
+    pub number: u32,
+    pub ended: bool,
+    ghost is_last: { last_of (values front.log) ≡ Some (arc_value value) },
+    ghost numbered: { number ≡ length (values front.log) },
+    ghost marked: { ended ≡ ended_in front.log },
+}
+
+impl<V: Value> Edition<V> {
+    /// The same once more. It takes no memory, and is refused where the value has too many owners.
+    pub fn again(&self) -> Result<Edition<V>, AllocError>
+        ensures value { IfOk result (λ i. arc_value i.value ≡ arc_value self.now.value) }
+        ensures rest { IfOk result (λ i. (i.front ≡ self.now.front)
+            × (i.number ≡ self.now.number) × (i.ended ≡ self.now.ended)) }
+    {
+        Ok(Edition {
+            value: Arc::try_clone(&self.value)?,
+            front: self.front.again(),
+            number: self.number,
+            ended: self.ended,
+        })
+    }
+}

@@ -1,0 +1,174 @@
+//! The history: the values published, in one list that only grows, and at the end a mark. It exists
+//! in the proofs alone; at run time there is one word, which counts.
+ghost use Rattle.std.specs.Prelude.{◌≡◌, ◌++◌, ◌∷◌, [], length, map, MatchBool, Some, None, false};
+ghost use mathlib.Core.List.{IsPrefix};
+ghost use Rattle.publication.specs.Histories.{Stand, Sealed, values, ended_in};
+ghost use Rattle.publication.specs.HistoryRule.{head_of};
+
+use logbook::{Gain, Offer, Plain, Play, Rule, Seen, Start, Word};
+use std::marker::PhantomData;
+use td_base::Value;
+
+/// The rule of the history.
+pub struct HistoryRule<V> {
+    values: PhantomData<V>,
+}
+
+impl<V: Value> Rule<Option<V>, u64> for HistoryRule<V> {
+    ghost use Rattle.std.specs.Prelude.{[]};
+    ghost use base.Fml.{ftrue};
+    ghost use Rattle.publication.specs.HistoryRule.{HistoryHolds};
+
+    ghost holds = { λ cells log. HistoryHolds V.last V.stands cells log };
+
+    ghost first = { [] };
+
+    ghost hinted = { λ n log. Unit {0} };
+
+    ghost shows = { λ log. [] };
+
+    ghost keeps = { λ names log. ftrue };
+
+    ghost moves = { λ ask before after answer. Unit {0} };
+}
+
+/// Who adds to the history trades nothing with others.
+pub struct Nothing;
+
+impl<V> Gain<Option<V>, u64> for Nothing {
+    ghost use base.Fml.{ftrue};
+
+    ghost after = { λ names about answer. ftrue };
+}
+
+/// A step that adds a value.
+pub struct Adding;
+
+impl<V> Play<Option<V>, u64> for Adding {
+    ghost use Rattle.publication.specs.HistoryRule.{Adds};
+
+    ghost then = { Adds };
+}
+
+impl<V> Plain<V, Option<V>, u64> for Adding {
+    ghost use Rattle.std.specs.Prelude.{Some, None};
+
+    ghost ask = { λ x. Some x };
+
+    ghost state = { λ x. None };
+}
+
+/// A step that adds the mark of the end.
+pub struct Ending;
+
+impl<V> Play<Option<V>, u64> for Ending {
+    ghost use Rattle.publication.specs.HistoryRule.{Adds};
+
+    ghost then = { Adds };
+}
+
+impl<V> Plain<(), Option<V>, u64> for Ending {
+    ghost use Rattle.std.specs.Prelude.{None};
+
+    ghost ask = { λ x. None };
+
+    ghost state = { λ x. None };
+}
+
+/// A beginning of the history that was seen.
+pub type Front<V> = Seen<Option<V>, u64, HistoryRule<V>>;
+
+/// The history, for the one who adds to it.
+#[derive(Drop)]
+pub struct HistoryWriter<V: Value> {
+    head: Word<Option<V>, u64, HistoryRule<V>>,
+    pub front: Front<V>,
+    count: u64,
+    ghost counted: { count ≡ length front.log },
+    ghost head_is: { head ≡ head_of front.book },
+}
+
+impl<V: Value> HistoryWriter<V> {
+    pub fn new() -> HistoryWriter<V>
+        ensures { result.front.log ≡ [] }
+    {
+        let (front, mut first, _second) = Seen::open(Start::alone(), 0, 0);
+        HistoryWriter {
+            head: Word::tracked(0, &mut first),
+            front,
+            count: 0,
+        }
+    }
+
+    /// Adds a value, and says whether it did.
+    pub fn add(&mut self, value: &V) -> bool
+        requires going { ended_in self.old.front.log ≡ false }
+        requires stands { V.stands value.now
+            (map V.last (values self.old.front.log ++ value.now ∷ [])) }
+        ensures book { self.new.front.book ≡ self.old.front.book }
+        ensures added { MatchBool result
+            (self.new.front.log ≡ self.old.front.log ++ Some value.now ∷ [])
+            (IsPrefix self.old.front.log self.new.front.log) }
+    {
+        let Some(next) = self.count.checked_add(1) else {
+            return false;
+        };
+        let mut offer: Offer<Option<V>, u64, HistoryRule<V>, Nothing> = self
+            .front
+            .plain::<Nothing, V, Adding>(value);
+        let mut pen = self.front.no_pen();
+        let count = self.count;
+        let found = self
+            .head
+            .compare_exchange::<Adding, Nothing>(
+                count,
+                next,
+                &mut self.front,
+                &mut offer,
+                &mut pen,
+            );
+        self.count = if found == count { next } else { found };
+        found == count
+    }
+
+    /// Adds the mark of the end, and says whether it did.
+    pub fn finish(&mut self) -> bool
+        requires going { ended_in self.old.front.log ≡ false }
+        ensures book { self.new.front.book ≡ self.old.front.book }
+        ensures added { MatchBool result
+            (self.new.front.log ≡ self.old.front.log ++ None ∷ [])
+            (IsPrefix self.old.front.log self.new.front.log) }
+    {
+        let Some(next) = self.count.checked_add(1) else {
+            return false;
+        };
+        let mut offer: Offer<Option<V>, u64, HistoryRule<V>, Nothing> = self
+            .front
+            .plain::<Nothing, (), Ending>(&());
+        let mut pen = self.front.no_pen();
+        let count = self.count;
+        let found = self
+            .head
+            .compare_exchange::<Ending, Nothing>(
+                count,
+                next,
+                &mut self.front,
+                &mut offer,
+                &mut pen,
+            );
+        self.count = if found == count { next } else { found };
+        found == count
+    }
+}
+
+/// Of two fronts of one history, the first with all that the second has.
+pub fn learn<V: Value>(front: &mut Front<V>, other: &Front<V>)
+    requires { other.now.book ≡ front.old.book }
+    ensures book { front.new.book ≡ front.old.book }
+    ensures this { IsPrefix front.old.log front.new.log }
+    ensures that { IsPrefix other.now.log front.new.log }
+    ensures seal { Sealed front.new.log }
+    ensures stand { Stand V.last V.stands (values front.new.log) }
+{
+    front.learn(other);
+}

@@ -1,0 +1,29 @@
+//! One publisher of values, and desks that take the value which was published last and wait for
+//! nobody.
+//!
+//! [`make`] gives a publisher and its desks. [`Publisher::publish`] appends a value to the list of
+//! all that was published, and each [`Desk::enter`] gives the desk the value that is shown at that
+//! step. What a desk has seen only grows, and a desk that learns a [`Receipt`] has seen all that
+//! the receipt tells. What clauses see of each is one record of specs/Views.antt.
+#![tactic(auto)]
+
+mod desk;
+mod edition;
+mod history;
+mod making;
+mod publisher;
+mod receipt;
+mod rule;
+mod send_sync;
+mod shown;
+mod stage;
+mod view;
+
+pub use desk::Desk;
+pub use making::make;
+pub use publisher::{Ended, EndedOf, Publisher, PublisherOf};
+pub use receipt::Receipt;
+pub use shown::{Sets, Shown};
+
+#[cfg(test)]
+mod tests;

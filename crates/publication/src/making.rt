@@ -1,0 +1,99 @@
+ghost use Rattle.std.specs.Prelude.{◌≡◌, ◌<◌, [], ◌∷◌, ℕ, length, false, IfOk, All};
+ghost use Rattle.left_right.specs.Sides.{view};
+ghost use Rattle.publication.specs.declared.view.SeatRole.TheVariants.{Publisher as AtStage};
+ghost use Rattle.publication.specs.Histories.{values, ended_in};
+ghost use Rattle.publication.specs.ShownRule.{home_of};
+ghost use Rattle.publication.specs.Views.{IsNewDesk};
+
+use crate::desk::{Desk, desk_over};
+use crate::edition::Edition;
+use crate::history::HistoryWriter;
+use crate::publisher::{Publisher, PublisherOf, edition_of};
+use crate::rule::Stage;
+use crate::stage::{new_reader, open};
+use std::alloc::Global;
+use std::sync::{Arc, Wait};
+use td_base::{NoMemory, Value};
+
+// One desk, which holds the edition that is shown.
+fn desk_of<V: Value>(stage: &mut Stage<V>, edition: &Edition<V>) -> Result<Desk<V>, NoMemory>
+    requires role { (view stage.old.desk.place).role ≡ AtStage }
+    requires home { (view stage.old.desk.place).home ≡ home_of edition.now.front.book }
+    requires list { (view stage.old.desk.place).list ≡ values edition.now.front.log }
+    ensures stage { view stage.new.desk.place ≡ view stage.old.desk.place }
+    ensures desk { IfOk result (λ d. IsNewDesk edition.now.front.book
+        (values edition.now.front.log) (ended_in edition.now.front.log) d) }
+{
+    let Ok(edition) = edition.again() else {
+        return Err(NoMemory);
+    };
+    let reader = new_reader(stage)?;
+    Ok(desk_over(reader, edition))
+}
+
+// So many desks.
+fn desks_of<V: Value>(
+    stage: &mut Stage<V>,
+    alloc: Global,
+    edition: &Edition<V>,
+    desks: u32,
+) -> Result<Vec<Desk<V>>, NoMemory>
+    requires role { (view stage.old.desk.place).role ≡ AtStage }
+    requires home { (view stage.old.desk.place).home ≡ home_of edition.now.front.book }
+    requires list { (view stage.old.desk.place).list ≡ values edition.now.front.log }
+    ensures stage { view stage.new.desk.place ≡ view stage.old.desk.place }
+    ensures number { IfOk result (λ v. length v.items ≡ desks) }
+    ensures each { IfOk result (λ v. All (λ d. IsNewDesk edition.now.front.book
+        (values edition.now.front.log) (ended_in edition.now.front.log) d) v.items) }
+{
+    let mut made = Vec::new(alloc);
+    for _ in 0..desks {
+        let desk = desk_of(stage, edition)?;
+        let Ok(()) = made.push(desk) else {
+            return Err(NoMemory);
+        };
+    }
+    Ok(made)
+}
+
+/// Publishes a first value, and makes so many desks, which hold it.
+pub fn make<V: Value, R: Wait>(
+    rt: &R,
+    alloc: Global,
+    first: V,
+    desks: u32,
+) -> Result<(Publisher<V>, Vec<Desk<V>>), NoMemory>
+    requires desks { 0 < desks }
+    requires stands { V.stands first (V.last first ∷ []) }
+    ensures list { IfOk result (λ p. p.0.list ≡ first ∷ []) }
+    ensures number { IfOk result (λ p. length p.1.items ≡ desks) }
+    ensures each { IfOk result (λ p. All (IsNewDesk p.0.pair (first ∷ []) false) p.1.items) }
+{
+    let number = first.count();
+    let Ok(value) = Arc::new(alloc, first) else {
+        return Err(NoMemory);
+    };
+    let Ok(kept) = Arc::try_clone(&value) else {
+        return Err(NoMemory);
+    };
+    let added: &V = &value;
+    let mut history = HistoryWriter::new();
+    if !history.add(added) {
+        return Err(NoMemory);
+    }
+    let last = edition_of(kept, &history.front, number);
+    let edition = edition_of(value, &history.front, number);
+    let mut stage = open(rt, alloc, edition, desks)?;
+    let Ok(made) = desks_of(&mut stage, alloc, &last, desks) else {
+        drop(stage.take(rt));
+        return Err(NoMemory);
+    };
+    let publisher = PublisherOf {
+        stage: Some(stage),
+        history,
+        last,
+        alloc,
+        stuck: false,
+    };
+    Ok((publisher, made))
+}

@@ -1,0 +1,246 @@
+ghost use Rattle.std.specs.Prelude.{◌≡◌, [], ◌∷◌, ◌++◌, map, length, true, false};
+ghost use Rattle.std.specs.Prelude.{Some, IfOk, OnErr};
+ghost use Rattle.std.specs.Arc.{arc_value};
+ghost use Rattle.left_right.specs.Sides.{view};
+ghost use Rattle.publication.specs.declared.view.SeatRole.TheVariants.{Publisher as AtStage};
+ghost use Rattle.publication.specs.Histories.{last_of, values, ended_in};
+ghost use Rattle.publication.specs.ShownRule.{home_of};
+
+use crate::edition::Edition;
+use crate::history::{Front, HistoryWriter, learn};
+use crate::receipt::Receipt;
+use crate::rule::StageOf;
+use crate::shown::{Sets, Shown};
+use crate::stage::show;
+use std::alloc::Global;
+use std::marker::Model;
+use std::mem::replace;
+use std::sync::{Arc, Wait};
+use td_base::{NoMemory, Value};
+
+/// Appends values to the list of all that was published, and shows the last of them.
+pub type Publisher<V> = PublisherOf<V, Shown<V>>;
+
+/// A publisher after its end. It tells the whole list.
+pub type Ended<V> = EndedOf<V, Shown<V>>;
+
+/// A publisher over copies of the type `T`. It is not `Drop`: each path ends it by `end` or
+/// `close`.
+pub struct PublisherOf<V: Value, T: Sets<V>> {
+    // `None` only while it publishes.
+    pub(crate) stage: Option<StageOf<V, T>>,
+    pub(crate) history: HistoryWriter<V>,
+    pub(crate) last: Edition<V>,
+    pub(crate) alloc: Global,
+    // A value stands in the history that was not shown. Nothing is published from then on.
+    pub(crate) stuck: bool,
+}
+
+impl<V: Value, T: Sets<V>> Model for PublisherOf<V, T> {
+    ghost use Rattle.std.specs.Prelude.{◌≡◌, false, IsSomeAnd};
+    ghost use Rattle.publication.specs.declared.view.SeatRole.TheVariants.{Publisher as AtStage};
+    ghost use Rattle.publication.specs.Histories.{values, ended_in};
+    ghost use Rattle.publication.specs.ShownRule.{home_of};
+    ghost use Rattle.publication.specs.Views.{PublishedView};
+
+    ghost Value = { PublishedView V };
+
+    ghost view = { λ p. record {
+      pair = p.history.front.book;
+      list = values p.last.front.log;
+    } };
+
+    ghost invariant = { λ p.
+        IsSomeAnd p.stage (λ w.
+        (w.desk.place.me.0.client.role ≡ AtStage)
+        × (w.desk.place.me.0.client.home ≡ home_of p.history.front.book)
+        × (w.desk.place.me.0.client.list ≡ values p.last.front.log))
+        × (p.last.front.book ≡ p.history.front.book)
+        × (p.stuck ≡ false
+        → (p.history.front.log ≡ p.last.front.log) × (ended_in p.last.front.log ≡ false)) };
+}
+
+/// An edition of a value that was just added.
+pub(crate) fn edition_of<V: Value>(value: Arc<V>, front: &Front<V>, number: u32) -> Edition<V>
+    requires last { last_of (values front.now.log) ≡ Some (arc_value value) }
+    requires number { number ≡ length (values front.now.log) }
+    requires going { ended_in front.now.log ≡ false }
+    ensures { (result.front ≡ front.now) × (arc_value result.value ≡ arc_value value) }
+{
+    Edition {
+        value,
+        front: front.again(),
+        number,
+        ended: false,
+    }
+}
+
+impl<V: Value, T: Sets<V>> PublisherOf<V, T> {
+    /// Appends a value and shows it. It may wait for desks that are entering.
+    ///
+    /// All memory but that of the operation that shows the value is taken before the list of the
+    /// proofs grows. Where that is refused, what was published and shown is as before, and no later
+    /// value is published.
+    pub fn publish<R: Wait>(&mut self, rt: &R, next: V) -> Result<Receipt<V>, NoMemory>
+        requires { V.stands next (map V.last (self.old.list ++ next ∷ [])) }
+        ensures ok { IfOk result (λ r. (r.pair ≡ self.old.pair)
+            × (r.list ≡ self.old.list ++ next ∷ []) × (r.ended ≡ false)
+            × (self.new.list ≡ r.list)) }
+        ensures err { OnErr result (self.new.list ≡ self.old.list) }
+        ensures pair { self.new.pair ≡ self.old.pair }
+    {
+        if self.stuck {
+            return Err(NoMemory);
+        }
+        let number = next.count();
+        let Ok(value) = Arc::new(self.alloc, next) else {
+            return Err(NoMemory);
+        };
+        let Ok(told) = Arc::try_clone(&value) else {
+            return Err(NoMemory);
+        };
+        let Ok(kept) = Arc::try_clone(&value) else {
+            return Err(NoMemory);
+        };
+        let added: &V = &value;
+        self.stuck = true;
+        if !self.history.add(added) {
+            return Err(NoMemory);
+        }
+        let told = edition_of(told, &self.history.front, number);
+        let kept = edition_of(kept, &self.history.front, number);
+        let edition = edition_of(value, &self.history.front, number);
+        let (stage, shown) = show(rt, self.stage.take().unwrap(), edition);
+        match replace(&mut self.stage, Some(stage)) {
+            None => {}
+            Some(old) => drop(old.take(rt)),
+        }
+        let Ok(()) = shown else {
+            return Err(NoMemory);
+        };
+        self.stuck = false;
+        self.last = kept;
+        Ok(Receipt { edition: told })
+    }
+
+    /// The value published last.
+    pub fn last(&self) -> &V
+        ensures last { last_of self.now.list ≡ Some result.now }
+        ensures stands { V.stands result.now (map V.last self.now.list) }
+    {
+        let mut seen = self.last.front.again();
+        learn(&mut seen, &self.last.front);
+        &self.last.value
+    }
+
+    /// Shows the last value once more, with the mark of the end. After `Err` the publisher is gone.
+    /// It may wait for desks that are entering.
+    pub fn end<R: Wait>(self, rt: &R) -> Result<EndedOf<V, T>, NoMemory>
+        ensures { IfOk result (λ e. (e.pair ≡ self.pair) × (e.list ≡ self.list)) }
+    {
+        let PublisherOf {
+            stage,
+            mut history,
+            last,
+            alloc: _,
+            stuck,
+        } = self;
+        let stage = stage.unwrap();
+        if stuck {
+            drop(stage.take(rt));
+            return Err(NoMemory);
+        }
+        let Ok(told) = Arc::try_clone(&last.value) else {
+            drop(stage.take(rt));
+            return Err(NoMemory);
+        };
+        if !history.finish() {
+            drop(stage.take(rt));
+            return Err(NoMemory);
+        }
+        let number = last.number;
+        let told = marked(told, &history.front, number);
+        let edition = marked(last.value, &history.front, number);
+        let (stage, shown) = show(rt, stage, edition);
+        let Ok(()) = shown else {
+            drop(stage.take(rt));
+            return Err(NoMemory);
+        };
+        Ok(EndedOf {
+            stage,
+            edition: told,
+        })
+    }
+
+    /// Waits for desks that are entering, and gives up what is shown. From then on each enter is
+    /// refused.
+    pub fn close<R: Wait>(self, rt: &R) {
+        let PublisherOf {
+            stage,
+            history: _,
+            last: _,
+            alloc: _,
+            stuck: _,
+        } = self;
+        if let Some(stage) = stage {
+            drop(stage.take(rt));
+        }
+    }
+}
+
+// An edition of the value published last, with the mark of the end.
+fn marked<V: Value>(value: Arc<V>, front: &Front<V>, number: u32) -> Edition<V>
+    requires last { last_of (values front.now.log) ≡ Some (arc_value value) }
+    requires number { number ≡ length (values front.now.log) }
+    requires ended { ended_in front.now.log ≡ true }
+    ensures { (result.front ≡ front.now) × (arc_value result.value ≡ arc_value value) }
+{
+    Edition {
+        value,
+        front: front.again(),
+        number,
+        ended: true,
+    }
+}
+
+/// What an ended publisher over copies of the type `T` leaves. It is not `Drop`: `close` ends it.
+pub struct EndedOf<V: Value, T: Sets<V>> {
+    stage: StageOf<V, T>,
+    edition: Edition<V>,
+}
+
+impl<V: Value, T: Sets<V>> Model for EndedOf<V, T> {
+    ghost use Rattle.std.specs.Prelude.{◌≡◌, true};
+    ghost use Rattle.publication.specs.Histories.{values, ended_in};
+    ghost use Rattle.publication.specs.Views.{PublishedView};
+
+    ghost Value = { PublishedView V };
+
+    ghost view = { λ e. record {
+      pair = e.edition.front.book;
+      list = values e.edition.front.log;
+    } };
+
+    ghost invariant = { λ e. ended_in e.edition.front.log ≡ true };
+}
+
+impl<V: Value, T: Sets<V>> EndedOf<V, T> {
+    /// A receipt of the whole list.
+    pub fn receipt(&mut self) -> Result<Receipt<V>, NoMemory>
+        ensures ok { IfOk result (λ r.
+            (r.list ≡ self.old.list) × (r.pair ≡ self.old.pair) × (r.ended ≡ true)) }
+        ensures kept { self.new ≡ self.old }
+    {
+        match self.edition.again() {
+            Ok(edition) => Ok(Receipt { edition }),
+            Err(_) => Err(NoMemory),
+        }
+    }
+
+    /// Waits for desks that are entering, and gives up what is shown. From then on each enter is
+    /// refused.
+    pub fn close<R: Wait>(self, rt: &R) {
+        let EndedOf { stage, edition: _ } = self;
+        drop(stage.take(rt));
+    }
+}

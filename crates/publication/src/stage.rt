@@ -1,0 +1,85 @@
+//! How the publisher changes what is shown.
+ghost use Rattle.std.specs.Prelude.{◌≡◌, ◌<◌, ◌^◌, [], ◌∷◌, length, Some, None, IfOk, MatchResult};
+ghost use mathlib.Core.List.{IsPrefix};
+ghost use Rattle.left_right.specs.Sides.{view};
+ghost use Rattle.publication.specs.declared.view.SeatRole.TheVariants.{Publisher as AtStage};
+ghost use Rattle.publication.specs.Histories.{values};
+ghost use Rattle.publication.specs.ShownRule.{home_of, opened};
+ghost use Rattle.publication.specs.Entering.{IsNewReader};
+
+use crate::edition::Edition;
+use crate::rule::{DeskReader, Opening, Publishing, Stage, StageOf, TakingOver, Telling};
+use crate::shown::{Sets, Shown};
+use std::alloc::{AllocError, Global};
+use std::sync::Wait;
+use td_base::{NoMemory, Value};
+
+/// Shows an edition. At `Err` it is pending, and readers see what they saw; the edition that is
+/// shown next comes after it, so it never is.
+pub(crate) fn show<V: Value, T: Sets<V>, R: Wait>(
+    rt: &R,
+    stage: StageOf<V, T>,
+    edition: Edition<V>,
+) -> (StageOf<V, T>, Result<(), AllocError>)
+    requires role { (view stage.desk.place).role ≡ AtStage }
+    requires longer { IsPrefix (view stage.desk.place).list (values edition.front.log) }
+    requires home { home_of edition.front.book ≡ (view stage.desk.place).home }
+    ensures list { MatchResult result.1
+        (λ _. (view result.0.desk.place).list ≡ values edition.front.log)
+        (λ _. (view result.0.desk.place).list ≡ (view stage.desk.place).list) }
+    ensures rest { ((view result.0.desk.place).role ≡ AtStage)
+        × ((view result.0.desk.place).home ≡ (view stage.desk.place).home) }
+{
+    let mut stage = stage;
+    let Ok(()) = stage.append(edition) else {
+        return (stage, Err(AllocError));
+    };
+    let (stage, result) = stage.publish_as::<Publishing, R>(rt);
+    let Ok(()) = result else {
+        return (stage, Err(AllocError));
+    };
+    (stage, Ok(()))
+}
+
+/// Makes what is shown, with a first edition. Nothing was shown before, so no reader can have seen
+/// less.
+pub(crate) fn open<V: Value, R: Wait>(
+    rt: &R,
+    alloc: Global,
+    edition: Edition<V>,
+    desks: u32,
+) -> Result<Stage<V>, NoMemory>
+    requires desks { 0 < desks }
+    requires some_value { 0 < length (values edition.front.log) }
+    ensures { IfOk result (λ s.
+        view s.desk.place ≡ opened (home_of edition.front.book) (values edition.front.log)) }
+{
+    let (first, second) = (Shown { edition: None }, Shown { edition: None });
+    let Ok(stage) = Stage::new(alloc, first, second, desks as usize) else {
+        return Err(NoMemory);
+    };
+    let mut stage: Stage<V> = stage;
+    let Ok(()) = stage.append(edition) else {
+        drop(stage.take(rt));
+        return Err(NoMemory);
+    };
+    let (stage, result) = stage.publish_as::<Opening, R>(rt);
+    let Ok(()) = result else {
+        drop(stage.take(rt));
+        return Err(NoMemory);
+    };
+    Ok(stage)
+}
+
+/// The reader of a desk, which was told what is published.
+pub(crate) fn new_reader<V: Value>(stage: &mut Stage<V>) -> Result<DeskReader<V>, NoMemory>
+    requires { (view stage.old.desk.place).role ≡ AtStage }
+    ensures stage { view stage.new.desk.place ≡ view stage.old.desk.place }
+    ensures reader { IfOk result (λ r. IsNewReader (view stage.old.desk.place) (view r.place)) }
+{
+    let Ok(mut reader) = stage.factory().reader() else {
+        return Err(NoMemory);
+    };
+    reader.learn::<TakingOver>(stage.tell::<Telling>());
+    Ok(reader)
+}
