@@ -1,4 +1,5 @@
 pub mod ClosingLemmas
+pub mod EnteringLemmas
 pub mod Exchanging
 pub mod HearLemmas
 pub mod ServedLemmas

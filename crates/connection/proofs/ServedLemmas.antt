@@ -1,6 +1,7 @@
 -- A connection that was served so far, and how each of its ends follows. `answer` is any way to answer a request at a
 -- place of a history of `count` releases.
-use Rattle.std.proofs.Common.{◌≡◌, ◌≢◌, lit<, lit≤, ℕ, ◌+◌, ◌<◌, ◌≤◌, List, [], ◌∷◌, ◌++◌, length, length-append, take, Bool, true, false, ◌||◌, ◌==◌, Option, inl, inr, refl, sym, ap, ◌∙◌, arith, append_assoc, append-nil}
+use Rattle.std.proofs.Common.{◌≡◌, ◌≢◌, lit<, lit≤, ℕ, ◌+◌, ◌<◌, ◌≤◌, List, [], ◌∷◌, ◌++◌, length, length-append, take, Bool, true, false, ◌||◌, ◌==◌}
+use Rattle.std.proofs.Common.{Option, inl, inr, refl, sym, ap, ◌∙◌, arith, append_assoc, append-nil}
 use Rattle.std.specs.List.{AllByRecursion, list_any}
 use Rattle.std.specs.Io.KnownBytes.{IsAtEnd}
 use Rattle.std.proofs.lemmas.Bool.{true≢false, eq-eqb}
@@ -15,9 +16,8 @@ use Rattle.td_base.specs.declared.report.End.TheVariants as end
 use Rattle.connection.specs.Replies.{IsOpen, is_last, replies, replies_after, reply_at}
 use Rattle.connection.specs.Served.{ArePlaces, ByInput, ByRefusal, ByRequest, IsNeeded, NeverFall, Served}
 
--- each request so far was replied to, at the last place
-pub record HasReplied (answer : ℕ → Head → Answer) (count : ℕ) (given : List Head) (places written : List ℕ) : Type 0 where
-  pub each : AllByRecursion (λ p. (p ≡ count) × (1 ≤ p)) places
+-- each request so far was replied to
+pub record HasReplied (answer : ℕ → Head → Answer) (given : List Head) (places written : List ℕ) : Type 0 where
   pub placed : length places ≡ length given
   pub told : written ≡ replies answer given places
 
@@ -27,24 +27,27 @@ all_more : (P : ℕ → Type 0) (ps : List ℕ) (p : ℕ) → AllByRecursion P p
 all_more P [] p a x = (x, tt)
 all_more P (q ∷ qs) p a x = (a.0, all_more P qs p a.1 x)
 
-each_within : (count : ℕ) (ps : List ℕ) → AllByRecursion (λ p. (p ≡ count) × (1 ≤ p)) ps → AllByRecursion (λ p. (1 ≤ p) × (p ≤ count)) ps
-each_within count [] a = tt
-each_within count (p ∷ ps) a = ((a.0.1, omega (arith, a.0.0)), each_within count ps a.1)
+all_wider : (n m : ℕ) (ps : List ℕ) → n ≤ m → AllByRecursion (λ p. (1 ≤ p) × (p ≤ n)) ps → AllByRecursion (λ p. (1 ≤ p) × (p ≤ m)) ps
+all_wider n m [] le a = tt
+all_wider n m (p ∷ ps) le a = ((a.0.0, omega (arith, a.0.1, le)), all_wider n m ps le a.1)
 
-pub each_last : (count : ℕ) (ps : List ℕ) → AllByRecursion (λ p. (p ≡ count) × (1 ≤ p)) ps → AllByRecursion (λ p. p ≡ count) ps
-each_last count [] a = tt
-each_last count (p ∷ ps) a = (a.0.0, each_last count ps a.1)
+never_more : (n place : ℕ) (ps : List ℕ) → AllByRecursion (λ p. (1 ≤ p) × (p ≤ n)) ps → n ≤ place → NeverFall ps → NeverFall (ps ++ place ∷ [])
+never_more n place [] a le r = (tt, tt)
+never_more n place (p ∷ ps) a le r = (all_more (λ q. p ≤ q) ps place r.0 (omega (arith, a.0.1, le)), never_more n place ps a.1 le r.1)
 
-each_above : (count p : ℕ) (ps : List ℕ) → p ≡ count → AllByRecursion (λ q. (q ≡ count) × (1 ≤ q)) ps → AllByRecursion (λ q. p ≤ q) ps
-each_above count p [] e a = tt
-each_above count p (q ∷ qs) e a = (omega (arith, e, a.0.0), each_above count p qs e a.1)
+pub places_none : (n : ℕ) → ArePlaces n []
+places_none n = record { within = tt; rising = tt }
 
-each_rising : (count : ℕ) (ps : List ℕ) → AllByRecursion (λ p. (p ≡ count) × (1 ≤ p)) ps → NeverFall ps
-each_rising count [] a = tt
-each_rising count (p ∷ ps) a = (each_above count p ps a.0.0 a.1, each_rising count ps a.1)
+-- places of a history are places of a longer one
+pub wider : (n m : ℕ) (ps : List ℕ) → n ≤ m → ArePlaces n ps → ArePlaces m ps
+wider n m ps le a = record { within = all_wider n m ps le a.within; rising = a.rising }
 
-are_places : (count : ℕ) (ps : List ℕ) → AllByRecursion (λ p. (p ≡ count) × (1 ≤ p)) ps → ArePlaces count ps
-are_places count ps a = record { within = each_within count ps a; rising = each_rising count ps a }
+-- one more place, which is the last
+pub places_more : (n place : ℕ) (ps : List ℕ) → place ≡ n → 1 ≤ place → ArePlaces n ps → ArePlaces n (ps ++ place ∷ [])
+places_more n place ps e some a = record {
+  within = all_more (λ p. (1 ≤ p) × (p ≤ n)) ps place a.within (some, omega (arith, e));
+  rising = never_more n place ps a.within (omega (arith, e)) a.rising;
+}
 
 -- ---- one more reply
 
@@ -60,7 +63,8 @@ replies_more answer before (h ∷ hs) head [] place e = absurd (omega (arith, e)
 replies_more answer before (h ∷ hs) head (q ∷ qs) place e =
     ap (λ l. reply_at answer before h q ++ l) (replies_more answer (before + 1) hs head qs place (omega (arith, e)))
     ∙ (ap (λ n. reply_at answer before h q ++ (replies_after answer (before + 1) hs qs ++ reply_at answer n head place)) (omega arith)
-    ∙ sym (append_assoc (reply_at answer before h q) (replies_after answer (before + 1) hs qs) (reply_at answer (before + length (h ∷ hs)) head place)))
+    ∙ sym (append_assoc (reply_at answer before h q) (replies_after answer (before + 1) hs qs)
+        (reply_at answer (before + length (h ∷ hs)) head place)))
 
 replies_next : (answer : ℕ → Head → Answer) (heads : List Head) (head : Head) (places : List ℕ) (place : ℕ) → length places ≡ length heads
     → replies answer (heads ++ head ∷ []) (places ++ place ∷ []) ≡ replies answer heads places ++ reply_at answer (length heads) head place
@@ -75,11 +79,10 @@ pub both_longer : (places : List ℕ) (place : ℕ) (heads : List Head) (head : 
     → length (places ++ place ∷ []) ≡ length (heads ++ head ∷ [])
 both_longer places place heads head e = omega (arith, e, one_longer places place, one_longer heads head)
 
-pub replied_more : (answer : ℕ → Head → Answer) (count : ℕ) (given : List Head) (places written : List ℕ) (head : Head) (place : ℕ) (reply : List ℕ)
-    → HasReplied answer count given places written → place ≡ count → 1 ≤ place → reply ≡ reply_at answer (length given) head place
-    → HasReplied answer count (given ++ head ∷ []) (places ++ place ∷ []) (written ++ reply)
-replied_more answer count given places written head place reply h e some r = record {
-  each = all_more (λ p. (p ≡ count) × (1 ≤ p)) places place h.each (e, some);
+pub replied_more : (answer : ℕ → Head → Answer) (given : List Head) (places written : List ℕ) (head : Head) (place : ℕ) (reply : List ℕ)
+    → HasReplied answer given places written → reply ≡ reply_at answer (length given) head place
+    → HasReplied answer (given ++ head ∷ []) (places ++ place ∷ []) (written ++ reply)
+replied_more answer given places written head place reply h r = record {
   placed = both_longer places place given head h.placed;
   told = ap (λ w. w ++ reply) h.told
       ∙ (ap (λ l. replies answer given places ++ l) r ∙ sym (replies_next answer given head places place h.placed));
@@ -112,20 +115,21 @@ open_more heads head o e =
 pub open_none : IsOpen []
 open_none = record { kept = refl; few = lit< tt }
 
-pub replied_none : (answer : ℕ → Head → Answer) (count : ℕ) → HasReplied answer count [] [] []
+pub replied_none : (answer : ℕ → Head → Answer) → HasReplied answer [] [] []
 unfolding replies_after
-replied_none answer count = record { each = tt; placed = refl; told = refl }
+replied_none answer = record { placed = refl; told = refl }
 
 -- ---- the ends
 
 pub closed_by_request : (answer : ℕ → Head → Answer) (count : ℕ) (read : List ℕ) (left : Option (List ℕ)) (written places : List ℕ)
     (before : List Head) (last : Head) (held : List ℕ) (rf wf : Type 0)
-    → IsNeeded read → HasReplied answer count (before ++ last ∷ []) places written → Gives read (before ++ last ∷ []) held → IsOpen before
+    → IsNeeded read → ArePlaces count places → HasReplied answer (before ++ last ∷ []) places written → Gives read (before ++ last ∷ []) held
+        → IsOpen before
     → is_last (length before) last ≡ true
     → Served answer count (record { read = read; left = left; written = written; places = places }) rf wf end.Closed
-closed_by_request answer count read left written places before last held rf wf need h g o l = record {
+closed_by_request answer count read left written places before last held rf wf need are h g o l = record {
   needed = need;
-  places = are_places count places h.each;
+  places = are;
   ends = record {
     heads = before ++ last ∷ [];
     finish = ByRequest;
@@ -145,11 +149,11 @@ closed_by_request answer count read left written places before last held rf wf n
 
 pub closed_by_refusal : (answer : ℕ → Head → Answer) (count : ℕ) (read : List ℕ) (left : Option (List ℕ)) (written places : List ℕ)
     (heads : List Head) (status : ℕ) (rf wf : Type 0)
-    → IsNeeded read → HasReplied answer count heads places written → Asks read heads (Bad status) → IsOpen heads
+    → IsNeeded read → ArePlaces count places → HasReplied answer heads places written → Asks read heads (Bad status) → IsOpen heads
     → Served answer count (record { read = read; left = left; written = written ++ fixed status; places = places }) rf wf end.Closed
-closed_by_refusal answer count read left written places heads status rf wf need h a o = record {
+closed_by_refusal answer count read left written places heads status rf wf need are h a o = record {
   needed = need;
-  places = are_places count places h.each;
+  places = are;
   ends = record {
     heads = heads;
     finish = ByRefusal status;
@@ -161,11 +165,11 @@ closed_by_refusal answer count read left written places heads status rf wf need 
 
 pub closed_by_input : (answer : ℕ → Head → Answer) (count : ℕ) (read : List ℕ) (left : Option (List ℕ)) (written places : List ℕ)
     (heads : List Head) (held : List ℕ) (rf wf : Type 0)
-    → IsNeeded read → HasReplied answer count heads places written → Asks read heads (Rest held) → IsOpen heads → IsAtEnd left
+    → IsNeeded read → ArePlaces count places → HasReplied answer heads places written → Asks read heads (Rest held) → IsOpen heads → IsAtEnd left
     → Served answer count (record { read = read; left = left; written = written; places = places }) rf wf end.Closed
-closed_by_input answer count read left written places heads held rf wf need h a o e = record {
+closed_by_input answer count read left written places heads held rf wf need are h a o e = record {
   needed = need;
-  places = are_places count places h.each;
+  places = are;
   ends = record {
     heads = heads;
     finish = ByInput;
@@ -177,22 +181,24 @@ closed_by_input answer count read left written places heads held rf wf need h a 
 
 pub read_failed : (answer : ℕ → Head → Answer) (count : ℕ) (read : List ℕ) (left : Option (List ℕ)) (written places : List ℕ)
     (heads : List Head) (held : List ℕ) (rf wf : Type 0)
-    → IsNeeded read → HasReplied answer count heads places written → Asks read heads (Rest held) → IsOpen heads → rf
+    → IsNeeded read → ArePlaces count places → HasReplied answer heads places written → Asks read heads (Rest held) → IsOpen heads → rf
     → Served answer count (record { read = read; left = left; written = written; places = places }) rf wf end.ReadFault
-read_failed answer count read left written places heads held rf wf need h a o f = record {
+read_failed answer count read left written places heads held rf wf need are h a o f = record {
   needed = need;
-  places = are_places count places h.each;
+  places = are;
   ends = record { heads = heads; held = held; asks = a; open_after = o; placed = h.placed; written = h.told; cause = f };
 }
 
 pub reply_cut : (answer : ℕ → Head → Answer) (count : ℕ) (read : List ℕ) (left : Option (List ℕ)) (written places : List ℕ)
     (before : List Head) (last : Head) (held : List ℕ) (place : ℕ) (reply : List ℕ) (sent : ℕ) (rf wf : Type 0)
-    → IsNeeded read → HasReplied answer count before places written → Gives read (before ++ last ∷ []) held → IsOpen before
-    → place ≡ count → 1 ≤ place → reply ≡ reply_at answer (length before) last place → wf
-    → Served answer count (record { read = read; left = left; written = written ++ take sent reply; places = places ++ place ∷ [] }) rf wf end.WriteFault
-reply_cut answer count read left written places before last held place reply sent rf wf need h g o e some r f = record {
+    → IsNeeded read → ArePlaces count (places ++ place ∷ []) → HasReplied answer before places written → Gives read (before ++ last ∷ []) held
+        → IsOpen before
+    → reply ≡ reply_at answer (length before) last place → wf
+    → Served answer count (record { read = read; left = left; written = written ++ take sent reply; places = places ++ place ∷ [] }) rf wf
+        end.WriteFault
+reply_cut answer count read left written places before last held place reply sent rf wf need are h g o r f = record {
   needed = need;
-  places = are_places count (places ++ place ∷ []) (all_more (λ p. (p ≡ count) × (1 ≤ p)) places place h.each (e, some));
+  places = are;
   ends = record {
     cut = inl (record {
       before = before;
@@ -212,11 +218,11 @@ reply_cut answer count read left written places before last held place reply sen
 
 pub refusal_cut : (answer : ℕ → Head → Answer) (count : ℕ) (read : List ℕ) (left : Option (List ℕ)) (written places : List ℕ)
     (heads : List Head) (status sent : ℕ) (rf wf : Type 0)
-    → IsNeeded read → HasReplied answer count heads places written → Asks read heads (Bad status) → IsOpen heads → wf
+    → IsNeeded read → ArePlaces count places → HasReplied answer heads places written → Asks read heads (Bad status) → IsOpen heads → wf
     → Served answer count (record { read = read; left = left; written = written ++ take sent (fixed status); places = places }) rf wf end.WriteFault
-refusal_cut answer count read left written places heads status sent rf wf need h a o f = record {
+refusal_cut answer count read left written places heads status sent rf wf need are h a o f = record {
   needed = need;
-  places = are_places count places h.each;
+  places = are;
   ends = record {
     cut = inr (record {
       heads = heads;
@@ -233,11 +239,12 @@ refusal_cut answer count read left written places heads status sent rf wf need h
 
 pub gave_up : (answer : ℕ → Head → Answer) (count : ℕ) (read : List ℕ) (left : Option (List ℕ)) (written places : List ℕ)
     (heads : List Head) (held : List ℕ) (sent : ℕ) (rf wf : Type 0)
-    → IsNeeded read → HasReplied answer count heads places written → Gives read heads held → IsOpen heads → (sent < length (fixed 503) → wf)
+    → IsNeeded read → ArePlaces count places → HasReplied answer heads places written → Gives read heads held → IsOpen heads
+        → (sent < length (fixed 503) → wf)
     → Served answer count (record { read = read; left = left; written = written ++ take sent (fixed 503); places = places }) rf wf end.NoMemory
-gave_up answer count read left written places heads held sent rf wf need h g o f = record {
+gave_up answer count read left written places heads held sent rf wf need are h g o f = record {
   needed = need;
-  places = are_places count places h.each;
+  places = are;
   ends = record {
     heads = heads;
     places = places;
@@ -253,12 +260,14 @@ gave_up answer count read left written places heads held sent rf wf need h g o f
 
 pub gave_up_begun : (answer : ℕ → Head → Answer) (count : ℕ) (read : List ℕ) (left : Option (List ℕ)) (written places : List ℕ)
     (heads : List Head) (next : Head) (held : List ℕ) (place sent : ℕ) (rf wf : Type 0)
-    → IsNeeded read → HasReplied answer count heads places written → Gives read (heads ++ next ∷ []) held → IsOpen heads
-    → place ≡ count → 1 ≤ place → (sent < length (fixed 503) → wf)
-    → Served answer count (record { read = read; left = left; written = written ++ take sent (fixed 503); places = places ++ place ∷ [] }) rf wf end.NoMemory
-gave_up_begun answer count read left written places heads next held place sent rf wf need h g o e some f = record {
+    → IsNeeded read → ArePlaces count (places ++ place ∷ []) → HasReplied answer heads places written → Gives read (heads ++ next ∷ []) held
+        → IsOpen heads
+    → (sent < length (fixed 503) → wf)
+    → Served answer count (record { read = read; left = left; written = written ++ take sent (fixed 503); places = places ++ place ∷ [] }) rf wf
+        end.NoMemory
+gave_up_begun answer count read left written places heads next held place sent rf wf need are h g o f = record {
   needed = need;
-  places = are_places count (places ++ place ∷ []) (all_more (λ p. (p ≡ count) × (1 ≤ p)) places place h.each (e, some));
+  places = are;
   ends = record {
     heads = heads;
     places = places;
@@ -271,10 +280,6 @@ gave_up_begun answer count read left written places heads next held place sent r
     whole = f;
   };
 }
-
-pub last_more : (count place : ℕ) (places : List ℕ) → AllByRecursion (λ p. (p ≡ count) × (1 ≤ p)) places → place ≡ count
-    → AllByRecursion (λ p. p ≡ count) (places ++ place ∷ [])
-last_more count place places a e = all_more (λ p. p ≡ count) places place (each_last count places a) e
 
 nothing_waits : IsStep [] Waiting
 unfolding lines_from end_among

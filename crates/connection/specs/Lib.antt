@@ -1,3 +1,4 @@
+pub mod Entering
 pub mod Exchanges
 pub mod Hearing
 pub mod Replies

@@ -1,9 +1,10 @@
 //! One connection of HTTP/1.1, served request by request (RFC 9112, section 9).
 //!
-//! [`serve`] reads pieces only while no whole head has come, answers each request over a
-//! catalogue, and tells in its report how the connection ended and at which place of the history
-//! each request was answered. What it writes is `Served` of specs/Served.antt: four ends, each a
-//! record over the bytes that were read and those that were written.
+//! [`serve`] reads pieces only while no whole head has come, lets its desk enter once for each
+//! request, answers it over the catalogue that the desk then holds, and tells in its report how the
+//! connection ended and at which place of the history each request was answered. What it writes is
+//! `Served` of specs/Served.antt: four ends, each a record over the bytes that were read and those
+//! that were written. What becomes of the desk is `Enters` of specs/Entering.antt.
 #![tactic(auto)]
 
 mod hearing;

@@ -1,10 +1,13 @@
-ghost use Rattle.std.specs.Prelude.{IfOk};
-ghost use Rattle.zone_meaning.specs.ZoneHistories.{HasZoneHistory};
+ghost use Rattle.std.specs.Prelude.{IfOk, [], ◌∷◌};
+ghost use Rattle.catalogue.specs.Holdings.{StandsFor, release_held};
+ghost use Rattle.zone_meaning.specs.Sound.{IsSound};
 
 use crate::serve;
 use catalogue::{Catalogue, Release};
+use publication::{Desk, Publisher, make};
 use std::alloc::Global;
 use std::process::Abort;
+use std::sync::Wait;
 use std::test::Fail;
 use td_base::{
     Bytes, End, FaultyConn, Items, MemoryConn, MemorySink, MemorySource, NoMemory, Report, Role,
@@ -28,6 +31,9 @@ const REFUSED_400: &[u8] =
 
 const REFUSED_405: &[u8] =
     b"HTTP/1.1 405 Method Not Allowed\r\nAllow: GET, HEAD\r\nContent-Length: 0\r\nConnection: close\r\n\r\n";
+
+const REFUSED_503: &[u8] =
+    b"HTTP/1.1 503 Service Unavailable\r\nContent-Length: 0\r\nConnection: close\r\n\r\n";
 
 /// A stream, and a letter for each reply: `g` to GET, `h` to HEAD, each in capitals where the
 /// connection closes after it, and `4` and `5` for the refusals 400 and 405.
@@ -74,7 +80,7 @@ const CASES: &[Case] = &[
 
 /// A catalogue of one release without zones.
 fn no_zones(rt: &impl Abort, alloc: Global) -> Result<Catalogue<Zone>, NoMemory>
-    ensures { IfOk result HasZoneHistory }
+    ensures { IfOk result (λ c. StandsFor (λ z. z) IsSound c (release_held (λ z. z) c ∷ [])) }
 {
     let publisher = Bytes::from_slice(alloc, b"Test")?;
     let version = Bytes::from_slice(alloc, b"2025a")?;
@@ -90,6 +96,18 @@ fn no_zones(rt: &impl Abort, alloc: Global) -> Result<Catalogue<Zone>, NoMemory>
             leaps: None,
         },
     )
+}
+
+/// A publisher of it, and a desk.
+fn one_desk<R: Wait + Abort>(
+    rt: &R,
+    alloc: Global,
+) -> Result<(Publisher<Catalogue<Zone>>, Desk<Catalogue<Zone>>), NoMemory> {
+    let catalogue = no_zones(rt, alloc)?;
+    let (publisher, desks) = make(rt, alloc, catalogue, 1)?;
+    let mut desks = desks;
+    let desk = desks.pop().unwrap();
+    Ok((publisher, desk))
 }
 
 fn put_answer(out: &mut Bytes, close: bool, head_only: bool) -> Result<(), NoMemory> {
@@ -130,14 +148,12 @@ fn connection(alloc: Global, stream: &[u8], first_piece: usize) -> Result<Memory
 fn run(
     rt: &impl Abort,
     alloc: Global,
-    catalogue: &Catalogue<Zone>,
+    desk: &mut Desk<Catalogue<Zone>>,
     case: &Case,
     cut: usize,
-) -> Result<(), NoMemory>
-    requires { HasZoneHistory catalogue.now }
-{
+) -> Result<(), NoMemory> {
     let mut conn = connection(alloc, case.stream, cut)?;
-    let report = serve(alloc, &Role::Primary, catalogue, &mut conn);
+    let report = serve(alloc, &Role::Primary, desk, &mut conn);
     let expected = replies(alloc, case.replies)?;
     assert!(rt; conn.sink.taken() == expected.as_slice());
     assert!(rt; report.end == End::Closed);
@@ -145,21 +161,33 @@ fn run(
     Ok(())
 }
 
-#[test]
-fn each_stream_in_any_cut(rt: HostRuntime) -> Result<(), NoMemory> {
-    let catalogue = no_zones(&rt, rt.alloc())?;
+fn run_all(
+    rt: &impl Abort,
+    alloc: Global,
+    desk: &mut Desk<Catalogue<Zone>>,
+) -> Result<(), NoMemory> {
     for case in CASES {
         for cut in 1..200 {
-            run(&rt, rt.alloc(), &catalogue, case, cut)?;
+            run(rt, alloc, desk, case, cut)?;
         }
     }
     Ok(())
 }
 
 #[test]
-fn a_thousand_requests_and_one(rt: HostRuntime) -> Result<(), NoMemory> {
-    let alloc = rt.alloc();
-    let catalogue = no_zones(&rt, alloc)?;
+fn each_stream_in_any_cut(rt: HostRuntime) -> Result<(), NoMemory> {
+    let (publisher, desk) = one_desk(&rt, rt.alloc())?;
+    let mut desk = desk;
+    let done = run_all(&rt, rt.alloc(), &mut desk);
+    publisher.close(&rt);
+    done
+}
+
+fn run_many(
+    rt: &impl Abort,
+    alloc: Global,
+    desk: &mut Desk<Catalogue<Zone>>,
+) -> Result<(), NoMemory> {
     let mut stream = Bytes::new(alloc);
     let mut letters = Bytes::new(alloc);
     for count in 1..1_002 {
@@ -170,7 +198,7 @@ fn a_thousand_requests_and_one(rt: HostRuntime) -> Result<(), NoMemory> {
     }
     letters.push(b'G')?;
     let mut conn = connection(alloc, stream.as_slice(), 1)?;
-    let report = serve(alloc, &Role::Primary, &catalogue, &mut conn);
+    let report = serve(alloc, &Role::Primary, desk, &mut conn);
     let expected = replies(alloc, letters.as_slice())?;
     assert!(rt; conn.sink.taken() == expected.as_slice());
     assert!(rt; report.end == End::Closed);
@@ -178,16 +206,23 @@ fn a_thousand_requests_and_one(rt: HostRuntime) -> Result<(), NoMemory> {
     Ok(())
 }
 
+#[test]
+fn a_thousand_requests_and_one(rt: HostRuntime) -> Result<(), NoMemory> {
+    let (publisher, desk) = one_desk(&rt, rt.alloc())?;
+    let mut desk = desk;
+    let done = run_many(&rt, rt.alloc(), &mut desk);
+    publisher.close(&rt);
+    done
+}
+
 /// Serves two requests and the end of the input, over a connection of which one read and one
 /// write fail.
 fn serve_failing(
     alloc: Global,
-    catalogue: &Catalogue<Zone>,
+    desk: &mut Desk<Catalogue<Zone>>,
     read: u64,
     write: u64,
-) -> Result<(Report, Bytes), NoMemory>
-    requires { HasZoneHistory catalogue.now }
-{
+) -> Result<(Report, Bytes), NoMemory> {
     let stream = b"GET / HTTP/1.1\nHost: x\n\nGET / HTTP/1.1\nHost: x\n\n";
     let inner = connection(alloc, stream, 30)?;
     let mut reads = Items::new(alloc);
@@ -195,7 +230,7 @@ fn serve_failing(
     let mut writes = Items::new(alloc);
     writes.push(write)?;
     let mut conn = FaultyConn::new(inner, reads, writes);
-    let report = serve(alloc, &Role::Primary, catalogue, &mut conn);
+    let report = serve(alloc, &Role::Primary, desk, &mut conn);
     let taken = Bytes::from_slice(alloc, conn.inner().sink.taken())?;
     Ok((report, taken))
 }
@@ -211,15 +246,46 @@ const FAULTS: &[(u64, u64, &[u8], End, usize)] = &[
     (0, 3, b"gg", End::Closed, 2),
 ];
 
-#[test]
-fn each_call_fails_in_turn(rt: HostRuntime) -> Result<(), NoMemory> {
-    let catalogue = no_zones(&rt, rt.alloc())?;
+fn run_failing(
+    rt: &impl Abort,
+    alloc: Global,
+    desk: &mut Desk<Catalogue<Zone>>,
+) -> Result<(), NoMemory> {
     for (read, write, letters, end, places) in FAULTS {
-        let (report, taken) = serve_failing(rt.alloc(), &catalogue, *read, *write)?;
-        let expected = replies(rt.alloc(), letters)?;
+        let (report, taken) = serve_failing(alloc, desk, *read, *write)?;
+        let expected = replies(alloc, letters)?;
         assert!(rt; taken.as_slice() == expected.as_slice());
         assert!(rt; report.end == *end);
         assert!(rt; report.places.as_slice().len() == *places);
     }
+    Ok(())
+}
+
+#[test]
+fn each_call_fails_in_turn(rt: HostRuntime) -> Result<(), NoMemory> {
+    let (publisher, desk) = one_desk(&rt, rt.alloc())?;
+    let mut desk = desk;
+    let done = run_failing(&rt, rt.alloc(), &mut desk);
+    publisher.close(&rt);
+    done
+}
+
+/// After the publisher is gone each enter is refused, and the request has no place.
+fn run_closed(alloc: Global, desk: &mut Desk<Catalogue<Zone>>) -> Result<bool, NoMemory> {
+    let mut conn = connection(alloc, b"GET / HTTP/1.1\nHost: x\n\n", 1)?;
+    let report = serve(alloc, &Role::Primary, desk, &mut conn);
+    Ok(
+        conn.sink.taken() == REFUSED_503
+            && report.end == End::NoMemory
+            && report.places.as_slice().is_empty(),
+    )
+}
+
+#[test]
+fn a_refused_enter_ends_it(rt: HostRuntime) -> Result<(), NoMemory> {
+    let (publisher, desk) = one_desk(&rt, rt.alloc())?;
+    let mut desk = desk;
+    publisher.close(&rt);
+    assert!(rt; run_closed(rt.alloc(), &mut desk)?);
     Ok(())
 }

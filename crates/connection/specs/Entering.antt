@@ -1,0 +1,50 @@
+-- What becomes of a desk while a connection is served: it enters once for each request, before that
+-- is answered.
+use Rattle.std.specs.Prelude.{◌≡◌, ◌≤◌, ◌⊎◌, ℕ, ◌+◌, List, [], ◌∷◌, length, true}
+use mathlib.Core.List.{IsPrefix}
+use Rattle.publication.specs.Views.{DeskView}
+use Rattle.td_base.specs.declared.report.End.{End}
+use Rattle.td_base.specs.declared.report.End.TheVariants as end
+
+module _ {V : Type 0} where
+  -- the desk is of the same pair, has seen all that it had seen, and nothing more once that has
+  -- ended
+  pub record GoesOn (before now : DeskView V) : Type 0 where
+    pub pair : now.pair ≡ before.pair
+    pub longer : IsPrefix before.seen now.seen
+    pub ended : before.ended ≡ true → (now.seen ≡ before.seen) × (now.ended ≡ true)
+
+  -- one enter, after which the desk holds the value of that step, at this place
+  pub record EntersAt (before : DeskView V) (place : ℕ) (now : DeskView V) : Type 0 where
+    pub enters : now.enters ≡ before.enters + 1
+    pub holds : now.seen ≡ now.entered
+    pub place_is : place ≡ length now.seen
+    pub goes_on : GoesOn before now
+
+  -- an enter that was refused, with or without a step
+  pub record IsRefused (before now : DeskView V) : Type 0 where
+    pub enters : (before.enters ≤ now.enters) × (now.enters ≤ before.enters + 1)
+    pub seen : now.seen ≡ before.seen
+    pub goes_on : GoesOn before now
+
+  -- one enter for each place
+  abbrev pub EntersEach : DeskView V → List ℕ → DeskView V → Type 0
+  EntersEach before [] now = now ≡ before
+  EntersEach before (place ∷ places) now =
+      (next : DeskView V) × EntersAt before place next × EntersEach next places now
+
+  -- and, where memory ran out, perhaps one more that was refused
+  abbrev pub Enters : DeskView V → List ℕ → DeskView V → End → Type 0
+  Enters before places now end.NoMemory =
+      (last : DeskView V) × EntersEach before places last × ((now ≡ last) ⊎ IsRefused last now)
+  Enters before places now end.Closed = EntersEach before places now
+  Enters before places now end.ReadFault = EntersEach before places now
+  Enters before places now end.WriteFault = EntersEach before places now
+
+-- the number of enters rose by that of the places, or, where memory ran out, perhaps by one more
+abbrev pub HasCounted : ℕ → List ℕ → ℕ → End → Type 0
+HasCounted before places now end.NoMemory =
+    (before + length places ≤ now) × (now ≤ before + length places + 1)
+HasCounted before places now end.Closed = now ≡ before + length places
+HasCounted before places now end.ReadFault = now ≡ before + length places
+HasCounted before places now end.WriteFault = now ≡ before + length places
