@@ -2,8 +2,9 @@
 use Rattle.std.proofs.Common.{ℕ, ◌≡◌, ◌≤◌, true, false, List, [], ◌∷◌, ◌++◌, map, length, Option, Some, None, refl, ap, sym, subst, ◌∙◌, arith}
 use Rattle.std.proofs.Common.{append_assoc, length-append}
 use Rattle.std.proofs.lemmas.List.{append-nil, length-map}
+use Rattle.std.specs.List.{last_or}
 use mathlib.Core.List.{IsPrefix}
-use Rattle.publication.specs.Histories.{last_of, values, ended_in, Sealed, StandFrom, Stand}
+use Rattle.publication.specs.Histories.{values, ended_in, Sealed, StandFrom, Stand}
 
 no_items : {A : Type 0} (xs : List A) → length xs ≡ 0 → xs ≡ []
 no_items [] e = refl
@@ -39,15 +40,9 @@ module _ {A : Type 0} where
   prefix_whole (x ∷ xs) (y ∷ ys) p le = let heads : x ≡ y = cc (p.1) in let rest =
       prefix_whole xs ys (p.0, cc (p.1)) (omega arith) in cc (heads, rest)
 
-  pub last_snoc : (xs : List A) (x : A) → last_of (xs ++ x ∷ []) ≡ Some x
-  last_snoc [] x = refl
-  last_snoc (y ∷ []) x = refl
-  last_snoc (y ∷ z ∷ ys) x = last_snoc (z ∷ ys) x
-
-  pub no_last : (xs : List A) → last_of xs ≡ None → xs ≡ []
-  no_last [] e = refl
-  no_last (x ∷ []) e = absurd (cc e)
-  no_last (x ∷ y ∷ ys) e = absurd (let r = no_last (y ∷ ys) e in cc r)
+  last_snoc : (o : Option A) (xs : List A) (x : A) → last_or o (xs ++ x ∷ []) ≡ Some x
+  last_snoc o [] x = refl
+  last_snoc o (y ∷ ys) x = last_snoc (Some y) ys x
 
   pub values_more : (log more : List (Option A)) → values (log ++ more) ≡ values log ++ values more
   values_more [] more = refl
@@ -119,8 +114,8 @@ module _ {A : Type 0} where
       → values new ≡ list ++ y ∷ []
   added_list log new list x y is old same = added_values log x new is ∙ (ap (λ l. l ++ x ∷ []) old ∙ ap (λ z. list ++ z ∷ []) same)
 
-  pub added_last : (log : List (Option A)) (x : A) (new : List (Option A)) → new ≡ log ++ Some x ∷ [] → last_of (values new) ≡ Some x
-  added_last log x new is = ap last_of (added_values log x new is) ∙ last_snoc (values log) x
+  pub added_last : (log : List (Option A)) (x : A) (new : List (Option A)) → new ≡ log ++ Some x ∷ [] → last_or None (values new) ≡ Some x
+  added_last log x new is = ap (last_or None) (added_values log x new is) ∙ last_snoc None (values log) x
 
   pub added_going : (log : List (Option A)) (x : A) (new : List (Option A)) → new ≡ log ++ Some x ∷ [] → ended_in log ≡ false → ended_in new ≡ false
   added_going log x new is h = ap ended_in is ∙ ended_more log x h
@@ -142,7 +137,7 @@ module _ {V E : Type 0} (last : V → E) (stands : V → List E → Type 0) wher
       let e : (before ++ y ∷ []) ++ ys ≡ before ++ y ∷ ys = append_assoc before (y ∷ []) ys in
       (h.0, stand_snoc (before ++ y ∷ []) ys x h.1 (subst (λ (w : List V). stands x (map last (w ++ x ∷ []))) (sym e) new))
 
-  stand_from_last : (before xs : List V) (x : V) → StandFrom last stands before xs → last_of xs ≡ Some x → stands x (map last (before ++ xs))
+  stand_from_last : (before xs : List V) (x : V) → StandFrom last stands before xs → last_or None xs ≡ Some x → stands x (map last (before ++ xs))
   stand_from_last before [] x h is = absurd (cc is)
   stand_from_last before (y ∷ []) x h is = let e : y ≡ x = cc is in subst (λ (z : V). stands z (map last (before ++ y ∷ []))) e h.0
   stand_from_last before (y ∷ z ∷ zs) x h is =
@@ -153,7 +148,7 @@ module _ {V E : Type 0} (last : V → E) (stands : V → List E → Type 0) wher
   stand_from_prefix before (x ∷ xs) rest h = (h.0, stand_from_prefix (before ++ x ∷ []) xs rest h.1)
 
   -- the last value of a beginning of the history stands for it
-  pub last_stands : (front log : List (Option V)) (x : V) → IsPrefix front log → Stand last stands (values log) → last_of (values front) ≡ Some x
+  pub last_stands : (front log : List (Option V)) (x : V) → IsPrefix front log → Stand last stands (values log) → last_or None (values front) ≡ Some x
       → stands x (map last (values front))
   last_stands front log x p h is =
       let q = values_prefix front log p in

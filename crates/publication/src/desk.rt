@@ -4,7 +4,8 @@ ghost use Rattle.std.specs.Arc.{arc_value};
 ghost use mathlib.Core.List.{IsPrefix};
 ghost use Rattle.left_right.specs.Sides.{view};
 ghost use Rattle.publication.specs.declared.view.SeatRole.TheVariants.{Desk as AtDesk};
-ghost use Rattle.publication.specs.Histories.{last_of, values, ended_in};
+ghost use Rattle.std.specs.List.{last_or};
+ghost use Rattle.publication.specs.Histories.{values, ended_in};
 ghost use Rattle.publication.specs.ShownRule.{home_of};
 ghost use Rattle.publication.specs.ShownRule.{told_of};
 ghost use Rattle.publication.specs.Entering.{HasEntered};
@@ -158,7 +159,7 @@ impl<V: Value> Desk<V> {
 
     /// The value that the desk holds: the last that it has seen.
     pub fn value(&self) -> &V
-        ensures last { last_of self.now.seen ≡ Some result.now }
+        ensures last { last_or None self.now.seen ≡ Some result.now }
         ensures stands { V.stands result.now (map V.last self.now.seen) }
     {
         let mut seen = self.held.front.again();

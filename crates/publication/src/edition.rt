@@ -1,6 +1,7 @@
-ghost use Rattle.std.specs.Prelude.{◌≡◌, length, Some, IfOk};
+ghost use Rattle.std.specs.Prelude.{◌≡◌, length, None, Some, IfOk};
+ghost use Rattle.std.specs.List.{last_or};
 ghost use Rattle.std.specs.Arc.{arc_value};
-ghost use Rattle.publication.specs.Histories.{last_of, values, ended_in};
+ghost use Rattle.publication.specs.Histories.{values, ended_in};
 
 use crate::history::Front;
 use std::alloc::AllocError;
@@ -15,7 +16,7 @@ pub struct Edition<V: Value> {
     pub front: Front<V>,
     pub number: u32,
     pub ended: bool,
-    ghost is_last: { last_of (values front.log) ≡ Some (arc_value value) },
+    ghost is_last: { last_or None (values front.log) ≡ Some (arc_value value) },
     ghost numbered: { number ≡ length (values front.log) },
     ghost marked: { ended ≡ ended_in front.log },
 }

@@ -1,9 +1,10 @@
 ghost use Rattle.std.specs.Prelude.{◌≡◌, [], ◌∷◌, ◌++◌, map, length, true, false};
-ghost use Rattle.std.specs.Prelude.{Some, IfOk, OnErr};
+ghost use Rattle.std.specs.Prelude.{None, Some, IfOk, OnErr};
+ghost use Rattle.std.specs.List.{last_or};
 ghost use Rattle.std.specs.Arc.{arc_value};
 ghost use Rattle.left_right.specs.Sides.{view};
 ghost use Rattle.publication.specs.declared.view.SeatRole.TheVariants.{Publisher as AtStage};
-ghost use Rattle.publication.specs.Histories.{last_of, values, ended_in};
+ghost use Rattle.publication.specs.Histories.{values, ended_in};
 ghost use Rattle.publication.specs.ShownRule.{home_of};
 
 use crate::edition::Edition;
@@ -62,7 +63,7 @@ impl<V: Value, T: Sets<V>> Model for PublisherOf<V, T> {
 
 /// An edition of a value that was just added.
 pub(crate) fn edition_of<V: Value>(value: Arc<V>, front: &Front<V>, number: u32) -> Edition<V>
-    requires last { last_of (values front.now.log) ≡ Some (arc_value value) }
+    requires last { last_or None (values front.now.log) ≡ Some (arc_value value) }
     requires number { number ≡ length (values front.now.log) }
     requires going { ended_in front.now.log ≡ false }
     ensures { (result.front ≡ front.now) × (arc_value result.value ≡ arc_value value) }
@@ -125,7 +126,7 @@ impl<V: Value, T: Sets<V>> PublisherOf<V, T> {
 
     /// The value published last.
     pub fn last(&self) -> &V
-        ensures last { last_of self.now.list ≡ Some result.now }
+        ensures last { last_or None self.now.list ≡ Some result.now }
         ensures stands { V.stands result.now (map V.last self.now.list) }
     {
         let mut seen = self.last.front.again();
@@ -190,7 +191,7 @@ impl<V: Value, T: Sets<V>> PublisherOf<V, T> {
 
 // An edition of the value published last, with the mark of the end.
 fn marked<V: Value>(value: Arc<V>, front: &Front<V>, number: u32) -> Edition<V>
-    requires last { last_of (values front.now.log) ≡ Some (arc_value value) }
+    requires last { last_or None (values front.now.log) ≡ Some (arc_value value) }
     requires number { number ≡ length (values front.now.log) }
     requires ended { ended_in front.now.log ≡ true }
     ensures { (result.front ≡ front.now) × (arc_value result.value ≡ arc_value value) }

@@ -1,5 +1,6 @@
-use Rattle.std.proofs.Common.{Some, length, sym, ap, ◌∙◌}
-use Rattle.publication.specs.Histories.{last_of, values, ended_in}
+use Rattle.std.specs.List.{last_or}
+use Rattle.std.proofs.Common.{None, Some, length, sym, ap, ◌∙◌}
+use Rattle.publication.specs.Histories.{values, ended_in}
 use Rattle.publication.proofs.Beginnings.{prefix_self, added_mark}
 use Rattle.publication.proofs.publisher.PublisherOf.end.Goals as goal
 
@@ -7,7 +8,7 @@ pub marked-told-requires-clause-last : goal.marked-told-requires-clause-last
 marked-told-requires-clause-last g c =
     let free = c.self.invariant.2 c.if-stuck.false in
     let mark = added_mark _ _ c.if-not-finish.ensures.added in
-    ap last_of (mark.1 ∙ ap values free.0) ∙ (c.self.inside.last.is_last ∙ ap Some (sym c.in-Ok.ensures))
+    ap (last_or None) (mark.1 ∙ ap values free.0) ∙ (c.self.inside.last.is_last ∙ ap Some (sym c.in-Ok.ensures))
 
 pub marked-told-requires-clause-number : goal.marked-told-requires-clause-number
 marked-told-requires-clause-number g c =
