@@ -1,0 +1,4 @@
+pub mod Puts
+pub mod Merges
+pub mod Kept
+pub mod Newest
