@@ -1,12 +1,12 @@
 -- What maps and sets keep, as rising lists.
 use Rattle.std.proofs.Common.{Ordering, Less, Equal, Greater, ◌≡◌, ℕ, suc, Bool, true, false, cond, Option, None, Some, List, [], ◌∷◌, ◌++◌, refl, sym, ap, ◌∙◌, map, slice_index_or, length, drop, ◌<◌, ◌+◌, arith, ◌||◌, not, subst, filter, if◌then◌else◌, option_map}
-use Rattle.std.specs.List.{list_any, find}
+use Rattle.std.specs.List.{list_any}
 use Rattle.std.specs.BTreeMap.{insert_entry, is_at}
 use Rattle.std.specs.BTreeSet.{insert_key}
 use Rattle.std.specs.Option.{option_or}
 use Rattle.td_base.specs.Files.{File, file_at}
 use Rattle.std.specs.Map.{keys_of, values_of}
-use Rattle.std.specs.Ordering.{nat_cmp, is_eq, match_ordering, ordering_reverse}
+use Rattle.std.specs.Ordering.{nat_cmp, match_ordering}
 use Rattle.std.specs.Cmp.Lexicographic.{slice_cmp, nat_list_eq_equiv}
 use Rattle.std.specs.Str.{bytes_eq}
 use Rattle.std.proofs.lemmas.Map.Text.{is_eq-slice_cmp}

@@ -1,8 +1,8 @@
 -- Two rising lists that are merged, an item at a time.
-use Rattle.std.proofs.Common.{Ordering, Less, Equal, Greater, ◌≡◌, ℕ, true, List, [], ◌∷◌, refl, sym, ap, ◌∙◌, map, subst, Option, None, Some, IsSome, MatchOption, ◌↔◌, ◌<◌, length, drop, slice_index_or, arith}
-use Rattle.std.specs.Ordering.{nat_cmp, is_lt, match_ordering, ordering_reverse}
+use Rattle.std.proofs.Common.{Less, Equal, Greater, ◌≡◌, ℕ, List, [], ◌∷◌, refl, sym, ap, ◌∙◌, map, subst, Option, None, Some, IsSome, MatchOption, ◌<◌, length, drop, slice_index_or, arith}
+use Rattle.std.specs.Ordering.{nat_cmp, is_lt}
 use Rattle.std.specs.Cmp.Lexicographic.{slice_cmp}
-use Rattle.catalogue.specs.Order.{is_before, IsRising}
+use Rattle.catalogue.specs.Order.{IsRising}
 use Rattle.json_forms.specs.declared.zone_list.ListZone.{ListZone}
 use Rattle.sync_core.specs.Keeping.{order_of}
 use Rattle.sync_core.specs.Mirrors.{entry_name}

@@ -1,8 +1,7 @@
 -- The release that a mirror serves, as a manifest and a store of its files.
-use Rattle.std.specs.Prelude.{ℕ, List, [], map, codes, Bool, Option, None, Some, option_map, find, int_le, ◌≡◌}
+use Rattle.std.specs.Prelude.{ℕ, List, map, codes, Bool, Option, None, Some, option_map, find, int_le, ◌≡◌}
 use Rattle.std.specs.List.{list_all}
 use Rattle.td_base.specs.Files.{File, file_at}
-use Rattle.td_civil.specs.declared.moment_type.Moment.{Moment}
 use Rattle.td_civil.specs.declared.moment_type.TheConstants.{LO}
 use Rattle.json_forms.specs.declared.zone_list.ListZone.{ListZone}
 use Rattle.release_manifest.specs.declared.manifest_type.Manifest.{Manifest}

@@ -12,6 +12,8 @@ mod merging;
 mod mirror;
 mod publishing;
 mod send_sync;
+#[cfg(test)]
+mod tests;
 
 pub use heard_type::{Heard, Settled};
 pub use mirror::Mirror;

@@ -36,7 +36,7 @@ fn lower(known: &mut VecDeque<ListZone>, listed: &mut VecDeque<ListZone>) -> Opt
     ensures next { MatchOption result
         (put_all entry_name listed.old.items known.old.items ≡ [])
         (λ zone. put_all entry_name listed.old.items known.old.items
-            ≡ zone ∷ put_all entry_name listed.new.items known.new.items) }
+        ≡ zone ∷ put_all entry_name listed.new.items known.new.items) }
     ensures fewer { MatchOption result (length known.old.items ≡ 0)
         (λ _. length known.new.items + length listed.new.items + 1 ≤ length known.old.items + length listed.old.items) }
 {

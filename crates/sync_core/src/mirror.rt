@@ -34,11 +34,11 @@ impl Model for Mirror {
     ghost Value = { MirrorState };
 
     ghost view = { λ m. record {
-        token = m.token;
-        coming = m.coming;
-        entries = m.entries.items;
-        files = files_in m.files.entries;
-        pending = m.pending.items;
+      token = m.token;
+      coming = m.coming;
+      entries = m.entries.items;
+      files = files_in m.files.entries;
+      pending = m.pending.items;
     } };
 
     ghost invariant = { λ m. IsRising (map entry_name m.entries.items) };

@@ -1,4 +1,4 @@
-use Rattle.std.proofs.Common.{sym, ◌≡◌, ◌<◌, arith}
+use Rattle.std.proofs.Common.{sym, arith}
 use Rattle.sync_core.proofs.Merges.{takes_known, takes_both, takes_listed}
 use Rattle.sync_core.proofs.merging.lower.Goals as goal
 
