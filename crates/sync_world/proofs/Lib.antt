@@ -1,0 +1,12 @@
+pub mod Places
+pub mod Looks
+pub mod Zones
+pub mod Changes
+pub mod Aliases
+pub mod Files
+pub mod Standing
+pub mod Steps
+pub mod Shown
+pub mod Runs
+pub mod Lists
+pub mod Law
