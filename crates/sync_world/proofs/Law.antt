@@ -13,14 +13,13 @@ use Rattle.sync_core.specs.declared.heard_type.Heard.{Heard}
 use Rattle.sync_core.specs.declared.heard_type.Heard.TheVariants as heard
 use Rattle.sync_core.specs.declared.heard_type.Settled.TheVariants.{Holds}
 use Rattle.sync_world.specs.Holding.{HoldsLast}
-use Rattle.sync_world.specs.Primaries.{FindsPlaces, FindsNoOther, Service, file_told, served_for, told}
+use Rattle.sync_world.specs.Primaries.{HeardIsTold, FindsPlaces, FindsNoOther, Service, file_told, served_for, told}
 use Rattle.sync_world.specs.Worlds.{World, Sent, Step, IsAnswer, Leads, after, begun}
 use Rattle.sync_world.proofs.Files.{history_front}
 use Rattle.sync_world.proofs.Lists.{exactly}
-use Rattle.sync_world.proofs.Looks.{StateData, state_ask, state_after, looked_up}
-use Rattle.sync_world.proofs.Runs.{HoldsState, SentStands, WorldStands, TellsSo, always, settled_holds, told_so}
+use Rattle.sync_world.proofs.Looks.{state_ask, state_after, looked_up}
+use Rattle.sync_world.proofs.Runs.{HoldsState, SentStands, always, settled_holds, told_so}
 use Rattle.sync_world.proofs.Shown.{IsRisingMirror, shown}
-use Rattle.sync_world.proofs.Standing.{Invariant}
 
 -- an empty list that was asked for with a token
 record IsQuiet (s : MirrorState) (h : Heard) : Type 0 where
@@ -54,18 +53,18 @@ list_asked : (P : Service) (G : List ReleaseData) (doc : ListDoc) (token : List 
 list_asked P G doc token [] held e k = ap ask.List (sym e)
 list_asked P G doc token (t ∷ ts) held e k = absurd (no_list P G t doc k)
 
-module _ (P : Service) (sound : ReleaseData → Type 0) (tells : List ReleaseData → Ask → Heard → Type 0) (so : TellsSo sound tells P) (finds : FindsPlaces sound P) (no_other : FindsNoOther sound P) where
-  pub law : (H : List ReleaseData) (xs : List Step) (w v : World) (n : ℕ) (sent : Sent) (h : Heard) → IsHistory sound H → 1 ≤ length H → Leads sound tells (begun H) xs w
-      → IsAnswer tells w n v sent h → settles w.mirror h ≡ Holds → HoldsLast P v.mirror (take n w.history)
+module _ (P : Service) (sound : ReleaseData → Type 0) (hears : List ReleaseData → Ask → Heard → Type 0) (so : HeardIsTold sound hears P) (finds : FindsPlaces sound P) (no_other : FindsNoOther sound P) where
+  pub law : (H : List ReleaseData) (xs : List Step) (w v : World) (n : ℕ) (sent : Sent) (h : Heard) → IsHistory sound H → 1 ≤ length H → Leads sound hears (begun H) xs w
+      → IsAnswer hears w n v sent h → settles w.mirror h ≡ Holds → HoldsLast P v.mirror (take n w.history)
   law H xs w v n sent h history some leads a holds =
-      let i = always P sound tells so finds no_other H xs w history some leads in
+      let i = always P sound hears so finds no_other H xs w history some leads in
       let k = subst (SentStands P w.history (looked_up w.mirror)) a.outstanding i.state in
       let q = quiet_is w.mirror h holds in
       let low : 1 ≤ sent.since = k.1 in
       let from : sent.since ≤ n = a.from in
       let upto : n ≤ length w.history = a.upto in
       let said : told P (take n w.history) sent.ask ≡ Some (heard.List q.doc) =
-      told_so P sound tells so finds no_other w.history n sent.ask h i.history (omega arith) a.upto a.is_told ∙ ap Some q.is in
+      told_so P sound hears so finds no_other w.history n sent.ask h i.history (omega arith) a.upto a.is_heard ∙ ap Some q.is in
       let asked : ask.List (Some q.token) ≡ state_ask (looked_up w.mirror) =
       list_asked P (take n w.history) q.doc q.token w.mirror.pending w.mirror.token q.token_is (ap (told P (take n w.history)) (sym k.0) ∙ said) in
       let state : HoldsState P (state_after (looked_up w.mirror) (heard.List q.doc)) (take n w.history) =

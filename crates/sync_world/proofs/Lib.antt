@@ -10,3 +10,9 @@ pub mod Shown
 pub mod Runs
 pub mod Lists
 pub mod Law
+pub mod Reading
+pub mod Names
+pub mod Telling
+pub mod Tokens
+pub mod Led
+pub mod Answered

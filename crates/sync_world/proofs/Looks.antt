@@ -1,6 +1,5 @@
 -- A mirror's state by what is found in it under a name.
-use Rattle.std.proofs.Common.{◌≡◌, ℕ, Bool, true, false, cond, not, Option, None, Some, List, [], ◌∷◌, map, option_map}
-use Rattle.std.specs.List.{find}
+use Rattle.std.proofs.Common.{ℕ, Bool, true, false, cond, Option, None, Some, List, [], ◌∷◌, map, option_map}
 use Rattle.std.specs.Option.{option_or}
 use Rattle.std.specs.Str.{bytes_eq}
 use Rattle.td_base.specs.declared.report.Ask.{Ask}

@@ -1,5 +1,5 @@
 -- The invariant over every list of steps, and the law.
-use Rattle.std.proofs.Common.{inl, inr, ◌≡◌, ℕ, ◌<◌, ◌≤◌, true, Option, None, Some, List, [], ◌∷◌, ◌++◌, length, take, refl, sym, ap, ◌∙◌, subst, arith, length-append, length-take}
+use Rattle.std.proofs.Common.{inl, inr, ◌≡◌, ℕ, ◌≤◌, Option, None, Some, List, [], ◌∷◌, ◌++◌, length, take, refl, sym, ap, ◌∙◌, subst, arith, length-append, length-take}
 use Rattle.td_base.specs.declared.report.Ask.{Ask}
 use Rattle.td_base.specs.declared.report.Ask.TheVariants as ask
 use Rattle.catalogue.specs.Histories.{IsHistory, IsRelease, token_of}
@@ -7,11 +7,9 @@ use Rattle.catalogue.specs.Lookups.{named, zone_at, zones_of}
 use Rattle.catalogue.specs.Releases.{ContentData, ReleaseData}
 use Rattle.json_forms.specs.declared.zone_list.ListDoc.{ListDoc}
 use Rattle.sync_core.specs.Mirrors.{MirrorState, ask_for}
-use Rattle.sync_core.specs.Steps.{settles as settling, list_settles, sync_step}
 use Rattle.sync_core.specs.declared.heard_type.Heard.{Heard}
 use Rattle.sync_core.specs.declared.heard_type.Heard.TheVariants as heard
-use Rattle.sync_core.specs.declared.heard_type.Settled.TheVariants.{Holds, More}
-use Rattle.sync_world.specs.Primaries.{FindsPlaces, FindsNoOther, Service, served_for, told, list_at, list_of, changes_of, changes_at, IsPlace}
+use Rattle.sync_world.specs.Primaries.{HeardIsTold, FindsPlaces, FindsNoOther, Service, served_for, told, list_at, list_of, changes_of, changes_at, IsPlace}
 use Rattle.sync_world.specs.Worlds as world
 use Rattle.sync_world.specs.Worlds.{World, Sent, Step, IsAnswer, Follows, Leads, after, begun, sent_then}
 use Rattle.sync_world.proofs.Aliases.{cut}
@@ -91,12 +89,8 @@ asked : (P : Service) (H : List ReleaseData) (m : MirrorState) → 1 ≤ length 
 asked P H m some None i = (refl, some, omega arith, i)
 asked P H m some (Some sent) i = i
 
--- what a primary tells is the one thing that there is to be told
-abbrev pub TellsSo : (ReleaseData → Type 0) → (List ReleaseData → Ask → Heard → Type 0) → Service → Type 0
-TellsSo sound tells P = (H : List ReleaseData) (a : Ask) (h : Heard) → IsHistory sound H → 1 ≤ length H → tells H a h → told P H a ≡ Some h
-
-module _ (P : Service) (sound : ReleaseData → Type 0) (tells : List ReleaseData → Ask → Heard → Type 0) (so : TellsSo sound tells P) (finds : FindsPlaces sound P) (no_other : FindsNoOther sound P) where
-  pub told_so : (H : List ReleaseData) (n : ℕ) (a : Ask) (h : Heard) → IsHistory sound H → 1 ≤ n → n ≤ length H → tells (take n H) a h → told P (take n H) a ≡ Some h
+module _ (P : Service) (sound : ReleaseData → Type 0) (hears : List ReleaseData → Ask → Heard → Type 0) (so : HeardIsTold sound hears P) (finds : FindsPlaces sound P) (no_other : FindsNoOther sound P) where
+  pub told_so : (H : List ReleaseData) (n : ℕ) (a : Ask) (h : Heard) → IsHistory sound H → 1 ≤ n → n ≤ length H → hears (take n H) a h → told P (take n H) a ≡ Some h
   told_so H n a h history low upto is = so (take n H) a h (history_front sound H n history) (omega (arith, length-take n H)) is
 
   taken : (w : World) (h : Heard) → WorldStands P sound w → Invariant P w.history (length w.history) (state_after (looked_up w.mirror) h) → WorldStands P sound (after w h)
@@ -107,7 +101,7 @@ module _ (P : Service) (sound : ReleaseData → Type 0) (tells : List ReleaseDat
     rises = rising_after w.mirror h i.rises;
   }
 
-  step : (w : World) (x : Step) (v : World) → WorldStands P sound w → Follows sound tells w x v → WorldStands P sound v
+  step : (w : World) (x : Step) (v : World) → WorldStands P sound w → Follows sound hears w x v → WorldStands P sound v
   step w (world.install r) v i is =
       subst (WorldStands P sound) (sym is.1) (record {
         history = history_grown sound w.history r i.history is.0;
@@ -122,7 +116,7 @@ module _ (P : Service) (sound : ReleaseData → Type 0) (tells : List ReleaseDat
       let sent = subst (SentStands P w.history (looked_up w.mirror)) a.outstanding i.state in
       let low : 1 ≤ (is.0).since = sent.1 in
       let from : (is.0).since ≤ n = a.from in
-      let tells_it = told_so w.history n (is.0).ask is.1 i.history (omega arith) a.upto a.is_told in
+      let tells_it = told_so w.history n (is.0).ask is.1 i.history (omega arith) a.upto a.is_heard in
       subst (WorldStands P sound) (sym a.is_taken)
       (taken w is.1 i (answered P sound finds no_other w.history (looked_up w.mirror) i.history i.some n is.0 is.1 sent a.from a.upto tells_it))
   step w world.refuse_token v i is =
@@ -137,11 +131,11 @@ module _ (P : Service) (sound : ReleaseData → Type 0) (tells : List ReleaseDat
   step w world.restart_empty v i is =
       subst (WorldStands P sound) (sym is) (record { history = i.history; some = i.some; state = fresh (record { token = refl; coming = refl; pending = refl }); rises = none_rise })
 
-  steps : (w : World) (xs : List Step) (v : World) → WorldStands P sound w → Leads sound tells w xs v → WorldStands P sound v
+  steps : (w : World) (xs : List Step) (v : World) → WorldStands P sound w → Leads sound hears w xs v → WorldStands P sound v
   steps w [] v i is = subst (WorldStands P sound) (sym is) i
   steps w (x ∷ xs) v i is = steps is.0 xs v (step w x is.0 i is.1) is.2
 
-  pub always : (H : List ReleaseData) (xs : List Step) (w : World) → IsHistory sound H → 1 ≤ length H → Leads sound tells (begun H) xs w → WorldStands P sound w
+  pub always : (H : List ReleaseData) (xs : List Step) (w : World) → IsHistory sound H → 1 ≤ length H → Leads sound hears (begun H) xs w → WorldStands P sound w
   always H xs w h some is =
       steps (begun H) xs w (record { history = h; some = some; state = fresh (record { token = refl; coming = refl; pending = refl }); rises = none_rise }) is
 
@@ -215,4 +209,3 @@ module _ (P : Service) (sound : ReleaseData → Type 0) (finds : FindsPlaces sou
                 let bad : heard.BadToken ≡ heard.List doc = sym (ap (changes_at (take n H)) gone) ∙ one in
                 absurd (cc)
           ]
-

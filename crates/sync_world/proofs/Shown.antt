@@ -1,5 +1,5 @@
 -- The state as lists shows the state by look-ups.
-use Rattle.std.proofs.Common.{◌≡◌, ℕ, Bool, true, false, not, cond, Option, None, Some, List, [], ◌∷◌, refl, sym, ap, ◌∙◌, subst, map}
+use Rattle.std.proofs.Common.{◌≡◌, ℕ, Bool, true, false, not, cond, Option, None, Some, List, [], ◌∷◌, refl, sym, ap, ◌∙◌, subst}
 use Rattle.std.proofs.Math.Path.{fun_ext}
 use Rattle.std.specs.List.{filter}
 use Rattle.std.specs.Option.{option_or}
@@ -13,7 +13,7 @@ use Rattle.sync_core.specs.Steps.{is_alias, rising_zones, kept_entries, kept_fil
 use Rattle.sync_core.specs.declared.heard_type.Heard.{Heard}
 use Rattle.sync_core.specs.declared.heard_type.Heard.TheVariants as heard
 use Rattle.sync_core.proofs.Puts.{Rising, rising_put, rising_put_all, rising_filter, at_put, at_put_all, bytes_same}
-use Rattle.sync_world.proofs.Looks.{StateData, known, unless, kept, with_file, settled, after_all, after_changes, after_list, after_file, after_heard, state_after, bytes_found, looked_up, token_then, coming_then}
+use Rattle.sync_world.proofs.Looks.{StateData, known, unless, kept, with_file, settled, after_changes, after_list, after_file, after_heard, state_after, bytes_found, looked_up, token_then, coming_then}
 
 cond_none : {X : Type 0} (b : Bool) (o : Option X) → o ≡ None → o ≡ cond b o None
 cond_none true o e = refl
@@ -38,7 +38,7 @@ unless_not : {X : Type 0} (b : Bool) (o : Option X) → cond (not b) o None ≡ 
 unless_not true o = refl
 unless_not false o = refl
 
-joined_lists : (old zones : List ListZone) (t : List ℕ) → known (put_all entry_name zones (kept_entries zones old)) t ≡ option_or (known (rising_zones zones) t) (unless (is_alias zones t) (known old t))
+pub joined_lists : (old zones : List ListZone) (t : List ℕ) → known (put_all entry_name zones (kept_entries zones old)) t ≡ option_or (known (rising_zones zones) t) (unless (is_alias zones t) (known old t))
 joined_lists old zones t =
     at_put_all entry_name zones (kept_entries zones old) t
     ∙ ap (option_or (known (rising_zones zones) t)) (at_filter entry_name (λ u. not (is_alias zones u)) old t ∙ unless_not (is_alias zones t) (known old t))

@@ -1,5 +1,5 @@
 -- That a mirror holds the last release of a history, and nothing else.
-use Rattle.std.specs.Prelude.{List, ℕ, [], length, map, Some, ◌≡◌}
+use Rattle.std.specs.Prelude.{List, [], length, map, Some, ◌≡◌}
 use Rattle.catalogue.specs.Histories.{token_of}
 use Rattle.catalogue.specs.Lookups.{zones_of}
 use Rattle.catalogue.specs.Releases.{ContentData, ReleaseData}

@@ -1,3 +1,4 @@
+pub mod Hearing
 pub mod Holding
 pub mod Primaries
 pub mod Worlds

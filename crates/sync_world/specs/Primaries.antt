@@ -1,5 +1,5 @@
 -- What a primary tells of its releases (RFC 7808, sections 5.2 and 5.3).
-use Rattle.std.specs.Prelude.{ℕ, ◌<◌, ◌+◌, ◌≤◌, List, ◌∷◌, length, take, map, Option, None, Some, option_map, ◌≡◌, ◌⊎◌}
+use Rattle.std.specs.Prelude.{ℕ, ◌<◌, ◌+◌, ◌≤◌, List, length, take, map, Option, None, Some, option_map, ◌≡◌, ◌⊎◌}
 use Rattle.td_base.specs.declared.report.Ask.{Ask}
 use Rattle.td_base.specs.declared.report.Ask.TheVariants as ask
 use Rattle.catalogue.specs.Histories.{IsHistory, meta, token_of}
@@ -60,3 +60,16 @@ abbrev pub FindsNoOther : (ReleaseData → Type 0) → Service → Type 0
 FindsNoOther sound P = (H : List ReleaseData) (m n : ℕ) → IsHistory sound H → IsPlace H m → m ≤ n
     → n ≤ length H → (P.place (take n H) (token_of H m) ≡ Some m)
     ⊎ (P.place (take n H) (token_of H m) ≡ None)
+
+-- what is heard over a history of sound releases is what there is to be told
+abbrev pub HeardIsTold : (ReleaseData → Type 0) → (List ReleaseData → Ask → Heard → Type 0)
+    → Service → Type 0
+HeardIsTold sound hears P = (H : List ReleaseData) (a : Ask) (h : Heard) → IsHistory sound H
+    → 1 ≤ length H → hears H a h → told P H a ≡ Some h
+
+-- a primary serves so
+pub record Serves (sound : ReleaseData → Type 0) (hears : List ReleaseData → Ask → Heard → Type 0)
+    (P : Service) : Type 0 where
+  pub heard_is_told : HeardIsTold sound hears P
+  pub finds : FindsPlaces sound P
+  pub finds_no_other : FindsNoOther sound P

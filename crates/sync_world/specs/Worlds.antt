@@ -50,12 +50,12 @@ after w h = record { history = w.history; mirror = sync_step w.mirror h; sent = 
 
 -- the mirror takes what the primary tells over its first n releases, no fewer than it had when the ask
 -- was first sent
-pub record IsAnswer (tells : List ReleaseData → Ask → Heard → Type 0) (w : World) (n : ℕ)
+pub record IsAnswer (hears : List ReleaseData → Ask → Heard → Type 0) (w : World) (n : ℕ)
     (v : World) (sent : Sent) (h : Heard) : Type 0 where
   pub outstanding : w.sent ≡ Some sent
   pub from : sent.since ≤ n
   pub upto : n ≤ length w.history
-  pub is_told : tells (take n w.history) sent.ask h
+  pub is_heard : hears (take n w.history) sent.ask h
   pub is_taken : v ≡ after w h
 
 -- the token of the outstanding ask is refused
@@ -63,7 +63,7 @@ pub record IsRefusal (w v : World) (since : ℕ) (token : List ℕ) : Type 0 whe
   pub outstanding : w.sent ≡ Some (record { ask = ask.List (Some token); since = since })
   pub is_taken : v ≡ after w heard.BadToken
 
-module _ (sound : ReleaseData → Type 0) (tells : List ReleaseData → Ask → Heard → Type 0) where
+module _ (sound : ReleaseData → Type 0) (hears : List ReleaseData → Ask → Heard → Type 0) where
   -- one step leads from a world to another
   abbrev pub Follows : World → Step → World → Type 0
   Follows w (install r) v = IsRelease sound w.history r
@@ -73,7 +73,7 @@ module _ (sound : ReleaseData → Type 0) (tells : List ReleaseData → Ask → 
     mirror = w.mirror;
     sent = Some (sent_then w.sent w.mirror (length w.history));
   }
-  Follows w (answer n) v = (sent : Sent) × (h : Heard) × IsAnswer tells w n v sent h
+  Follows w (answer n) v = (sent : Sent) × (h : Heard) × IsAnswer hears w n v sent h
   Follows w refuse_token v = (since : ℕ) × (token : List ℕ) × IsRefusal w v since token
   Follows w lose v = v ≡ w
   Follows w restart v = v ≡ record { history = w.history; mirror = w.mirror; sent = None }

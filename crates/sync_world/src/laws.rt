@@ -1,17 +1,59 @@
-ghost use Rattle.std.specs.Prelude.{ℕ, ◌≤◌, List, length, take};
+//! The laws, each the contract of a function that does nothing.
+ghost use Rattle.std.specs.Prelude.{◌≡◌, ◌≢◌, ℕ, ◌≤◌, List, length, take, Some};
+ghost use Rattle.std.specs.Option.{IsSomeAnd};
 ghost use Rattle.catalogue.specs.Histories.{IsHistory};
 ghost use Rattle.catalogue.specs.Releases.{ReleaseData};
+ghost use Rattle.zone_meaning.specs.Sound.{IsSound};
+ghost use Rattle.sync_core.specs.Mirrors.{entry_name};
+ghost use Rattle.sync_core.specs.Names.{put_all};
+ghost use Rattle.sync_core.specs.Steps.{kept_entries};
 ghost use Rattle.sync_core.specs.declared.heard_type.Heard.{Heard};
+ghost use Rattle.sync_core.specs.declared.heard_type.Heard.TheVariants as heard;
+ghost use Rattle.sync_world.specs.Hearing.{IsHeard, action_service};
 ghost use Rattle.sync_world.specs.Holding.{HoldsLast, SaysHolds};
+ghost use Rattle.sync_world.specs.Primaries.{IsPlace, Serves, changes_of, list_of, told};
 ghost use Rattle.sync_world.specs.Worlds.{Sent, Step, World, IsAnswer, Leads, begun};
 
 use crate::Primary;
+use catalogue::ZoneData;
 
-/// Wherever any steps lead from an empty mirror: where the primary's answer over its first n releases lets the mirror say
-/// that it holds what the primary has, it holds exactly the last of these n releases.
-pub fn mirrors_hold_releases<P: Primary>()
+/// What is heard in the answers of the actions is what there is to be told, and a token finds its place.
+pub fn actions_serve()
+    ensures { Serves IsSound IsHeard action_service }
+{}
+
+/// Wherever any steps lead from a history and an empty mirror: where the answer over the first n releases lets the mirror
+/// say that it holds what the primary has, it holds exactly the last of these n releases. The answers are those of the
+/// actions, and releases are sound as they are for this service.
+pub fn mirrors_hold_releases()
     ensures { (H : List ReleaseData) (steps : List Step) (w v : World) (n : ℕ) (sent : Sent) (h : Heard)
-        → IsHistory P.sound H → 1 ≤ length H → Leads P.sound P.tells (begun H) steps w
-        → IsAnswer P.tells w n v sent h → SaysHolds w.mirror h
+        → IsHistory IsSound H → 1 ≤ length H → Leads IsSound IsHeard (begun H) steps w
+        → IsAnswer IsHeard w n v sent h → SaysHolds w.mirror h
+        → HoldsLast action_service v.mirror (take n w.history) }
+{}
+
+/// The same of any primary, as it serves.
+pub fn mirrors_hold<P: Primary>()
+    ensures { (H : List ReleaseData) (steps : List Step) (w v : World) (n : ℕ) (sent : Sent) (h : Heard)
+        → Serves P.sound P.hears P.service → IsHistory P.sound H → 1 ≤ length H → Leads P.sound P.hears (begun H) steps w
+        → IsAnswer P.hears w n v sent h → SaysHolds w.mirror h
         → HoldsLast P.service v.mirror (take n w.history) }
+{}
+
+/// An ask that is outstanding has an answer at each place from the one on at which it was first sent, and no answer
+/// refuses its token while no token is retired.
+pub fn asks_are_answered<P: Primary>()
+    ensures { (H : List ReleaseData) (steps : List Step) (w : World) (sent : Sent) (n : ℕ)
+        → Serves P.sound P.hears P.service → IsHistory P.sound H → 1 ≤ length H → Leads P.sound P.hears (begun H) steps w
+        → w.sent ≡ Some sent → sent.since ≤ n → n ≤ length w.history
+        → IsSomeAnd (told P.service (take n w.history) sent.ask)
+        (λ h. length w.history ≤ P.service.kept → h ≢ heard.BadToken) }
+{}
+
+/// The list of an earlier place, changed by the list of changes since, is the list of the last place. What became an
+/// alias goes with the change of the zone whose alias it became.
+pub fn aliases_follow<Z: ZoneData>()
+    ensures { (H : List ReleaseData) (n : ℕ) → IsHistory Z.sound H → IsPlace H n
+        → put_all entry_name (changes_of H n) (kept_entries (changes_of H n) (list_of (take n H)))
+        ≡ list_of H }
 {}

@@ -1,12 +1,15 @@
-//! The law of a secondary: through any losses, repeats, restarts and installs, a mirror that says that it holds what the
-//! primary has holds exactly the release that answered. There is no call here that a program makes.
+//! The law of a secondary (RFC 7808, section 4.2.2): through any losses, repeats, restarts and installs, a mirror that says
+//! that it holds what the primary has holds exactly the release that answered. No program calls anything here.
 //!
-//! The world, its steps and where they lead are in `specs/Worlds.antt`. The law is the contract of
-//! [`mirrors_hold_releases`].
+//! The world of a primary and a mirror, and its steps, are in `specs/Worlds.antt`; what a mirror hears in the answers
+//! of the actions in `specs/Hearing.antt`; that it holds a release in `specs/Holding.antt`. The law is the contract of
+//! [`mirrors_hold_releases`], and [`mirrors_hold`] the same of any [`Primary`].
 #![tactic(auto)]
 
 mod laws;
 mod primary;
 
-pub use laws::mirrors_hold_releases;
-pub use primary::Primary;
+pub use laws::{
+    actions_serve, aliases_follow, asks_are_answered, mirrors_hold, mirrors_hold_releases,
+};
+pub use primary::{Actions, Primary};

@@ -1,23 +1,29 @@
-ghost use Rattle.std.specs.Prelude.{ℕ, List, ◌≡◌, ◌≤◌, Some, length};
+ghost use Rattle.std.specs.Prelude.{List};
 ghost use Rattle.td_base.specs.declared.report.Ask.{Ask};
-ghost use Rattle.catalogue.specs.Histories.{IsHistory};
 ghost use Rattle.catalogue.specs.Releases.{ReleaseData};
 ghost use Rattle.sync_core.specs.declared.heard_type.Heard.{Heard};
-ghost use Rattle.sync_world.specs.Primaries.{Service, told, FindsPlaces, FindsNoOther};
+ghost use Rattle.sync_world.specs.Primaries.{Service};
 
-/// A server whose releases are followed: which of them are sound, what it tells over a history of
-/// them, and that this is the one thing that there is to be told.
+/// A server whose releases are followed: which of them are sound, what is heard of it over a
+/// history of them, and what it serves.
 pub trait Primary {
     ghost sound: { ReleaseData → Type 0 };
 
-    ghost tells: { List ReleaseData → Ask → Heard → Type 0 };
+    ghost hears: { List ReleaseData → Ask → Heard → Type 0 };
 
     ghost service: { Service };
+}
 
-    ghost tells_so: { (H : List ReleaseData) (asked : Ask) (h : Heard) → IsHistory sound H
-        → 1 ≤ length H → tells H asked h → told service H asked ≡ Some h };
+/// The one that answers by the actions of this service.
+pub struct Actions;
 
-    ghost finds: { FindsPlaces sound service };
+impl Primary for Actions {
+    ghost use Rattle.zone_meaning.specs.Sound.{IsSound};
+    ghost use Rattle.sync_world.specs.Hearing.{IsHeard, action_service};
 
-    ghost finds_no_other: { FindsNoOther sound service };
+    ghost sound = { IsSound };
+
+    ghost hears = { IsHeard };
+
+    ghost service = { action_service };
 }

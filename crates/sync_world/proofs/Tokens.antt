@@ -1,0 +1,32 @@
+-- Tokens find their places, among the places that a history may have.
+use Rattle.std.proofs.Common.{inl, ◌≡◌, ℕ, ◌<◌, ◌≤◌, Some, List, length, take, refl, subst, arith, length-take}
+use Rattle.catalogue.specs.Histories.{IsHistory, token_of}
+use Rattle.catalogue.specs.Lookups.{place_of}
+use Rattle.catalogue.specs.Releases.{ReleaseData}
+use Rattle.catalogue.specs.declared.limits.TheConstants.{MOST_PLACES}
+use Rattle.catalogue.proofs.Tokens.{place_found}
+use Rattle.zone_meaning.specs.Sound.{IsSound}
+use Rattle.sync_world.specs.Hearing.{action_service}
+use Rattle.sync_world.specs.Primaries.{FindsNoOther, FindsPlaces, IsPlace}
+use Rattle.sync_world.proofs.Aliases.{cut}
+use Rattle.sync_world.proofs.Places.{token_of_take}
+
+-- a history has no more places than fit
+pub few_places : (sound : ReleaseData → Type 0) (H : List ReleaseData) → IsHistory sound H → 1 ≤ length H → length H ≤ MOST_PLACES
+few_places sound H h some =
+    let c = cut H (length H) (some, omega arith) in
+    let places : length c.A < MOST_PLACES = (subst (IsHistory sound) c.whole h c.A c.x c.X refl).fits.places in
+    omega (arith, places, c.place)
+
+place_is_found : (H : List ReleaseData) (m n : ℕ) → IsHistory IsSound H → IsPlace H m → m ≤ n → n ≤ length H → place_of (take n H) (token_of H m) ≡ Some m
+place_is_found H m n h place le upto =
+    let low : 1 ≤ m = place.0 in
+    let few = few_places IsSound H h (omega arith) in
+    subst (λ text. place_of (take n H) text ≡ Some m) (token_of_take H m n le)
+    (place_found (take n H) m place.0 (omega (arith, length-take n H)) (omega (arith, length-take n H, few)))
+
+pub finds : FindsPlaces IsSound action_service
+finds H m n h place le upto late = place_is_found H m n h place le upto
+
+pub finds_no_other : FindsNoOther IsSound action_service
+finds_no_other H m n h place le upto = inl (place_is_found H m n h place le upto)

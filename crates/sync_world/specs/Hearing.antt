@@ -1,0 +1,65 @@
+-- What a mirror hears in the answers of a primary to its requests.
+use Rattle.std.specs.Prelude.{ℕ, List, codes, None, Some, ◌≡◌}
+use Rattle.td_base.specs.declared.report.Ask.{Ask}
+use Rattle.td_base.specs.declared.report.Ask.TheVariants as ask
+use Rattle.td_base.specs.declared.report.Role.TheVariants.{Primary}
+use Rattle.catalogue.specs.Lookups.{place_of}
+use Rattle.catalogue.specs.Releases.{ContentData, ReleaseData}
+use Rattle.catalogue.specs.declared.limits.TheConstants.{MOST_PLACES}
+use Rattle.http_answer.specs.declared.answer.Answer.{Answer}
+use Rattle.http_request.specs.declared.head.Head.{Head}
+use Rattle.json_forms.specs.ListReading.{IsListText}
+use Rattle.json_forms.specs.ProblemDocument.{problem_in}
+use Rattle.json_forms.specs.declared.problem_type.Problem.TheVariants.{InvalidChangedsince}
+use Rattle.target.specs.Actions.{asks}
+use Rattle.target.specs.declared.asked_types.Asked.{Asked}
+use Rattle.target.specs.declared.asked_types.Asked.TheVariants as asked
+use Rattle.target.specs.declared.asked_types.Param.TheVariants as param
+use Rattle.actions.specs.Action.{action}
+use Rattle.sync_core.specs.declared.heard_type.Heard.{Heard}
+use Rattle.sync_core.specs.declared.heard_type.Heard.TheVariants as heard
+use Rattle.sync_world.specs.Primaries.{Service}
+
+-- what a request asks for: a list, since a token where there is one, or the whole data of a zone
+abbrev pub asked_by : Ask → Asked
+asked_by (ask.List None) = asked.List param.Absent
+asked_by (ask.List (Some token)) = asked.List (param.Once token)
+asked_by (ask.Get name) = asked.Get name param.Absent param.Absent
+
+-- lists are JSON, and zones TZif files (RFC 9636, section 9)
+abbrev pub accepted : Ask → List ℕ
+accepted (ask.List token) = codes "application/json"
+accepted (ask.Get name) = codes "application/tzif"
+
+-- the head is one of a request that asks so
+pub record IsHeadOf (a : Ask) (head : Head) : Type 0 where
+  pub target : asks head.target ≡ asked_by a
+  pub accept : head.accept ≡ Some (accepted a)
+  pub none_match : head.none_match ≡ None
+
+-- what is heard in an answer: a list in a document, a file in a body, and that a token is refused in
+-- a problem of this type
+abbrev pub Hears : Ask → Answer → Heard → Type 0
+Hears (ask.List token) answer (heard.List doc) =
+    (answer.status ≡ 200) × IsListText answer.body doc
+Hears (ask.List token) answer (heard.Zone bytes) = ⊥
+Hears (ask.List None) answer heard.BadToken = ⊥
+Hears (ask.List (Some token)) answer heard.BadToken =
+    (answer.status ≡ 400) × (problem_in answer.body ≡ Some InvalidChangedsince)
+Hears (ask.Get name) answer (heard.List doc) = ⊥
+Hears (ask.Get name) answer (heard.Zone bytes) = (answer.status ≡ 200) × (answer.body ≡ bytes)
+Hears (ask.Get name) answer heard.BadToken = ⊥
+
+-- a request that asks so is answered over the history, and this is heard in the answer
+pub record IsHeard (H : List ReleaseData) (a : Ask) (h : Heard) : Type 0 where
+  pub head : Head
+  pub asks_so : IsHeadOf a head
+  pub hears : Hears a (action H Primary head) h
+
+-- a primary that answers so knows the tokens of all its places, and has a zone's own file under each
+-- of its names
+abbrev pub file_bytes : List ℕ → ContentData → List ℕ
+file_bytes name c = c.file
+
+abbrev pub action_service : Service
+action_service = record { kept = MOST_PLACES; place = place_of; served = file_bytes }
