@@ -8,6 +8,7 @@ use Rattle.std.proofs.lemmas.Cmp.{nat_list_cmp_total}
 use Rattle.std.specs.Str.{bytes_eq}
 use Rattle.std.specs.Option.{option_or}
 use Rattle.std.proofs.lemmas.Slice.Eq.{bytes_eq-Decides}
+use Rattle.catalogue.proofs.Rising.{behind}
 use Rattle.catalogue.specs.Order.{is_before, IsRising}
 use Rattle.sync_core.specs.Names.{put_in, put_all, at_text}
 
@@ -25,17 +26,6 @@ same_bytes x = (bytes_eq-Decides x x).1 refl
 
 pub bytes_same : (x y : List ℕ) → bytes_eq x y ≡ true → x ≡ y
 bytes_same x y = (bytes_eq-Decides x y).0
-
--- a text that is not before another, and is another, is behind it
-behind : (x y : List ℕ) → is_before y x ≡ false → bytes_eq x y ≡ false → is_before x y ≡ true
-behind x y not_before other = by (slice_cmp nat_cmp x y) refl
-  where
-    by : (o : Ordering) → slice_cmp nat_cmp x y ≡ o → is_before x y ≡ true
-    by Less e = ap is_lt e
-    by Equal e =
-        let equal : bytes_eq x y ≡ true = subst (λ z. bytes_eq x z ≡ true) (slice_cmp-IsAntisymmetric nat_cmp-IsAntisymmetric x y e) (same_bytes x) in
-        absurd (cc)
-    by Greater e = let before : is_before y x ≡ true = ap is_lt (turned y x ∙ ap ordering_reverse e) in absurd (cc)
 
 -- no text is before itself
 not_equal : (x y : List ℕ) → is_before x y ≡ true → bytes_eq x y ≡ false

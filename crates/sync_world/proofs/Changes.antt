@@ -5,6 +5,7 @@ use Rattle.std.specs.List.{list_all, list_any, last_or, prefix_len, suffix_len}
 use Rattle.std.specs.Str.{bytes_eq}
 use Rattle.std.proofs.lemmas.List.{reverse-append, length-reverse, get_or_append_left, get_or_default}
 use Rattle.std.proofs.lemmas.List.Folds.{list_all-append}
+use Rattle.catalogue.proofs.Growing.{prefix_all}
 use Rattle.catalogue.specs.Releases.{ContentData, ReleaseData, names_of}
 use Rattle.catalogue.specs.Histories.{IsHistory, EntryData, entry_from, entries_of, has_content, has_name, last_change, last_release, meta}
 use Rattle.sync_world.proofs.Looks.{known}
@@ -13,16 +14,6 @@ use Rattle.catalogue.specs.Lookups.{delta, zone_at}
 use Rattle.sync_world.specs.Primaries.{list_of, changes_of}
 use Rattle.sync_core.proofs.Puts.{bytes_same}
 use Rattle.sync_world.proofs.Zones.{Distinct, has_text, entries_by, listed_by, changed_by, known_all}
-
--- the front that passes, of two lists joined
-front_all : {X : Type 0} (p : X → Bool) (ys zs : List X) → list_all p ys ≡ true → prefix_len p (ys ++ zs) ≡ length ys + prefix_len p zs
-front_all p [] zs h = omega arith
-front_all p (y ∷ ys) zs h = by (front_all p ys zs) (p y) refl h
-  where
-    by : (list_all p ys ≡ true → prefix_len p (ys ++ zs) ≡ length ys + prefix_len p zs) → (b : Bool) → p y ≡ b → (b && list_all p ys) ≡ true
-        → cond b (1 + prefix_len p (ys ++ zs)) 0 ≡ length (y ∷ ys) + prefix_len p zs
-    by again true e k = omega (arith, again k)
-    by again false e k = absurd (cc)
 
 front_some : {X : Type 0} (p : X → Bool) (ys zs : List X) → list_all p ys ≡ false → prefix_len p (ys ++ zs) < length ys
 front_some p [] zs h = absurd (cc)
@@ -51,7 +42,7 @@ all_reverse p (x ∷ xs) =
 
 back_all : {X : Type 0} (p : X → Bool) (xs ys : List X) → list_all p ys ≡ true → suffix_len p (xs ++ ys) ≡ length ys + suffix_len p xs
 back_all p xs ys h =
-    ap (prefix_len p) (reverse-append xs ys) ∙ front_all p (reverse ys) (reverse xs) (all_reverse p ys ∙ h)
+    ap (prefix_len p) (reverse-append xs ys) ∙ prefix_all p (reverse ys) (reverse xs) (all_reverse p ys ∙ h)
     ∙ ap (λ n. n + suffix_len p xs) (length-reverse ys)
 
 back_some : {X : Type 0} (p : X → Bool) (xs ys : List X) → list_all p ys ≡ false → suffix_len p (xs ++ ys) < length ys

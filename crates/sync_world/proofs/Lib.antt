@@ -16,3 +16,8 @@ pub mod Telling
 pub mod Tokens
 pub mod Led
 pub mod Answered
+pub mod Utf8
+pub mod TokenTexts
+pub mod SoundLists
+pub mod Answering
+pub mod Requests

@@ -37,7 +37,7 @@ members_back (a ∷ more) z = ap (λ (ts : List (List ℕ)). zone z (unwrap_or (
 abbrev pub HasStamp : ListZone → Type 0
 HasStamp z = HasMeaning z.stamp.seconds
 
-has_text : (m : ℤ) → HasMeaning m → HasText m
+pub has_text : (m : ℤ) → HasMeaning m → HasText m
 has_text m h = let low : LO ≤ℤ m = h.0 in let high : m <ℤ HI = h.1 in (omega (arith, ints), omega (arith, ints))
 
 zone_back : (z : ListZone) → HasStamp z → zone_in (zone_data z) ≡ z

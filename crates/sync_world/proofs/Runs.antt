@@ -2,9 +2,10 @@
 use Rattle.std.proofs.Common.{inl, inr, ◌≡◌, ℕ, ◌≤◌, Option, None, Some, List, [], ◌∷◌, ◌++◌, length, take, refl, sym, ap, ◌∙◌, subst, arith, length-append, length-take}
 use Rattle.td_base.specs.declared.report.Ask.{Ask}
 use Rattle.td_base.specs.declared.report.Ask.TheVariants as ask
-use Rattle.catalogue.specs.Histories.{IsHistory, IsRelease, token_of}
+use Rattle.catalogue.specs.Histories.{IsHistory, token_of}
 use Rattle.catalogue.specs.Lookups.{named, zone_at, zones_of}
 use Rattle.catalogue.specs.Releases.{ContentData, ReleaseData}
+use Rattle.catalogue.proofs.Growing.{history_grown}
 use Rattle.json_forms.specs.declared.zone_list.ListDoc.{ListDoc}
 use Rattle.sync_core.specs.Mirrors.{MirrorState, ask_for}
 use Rattle.sync_core.specs.declared.heard_type.Heard.{Heard}
@@ -20,28 +21,6 @@ use Rattle.sync_world.proofs.Shown.{IsRisingMirror, shown, rising_after, none_ri
 use Rattle.sync_world.proofs.Standing.{FileStands, TokensStand, Stands, IsFresh, Invariant, fresh, stands, later, grown, own_token}
 use Rattle.sync_world.proofs.Steps.{good, some_changes, changes_answer, own_or_none}
 use Rattle.sync_world.proofs.Zones.{Distinct}
-
--- a release behind a history
-data Parted (H : List ReleaseData) (r : ReleaseData) (before : List ReleaseData) (x : ReleaseData) : Type 0 where
-  at_end : before ≡ H → x ≡ r → Parted H r before x
-  inside : (rest : List ReleaseData) → H ≡ before ++ x ∷ rest → Parted H r before x
-
-parted : (H : List ReleaseData) (r : ReleaseData) (before : List ReleaseData) (x : ReleaseData) (after : List ReleaseData) → H ++ r ∷ [] ≡ before ++ x ∷ after → Parted H r before x
-parted [] r [] x after e = at_end refl (cc)
-parted [] r (b ∷ bs) x after e = absurd (omega (arith, ap length e, length-append bs (x ∷ after)))
-parted (h ∷ hs) r [] x after e = inside hs (let same : h ≡ x = cc in ap (λ y. y ∷ hs) same)
-parted (h ∷ hs) r (b ∷ bs) x after e = by (parted hs r bs x after (cc)) (cc)
-  where
-    by : Parted hs r bs x → h ≡ b → Parted (h ∷ hs) r (b ∷ bs) x
-    by (at_end f g) k = at_end (ap (λ ys. b ∷ ys) f ∙ ap (λ y. y ∷ hs) (sym k)) g
-    by (inside rest f) k = inside rest (ap (λ y. y ∷ hs) k ∙ ap (λ ys. b ∷ ys) f)
-
-pub history_grown : (sound : ReleaseData → Type 0) (H : List ReleaseData) (r : ReleaseData) → IsHistory sound H → IsRelease sound H r → IsHistory sound (H ++ r ∷ [])
-history_grown sound H r h is before x after e = by (parted H r before x after e)
-  where
-    by : Parted H r before x → IsRelease sound before x
-    by (at_end f g) = subst (λ y. IsRelease sound before y) (sym g) (subst (λ b. IsRelease sound b r) (sym f) is)
-    by (inside rest f) = h before x rest f
 
 -- the state by look-ups, with what is outstanding
 abbrev pub SentStands : Service → List ReleaseData → StateData → Option Sent → Type 0

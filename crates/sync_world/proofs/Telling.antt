@@ -28,13 +28,20 @@ use Rattle.sync_world.specs.Primaries.{file_told, told, list_of, changes_at, cha
 use Rattle.sync_world.proofs.Names.{content_at, entry_named}
 use Rattle.sync_world.proofs.Reading.{HasStamp, list, list_read}
 
-tzif_chosen : chosen (Some (codes "application/tzif")) ≡ Some Tzif
+pub tzif_chosen : chosen (Some (codes "application/tzif")) ≡ Some Tzif
 unfolding chosen quality_of largest_for pieces trim quality_in quality_value
 tzif_chosen = refl
 
+-- the status of a refusal is not 200
+not_refused : (ok refused : ℕ) → ok ≡ 200 → refused ≡ 400 → ok ≡ refused → ⊥
+not_refused ok refused is other e = omega arith
+
+not_missing : (ok missing : ℕ) → ok ≡ 200 → missing ≡ 404 → ok ≡ missing → ⊥
+not_missing ok missing is other e = omega arith
+
 -- ---- stamps
 
-each_filtered : {X : Type 0} (P : X → Type 0) (p : X → Bool) (xs : List X) → AllByRecursion P xs → AllByRecursion P (filter p xs)
+pub each_filtered : {X : Type 0} (P : X → Type 0) (p : X → Bool) (xs : List X) → AllByRecursion P xs → AllByRecursion P (filter p xs)
 each_filtered P p [] all = tt
 each_filtered P p (x ∷ xs) all = by (p x) (each_filtered P p xs all.1)
   where
@@ -42,11 +49,11 @@ each_filtered P p (x ∷ xs) all = by (p x) (each_filtered P p xs all.1)
     by true rest = (all.0, rest)
     by false rest = rest
 
-each_stamped : (es : List EntryData) → AllByRecursion IsPlainEntry es → AllByRecursion HasStamp (map listed es)
+pub each_stamped : (es : List EntryData) → AllByRecursion IsPlainEntry es → AllByRecursion HasStamp (map listed es)
 each_stamped [] all = tt
 each_stamped (e ∷ es) all = ((all.0).stamp, each_stamped es all.1)
 
-all_entries : (es : List EntryData) → filter (λ _. true) es ≡ es
+pub all_entries : (es : List EntryData) → filter (λ _. true) es ≡ es
 all_entries [] = refl
 all_entries (e ∷ es) = ap (λ l. e ∷ l) (all_entries es)
 
@@ -73,8 +80,8 @@ module _ (H : List ReleaseData) (history : IsHistory IsSound H) where
       let is = list_read token (map listed (delta H n)) doc (each_stamped (delta H n) (each_filtered IsPlainEntry _ (meta H) plain)) k.1 in
       ap (λ (d : ListDoc). Some (heard.List d)) (sym is)
   since_so since (Some n) (heard.Zone bytes) k = absurd k
-  since_so since (Some n) heard.BadToken k = let wrong : 200 ≡ 400 = k.0 in absurd (omega arith)
-  since_so since None (heard.List doc) k = let wrong : 400 ≡ 200 = k.0 in absurd (omega arith)
+  since_so since (Some n) heard.BadToken k = absurd (not_refused 200 400 refl refl k.0)
+  since_so since None (heard.List doc) k = absurd (not_refused 200 400 refl refl (sym k.0))
   since_so since None (heard.Zone bytes) k = absurd k
   since_so since None heard.BadToken k = refl
 
@@ -88,7 +95,7 @@ got_so : (name : List ℕ) (o : Option EntryData) (h : Heard) → Hears (ask.Get
     → option_map file_told (option_map (file_bytes name) (option_map content_at o)) ≡ Some h
 got_so name o (heard.List doc) k = absurd k
 got_so name o heard.BadToken k = absurd k
-got_so name None (heard.Zone bytes) k = let wrong : 404 ≡ 200 = k.0 in absurd (omega arith)
+got_so name None (heard.Zone bytes) k = absurd (not_missing 200 404 refl refl (sym k.0))
 got_so name (Some e) (heard.Zone bytes) k =
     let file = subst (λ f. Hears (ask.Get name) (got_as f name e None param.Absent param.Absent) (heard.Zone bytes)) tzif_chosen k in
     ap (λ (b : List ℕ). Some (heard.Zone b)) file.1
@@ -106,7 +113,7 @@ answer_so : (H : List ReleaseData) (a : Ask) (head : Head) (h : Heard) → IsHis
 answer_so H (ask.List since) head h history k heard_it = list_so H history since head h heard_it
 answer_so H (ask.Get name) head h history k heard_it = file_so H name head h k.accept k.none_match heard_it
 
-action_is : (H : List ReleaseData) (a : Ask) (head : Head) → IsHeadOf a head → action H Primary head ≡ answer_for H Primary head (asked_by a)
+pub action_is : (H : List ReleaseData) (a : Ask) (head : Head) → IsHeadOf a head → action H Primary head ≡ answer_for H Primary head (asked_by a)
 unfolding action
 action_is H a head k = ap (answer_for H Primary head) k.target
 

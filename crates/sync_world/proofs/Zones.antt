@@ -7,6 +7,7 @@ use Rattle.std.specs.Cmp.Lexicographic.{pointwise, pointwise_decides}
 use Rattle.std.proofs.lemmas.List.Folds.{list_any-append}
 use Rattle.std.proofs.lemmas.Slice.Eq.{bytes_eq-Decides}
 use Rattle.catalogue.specs.Releases.{ContentData, ReleaseData, same_content, names_of}
+use Rattle.catalogue.proofs.SameZones.{same_is}
 use Rattle.catalogue.specs.Histories.{EntryData, entry_from}
 use Rattle.json_forms.specs.declared.zone_list.ListZone.{ListZone}
 use Rattle.sync_world.proofs.Looks.{known}
@@ -26,18 +27,6 @@ or_none true b h = absurd (cc)
 or_true : (b : Bool) → (b || true) ≡ true
 or_true true = refl
 or_true false = refl
-
-abbrev content : List ℕ → List (List ℕ) → List ℕ → ContentData
-content tzid aliases file = record { tzid = tzid; aliases = aliases; file = file }
-
-pub same_is : (c d : ContentData) → same_content c d ≡ true → c ≡ d
-same_is c d h =
-    let one = and_both (bytes_eq c.tzid d.tzid && pointwise bytes_eq c.aliases d.aliases) (bytes_eq c.file d.file) h in
-    let two = and_both (bytes_eq c.tzid d.tzid) (pointwise bytes_eq c.aliases d.aliases) one.0 in
-    let tzid : c.tzid ≡ d.tzid = bytes_same _ _ two.0 in
-    let aliases : c.aliases ≡ d.aliases = (pointwise_decides bytes_eq-Decides c.aliases d.aliases).0 two.1 in
-    let file : c.file ≡ d.file = bytes_same _ _ one.1 in
-    ap (λ (x : List ℕ). content x c.aliases c.file) tzid ∙ ap (λ (x : List (List ℕ)). content d.tzid x c.file) aliases ∙ ap (λ (x : List ℕ). content d.tzid d.aliases x) file
 
 pub same_itself : (c : ContentData) → same_content c c ≡ true
 same_itself c =

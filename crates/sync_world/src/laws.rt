@@ -1,21 +1,43 @@
 //! The laws, each the contract of a function that does nothing.
-ghost use Rattle.std.specs.Prelude.{◌≡◌, ◌≢◌, ℕ, ◌≤◌, List, length, take, Some};
+ghost use Rattle.std.specs.Prelude.{◌≡◌, ◌≢◌, ◌↔◌, ℕ, ◌≤◌, List, length, take, Some};
 ghost use Rattle.std.specs.Option.{IsSomeAnd};
+ghost use Rattle.td_base.specs.declared.report.Ask.{Ask};
+ghost use Rattle.td_base.specs.declared.report.Role.TheVariants.{Primary};
 ghost use Rattle.catalogue.specs.Histories.{IsHistory};
 ghost use Rattle.catalogue.specs.Releases.{ReleaseData};
+ghost use Rattle.http_request.specs.declared.head.Head.{Head};
 ghost use Rattle.zone_meaning.specs.Sound.{IsSound};
+ghost use Rattle.actions.specs.Action.{action};
 ghost use Rattle.sync_core.specs.Mirrors.{entry_name};
 ghost use Rattle.sync_core.specs.Names.{put_all};
 ghost use Rattle.sync_core.specs.Steps.{kept_entries};
 ghost use Rattle.sync_core.specs.declared.heard_type.Heard.{Heard};
 ghost use Rattle.sync_core.specs.declared.heard_type.Heard.TheVariants as heard;
-ghost use Rattle.sync_world.specs.Hearing.{IsHeard, action_service};
+ghost use Rattle.sync_world.specs.Hearing.{Hears, IsHeadOf, IsHeard, action_service};
 ghost use Rattle.sync_world.specs.Holding.{HoldsLast, SaysHolds};
 ghost use Rattle.sync_world.specs.Primaries.{IsPlace, Serves, changes_of, list_of, told};
 ghost use Rattle.sync_world.specs.Worlds.{Sent, Step, World, IsAnswer, Leads, begun};
 
 use crate::Primary;
 use catalogue::ZoneData;
+
+/// What is heard in the answer to a request is what there is to be told, no more and no less: lists that are written read
+/// back.
+pub fn answers_are_heard()
+    ensures { (H : List ReleaseData) (a : Ask) (head : Head) (h : Heard) → IsHistory IsSound H
+        → 1 ≤ length H → IsHeadOf a head
+        → (told action_service H a ≡ Some h) ↔ Hears a (action H Primary head) h }
+{}
+
+/// Each request for what is outstanding is answered, at each place from the one on at which it was first sent, and the
+/// answer does not refuse the token.
+pub fn requests_are_answered()
+    ensures { (H : List ReleaseData) (steps : List Step) (w : World) (sent : Sent) (n : ℕ) (head : Head)
+        → IsHistory IsSound H → 1 ≤ length H → Leads IsSound IsHeard (begun H) steps w
+        → w.sent ≡ Some sent → sent.since ≤ n → n ≤ length w.history → IsHeadOf sent.ask head
+        → (h : Heard) × Hears sent.ask (action (take n w.history) Primary head) h
+        × (h ≢ heard.BadToken) }
+{}
 
 /// What is heard in the answers of the actions is what there is to be told, and a token finds its place.
 pub fn actions_serve()

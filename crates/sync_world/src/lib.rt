@@ -8,8 +8,11 @@
 
 mod laws;
 mod primary;
+#[cfg(test)]
+mod tests;
 
 pub use laws::{
-    actions_serve, aliases_follow, asks_are_answered, mirrors_hold, mirrors_hold_releases,
+    actions_serve, aliases_follow, answers_are_heard, asks_are_answered, mirrors_hold,
+    mirrors_hold_releases, requests_are_answered,
 };
 pub use primary::{Actions, Primary};

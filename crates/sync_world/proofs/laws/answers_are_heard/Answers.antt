@@ -1,0 +1,5 @@
+use Rattle.sync_world.proofs.Requests.{heard_exactly}
+use Rattle.sync_world.proofs.laws.answers_are_heard.Goals as goal
+
+pub returns : goal.returns
+returns c = heard_exactly
