@@ -85,8 +85,10 @@ has_put name k (x ∷ xs) = by (slice_cmp nat_cmp k x) refl (has_put name k xs)
     other true false c = refl
     other false b c = refl
 
-    by : (o : Ordering) → slice_cmp nat_cmp k x ≡ o → list_any (bytes_eq name) (insert_key (slice_cmp nat_cmp) xs k) ≡ (bytes_eq name k || list_any (bytes_eq name) xs)
-        → list_any (bytes_eq name) (match_ordering o (k ∷ x ∷ xs) (x ∷ xs) (x ∷ insert_key (slice_cmp nat_cmp) xs k)) ≡ (bytes_eq name k || list_any (bytes_eq name) (x ∷ xs))
+    by : (o : Ordering) → slice_cmp nat_cmp k x ≡ o
+        → list_any (bytes_eq name) (insert_key (slice_cmp nat_cmp) xs k) ≡ (bytes_eq name k || list_any (bytes_eq name) xs)
+        → list_any (bytes_eq name) (match_ordering o (k ∷ x ∷ xs) (x ∷ xs) (x ∷ insert_key (slice_cmp nat_cmp) xs k)) ≡
+        (bytes_eq name k || list_any (bytes_eq name) (x ∷ xs))
     by Less is again = refl
     by Equal is again = rw (same_text k x is) (twice (bytes_eq name x) (list_any (bytes_eq name) xs))
     by Greater is again = ap (λ b. bytes_eq name x || b) again ∙ other (bytes_eq name k) (bytes_eq name x) (list_any (bytes_eq name) xs)
@@ -113,12 +115,14 @@ file_heard token coming entries es fs (p ∷ ps) qs front tzid bytes first same 
 one_more : (i : ℕ) → suc i ≡ i + 1
 one_more i = omega arith
 
-pub alias_put : (name : List ℕ) (xs : List (List ℕ)) (i : ℕ) (x k : List ℕ) (ks ls : List (List ℕ)) (whole : Bool) → i < length xs → x ≡ slice_index_or xs i x → k ≡ x
+pub alias_put : (name : List ℕ) (xs : List (List ℕ)) (i : ℕ) (x k : List ℕ) (ks ls : List (List ℕ)) (whole : Bool) → i < length xs
+    → x ≡ slice_index_or xs i x → k ≡ x
     → ls ≡ insert_key (slice_cmp nat_cmp) ks k → (list_any (bytes_eq name) (drop i xs) || has_name ks name) ≡ whole
     → (list_any (bytes_eq name) (drop (i + 1) xs) || has_name ls name) ≡ whole
 alias_put name xs i x k ks ls whole within item same is before =
     let front : drop i xs ≡ k ∷ drop (i + 1) xs =
-    drop-cons xs i x within ∙ ap (λ (y : List ℕ). y ∷ drop (suc i) xs) (sym item) ∙ ap (λ n. x ∷ drop n xs) (one_more i) ∙ ap (λ (y : List ℕ). y ∷ drop (i + 1) xs) (sym same) in
+    drop-cons xs i x within ∙ ap (λ (y : List ℕ). y ∷ drop (suc i) xs) (sym item) ∙ ap (λ n. x ∷ drop n xs) (one_more i)
+    ∙ ap (λ (y : List ℕ). y ∷ drop (i + 1) xs) (sym same) in
     ap (λ (l : List (List ℕ)). list_any (bytes_eq name) (drop (i + 1) xs) || has_name l name) is
     ∙ ap (λ b. list_any (bytes_eq name) (drop (i + 1) xs) || b) (has_put name k ks)
     ∙ exchanged (list_any (bytes_eq name) (drop (i + 1) xs)) (bytes_eq name k) (has_name ks name)
@@ -142,7 +146,8 @@ pub aliases_put : (name : List ℕ) (zs : List ListZone) (i : ℕ) (z : ListZone
     → has_name ls name ≡ (list_any (bytes_eq name) z.aliases || has_name ks name) → (is_alias (drop i zs) name || has_name ks name) ≡ whole
     → (is_alias (drop (i + 1) zs) name || has_name ls name) ≡ whole
 aliases_put name zs i z ks ls whole within item is before =
-    let front : drop i zs ≡ z ∷ drop (i + 1) zs = drop-cons zs i z within ∙ ap (λ (x : ListZone). x ∷ drop (suc i) zs) (sym item) ∙ ap (λ n. z ∷ drop n zs) (one_more i) in
+    let front : drop i zs ≡ z ∷ drop (i + 1) zs = drop-cons zs i z within ∙ ap (λ (x : ListZone). x ∷ drop (suc i) zs) (sym item)
+    ∙ ap (λ n. z ∷ drop n zs) (one_more i) in
     ap (λ b. is_alias (drop (i + 1) zs) name || b) is
     ∙ exchanged (is_alias (drop (i + 1) zs) name) (list_any (bytes_eq name) z.aliases) (has_name ks name)
     ∙ sym (ap (λ (l : List ListZone). is_alias l name || has_name ks name) front) ∙ before
@@ -157,11 +162,13 @@ aliases_put name zs i z ks ls whole within item is before =
 
 -- a zone after those that were put in before it
 pub zone_sorted : (z : ListZone) (zs rest : List ListZone) (es fs : List (List ℕ × ListZone)) (name : List ℕ) (whole : List ListZone)
-    → es ≡ by_name (values_of es) → put_all entry_name zs (values_of es) ≡ whole → zs ≡ z ∷ rest → name ≡ z.tzid → fs ≡ insert_entry (slice_cmp nat_cmp) es name z
+    → es ≡ by_name (values_of es) → put_all entry_name zs (values_of es) ≡ whole → zs ≡ z ∷ rest → name ≡ z.tzid
+    → fs ≡ insert_entry (slice_cmp nat_cmp) es name z
     → (fs ≡ by_name (values_of fs)) × (put_all entry_name rest (values_of fs) ≡ whole)
 zone_sorted z zs rest es fs name whole named before first is put =
     let now : fs ≡ by_name (put_in entry_name z (values_of es)) =
-    put ∙ ap (λ (n : List ℕ). insert_entry (slice_cmp nat_cmp) es n z) is ∙ ap (λ (l : List (List ℕ × ListZone)). insert_entry (slice_cmp nat_cmp) l z.tzid z) named
+    put ∙ ap (λ (n : List ℕ). insert_entry (slice_cmp nat_cmp) es n z) is
+    ∙ ap (λ (l : List (List ℕ × ListZone)). insert_entry (slice_cmp nat_cmp) l z.tzid z) named
     ∙ zone_put z (values_of es) in
     let values : values_of fs ≡ put_in entry_name z (values_of es) = ap values_of now ∙ values_by_name (put_in entry_name z (values_of es)) in
     (now ∙ ap by_name (sym values), ap (put_all entry_name rest) values ∙ sym (ap (λ l. put_all entry_name l (values_of es)) first) ∙ before)
@@ -169,11 +176,13 @@ zone_sorted z zs rest es fs name whole named before first is put =
 pub values_begun : (done zs : List ListZone) (es : List (List ℕ × ListZone)) → done ≡ [] → es ≡ by_name zs → done ++ values_of es ≡ zs
 values_begun done zs es none is = ap (λ (l : List ListZone). l ++ values_of es) none ∙ ap values_of is ∙ values_by_name zs
 
-pub names_begun : (done : List (List ℕ)) (zs : List ListZone) (es : List (List ℕ × ListZone)) → done ≡ [] → es ≡ by_name zs → done ++ keys_of es ≡ map entry_name zs
+pub names_begun : (done : List (List ℕ)) (zs : List ListZone) (es : List (List ℕ × ListZone)) → done ≡ [] → es ≡ by_name zs
+    → done ++ keys_of es ≡ map entry_name zs
 names_begun done zs es none is = ap (λ (l : List (List ℕ)). l ++ keys_of es) none ∙ ap keys_of is ∙ keys_by_name zs
 
 -- the entries that stay rise
-pub kept_rises : (ks : List (List ℕ)) (entries kept : List ListZone) → kept ≡ filter (λ z. not (has_name ks z.tzid)) entries → Rising entry_name entries → Rising entry_name kept
+pub kept_rises : (ks : List (List ℕ)) (entries kept : List ListZone) → kept ≡ filter (λ z. not (has_name ks z.tzid)) entries → Rising entry_name entries
+    → Rising entry_name kept
 kept_rises ks entries kept is r = subst (Rising entry_name) (sym is) (rising_filter entry_name (λ z. not (has_name ks z.tzid)) entries r)
 
 pub listed_rises : (zones listed : List ListZone) → listed ≡ rising_zones zones → Rising entry_name listed
@@ -194,14 +203,18 @@ filter_files p (e ∷ es) = by (p e.0) (filter_files p es)
     by false again = again
 
 -- zones that changed
-pub changes_heard : (token coming : Option (List ℕ)) (entries kept listed merged zones : List ListZone) (es fs : List (List ℕ × List ℕ)) (ps names ks : List (List ℕ)) (new : List ℕ)
+pub changes_heard : (token coming : Option (List ℕ)) (entries kept listed merged zones : List ListZone) (es fs : List (List ℕ × List ℕ))
+    (ps names ks : List (List ℕ)) (new : List ℕ)
     → Rising entry_name entries → ((name : List ℕ) → has_name ks name ≡ is_alias zones name) → kept ≡ filter (λ z. not (has_name ks z.tzid)) entries
-    → fs ≡ filter (λ e. not (has_name ks e.0)) es → listed ≡ rising_zones zones → merged ≡ put_all entry_name listed kept → names ≡ map entry_name (rising_zones zones)
+    → fs ≡ filter (λ e. not (has_name ks e.0)) es → listed ≡ rising_zones zones → merged ≡ put_all entry_name listed kept
+    → names ≡ map entry_name (rising_zones zones)
     → state token (Some new) merged (files_in fs) names ≡ with_changes (state token coming entries (files_in es) ps) new zones
 changes_heard token coming entries kept listed merged zones es fs ps names ks new rises aliases stay left sorted are named =
-    let known : kept ≡ kept_entries zones entries = stay ∙ same_filter (λ z. not (has_name ks z.tzid)) (λ z. not (is_alias zones z.tzid)) (λ z. ap not (aliases z.tzid)) entries in
+    let known : kept ≡ kept_entries zones entries = stay
+    ∙ same_filter (λ z. not (has_name ks z.tzid)) (λ z. not (is_alias zones z.tzid)) (λ z. ap not (aliases z.tzid)) entries in
     let put : merged ≡ put_all entry_name zones (kept_entries zones entries) =
-    are ∙ ap (λ l. put_all entry_name l kept) sorted ∙ put_rising entry_name zones kept (kept_rises ks entries kept stay rises) ∙ ap (put_all entry_name zones) known in
+    are ∙ ap (λ l. put_all entry_name l kept) sorted ∙ put_rising entry_name zones kept (kept_rises ks entries kept stay rises)
+    ∙ ap (put_all entry_name zones) known in
     let files : files_in fs ≡ kept_files zones (files_in es) =
     ap files_in left ∙ filter_files (λ n. not (has_name ks n)) es
     ∙ same_filter (λ (f : ZoneFile). not (has_name ks f.tzid)) (λ f. not (is_alias zones f.tzid)) (λ f. ap not (aliases f.tzid)) (files_in es) in
@@ -210,7 +223,8 @@ changes_heard token coming entries kept listed merged zones es fs ps names ks ne
     ∙ ap (λ (n : List (List ℕ)). state token (Some new) (put_all entry_name zones (kept_entries zones entries)) (kept_files zones (files_in es)) n) named
 
 -- a file put into the store
-pub file_stored : (path name bytes n b : List ℕ) (left rest : List (List ℕ × List ℕ)) (old new : List File) (whole : Option (List ℕ)) → left ≡ rest ++ (name, bytes) ∷ []
+pub file_stored : (path name bytes n b : List ℕ) (left rest : List (List ℕ × List ℕ)) (old new : List File) (whole : Option (List ℕ))
+    → left ≡ rest ++ (name, bytes) ∷ []
     → n ≡ name → b ≡ bytes → file_at new path ≡ (if bytes_eq n path then Some b else file_at old path)
     → option_or (option_map bytes_of (at_text file_name (files_in left) path)) (file_at old path) ≡ whole
     → option_or (option_map bytes_of (at_text file_name (files_in rest) path)) (file_at new path) ≡ whole
@@ -218,19 +232,23 @@ file_stored path name bytes n b left rest old new whole is same bytes_are put be
     ap (option_or (option_map bytes_of (at_text file_name (files_in rest) path))) (put ∙ rw (same, bytes_are, nat_list_eq_equiv.symm name path) refl)
     ∙ more rest ∙ sym (ap (λ l. option_or (option_map bytes_of (at_text file_name (files_in l) path)) (file_at old path)) is) ∙ before
   where
-    last : (t : Bool) → cond t (Some bytes) (file_at old path) ≡ option_or (option_map bytes_of (cond t (Some (one_file (name, bytes))) None)) (file_at old path)
+    last : (t : Bool) → cond t (Some bytes) (file_at old path) ≡ option_or (option_map bytes_of (cond t (Some (one_file (name, bytes))) None))
+        (file_at old path)
     last true = refl
     last false = refl
 
-    step : (t : Bool) (e : List ℕ × List ℕ) (o p : Option ZoneFile) (f : Option (List ℕ)) → option_or (option_map bytes_of o) f ≡ option_or (option_map bytes_of p) (file_at old path)
+    step : (t : Bool) (e : List ℕ × List ℕ) (o p : Option ZoneFile) (f : Option (List ℕ))
+        → option_or (option_map bytes_of o) f ≡ option_or (option_map bytes_of p) (file_at old path)
         → option_or (option_map bytes_of (cond t (Some (one_file e)) o)) f ≡ option_or (option_map bytes_of (cond t (Some (one_file e)) p)) (file_at old path)
     step true e o p f h = refl
     step false e o p f h = h
 
-    more : (es : List (List ℕ × List ℕ)) → option_or (option_map bytes_of (at_text file_name (files_in es) path)) (if bytes_eq path name then Some bytes else file_at old path)
+    more : (es : List (List ℕ × List ℕ))
+        → option_or (option_map bytes_of (at_text file_name (files_in es) path)) (if bytes_eq path name then Some bytes else file_at old path)
         ≡ option_or (option_map bytes_of (at_text file_name (files_in (es ++ (name, bytes) ∷ [])) path)) (file_at old path)
     more [] = last (bytes_eq path name)
-    more (e ∷ es) = step (bytes_eq path e.0) e (at_text file_name (files_in es) path) (at_text file_name (files_in (es ++ (name, bytes) ∷ [])) path) (if bytes_eq path name then Some bytes else file_at old path) (more es)
+    more (e ∷ es) = step (bytes_eq path e.0) e (at_text file_name (files_in es) path) (at_text file_name (files_in (es ++ (name, bytes) ∷ [])) path)
+        (if bytes_eq path name then Some bytes else file_at old path) (more es)
 
 pub merged_rises : (listed kept merged : List ListZone) → Rising entry_name kept → merged ≡ put_all entry_name listed kept → Rising entry_name merged
 merged_rises listed kept merged r is = subst (Rising entry_name) (sym is) (rising_put_all entry_name listed kept r)

@@ -46,14 +46,16 @@ pub takes_known : (known listed rest : List ListZone) (taken : Option ListZone) 
 takes_known [] listed rest taken r less takes is = absurd (cc)
 takes_known (x ∷ xs) [] rest taken r less takes is = taken_first (x ∷ xs) rest xs x taken refl (takes x (omega arith)) is
 takes_known (x ∷ xs) (z ∷ zs) rest taken r less takes is =
-    taken_first (merge (z ∷ zs) (x ∷ xs)) (merge (z ∷ zs) rest) (merge (z ∷ zs) xs) x taken (known_first entry_name x xs z zs r less) (takes x (omega arith)) (ap (merge (z ∷ zs)) is)
+    taken_first (merge (z ∷ zs) (x ∷ xs)) (merge (z ∷ zs) rest) (merge (z ∷ zs) xs) x taken (known_first entry_name x xs z zs r less)
+    (takes x (omega arith)) (ap (merge (z ∷ zs)) is)
 
 pub takes_both : (known listed others rest : List ListZone) (taken : Option ListZone) → IsRising (map entry_name listed) → order_of known listed ≡ Equal
     → Takes listed taken → others ≡ drop 1 known → rest ≡ drop 1 listed → First (merge listed known) taken (merge rest others)
 takes_both [] listed others rest taken r equal takes past is = absurd (cc)
 takes_both (x ∷ xs) [] others rest taken r equal takes past is = absurd (cc)
 takes_both (x ∷ xs) (z ∷ zs) others rest taken r equal takes past is =
-    taken_first (merge (z ∷ zs) (x ∷ xs)) (merge rest others) (merge zs xs) z taken (both entry_name x xs z zs r equal) (takes z (omega arith)) (ap (λ l. merge l others) is ∙ ap (merge zs) past)
+    taken_first (merge (z ∷ zs) (x ∷ xs)) (merge rest others) (merge zs xs) z taken (both entry_name x xs z zs r equal) (takes z (omega arith))
+    (ap (λ l. merge l others) is ∙ ap (merge zs) past)
 
 pub takes_listed : (known listed rest : List ListZone) (taken : Option ListZone) → IsRising (map entry_name listed) → order_of known listed ≡ Greater
     → Takes listed taken → (IsSome taken → 0 < length listed) → rest ≡ drop 1 listed → First (merge listed known) taken (merge rest known)
@@ -63,4 +65,5 @@ takes_listed (x ∷ xs) [] rest taken r greater takes some is = absurd (cc)
 takes_listed [] (z ∷ zs) rest taken r greater takes some is =
     taken_first (merge (z ∷ zs) []) (merge rest []) (merge zs []) z taken (none_known entry_name z zs r) (takes z (omega arith)) (ap (λ l. merge l []) is)
 takes_listed (x ∷ xs) (z ∷ zs) rest taken r greater takes some is =
-    taken_first (merge (z ∷ zs) (x ∷ xs)) (merge rest (x ∷ xs)) (merge zs (x ∷ xs)) z taken (listed_first entry_name x xs z zs r greater) (takes z (omega arith)) (ap (λ l. merge l (x ∷ xs)) is)
+    taken_first (merge (z ∷ zs) (x ∷ xs)) (merge rest (x ∷ xs)) (merge zs (x ∷ xs)) z taken (listed_first entry_name x xs z zs r greater)
+    (takes z (omega arith)) (ap (λ l. merge l (x ∷ xs)) is)

@@ -100,10 +100,12 @@ newest_next xs (Some b) x is = by (int_le (stamp x) (stamp b)) refl
         find_none (both xs x) (λ (z : ListZone). int_le (stamp z) (stamp b)) xs latest
         (λ z le. rw (older (stamp x) (stamp b) (stamp z) e le) (and_false (is_latest xs z))) in
         let all : is_latest xs x ≡ true =
-        all_more (λ (z : ListZone). int_le (stamp z) (stamp b)) (λ (z : ListZone). int_le (stamp z) (stamp x)) xs latest (λ z le. earlier (stamp x) (stamp b) (stamp z) e le) in
+        all_more (λ (z : ListZone). int_le (stamp z) (stamp b)) (λ (z : ListZone). int_le (stamp z) (stamp x)) xs latest
+        (λ z le. earlier (stamp x) (stamp b) (stamp z) e le) in
         found_with xs x ∙ rw (none, all, le_itself (stamp x)) refl
 
-pub newest_step : (zs : List ListZone) (i : ℕ) (o : Option ListZone) (x y : ListZone) → i < length zs → x ≡ slice_index_or zs i x → IsNewest (take i zs) o → y ≡ later_of o x
+pub newest_step : (zs : List ListZone) (i : ℕ) (o : Option ListZone) (x y : ListZone) → i < length zs → x ≡ slice_index_or zs i x → IsNewest (take i zs) o
+    → y ≡ later_of o x
     → newest (take (i + 1) zs) ≡ Some y
 newest_step zs i o x y within item is later =
     ap newest (take_more zs i x within ∙ ap (λ (z : ListZone). take i zs ++ z ∷ []) (sym item)) ∙ newest_next (take i zs) o x is ∙ ap Some (sym later)

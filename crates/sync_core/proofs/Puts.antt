@@ -53,7 +53,8 @@ pub before_all : (x y : List ℕ) (ys : List (List ℕ)) → is_before x y ≡ t
 before_all x y [] h all = tt
 before_all x y (z ∷ zs) h all = (before_trans x y z h all.0, before_all x y zs h all.1)
 
-pub before_put : {X : Type 0} (text : X → List ℕ) (z : List ℕ) (x : X) (ys : List X) → is_before z (text x) ≡ true → Before z (map text ys) → Before z (map text (put_in text x ys))
+pub before_put : {X : Type 0} (text : X → List ℕ) (z : List ℕ) (x : X) (ys : List X) → is_before z (text x) ≡ true → Before z (map text ys)
+    → Before z (map text (put_in text x ys))
 before_put text z x [] h all = (h, tt)
 before_put text z x (y ∷ ys) h all = by (before_put text z x ys h all.1) (slice_cmp nat_cmp (text y) (text x))
   where
@@ -69,7 +70,8 @@ pub rising_put : {X : Type 0} (text : X → List ℕ) (x : X) (ys : List X) → 
 rising_put text x [] r = (tt, tt)
 rising_put text x (y ∷ ys) r = by (rising_put text x ys r.1) (slice_cmp nat_cmp (text y) (text x)) refl
   where
-    by : Rising text (put_in text x ys) → (o : Ordering) → slice_cmp nat_cmp (text y) (text x) ≡ o → Rising text (match_ordering o (y ∷ put_in text x ys) (x ∷ ys) (x ∷ y ∷ ys))
+    by : Rising text (put_in text x ys) → (o : Ordering) → slice_cmp nat_cmp (text y) (text x) ≡ o
+        → Rising text (match_ordering o (y ∷ put_in text x ys) (x ∷ ys) (x ∷ y ∷ ys))
     by later Less e = (before_put text (text y) x ys (ap is_lt e) r.0, later)
     by later Equal e = (subst (λ z. Before z (map text ys)) (same_text (text y) (text x) e) r.0, r.1)
     by later Greater e =
@@ -97,7 +99,8 @@ rising_filter text p (y ∷ ys) r = by (rising_filter text p ys r.1) (p y)
     by later false = later
 
 -- what is found after a put
-pub at_put : {X : Type 0} (text : X → List ℕ) (x : X) (ys : List X) (t : List ℕ) → at_text text (put_in text x ys) t ≡ cond (bytes_eq t (text x)) (Some x) (at_text text ys t)
+pub at_put : {X : Type 0} (text : X → List ℕ) (x : X) (ys : List X) (t : List ℕ)
+    → at_text text (put_in text x ys) t ≡ cond (bytes_eq t (text x)) (Some x) (at_text text ys t)
 at_put text x [] t = refl
 at_put text x (y ∷ ys) t = by (at_put text x ys t) (slice_cmp nat_cmp (text y) (text x)) refl
   where
@@ -118,7 +121,8 @@ at_put text x (y ∷ ys) t = by (at_put text x ys t) (slice_cmp nat_cmp (text y)
 
     by : at_text text (put_in text x ys) t ≡ cond (bytes_eq t (text x)) (Some x) (at_text text ys t) → (o : Ordering) → slice_cmp nat_cmp (text y) (text x) ≡ o
         → at_text text (match_ordering o (y ∷ put_in text x ys) (x ∷ ys) (x ∷ y ∷ ys)) t ≡ cond (bytes_eq t (text x)) (Some x) (at_text text (y ∷ ys) t)
-    by again Less e = ap (λ o. cond (bytes_eq t (text y)) (Some y) o) again ∙ apart (bytes_eq t (text x)) (bytes_eq t (text y)) refl refl (not_equal (text y) (text x) (ap is_lt e))
+    by again Less e = ap (λ o. cond (bytes_eq t (text y)) (Some y) o) again
+        ∙ apart (bytes_eq t (text x)) (bytes_eq t (text y)) refl refl (not_equal (text y) (text x) (ap is_lt e))
     by again Equal e = equal (bytes_eq t (text x)) (bytes_eq t (text y)) refl refl (same_text (text y) (text x) e)
     by again Greater e = refl
 
@@ -151,7 +155,8 @@ found_text text (y ∷ ys) t x h = by (found_text text ys t x) (bytes_eq t (text
     by again false e k = again k
 
 -- two rising lists in which the same is found are one
-pub one_list : {X : Type 0} (text : X → List ℕ) (xs ys : List X) → Rising text xs → Rising text ys → ((t : List ℕ) → at_text text xs t ≡ at_text text ys t) → xs ≡ ys
+pub one_list : {X : Type 0} (text : X → List ℕ) (xs ys : List X) → Rising text xs → Rising text ys → ((t : List ℕ) → at_text text xs t ≡ at_text text ys t)
+    → xs ≡ ys
 one_list text [] [] r s h = refl
 one_list text [] (y ∷ ys) r s h = let e : None ≡ Some y = h (text y) ∙ rw (same_bytes (text y)) in absurd (cc)
 one_list text (x ∷ xs) [] r s h = let e : None ≡ Some x = sym (h (text x)) ∙ rw (same_bytes (text x)) in absurd (cc)
@@ -215,4 +220,5 @@ pub put_rising : {X : Type 0} (text : X → List ℕ) (xs ys : List X) → Risin
 put_rising text xs ys r =
     let twice = put_all text xs [] in
     one_list text (put_all text twice ys) (put_all text xs ys) (rising_put_all text twice ys r) (rising_put_all text xs ys r)
-    (λ t. at_put_all text twice ys t ∙ ap (λ l. option_or (at_text text l t) (at_text text ys t)) (put_itself text twice (rising_put_all text xs [] tt)) ∙ sym (at_put_all text xs ys t))
+    (λ t. at_put_all text twice ys t ∙ ap (λ l. option_or (at_text text l t) (at_text text ys t)) (put_itself text twice (rising_put_all text xs [] tt))
+    ∙ sym (at_put_all text xs ys t))

@@ -11,7 +11,8 @@ use td_base::{Bytes, NoMemory};
 
 /// The names that are aliases in a list.
 pub fn aliases_in(alloc: Global, zones: &[ListZone]) -> Result<BTreeSet<Bytes>, NoMemory>
-    ensures { IfOk result (λ names. (name : List ℕ) → has_name names.keys name ≡ is_alias zones.now name) }
+    ensures { IfOk result (λ names. (name : List ℕ)
+        → has_name names.keys name ≡ is_alias zones.now name) }
 {
     let mut names = BTreeSet::new(alloc);
     for zone in zones {
@@ -27,7 +28,8 @@ fn put_aliases(
     aliases: &[Bytes],
 ) -> Result<(), NoMemory>
     ensures { OnOk result ((name : List ℕ)
-        → has_name names.new.keys name ≡ (list_any (bytes_eq name) aliases.now || has_name names.old.keys name)) }
+        → has_name names.new.keys name
+        ≡ (list_any (bytes_eq name) aliases.now || has_name names.old.keys name)) }
 {
     for alias in aliases {
         let _ = names.insert(alias.clone_in(alloc)?)?;
@@ -46,7 +48,8 @@ pub fn drop_entries(entries: &mut Vec<ListZone>, names: &BTreeSet<Bytes>)
 
 /// Drops the files whose names are among the names.
 pub fn drop_files(files: &mut BTreeMap<Bytes, Bytes>, names: &BTreeSet<Bytes>)
-    ensures { files.new.entries ≡ filter (λ e. not (has_name names.now.keys e.0)) files.old.entries }
+    ensures { files.new.entries
+        ≡ filter (λ e. not (has_name names.now.keys e.0)) files.old.entries }
 {
     files.retain(|tzid, _| !is_among(names, tzid));
 }

@@ -9,8 +9,8 @@ use json_forms::ListZone;
 use std::cmp::Ordering;
 use std::collections::VecDeque;
 
-/// The known zones with the listed ones put in, in a room that holds them all. Where both have a zone, the listed one
-/// stands.
+/// The known zones with the listed ones put in, in a room that holds them all. Where both have a
+/// zone, the listed one stands.
 pub fn merged(known: Vec<ListZone>, listed: Vec<ListZone>, room: Vec<ListZone>) -> Vec<ListZone>
     requires known { IsRising (map entry_name known.items) }
     requires listed { IsRising (map entry_name listed.items) }
@@ -38,7 +38,8 @@ fn lower(known: &mut VecDeque<ListZone>, listed: &mut VecDeque<ListZone>) -> Opt
         (λ zone. put_all entry_name listed.old.items known.old.items
         ≡ zone ∷ put_all entry_name listed.new.items known.new.items) }
     ensures fewer { MatchOption result (length known.old.items ≡ 0)
-        (λ _. length known.new.items + length listed.new.items + 1 ≤ length known.old.items + length listed.old.items) }
+        (λ _. length known.new.items + length listed.new.items + 1
+        ≤ length known.old.items + length listed.old.items) }
 {
     match order(known, listed) {
         Ordering::Less => known.pop_front(),

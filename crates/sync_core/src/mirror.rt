@@ -87,7 +87,8 @@ impl Mirror {
         ensures { self.new ≡ self.old }
     {}
 
-    /// The release that is held: its manifest, and a store that has each zone's file by the zone's identifier.
+    /// The release that is held: its manifest, and a store that has each zone's file by the zone's
+    /// identifier.
     pub fn manifest(&self, alloc: Global) -> Result<(Manifest, MemoryStore), NoMemory>
         requires { self.now.pending ≡ [] }
         ensures manifest { IfOk result (λ r. r.0 ≡ manifest_of self.now) }

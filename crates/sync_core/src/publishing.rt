@@ -1,7 +1,8 @@
 ghost use Rattle.std.specs.Prelude.{◌≡◌, map, IfOk, option_copied};
 ghost use Rattle.sync_core.specs.Keeping.{later_of};
 ghost use Rattle.sync_core.specs.Mirrors.{files_in};
-ghost use Rattle.sync_core.specs.Published.{HasFiles, manifest_with, manifest_zone, newest as newest_of};
+ghost use Rattle.sync_core.specs.Published.{HasFiles, manifest_with, manifest_zone};
+ghost use Rattle.sync_core.specs.Published.{newest as newest_of};
 
 use json_forms::ListZone;
 use release_manifest::{Manifest, ManifestZone};

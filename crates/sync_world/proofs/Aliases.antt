@@ -47,7 +47,8 @@ module _ (sound : ReleaseData → Type 0) (A : List ReleaseData) (x : ReleaseDat
   news = changed_by releases places (length A + 1) (end x X).contents
 
   abbrev goal : List ℕ → Type 0
-  goal t = option_or (known news t) (unless (is_alias news t) (before t)) ≡ option_map (listed_by (at_change (A ++ x ∷ X) (end x X)) (last_change (A ++ x ∷ X))) (zone_at (end x X).contents t)
+  goal t = option_or (known news t) (unless (is_alias news t) (before t)) ≡ option_map
+      (listed_by (at_change (A ++ x ∷ X) (end x X)) (last_change (A ++ x ∷ X))) (zone_at (end x X).contents t)
 
   -- a content that stands in each release from the place on is the zone of its identifier there
   pub stays_at : (c : ContentData) → list_all (has_content c) (x ∷ X) ≡ true → zone_at x.contents c.tzid ≡ Some c

@@ -12,7 +12,8 @@ use Rattle.sync_world.proofs.Looks.{looked_up}
 use Rattle.sync_world.proofs.Runs.{SentStands, always}
 use Rattle.sync_world.proofs.Steps.{good}
 
-module _ (P : Service) (sound : ReleaseData → Type 0) (hears : List ReleaseData → Ask → Heard → Type 0) (so : HeardIsTold sound hears P) (finds : FindsPlaces sound P) (no_other : FindsNoOther sound P) where
+module _ (P : Service) (sound : ReleaseData → Type 0) (hears : List ReleaseData → Ask → Heard → Type 0) (so : HeardIsTold sound hears P)
+    (finds : FindsPlaces sound P) (no_other : FindsNoOther sound P) where
   pub answered : (H : List ReleaseData) (xs : List Step) (w : World) (sent : Sent) (n : ℕ) → IsHistory sound H → 1 ≤ length H → Leads sound hears (begun H) xs w
       → w.sent ≡ Some sent → sent.since ≤ n → n ≤ length w.history
       → IsSomeAnd (told P (take n w.history) sent.ask) (λ h. length w.history ≤ P.kept → h ≡ heard.BadToken → ⊥)

@@ -58,13 +58,15 @@ module _ (H : List ReleaseData) (history : IsHistory IsSound H) (some : 1 ≤ le
   small = let few = few_places IsSound H history some in omega (arith, few)
 
   -- the text of a part of the last release's entries is a list of them
-  text_of_part : (es : List EntryData) → AllByRecursion IsPlainEntry es → AreGood es → IsListText (list_document token (map listed es)) (list token (map listed es))
+  text_of_part : (es : List EntryData) → AllByRecursion IsPlainEntry es → AreGood es
+      → IsListText (list_document token (map listed es)) (list token (map listed es))
   unfolding token
   text_of_part es all k =
       let zones : length es ≤ _ = k.zones in
       record {
         value = list_data token (map listed es);
-        reads = value_read (list_document token (map listed es)) (list_data token (map listed es)) (list_utf8 token (map listed es) (token_plain H (length H) small) (each_plain es all))
+        reads = value_read (list_document token (map listed es)) (list_data token (map listed es))
+            (list_utf8 token (map listed es) (token_plain H (length H) small) (each_plain es all))
             (list_reads token (map listed es));
         sound = no_list_fault token (map listed es) (token_is H (length H) small) (each_good es k.good) (omega (arith, counted es, zones)) k.names;
         is = sym (list_back token (map listed es) (each_stamped es all));
@@ -84,7 +86,8 @@ module _ (H : List ReleaseData) (history : IsHistory IsSound H) (some : 1 ≤ le
   since_heard since (Some n) = (refl, text_of_part (delta H n) (each_filtered IsPlainEntry _ (meta H) plain) (filtered_good _ (meta H) (meta_good H history)))
   since_heard since None = (refl, problem_found InvalidChangedsince)
 
-  list_heard : (since : Option (List ℕ)) (head : Head) (h : Heard) → told action_service H (ask.List since) ≡ Some h → Hears (ask.List since) (answer_for H Primary head (asked_by (ask.List since))) h
+  list_heard : (since : Option (List ℕ)) (head : Head) (h : Heard) → told action_service H (ask.List since) ≡ Some h
+      → Hears (ask.List since) (answer_for H Primary head (asked_by (ask.List since))) h
   unfolding list_answer
   list_heard None head h e = let one : list_at H (list_of H) ≡ h = cc in subst (Hears (ask.List None) (list_answer H param.Absent)) one full_heard
   list_heard (Some since) head h e =
@@ -97,7 +100,8 @@ got_heard name None h e = absurd (cc)
 got_heard name (Some e) h is =
     let one : file_told e.content.file ≡ h = cc in
     subst (λ f. Hears (ask.Get name) (got_as f name e None param.Absent param.Absent) h) (sym tzif_chosen)
-    (subst (Hears (ask.Get name) (got_as (Some Rattle.negotiate.specs.declared.choosing.Format.TheVariants.Tzif) name e None param.Absent param.Absent)) one (refl, refl))
+    (subst (Hears (ask.Get name) (got_as (Some Rattle.negotiate.specs.declared.choosing.Format.TheVariants.Tzif) name e None param.Absent param.Absent)) one
+    (refl, refl))
 
 file_heard : (H : List ReleaseData) (name : List ℕ) (head : Head) (h : Heard) → head.accept ≡ Some (codes "application/tzif") → head.none_match ≡ None
     → told action_service H (ask.Get name) ≡ Some h → Hears (ask.Get name) (answer_for H Primary head (asked_by (ask.Get name))) h
@@ -108,10 +112,12 @@ file_heard H name head h accept held e =
     let one = subst (λ f. Hears (ask.Get name) (got name o (Some (codes "application/tzif")) f param.Absent param.Absent) h) (sym held) two in
     subst (λ a. Hears (ask.Get name) (got name o a head.none_match param.Absent param.Absent) h) (sym accept) one
 
-answer_heard : (H : List ReleaseData) (a : Ask) (head : Head) (h : Heard) → IsHistory IsSound H → 1 ≤ length H → IsHeadOf a head → told action_service H a ≡ Some h
+answer_heard : (H : List ReleaseData) (a : Ask) (head : Head) (h : Heard) → IsHistory IsSound H → 1 ≤ length H → IsHeadOf a head
+    → told action_service H a ≡ Some h
     → Hears a (answer_for H Primary head (asked_by a)) h
 answer_heard H (ask.List since) head h history some k e = list_heard H history some since head h e
 answer_heard H (ask.Get name) head h history some k e = file_heard H name head h k.accept k.none_match e
 
-pub told_is_heard : (H : List ReleaseData) (a : Ask) (head : Head) (h : Heard) → IsHistory IsSound H → 1 ≤ length H → IsHeadOf a head → told action_service H a ≡ Some h → Hears a (action H Primary head) h
+pub told_is_heard : (H : List ReleaseData) (a : Ask) (head : Head) (h : Heard) → IsHistory IsSound H → 1 ≤ length H → IsHeadOf a head
+    → told action_service H a ≡ Some h → Hears a (action H Primary head) h
 told_is_heard H a head h history some k e = subst (λ answer. Hears a answer h) (sym (action_is H a head k)) (answer_heard H a head h history some k e)

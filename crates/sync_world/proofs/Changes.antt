@@ -104,7 +104,8 @@ each_named : (q : List ℕ → Bool) (xs : List (List ℕ)) (t : List ℕ) → l
 each_named q [] t h k = absurd (cc)
 each_named q (x ∷ xs) t h k = by (each_named q xs t) (q x) refl h
   where
-    found : (list_all q xs ≡ true → has_text xs t ≡ true → q t ≡ true) → q x ≡ true → list_all q xs ≡ true → (b : Bool) → bytes_eq t x ≡ b → (b || has_text xs t) ≡ true → q t ≡ true
+    found : (list_all q xs ≡ true → has_text xs t ≡ true → q t ≡ true) → q x ≡ true → list_all q xs ≡ true → (b : Bool) → bytes_eq t x ≡ b
+        → (b || has_text xs t) ≡ true → q t ≡ true
     found again e all true same l = subst (λ z. q z ≡ true) (sym (bytes_same t x same)) e
     found again e all false same l = again all l
 
@@ -152,7 +153,8 @@ list_is A x X = ap (λ o. map listed (entries_of (A ++ x ∷ X) o)) (last_is A N
 pub changes_are : (A : List ReleaseData) (x : ReleaseData) (X : List ReleaseData) (n : ℕ)
     → changes_of (A ++ x ∷ X) n ≡ changed_by (at_change (A ++ x ∷ X) (end x X)) (last_change (A ++ x ∷ X)) n (end x X).contents
 unfolding changes_of delta meta
-changes_are A x X n = ap (λ o. map listed (Rattle.std.specs.List.filter (λ (e : EntryData). nat_lt n e.changed) (entries_of (A ++ x ∷ X) o))) (last_is A None x X)
+changes_are A x X n =
+    ap (λ o. map listed (Rattle.std.specs.List.filter (λ (e : EntryData). nat_lt n e.changed) (entries_of (A ++ x ∷ X) o))) (last_is A None x X)
 
 -- what the list of a whole history says of a name
 pub known_is : (A : List ReleaseData) (x : ReleaseData) (X : List ReleaseData) (t : List ℕ)

@@ -94,7 +94,8 @@ module _ (sound : ReleaseData → Type 0) (A : List ReleaseData) (x : ReleaseDat
       by true all = inr (record { not_alias = alias_none releases places (length A + 1) (end x X).contents t is.not_alias; all = all })
       by false some =
           let loud : nat_lt (length A + 1) (last_change (A ++ x ∷ X) c) ≡ true = lt-ltb _ _ (changes A x X c some) in
-          let here : known news t ≡ Some (listed_by releases places c) = known_some releases places (length A + 1) (end x X).contents t c (ends_distinct sound A x X h) is.at ∙ rw loud in
+          let here : known news t ≡ Some (listed_by releases places c) =
+          known_some releases places (length A + 1) (end x X).contents t c (ends_distinct sound A x X h) is.at ∙ rw loud in
           inl (rw here)
 
   -- a content that stays is what its identifier names at each place
@@ -110,7 +111,8 @@ known_listed : (zones : List ListZone) (t : List ℕ) → is_some (known zones t
 known_listed [] t h = absurd (cc)
 known_listed (z ∷ zs) t h = by (known_listed zs t) (bytes_eq t z.tzid) h
   where
-    by : (is_some (known zs t) ≡ true → has_text (map entry_name zs) t ≡ true) → (b : Bool) → is_some (cond b (Some z) (known zs t)) ≡ true → (b || has_text (map entry_name zs) t) ≡ true
+    by : (is_some (known zs t) ≡ true → has_text (map entry_name zs) t ≡ true) → (b : Bool) → is_some (cond b (Some z) (known zs t)) ≡ true
+        → (b || has_text (map entry_name zs) t) ≡ true
     by again true k = refl
     by again false k = again k
 
@@ -140,17 +142,20 @@ each_known [] = tt
 each_known (z ∷ zs) = (rw (same_bytes z.tzid), one_more z zs zs (each_known zs))
 
 -- what holds of each identifier that a list knows holds of all that is pending after it
-pub each_pending : (zones : List ListZone) (P : List ℕ → Type 0) → Rising entry_name zones → ((t : List ℕ) → is_some (known zones t) ≡ true → P t) → AllByRecursion P (pending_of zones)
+pub each_pending : (zones : List ListZone) (P : List ℕ → Type 0) → Rising entry_name zones → ((t : List ℕ) → is_some (known zones t) ≡ true → P t)
+    → AllByRecursion P (pending_of zones)
 each_pending zones P r f =
     more_known (rising_zones zones) (rising_zones zones) P (λ t k. f t (sym (ap is_some (known_put zones t r)) ∙ k)) (each_known (rising_zones zones))
 
 -- ---- lists rise
 
-pub ends_rising : (sound : ReleaseData → Type 0) (A : List ReleaseData) (x : ReleaseData) (X : List ReleaseData) → IsHistory sound (A ++ x ∷ X) → IsRising (map (λ (c : ContentData). c.tzid) (end x X).contents)
+pub ends_rising : (sound : ReleaseData → Type 0) (A : List ReleaseData) (x : ReleaseData) (X : List ReleaseData) → IsHistory sound (A ++ x ∷ X)
+    → IsRising (map (λ (c : ContentData). c.tzid) (end x X).contents)
 ends_rising sound A x [] h = (h A x [] refl).in_order.contents
 ends_rising sound A x (y ∷ Y) h = ends_rising sound (A ++ x ∷ []) y Y (moved sound A x y Y h)
 
-listed_texts : (f : ContentData → ReleaseData) (g : ContentData → ℕ) (cs : List ContentData) → map entry_name (map listed (entries_by f g cs)) ≡ map (λ (c : ContentData). c.tzid) cs
+listed_texts : (f : ContentData → ReleaseData) (g : ContentData → ℕ) (cs : List ContentData)
+    → map entry_name (map listed (entries_by f g cs)) ≡ map (λ (c : ContentData). c.tzid) cs
 listed_texts f g [] = refl
 listed_texts f g (c ∷ cs) = ap (λ ts. c.tzid ∷ ts) (listed_texts f g cs)
 
@@ -171,18 +176,24 @@ before_changed f g n t [] all = tt
 before_changed f g n t (c ∷ cs) all = by (nat_lt n (g c)) (before_changed f g n t cs all.1)
   where
     by : (b : Bool) → Before t (map entry_name (changed_by f g n cs))
-        → Before t (map entry_name (map listed (cond b (entry_from (f c) (g c) c ∷ filter (λ e. nat_lt n e.changed) (entries_by f g cs)) (filter (λ e. nat_lt n e.changed) (entries_by f g cs)))))
+        → Before t (map entry_name
+        (map listed (cond b (entry_from (f c) (g c) c ∷ filter (λ e. nat_lt n e.changed) (entries_by f g cs))
+        (filter (λ e. nat_lt n e.changed) (entries_by f g cs)))))
     by true rest = (all.0, rest)
     by false rest = rest
 
-changed_rises : (f : ContentData → ReleaseData) (g : ContentData → ℕ) (n : ℕ) (cs : List ContentData) → IsRising (map (λ (c : ContentData). c.tzid) cs) → Rising entry_name (changed_by f g n cs)
+changed_rises : (f : ContentData → ReleaseData) (g : ContentData → ℕ) (n : ℕ) (cs : List ContentData) → IsRising (map (λ (c : ContentData). c.tzid) cs)
+    → Rising entry_name (changed_by f g n cs)
 changed_rises f g n [] r = tt
 changed_rises f g n (c ∷ cs) r = by (nat_lt n (g c)) (changed_rises f g n cs r.1)
   where
     by : (b : Bool) → Rising entry_name (changed_by f g n cs)
-        → Rising entry_name (map listed (cond b (entry_from (f c) (g c) c ∷ filter (λ e. nat_lt n e.changed) (entries_by f g cs)) (filter (λ e. nat_lt n e.changed) (entries_by f g cs))))
+        → Rising entry_name (map listed
+        (cond b (entry_from (f c) (g c) c ∷ filter (λ e. nat_lt n e.changed) (entries_by f g cs)) (filter (λ e. nat_lt n e.changed) (entries_by f g cs))))
     by true rest = (before_changed f g n c.tzid cs r.0, rest)
     by false rest = rest
 
-pub news_rises : (sound : ReleaseData → Type 0) (A : List ReleaseData) (x : ReleaseData) (X : List ReleaseData) (h : IsHistory sound (A ++ x ∷ X)) → Rising entry_name (news sound A x X h)
-news_rises sound A x X h = changed_rises (at_change (A ++ x ∷ X) (end x X)) (last_change (A ++ x ∷ X)) (length A + 1) (end x X).contents (ends_rising sound A x X h)
+pub news_rises : (sound : ReleaseData → Type 0) (A : List ReleaseData) (x : ReleaseData) (X : List ReleaseData) (h : IsHistory sound (A ++ x ∷ X))
+    → Rising entry_name (news sound A x X h)
+news_rises sound A x X h =
+    changed_rises (at_change (A ++ x ∷ X) (end x X)) (last_change (A ++ x ∷ X)) (length A + 1) (end x X).contents (ends_rising sound A x X h)

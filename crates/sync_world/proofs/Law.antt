@@ -29,7 +29,8 @@ record IsQuiet (s : MirrorState) (h : Heard) : Type 0 where
   is : h ≡ heard.List doc
   empty : doc.zones ≡ []
 
-quiet_by : (s : MirrorState) (doc : ListDoc) (o : Option (List ℕ)) (zones : List ListZone) → s.token ≡ o → doc.zones ≡ zones → list_settles o zones ≡ Holds → IsQuiet s (heard.List doc)
+quiet_by : (s : MirrorState) (doc : ListDoc) (o : Option (List ℕ)) (zones : List ListZone) → s.token ≡ o → doc.zones ≡ zones → list_settles o zones ≡ Holds
+    → IsQuiet s (heard.List doc)
 quiet_by s doc None zones e k h = absurd (cc)
 quiet_by s doc (Some token) (z ∷ zs) e k h = absurd (cc)
 quiet_by s doc (Some token) [] e k h = record { token = token; doc = doc; token_is = e; is = refl; empty = k }
@@ -53,8 +54,10 @@ list_asked : (P : Service) (G : List ReleaseData) (doc : ListDoc) (token : List 
 list_asked P G doc token [] held e k = ap ask.List (sym e)
 list_asked P G doc token (t ∷ ts) held e k = absurd (no_list P G t doc k)
 
-module _ (P : Service) (sound : ReleaseData → Type 0) (hears : List ReleaseData → Ask → Heard → Type 0) (so : HeardIsTold sound hears P) (finds : FindsPlaces sound P) (no_other : FindsNoOther sound P) where
-  pub law : (H : List ReleaseData) (xs : List Step) (w v : World) (n : ℕ) (sent : Sent) (h : Heard) → IsHistory sound H → 1 ≤ length H → Leads sound hears (begun H) xs w
+module _ (P : Service) (sound : ReleaseData → Type 0) (hears : List ReleaseData → Ask → Heard → Type 0) (so : HeardIsTold sound hears P)
+    (finds : FindsPlaces sound P) (no_other : FindsNoOther sound P) where
+  pub law : (H : List ReleaseData) (xs : List Step) (w v : World) (n : ℕ) (sent : Sent) (h : Heard) → IsHistory sound H → 1 ≤ length H
+      → Leads sound hears (begun H) xs w
       → IsAnswer hears w n v sent h → settles w.mirror h ≡ Holds → HoldsLast P v.mirror (take n w.history)
   law H xs w v n sent h history some leads a holds =
       let i = always P sound hears so finds no_other H xs w history some leads in

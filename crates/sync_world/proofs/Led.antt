@@ -33,7 +33,8 @@ lists_lead_on sound H n h place =
     let now = list_rises sound H h (omega arith) in
     let news = changes_of H n in
     one_list entry_name (put_all entry_name news (kept_entries news (list_of (take n H)))) (list_of H)
-    (rising_put_all entry_name news (kept_entries news (list_of (take n H))) (rising_filter entry_name (λ z. not (is_alias news z.tzid)) (list_of (take n H)) old)) now
+    (rising_put_all entry_name news (kept_entries news (list_of (take n H)))
+    (rising_filter entry_name (λ z. not (is_alias news z.tzid)) (list_of (take n H)) old)) now
     (λ t. joined_lists (list_of (take n H)) news t
     ∙ ap (λ o. option_or o (unless (is_alias news t) (known (list_of (take n H)) t))) (known_put news t (changes_rise sound H n h place))
     ∙ joined_at sound H n h place t)

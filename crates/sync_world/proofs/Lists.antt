@@ -33,11 +33,13 @@ zone_text cs t c h = found_text (λ (c : ContentData). c.tzid) cs t c h
 abbrev pair : List ℕ → List ℕ → ZoneFile
 pair n b = record { tzid = n; bytes = b }
 
-same_found : (P : Service) (files : List ZoneFile) (cs : List ContentData) (t : List ℕ) → bytes_found (at_text file_name files t) ≡ served_for P t (zone_at cs t)
+same_found : (P : Service) (files : List ZoneFile) (cs : List ContentData) (t : List ℕ)
+    → bytes_found (at_text file_name files t) ≡ served_for P t (zone_at cs t)
     → at_text file_name files t ≡ at_text file_name (map (file_of P) cs) t
 same_found P files cs t h = by (at_text file_name files t) (zone_at cs t) refl refl h ∙ sym (files_found P cs t)
   where
-    by : (o : Option ZoneFile) (z : Option ContentData) → at_text file_name files t ≡ o → zone_at cs t ≡ z → bytes_found o ≡ served_for P t z → o ≡ option_map (file_of P) z
+    by : (o : Option ZoneFile) (z : Option ContentData) → at_text file_name files t ≡ o → zone_at cs t ≡ z → bytes_found o ≡ served_for P t z
+        → o ≡ option_map (file_of P) z
     by None None e k h = refl
     by None (Some c) e k h = absurd (cc)
     by (Some f) None e k h = absurd (cc)
@@ -51,20 +53,24 @@ file_texts : (P : Service) (cs : List ContentData) → map file_name (map (file_
 file_texts P [] = refl
 file_texts P (c ∷ cs) = ap (λ ts. c.tzid ∷ ts) (file_texts P cs)
 
-files_rise : (P : Service) (sound : ReleaseData → Type 0) (G : List ReleaseData) → IsHistory sound G → 1 ≤ length G → Rising file_name (map (file_of P) (zones_of G))
+files_rise : (P : Service) (sound : ReleaseData → Type 0) (G : List ReleaseData) → IsHistory sound G → 1 ≤ length G
+    → Rising file_name (map (file_of P) (zones_of G))
 files_rise P sound G h long =
     let c = cut G (length G) (long, omega arith) in
     subst (λ F. Rising file_name (map (file_of P) (zones_of F))) (sym c.whole) (by c.A c.x c.X (subst (IsHistory sound) c.whole h))
   where
-    by : (A : List ReleaseData) (x : ReleaseData) (X : List ReleaseData) → IsHistory sound (A ++ x ∷ X) → Rising file_name (map (file_of P) (zones_of (A ++ x ∷ X)))
+    by : (A : List ReleaseData) (x : ReleaseData) (X : List ReleaseData) → IsHistory sound (A ++ x ∷ X)
+        → Rising file_name (map (file_of P) (zones_of (A ++ x ∷ X)))
     by A x X h =
         subst (λ cs. Rising file_name (map (file_of P) cs)) (sym (zones_are A x X))
         (subst IsRising (sym (file_texts P (end x X).contents)) (ends_rising sound A x X h))
 
-pub exactly : (P : Service) (sound : ReleaseData → Type 0) (G : List ReleaseData) (m : MirrorState) → IsHistory sound G → 1 ≤ length G → IsRisingMirror m → HoldsState P (looked_up m) G → HoldsLast P m G
+pub exactly : (P : Service) (sound : ReleaseData → Type 0) (G : List ReleaseData) (m : MirrorState) → IsHistory sound G → 1 ≤ length G → IsRisingMirror m
+    → HoldsState P (looked_up m) G → HoldsLast P m G
 exactly P sound G m h long r k = record {
   token = k.token;
   entries = one_list entry_name m.entries (list_of G) r.entries (list_rises sound G h long) k.entries;
-  files = one_list file_name m.files (map (file_of P) (zones_of G)) r.files (files_rise P sound G h long) (λ t. same_found P m.files (zones_of G) t (k.files t));
+  files = one_list file_name m.files (map (file_of P) (zones_of G)) r.files (files_rise P sound G h long)
+      (λ t. same_found P m.files (zones_of G) t (k.files t));
   pending = k.pending;
 }

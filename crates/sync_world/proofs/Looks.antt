@@ -62,7 +62,14 @@ settled s = record {
 }
 
 abbrev pub after_all : StateData → ListDoc → StateData
-after_all s doc = record { token = s.token; coming = Some doc.token; entries = known (rising_zones doc.zones); files = λ t. None; pending = pending_of doc.zones }
+after_all s doc = record {
+  token = s.token;
+  coming = Some doc.token;
+  entries = known (rising_zones doc.zones);
+  files = λ t. None;
+  pending =
+      pending_of doc.zones;
+}
 
 abbrev pub after_changes : StateData → List ℕ → List ListZone → StateData
 after_changes s token [] = record { token = Some token; coming = s.coming; entries = s.entries; files = s.files; pending = s.pending }

@@ -37,11 +37,13 @@ named_entry H last name [] = refl
 named_entry H last name (c ∷ cs) = by (is_name_of name c) (named_entry H last name cs)
   where
     by : (b : Bool) → option_map content_at (find (λ e. is_name_of name e.content) (map (entry_of H last) cs)) ≡ named cs name
-        → option_map content_at (cond b (Some (entry_of H last c)) (find (λ e. is_name_of name e.content) (map (entry_of H last) cs))) ≡ cond b (Some c) (named cs name)
+        → option_map content_at (cond b (Some (entry_of H last c)) (find (λ e. is_name_of name e.content) (map (entry_of H last) cs))) ≡ cond b (Some c)
+        (named cs name)
     by true h = refl
     by false h = h
 
-pub entry_named : (H : List ReleaseData) (name : List ℕ) → option_map content_at (option_and_then (slice_get (meta H)) (place_named H name)) ≡ named (zones_of H) name
+pub entry_named : (H : List ReleaseData) (name : List ℕ)
+    → option_map content_at (option_and_then (slice_get (meta H)) (place_named H name)) ≡ named (zones_of H) name
 unfolding place_named meta
 entry_named H name = ap (option_map content_at) (found_at (λ (e : EntryData). is_name_of name e.content) (entries_of H (last_release H))) ∙ by (last_release H)
   where

@@ -68,5 +68,6 @@ one_value token zones value is = by (is_utf8 (list_document token zones)) is
     by false k = absurd (cc)
 
 -- so what is read of it is what was listed
-pub list_read : (token : List ℕ) (zones : List ListZone) (doc : ListDoc) → AllByRecursion HasStamp zones → reading.IsListText (list_document token zones) doc → doc ≡ list token zones
+pub list_read : (token : List ℕ) (zones : List ListZone) (doc : ListDoc) → AllByRecursion HasStamp zones
+    → reading.IsListText (list_document token zones) doc → doc ≡ list token zones
 list_read token zones doc h is = is.is ∙ ap reading.list_of (sym (one_value token zones is.value is.reads)) ∙ list_back token zones h

@@ -30,14 +30,16 @@ some_of : {X : Type 0} (Q : X → Type 0) (o : Option X) → IsSomeAnd o Q → (
 some_of Q None k = absurd k
 some_of Q (Some x) k = (x, refl, k)
 
-pub requested : (H : List ReleaseData) (xs : List Step) (w : World) (sent : Sent) (n : ℕ) (head : Head) → IsHistory IsSound H → 1 ≤ length H → Leads IsSound IsHeard (begun H) xs w
+pub requested : (H : List ReleaseData) (xs : List Step) (w : World) (sent : Sent) (n : ℕ) (head : Head) → IsHistory IsSound H → 1 ≤ length H
+    → Leads IsSound IsHeard (begun H) xs w
     → w.sent ≡ Some sent → sent.since ≤ n → n ≤ length w.history → IsHeadOf sent.ask head
     → (h : Heard) × Hears sent.ask (action (take n w.history) Primary head) h × (h ≡ heard.BadToken → ⊥)
 requested H xs w sent n head h some leads out from upto k =
     let i = always action_service IsSound IsHeard tells_so finds finds_no_other H xs w h some leads in
     let stands = subst (SentStands action_service w.history (looked_up w.mirror)) out i.state in
     let low : 1 ≤ sent.since = stands.1 in
-    let answer = some_of _ (told action_service (take n w.history) sent.ask) (answered action_service IsSound IsHeard tells_so finds finds_no_other H xs w sent n h some leads out from upto) in (
+    let answer = some_of _ (told action_service (take n w.history) sent.ask)
+    (answered action_service IsSound IsHeard tells_so finds finds_no_other H xs w sent n h some leads out from upto) in (
       answer.0,
       told_is_heard (take n w.history) sent.ask head answer.0 (history_front IsSound w.history n i.history) (omega (arith, length-take n w.history)) k answer.1,
       answer.2 (few_places IsSound w.history i.history i.some),

@@ -33,14 +33,16 @@ pub record WorldStands (P : Service) (sound : ReleaseData → Type 0) (w : World
   pub state : SentStands P w.history (looked_up w.mirror) w.sent
   pub rises : IsRisingMirror w.mirror
 
-module _ (P : Service) (sound : ReleaseData → Type 0) (finds : FindsPlaces sound P) (no_other : FindsNoOther sound P) (H : List ReleaseData) (s : StateData) (h : IsHistory sound H) (some : 1 ≤ length H) where
+module _ (P : Service) (sound : ReleaseData → Type 0) (finds : FindsPlaces sound P) (no_other : FindsNoOther sound P) (H : List ReleaseData) (s : StateData)
+    (h : IsHistory sound H) (some : 1 ≤ length H) where
   -- the invariant over the whole history, whatever was sent
   at_end_of : (sent : Option Sent) → SentStands P H s sent → Invariant P H (length H) s
   at_end_of None i = i
   at_end_of (Some sent) i = later P H sent.since (length H) s i.2 (omega arith) i.3
 
   installed : (r : ReleaseData) (sent : Option Sent) → SentStands P H s sent → SentStands P (H ++ r ∷ []) s sent
-  installed r None i = later P (H ++ r ∷ []) (length H) (length (H ++ r ∷ [])) s (omega (arith, length-append H (r ∷ []))) (omega arith) (grown P H (r ∷ []) (length H) s i)
+  installed r None i = later P (H ++ r ∷ []) (length H) (length (H ++ r ∷ [])) s (omega (arith, length-append H (r ∷ []))) (omega arith)
+      (grown P H (r ∷ []) (length H) s i)
   installed r (Some sent) i = let up : sent.since ≤ length H = i.2 in (i.0, i.1, omega (arith, length-append H (r ∷ [])), grown P H (r ∷ []) sent.since s i.3)
 
   refused : (since : ℕ) (token : List ℕ) → ask.List (Some token) ≡ state_ask s → Invariant P H since s → IsFresh (state_after s heard.BadToken)
@@ -64,15 +66,19 @@ module _ (P : Service) (sound : ReleaseData → Type 0) (finds : FindsPlaces sou
       let one : g.said ≡ h' = cc in
       later P H n (length H) (state_after s h') upto (omega arith) (subst (λ x. Invariant P H n (state_after s x)) one g.next)
 
-asked : (P : Service) (H : List ReleaseData) (m : MirrorState) → 1 ≤ length H → (sent : Option Sent) → SentStands P H (looked_up m) sent → SentStands P H (looked_up m) (Some (sent_then sent m (length H)))
+asked : (P : Service) (H : List ReleaseData) (m : MirrorState) → 1 ≤ length H → (sent : Option Sent) → SentStands P H (looked_up m) sent
+    → SentStands P H (looked_up m) (Some (sent_then sent m (length H)))
 asked P H m some None i = (refl, some, omega arith, i)
 asked P H m some (Some sent) i = i
 
-module _ (P : Service) (sound : ReleaseData → Type 0) (hears : List ReleaseData → Ask → Heard → Type 0) (so : HeardIsTold sound hears P) (finds : FindsPlaces sound P) (no_other : FindsNoOther sound P) where
-  pub told_so : (H : List ReleaseData) (n : ℕ) (a : Ask) (h : Heard) → IsHistory sound H → 1 ≤ n → n ≤ length H → hears (take n H) a h → told P (take n H) a ≡ Some h
+module _ (P : Service) (sound : ReleaseData → Type 0) (hears : List ReleaseData → Ask → Heard → Type 0) (so : HeardIsTold sound hears P)
+    (finds : FindsPlaces sound P) (no_other : FindsNoOther sound P) where
+  pub told_so : (H : List ReleaseData) (n : ℕ) (a : Ask) (h : Heard) → IsHistory sound H → 1 ≤ n → n ≤ length H → hears (take n H) a h
+      → told P (take n H) a ≡ Some h
   told_so H n a h history low upto is = so (take n H) a h (history_front sound H n history) (omega (arith, length-take n H)) is
 
-  taken : (w : World) (h : Heard) → WorldStands P sound w → Invariant P w.history (length w.history) (state_after (looked_up w.mirror) h) → WorldStands P sound (after w h)
+  taken : (w : World) (h : Heard) → WorldStands P sound w → Invariant P w.history (length w.history) (state_after (looked_up w.mirror) h)
+      → WorldStands P sound (after w h)
   taken w h i k = record {
     history = i.history;
     some = i.some;
@@ -89,7 +95,8 @@ module _ (P : Service) (sound : ReleaseData → Type 0) (hears : List ReleaseDat
         rises = i.rises;
       })
   step w world.asks v i is =
-      subst (WorldStands P sound) (sym is) (record { history = i.history; some = i.some; state = asked P w.history w.mirror i.some w.sent i.state; rises = i.rises })
+      subst (WorldStands P sound) (sym is)
+      (record { history = i.history; some = i.some; state = asked P w.history w.mirror i.some w.sent i.state; rises = i.rises })
   step w (world.answer n) v i is =
       let a = is.2 in
       let sent = subst (SentStands P w.history (looked_up w.mirror)) a.outstanding i.state in
@@ -106,9 +113,16 @@ module _ (P : Service) (sound : ReleaseData → Type 0) (hears : List ReleaseDat
   step w world.lose v i is = subst (WorldStands P sound) (sym is) i
   step w world.restart v i is =
       subst (WorldStands P sound) (sym is)
-      (record { history = i.history; some = i.some; state = at_end_of P sound finds no_other w.history (looked_up w.mirror) i.history i.some w.sent i.state; rises = i.rises })
+      (record {
+        history = i.history;
+        some = i.some;
+        state =
+            at_end_of P sound finds no_other w.history (looked_up w.mirror) i.history i.some w.sent i.state;
+        rises = i.rises;
+      })
   step w world.restart_empty v i is =
-      subst (WorldStands P sound) (sym is) (record { history = i.history; some = i.some; state = fresh (record { token = refl; coming = refl; pending = refl }); rises = none_rise })
+      subst (WorldStands P sound) (sym is)
+      (record { history = i.history; some = i.some; state = fresh (record { token = refl; coming = refl; pending = refl }); rises = none_rise })
 
   steps : (w : World) (xs : List Step) (v : World) → WorldStands P sound w → Leads sound hears w xs v → WorldStands P sound v
   steps w [] v i is = subst (WorldStands P sound) (sym is) i
@@ -136,7 +150,8 @@ held_file P H n t held (Some c) f (inr g) =
     let same : g.q ≡ n = omega arith in
     g.is ∙ ap (λ q. served_for P t (named (zones_of (take q H)) t)) same ∙ ap (served_for P t) (f c refl)
 
-holds : (P : Service) (sound : ReleaseData → Type 0) (H : List ReleaseData) (n : ℕ) (s : StateData) → IsHistory sound H → IsPlace H n → Stands P H n n s → s.pending ≡ [] → HoldsState P s (take n H)
+holds : (P : Service) (sound : ReleaseData → Type 0) (H : List ReleaseData) (n : ℕ) (s : StateData) → IsHistory sound H → IsPlace H n → Stands P H n n s
+    → s.pending ≡ [] → HoldsState P s (take n H)
 holds P sound H n s h place k none =
     let tokens : TokensStand H n [] s.token s.coming = subst (λ p. TokensStand H n p s.token s.coming) none k.tokens in
     let low : 1 ≤ n = place.0 in
@@ -154,13 +169,16 @@ holds P sound H n s h place k none =
       pending = none;
     }
 
-quiet : (s : StateData) (token : List ℕ) (doc : ListDoc) → s.token ≡ Some token → doc.zones ≡ [] → s.pending ≡ [] → (state_after s (heard.List doc)).pending ≡ []
+quiet : (s : StateData) (token : List ℕ) (doc : ListDoc) → s.token ≡ Some token → doc.zones ≡ [] → s.pending ≡ []
+    → (state_after s (heard.List doc)).pending ≡ []
 quiet s token doc some empty none =
     subst (λ o. (settled (after_list o s doc)).pending ≡ []) (sym some)
     (subst (λ zs. (settled (after_changes s doc.token zs)).pending ≡ []) (sym empty) none)
 
-module _ (P : Service) (sound : ReleaseData → Type 0) (finds : FindsPlaces sound P) (no_other : FindsNoOther sound P) (H : List ReleaseData) (s : StateData) (h : IsHistory sound H) (some : 1 ≤ length H)
-    (n since : ℕ) (token : List ℕ) (doc : ListDoc) (from : since ≤ n) (place : IsPlace H n) (empty : doc.zones ≡ []) (asked_so : ask.List (Some token) ≡ state_ask s)
+module _ (P : Service) (sound : ReleaseData → Type 0) (finds : FindsPlaces sound P) (no_other : FindsNoOther sound P) (H : List ReleaseData) (s : StateData)
+    (h : IsHistory sound H) (some : 1 ≤ length H)
+    (n since : ℕ) (token : List ℕ) (doc : ListDoc) (from : since ≤ n) (place : IsPlace H n) (empty : doc.zones ≡ [])
+    (asked_so : ask.List (Some token) ≡ state_ask s)
     (answer_is : told P (take n H) (ask.List (Some token)) ≡ Some (heard.List doc)) where
   pub settled_holds : Invariant P H since s → HoldsState P (state_after s (heard.List doc)) (take n H)
   settled_holds (fresh f) =

@@ -19,7 +19,8 @@ cond_none : {X : Type 0} (b : Bool) (o : Option X) → o ≡ None → o ≡ cond
 cond_none true o e = refl
 cond_none false o e = e
 
-at_filter : {X : Type 0} (text : X → List ℕ) (p : List ℕ → Bool) (ys : List X) (t : List ℕ) → at_text text (filter (λ y. p (text y)) ys) t ≡ cond (p t) (at_text text ys t) None
+at_filter : {X : Type 0} (text : X → List ℕ) (p : List ℕ → Bool) (ys : List X) (t : List ℕ)
+    → at_text text (filter (λ y. p (text y)) ys) t ≡ cond (p t) (at_text text ys t) None
 at_filter text p [] t = cond_none (p t) None refl
 at_filter text p (y ∷ ys) t = by (at_filter text p ys t) (bytes_eq t (text y)) refl (p (text y)) refl
   where
@@ -38,7 +39,8 @@ unless_not : {X : Type 0} (b : Bool) (o : Option X) → cond (not b) o None ≡ 
 unless_not true o = refl
 unless_not false o = refl
 
-pub joined_lists : (old zones : List ListZone) (t : List ℕ) → known (put_all entry_name zones (kept_entries zones old)) t ≡ option_or (known (rising_zones zones) t) (unless (is_alias zones t) (known old t))
+pub joined_lists : (old zones : List ListZone) (t : List ℕ)
+    → known (put_all entry_name zones (kept_entries zones old)) t ≡ option_or (known (rising_zones zones) t) (unless (is_alias zones t) (known old t))
 joined_lists old zones t =
     at_put_all entry_name zones (kept_entries zones old) t
     ∙ ap (option_or (known (rising_zones zones) t)) (at_filter entry_name (λ u. not (is_alias zones u)) old t ∙ unless_not (is_alias zones t) (known old t))
@@ -57,7 +59,8 @@ found_cond true f o = refl
 found_cond false f o = refl
 
 file_lists : (old : List ZoneFile) (name bytes t : List ℕ)
-    → bytes_found (at_text file_name (put_in file_name (record { tzid = name; bytes = bytes }) old) t) ≡ with_file (λ u. bytes_found (at_text file_name old u)) name bytes t
+    → bytes_found (at_text file_name (put_in file_name (record { tzid = name; bytes = bytes }) old) t) ≡ with_file
+    (λ u. bytes_found (at_text file_name old u)) name bytes t
 file_lists old name bytes t =
     let f : ZoneFile = record { tzid = name; bytes = bytes } in
     ap bytes_found (at_put file_name f old t)
@@ -67,7 +70,8 @@ abbrev state : Option (List ℕ) → Option (List ℕ) → (List ℕ → Option 
 state token coming entries files pending = record { token = token; coming = coming; entries = entries; files = files; pending = pending }
 
 -- what is heard does the same to the lists and to the look-ups
-changes_shown : (m : MirrorState) (token : List ℕ) (zones : List ListZone) → looked_up (lists.after_changes m token zones) ≡ after_changes (looked_up m) token zones
+changes_shown : (m : MirrorState) (token : List ℕ) (zones : List ListZone)
+    → looked_up (lists.after_changes m token zones) ≡ after_changes (looked_up m) token zones
 changes_shown m token [] = refl
 changes_shown m token (z ∷ zs) =
     let one = looked_up (lists.after_changes m token (z ∷ zs)) in
@@ -81,7 +85,8 @@ list_shown : (token : Option (List ℕ)) (m : MirrorState) (doc : ListDoc) → l
 list_shown None m doc = refl
 list_shown (Some token) m doc = changes_shown m doc.token doc.zones
 
-file_shown : (pending : List (List ℕ)) (m : MirrorState) (bytes : List ℕ) → looked_up (lists.after_file pending m bytes) ≡ after_file pending (looked_up m) bytes
+file_shown : (pending : List (List ℕ)) (m : MirrorState) (bytes : List ℕ)
+    → looked_up (lists.after_file pending m bytes) ≡ after_file pending (looked_up m) bytes
 file_shown [] m bytes = refl
 file_shown (t ∷ ts) m bytes =
     let one = looked_up (lists.after_file (t ∷ ts) m bytes) in
@@ -95,7 +100,8 @@ heard_shown m (heard.Zone bytes) = file_shown m.pending m bytes
 heard_shown m heard.BadToken = refl
 
 settle_shown : (pending : List (List ℕ)) (coming : Option (List ℕ)) (m : MirrorState) → m.pending ≡ pending → m.coming ≡ coming
-    → looked_up (lists.settle pending coming m) ≡ state (token_then pending coming m.token) (coming_then pending coming) (known m.entries) (looked_up m).files m.pending
+    → looked_up (lists.settle pending coming m) ≡ state (token_then pending coming m.token) (coming_then pending coming) (known m.entries)
+    (looked_up m).files m.pending
 settle_shown [] None m p c = ap (λ (o : Option (List ℕ)). state m.token o (known m.entries) (looked_up m).files m.pending) c
 settle_shown [] (Some token) m p c = refl
 settle_shown (t ∷ ts) coming m p c = ap (λ (o : Option (List ℕ)). state m.token o (known m.entries) (looked_up m).files m.pending) c
@@ -118,7 +124,8 @@ none_rise = record { entries = tt; files = tt }
 rising_changes : (m : MirrorState) (token : List ℕ) (zones : List ListZone) → IsRisingMirror m → IsRisingMirror (lists.after_changes m token zones)
 rising_changes m token [] r = record { entries = r.entries; files = r.files }
 rising_changes m token (z ∷ zs) r = record {
-  entries = rising_put_all entry_name (z ∷ zs) (kept_entries (z ∷ zs) m.entries) (rising_filter entry_name (λ y. not (is_alias (z ∷ zs) y.tzid)) m.entries r.entries);
+  entries = rising_put_all entry_name (z ∷ zs) (kept_entries (z ∷ zs) m.entries)
+      (rising_filter entry_name (λ y. not (is_alias (z ∷ zs) y.tzid)) m.entries r.entries);
   files = rising_filter file_name (λ f. not (is_alias (z ∷ zs) f.tzid)) m.files r.files;
 }
 

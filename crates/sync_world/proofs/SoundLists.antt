@@ -33,7 +33,8 @@ names_are : (texts : List (List ℕ)) → are_identifiers (items_of (map string 
 names_are [] = refl
 names_are (t ∷ ts) = ap (λ b. is_identifier t && b) (names_are ts)
 
-entry_with : (aliases : List (List ℕ)) (z : ListZone) → list_all is_identifier aliases ≡ true → IsGoodZone z → is_entry (object (with_aliases aliases (zone_members z))) ≡ true
+entry_with : (aliases : List (List ℕ)) (z : ListZone) → list_all is_identifier aliases ≡ true → IsGoodZone z
+    → is_entry (object (with_aliases aliases (zone_members z))) ≡ true
 unfolding is_entry has_text strings
 entry_with [] z all k = rw (k.tzid, reads_back_lem z.stamp.seconds (stamp_has_text z.stamp.seconds k.stamp), k.publisher, k.version) refl
 entry_with (a ∷ more) z all k =
@@ -72,7 +73,8 @@ names_counted (z ∷ zs) = rw (aliases_are z, names_counted zs) refl
 
 -- ---- the list
 
-pub no_list_fault : (token : List ℕ) (zones : List ListZone) → is_token token ≡ true → AllByRecursion IsGoodZone zones → length zones ≤ MOST_ZONES → name_total zones ≤ MOST_NAMES
+pub no_list_fault : (token : List ℕ) (zones : List ListZone) → is_token token ≡ true → AllByRecursion IsGoodZone zones → length zones ≤ MOST_ZONES
+    → name_total zones ≤ MOST_NAMES
     → list_fault (list_data token zones) ≡ None
 unfolding list_fault is_list has_text list_data
 no_list_fault token zones good all few names =
@@ -93,7 +95,8 @@ release_at [] i r all one = one
 release_at (x ∷ xs) zero r all one = all.0
 release_at (x ∷ xs) (suc i) r all one = release_at xs i r all.1 one
 
-zones_good : (H : List ReleaseData) (last : ReleaseData) (cs : List ContentData) → AllByRecursion IsSound H → IsSound last → IsTrue (list_all is_identifier (names_of cs))
+zones_good : (H : List ReleaseData) (last : ReleaseData) (cs : List ContentData) → AllByRecursion IsSound H → IsSound last
+    → IsTrue (list_all is_identifier (names_of cs))
     → AllByRecursion (λ e. IsGoodZone (listed e)) (map (entry_of H last) cs)
 zones_good H last [] all one names = tt
 zones_good H last (c ∷ cs) all one names =

@@ -102,7 +102,8 @@ grown P H X l s (stands m k) =
       pending = subst (λ G. AllByRecursion (λ t. is_some (zone_at (zones_of G) t) ≡ true) s.pending) (sym same) k.pending;
     })
   where
-    tokens_grown : (pending : List (List ℕ)) → token_of (H ++ X) m ≡ token_of H m → TokensStand H m pending s.token s.coming → TokensStand (H ++ X) m pending s.token s.coming
+    tokens_grown : (pending : List (List ℕ)) → token_of (H ++ X) m ≡ token_of H m → TokensStand H m pending s.token s.coming
+        → TokensStand (H ++ X) m pending s.token s.coming
     tokens_grown [] e t = (t.0 ∙ ap Some (sym e), t.1)
     tokens_grown (p ∷ ps) e t = t ∙ ap Some (sym e)
 
@@ -113,12 +114,14 @@ pub record IsGood (P : Service) (H : List ReleaseData) (n : ℕ) (s : StateData)
   pub known_token : length H ≤ P.kept → said ≡ heard.BadToken → ⊥
   pub next : Invariant P H n (state_after s said)
 
-pub settles : (H : List ReleaseData) (n : ℕ) (pending : List (List ℕ)) (token : Option (List ℕ)) → TokensStand H n pending (token_then pending (Some (token_of H n)) token) (coming_then pending (Some (token_of H n)))
+pub settles : (H : List ReleaseData) (n : ℕ) (pending : List (List ℕ)) (token : Option (List ℕ))
+    → TokensStand H n pending (token_then pending (Some (token_of H n)) token) (coming_then pending (Some (token_of H n)))
 settles H n [] token = (refl, refl)
 settles H n (t ∷ ts) token = refl
 
 -- a list knows the identifiers of its place's zones
-pub known_zone : (sound : ReleaseData → Type 0) (G : List ReleaseData) (t : List ℕ) → 1 ≤ length G → is_some (known (list_of G) t) ≡ is_some (zone_at (zones_of G) t)
+pub known_zone : (sound : ReleaseData → Type 0) (G : List ReleaseData) (t : List ℕ) → 1 ≤ length G
+    → is_some (known (list_of G) t) ≡ is_some (zone_at (zones_of G) t)
 known_zone sound G t long =
     let c = cut G (length G) (long, omega arith) in
     subst (λ F. is_some (known (list_of F) t) ≡ is_some (zone_at (zones_of F) t)) (sym c.whole) (by c.A c.x c.X)
@@ -127,7 +130,8 @@ known_zone sound G t long =
     some_map f None = refl
     some_map f (Some c) = refl
 
-    by : (A : List ReleaseData) (x : ReleaseData) (X : List ReleaseData) → is_some (known (list_of (A ++ x ∷ X)) t) ≡ is_some (zone_at (zones_of (A ++ x ∷ X)) t)
+    by : (A : List ReleaseData) (x : ReleaseData) (X : List ReleaseData)
+        → is_some (known (list_of (A ++ x ∷ X)) t) ≡ is_some (zone_at (zones_of (A ++ x ∷ X)) t)
     by A x X = ap is_some (known_is A x X t) ∙ some_map _ (zone_at (end x X).contents t) ∙ ap (λ cs. is_some (zone_at cs t)) (sym (zones_are A x X))
 
 module _ (P : Service) (sound : ReleaseData → Type 0) (H : List ReleaseData) (n : ℕ) (h : IsHistory sound H) (place : IsPlace H n) where
@@ -145,7 +149,8 @@ module _ (P : Service) (sound : ReleaseData → Type 0) (H : List ReleaseData) (
   all_files t None e = refl
   all_files t (Some c) e =
       let low : 1 ≤ n = place.0 in
-      inl (known_pending (list_of (take n H)) t (list_rises sound (take n H) (history_front sound H n h) (omega (arith, long))) (known_zone sound (take n H) t (omega (arith, long)) ∙ ap is_some e))
+      inl (known_pending (list_of (take n H)) t (list_rises sound (take n H) (history_front sound H n h) (omega (arith, long)))
+      (known_zone sound (take n H) t (omega (arith, long)) ∙ ap is_some e))
 
   pub whole_list : (s : StateData) → s.token ≡ None → Stands P H n n (state_after s (list_at (take n H) (list_of (take n H))))
   whole_list s none =
@@ -162,4 +167,5 @@ module _ (P : Service) (sound : ReleaseData → Type 0) (H : List ReleaseData) (
         pending = each_pending (list_of (take n H)) (λ t. is_some (zone_at (zones_of (take n H)) t) ≡ true) rises
             (λ t k. sym (known_zone sound (take n H) t (omega (arith, long))) ∙ k);
       } in
-      subst (λ o. Stands P H n n (settled (after_list o s (record { token = token_of (take n H) (length (take n H)); zones = list_of (take n H) })))) (sym none) after
+      subst (λ o. Stands P H n n (settled (after_list o s (record { token = token_of (take n H) (length (take n H)); zones = list_of (take n H) }))))
+      (sym none) after

@@ -36,7 +36,8 @@ module _ (P : Service) (sound : ReleaseData → Type 0) (H : List ReleaseData) (
       let e : q ≡ length A + 1 + (q - m) = omega arith in
       sym (take-take q n H high) ∙ ap (take q) whole ∙ ap (λ k. take k (A ++ x ∷ X)) e ∙ take_past A x X (q - m)
 
-  got_now : (t : List ℕ) (c : ContentData) (held : Option (List ℕ)) → IsZone (end x X).contents t c → IsKept sound A x X h t c → IsGot P H m l t held → IsGot P H n n t held
+  got_now : (t : List ℕ) (c : ContentData) (held : Option (List ℕ)) → IsZone (end x X).contents t c → IsKept sound A x X h t c → IsGot P H m l t held
+      → IsGot P H n n t held
   got_now t c held is k g =
       let up : g.q ≤ l = g.upto in
       let there : named (zones_of (A ++ x ∷ take (g.q - m) X)) t ≡ Some c =
@@ -75,7 +76,8 @@ some_known sound A x X h t k = by (zone_at (end x X).contents t) refl
   where
     by : (o : Option ContentData) → zone_at (end x X).contents t ≡ o → is_some (zone_at (end x X).contents t) ≡ true
     by None e =
-        let none : known (news sound A x X h) t ≡ None = known_none (at_change (A ++ x ∷ X) (end x X)) (last_change (A ++ x ∷ X)) (length A + 1) (end x X).contents t e in
+        let none : known (news sound A x X h) t ≡ None =
+        known_none (at_change (A ++ x ∷ X) (end x X)) (last_change (A ++ x ∷ X)) (length A + 1) (end x X).contents t e in
         absurd (cc)
     by (Some c) e = rw e
 
@@ -86,7 +88,8 @@ record AfterChanges (P : Service) (H : List ReleaseData) (n : ℕ) (s : StateDat
   pending : AllByRecursion (λ t. is_some (zone_at (zones_of (take n H)) t) ≡ true) (pending_of Z)
   rises : Rising entry_name Z
 
-after_cut : (P : Service) (sound : ReleaseData → Type 0) (H : List ReleaseData) (m l n : ℕ) (A : List ReleaseData) (x : ReleaseData) (X T G : List ReleaseData) (s : StateData)
+after_cut : (P : Service) (sound : ReleaseData → Type 0) (H : List ReleaseData) (m l n : ℕ) (A : List ReleaseData) (x : ReleaseData)
+    (X T G : List ReleaseData) (s : StateData)
     → (h : IsHistory sound (A ++ x ∷ X)) → take n H ≡ A ++ x ∷ X → G ≡ A ++ x ∷ X → T ≡ A ++ x ∷ [] → m ≡ length A + 1 → l ≤ n
     → ((t : List ℕ) → FileStands P H m l [] t (s.files t) (zone_at (zones_of T) t))
     → ((t : List ℕ) → FileStands P H n n (pending_of (changes_of G m)) t (kept s.files (changes_of G m) t) (zone_at (zones_of G) t))
@@ -103,7 +106,8 @@ after_cut P sound H m l n A x X T G s h whole same front place le old =
       rw Z (news_rises sound A x X h),
     )
 
-module _ (P : Service) (sound : ReleaseData → Type 0) (finds : FindsPlaces sound P) (no_other : FindsNoOther sound P) (H : List ReleaseData) (m l n : ℕ) (h : IsHistory sound H) (place : IsPlace H n) (le : l ≤ n) (s : StateData) (k : Stands P H m l s) where
+module _ (P : Service) (sound : ReleaseData → Type 0) (finds : FindsPlaces sound P) (no_other : FindsNoOther sound P) (H : List ReleaseData) (m l n : ℕ)
+    (h : IsHistory sound H) (place : IsPlace H n) (le : l ≤ n) (s : StateData) (k : Stands P H m l s) where
   in_front : IsPlace (take n H) m
   in_front =
       let low : 1 ≤ m = k.low in
@@ -120,7 +124,8 @@ module _ (P : Service) (sound : ReleaseData → Type 0) (finds : FindsPlaces sou
       let g : IsHistory sound (take n H) = history_front sound H n h in
       let old : (t : List ℕ) → FileStands P H m l [] t (s.files t) (zone_at (zones_of (take m H)) t) =
       λ t. subst (λ p. FileStands P H m l p t (s.files t) (zone_at (zones_of (take m H)) t)) none (k.files t) in
-      let both = after_cut P sound H m l n c.A c.x c.X (take m H) (take n H) s (subst (IsHistory sound) c.whole g) c.whole c.whole (sym front_same ∙ c.front) c.place le old in
+      let both = after_cut P sound H m l n c.A c.x c.X (take m H) (take n H) s (subst (IsHistory sound) c.whole g) c.whole c.whole
+      (sym front_same ∙ c.front) c.place le old in
       record {
         entries = λ t.
             ap (λ o. option_or (known (changes_of (take n H) m) t) (unless (is_alias (changes_of (take n H) m) t) o))
@@ -159,7 +164,8 @@ module _ (P : Service) (sound : ReleaseData → Type 0) (finds : FindsPlaces sou
       let tokens : TokensStand H m [] s.token s.coming = subst (λ p. TokensStand H m p s.token s.coming) none k.tokens in
       let own = own_token P sound H n h place in
       let after = settled_changes (changes_of (take n H) m) (token_of (take n H) (length (take n H))) none tokens.1 own (after_them none) in
-      subst (λ o. Stands P H n n (settled (after_list o s (record { token = token_of (take n H) (length (take n H)); zones = changes_of (take n H) m })))) (sym tokens.0) after
+      subst (λ o. Stands P H n n (settled (after_list o s (record { token = token_of (take n H) (length (take n H)); zones = changes_of (take n H) m }))))
+      (sym tokens.0) after
 
   record IsNamed (t : List ℕ) : Type 0 where
     zone : ContentData
@@ -171,10 +177,12 @@ module _ (P : Service) (sound : ReleaseData → Type 0) (finds : FindsPlaces sou
       let g : IsHistory sound (c.A ++ c.x ∷ c.X) = subst (IsHistory sound) c.whole (history_front sound H n h) in
       let os : zones_of (take m H) ≡ c.x.contents = ap zones_of (sym front_same ∙ c.front) ∙ zones_are c.A c.x [] in
       let zs : zones_of (take n H) ≡ (end c.x c.X).contents = ap zones_of c.whole ∙ zones_are c.A c.x c.X in
-      by (end c.x c.X).contents zs (name c.x.contents (zone_at c.x.contents t) refl (ap (λ cs. is_some (zone_at cs t)) (sym os) ∙ some) (still_named sound c.A c.x c.X g t))
+      by (end c.x c.X).contents zs
+      (name c.x.contents (zone_at c.x.contents t) refl (ap (λ cs. is_some (zone_at cs t)) (sym os) ∙ some) (still_named sound c.A c.x c.X g t))
       (role (end c.x c.X).contents t (ends_distinct sound c.A c.x c.X g))
     where
-      name : {P : Type 0} (cs : List ContentData) (o : Option ContentData) → zone_at cs t ≡ o → is_some (zone_at cs t) ≡ true → (has_text (names_of cs) t ≡ true → P) → P
+      name : {P : Type 0} (cs : List ContentData) (o : Option ContentData) → zone_at cs t ≡ o → is_some (zone_at cs t) ≡ true
+          → (has_text (names_of cs) t ≡ true → P) → P
       name cs None e k f = absurd (cc)
       name cs (Some c) e k f = f (zone_named cs t c e)
 
@@ -183,7 +191,8 @@ module _ (P : Service) (sound : ReleaseData → Type 0) (finds : FindsPlaces sou
       by cs e k (an_alias c is) = record { zone = c; is = ap (λ zs. named zs t) e ∙ is.named }
       by cs e k (no_name is) = let no = is.not_name in absurd (cc)
 
-  got_file : (t : List ℕ) (ts : List (List ℕ)) (file : List ℕ) (u : List ℕ) (o : Option ContentData) → Some file ≡ served_for P t (named (zones_of (take n H)) t) → is_some o ≡ true ⊎ (bytes_eq u t ≡ false)
+  got_file : (t : List ℕ) (ts : List (List ℕ)) (file : List ℕ) (u : List ℕ) (o : Option ContentData)
+      → Some file ≡ served_for P t (named (zones_of (take n H)) t) → is_some o ≡ true ⊎ (bytes_eq u t ≡ false)
       → FileStands P H m l (t ∷ ts) u (s.files u) o → FileStands P H m n ts u (with_file s.files t file u) o
   got_file t ts file u o is other old = by (bytes_eq u t) refl o other old
     where
@@ -197,7 +206,13 @@ module _ (P : Service) (sound : ReleaseData → Type 0) (finds : FindsPlaces sou
       by true e None (inr wrong) old = absurd (cc)
       by true e (Some c) other old =
           let w : m ≤ l = k.within in
-          inr (record { q = n; from = omega arith; upto = omega arith; is = subst (λ v. Some file ≡ served_for P v (named (zones_of (take n H)) v)) (sym (bytes_same u t e)) is })
+          inr (record {
+            q = n;
+            from = omega arith;
+            upto = omega arith;
+            is =
+                subst (λ v. Some file ≡ served_for P v (named (zones_of (take n H)) v)) (sym (bytes_same u t e)) is;
+          })
       by false e None other old = old
       by false e (Some c) other (inl p) = inl (has false e p e)
       by false e (Some c) other (inr g) = let up : g.q ≤ l = g.upto in inr (record { q = g.q; from = g.from; upto = omega arith; is = g.is })
@@ -205,7 +220,8 @@ module _ (P : Service) (sound : ReleaseData → Type 0) (finds : FindsPlaces sou
   pub one_file : (t : List ℕ) (ts : List (List ℕ)) → s.pending ≡ t ∷ ts → IsGood P H n s
   one_file t ts e =
       let w : m ≤ l = k.within in
-      let all : AllByRecursion (λ u. is_some (zone_at (zones_of (take m H)) u) ≡ true) (t ∷ ts) = subst (AllByRecursion (λ u. is_some (zone_at (zones_of (take m H)) u) ≡ true)) e k.pending in
+      let all : AllByRecursion (λ u. is_some (zone_at (zones_of (take m H)) u) ≡ true) (t ∷ ts) =
+      subst (AllByRecursion (λ u. is_some (zone_at (zones_of (take m H)) u) ≡ true)) e k.pending in
       let z = still_there t all.0 in
       let coming : s.coming ≡ Some (token_of H m) = subst (λ p. TokensStand H m p s.token s.coming) e k.tokens in
       let after : Stands P H m n (settled (after_file (t ∷ ts) s (P.served t z.zone))) =
@@ -221,12 +237,14 @@ module _ (P : Service) (sound : ReleaseData → Type 0) (finds : FindsPlaces sou
       } in
       record {
         said = heard.Zone (P.served t z.zone);
-        is = subst (λ p. told P (take n H) (ask_for p s.token) ≡ Some (heard.Zone (P.served t z.zone))) (sym e) (ap (λ o. option_map file_told (served_for P t o)) z.is);
+        is = subst (λ p. told P (take n H) (ask_for p s.token) ≡ Some (heard.Zone (P.served t z.zone))) (sym e)
+            (ap (λ o. option_map file_told (served_for P t o)) z.is);
         known_token = λ wide no. cc;
         next = stands m (subst (λ p. Stands P H m n (settled (after_file p s (P.served t z.zone)))) (sym e) after);
       }
     where
-      case : (u v : List ℕ) → is_some (zone_at (zones_of (take m H)) v) ≡ true → (b : Bool) → bytes_eq u v ≡ b → is_some (zone_at (zones_of (take m H)) u) ≡ true ⊎ (bytes_eq u v ≡ false)
+      case : (u v : List ℕ) → is_some (zone_at (zones_of (take m H)) v) ≡ true → (b : Bool) → bytes_eq u v ≡ b
+          → is_some (zone_at (zones_of (take m H)) u) ≡ true ⊎ (bytes_eq u v ≡ false)
       case u v some true same = inl (subst (λ w. is_some (zone_at (zones_of (take m H)) w) ≡ true) (sym (bytes_same u v same)) some)
       case u v some false other = inr other
 
@@ -272,7 +290,8 @@ module _ (P : Service) (sound : ReleaseData → Type 0) (finds : FindsPlaces sou
         next = fresh (after_bad none);
       }
 
-pub good : (P : Service) (sound : ReleaseData → Type 0) → FindsPlaces sound P → FindsNoOther sound P → (H : List ReleaseData) (l n : ℕ) (h : IsHistory sound H) (place : IsPlace H n) (le : l ≤ n) (s : StateData)
+pub good : (P : Service) (sound : ReleaseData → Type 0) → FindsPlaces sound P → FindsNoOther sound P
+    → (H : List ReleaseData) (l n : ℕ) (h : IsHistory sound H) (place : IsPlace H n) (le : l ≤ n) (s : StateData)
     → Invariant P H l s → IsGood P H n s
 good P sound finds no_other H l n h place le s (fresh f) = record {
   said = list_at (take n H) (list_of (take n H));

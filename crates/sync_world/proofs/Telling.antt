@@ -69,8 +69,10 @@ module _ (H : List ReleaseData) (history : IsHistory IsSound H) where
   full_so : (h : Heard) → Hears (ask.List None) (list_answer H param.Absent) h → told action_service H (ask.List None) ≡ Some h
   unfolding list_answer list_text list_of token
   full_so (heard.List doc) k =
-      let is = list_read token (map listed (filter (λ _. true) (meta H))) doc (each_stamped (filter (λ _. true) (meta H)) (each_filtered IsPlainEntry (λ _. true) (meta H) plain)) k.1 in
-      ap (λ (es : List EntryData). Some (heard.List (list token (map listed es)))) (sym (all_entries (meta H))) ∙ ap (λ (d : ListDoc). Some (heard.List d)) (sym is)
+      let is = list_read token (map listed (filter (λ _. true) (meta H))) doc
+      (each_stamped (filter (λ _. true) (meta H)) (each_filtered IsPlainEntry (λ _. true) (meta H) plain)) k.1 in
+      ap (λ (es : List EntryData). Some (heard.List (list token (map listed es)))) (sym (all_entries (meta H)))
+      ∙ ap (λ (d : ListDoc). Some (heard.List d)) (sym is)
   full_so (heard.Zone bytes) k = absurd k
   full_so heard.BadToken k = absurd k
 
@@ -91,7 +93,8 @@ module _ (H : List ReleaseData) (history : IsHistory IsSound H) where
   list_so None head h k = full_so h k
   list_so (Some since) head h k = since_so since (place_of H since) h k
 
-got_so : (name : List ℕ) (o : Option EntryData) (h : Heard) → Hears (ask.Get name) (got name o (Some (codes "application/tzif")) None param.Absent param.Absent) h
+got_so : (name : List ℕ) (o : Option EntryData) (h : Heard)
+    → Hears (ask.Get name) (got name o (Some (codes "application/tzif")) None param.Absent param.Absent) h
     → option_map file_told (option_map (file_bytes name) (option_map content_at o)) ≡ Some h
 got_so name o (heard.List doc) k = absurd k
 got_so name o heard.BadToken k = absurd k
@@ -109,7 +112,8 @@ file_so H name head h accept held k =
     let two = subst (λ f. Hears (ask.Get name) (got name o (Some (codes "application/tzif")) f param.Absent param.Absent) h) held one in
     ap (λ z. option_map file_told (option_map (file_bytes name) z)) (sym (entry_named H name)) ∙ got_so name o h two
 
-answer_so : (H : List ReleaseData) (a : Ask) (head : Head) (h : Heard) → IsHistory IsSound H → IsHeadOf a head → Hears a (answer_for H Primary head (asked_by a)) h → told action_service H a ≡ Some h
+answer_so : (H : List ReleaseData) (a : Ask) (head : Head) (h : Heard) → IsHistory IsSound H → IsHeadOf a head
+    → Hears a (answer_for H Primary head (asked_by a)) h → told action_service H a ≡ Some h
 answer_so H (ask.List since) head h history k heard_it = list_so H history since head h heard_it
 answer_so H (ask.Get name) head h history k heard_it = file_so H name head h k.accept k.none_match heard_it
 

@@ -91,7 +91,8 @@ visible_token n chain small below =
     let low : nat_le 1 (length (decimal n ++ 45 ∷ take 16 (encode_lower chain))) ≡ true = le-leb _ _ (omega (arith, whole)) in
     let high : nat_le (length (decimal n ++ 45 ∷ take 16 (encode_lower chain))) 64 ≡ true = le-leb _ _ (omega (arith, whole, hex, number)) in
     let bytes : IsVisible (decimal n ++ 45 ∷ take 16 (encode_lower chain)) =
-    append_visible (decimal n) (45 ∷ take 16 (encode_lower chain)) (number_visible n (omega arith)) (take_visible 16 (encode_lower chain) (hex_visible chain below)) in
+    append_visible (decimal n) (45 ∷ take 16 (encode_lower chain)) (number_visible n (omega arith))
+    (take_visible 16 (encode_lower chain) (hex_visible chain below)) in
     rw (low, high, bytes)
 
 pub token_is : (H : List ReleaseData) (n : ℕ) → n < 2 ^ 32 → is_token (token_of H n) ≡ true

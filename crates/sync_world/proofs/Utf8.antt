@@ -19,7 +19,8 @@ comma_utf8 : (later : Bool) → IsUtf8 (comma_if later)
 comma_utf8 true = IsUtf8-are_ascii (44 ∷ []) refl
 comma_utf8 false = IsUtf8-nil
 
-member_utf8 : (later : Bool) (k : List ℕ) (d : Data) (ms : Members) → IsUtf8 k → IsUtf8 (compact_text d) → IsUtf8 (members_text true ms) → IsUtf8 (members_text later (member k d ms))
+member_utf8 : (later : Bool) (k : List ℕ) (d : Data) (ms : Members) → IsUtf8 k → IsUtf8 (compact_text d) → IsUtf8 (members_text true ms)
+    → IsUtf8 (members_text later (member k d ms))
 member_utf8 later k d ms key value rest =
     IsUtf8-append (comma_if later) _ (comma_utf8 later)
     (IsUtf8-append (quoted k) _ (IsUtf8-quoted k key)
@@ -31,13 +32,15 @@ end_utf8 = IsUtf8-are_ascii (125 ∷ []) refl
 object_utf8 : (ms : Members) → IsUtf8 (members_text false ms) → IsUtf8 (compact_text (object ms))
 object_utf8 ms u = IsUtf8-append (123 ∷ []) (members_text false ms) (IsUtf8-are_ascii (123 ∷ []) refl) u
 
-items_utf8 : {X : Type 0} (f : X → Data) (later : Bool) (xs : List X) → AllByRecursion (λ x. IsUtf8 (compact_text (f x))) xs → IsUtf8 (items_text later (items_of (map f xs)))
+items_utf8 : {X : Type 0} (f : X → Data) (later : Bool) (xs : List X) → AllByRecursion (λ x. IsUtf8 (compact_text (f x))) xs
+    → IsUtf8 (items_text later (items_of (map f xs)))
 items_utf8 f later [] all = IsUtf8-are_ascii (93 ∷ []) refl
 items_utf8 f later (x ∷ xs) all =
     IsUtf8-append (comma_if later) _ (comma_utf8 later)
     (IsUtf8-append (compact_text (f x)) (items_text true (items_of (map f xs))) all.0 (items_utf8 f true xs all.1))
 
-array_utf8 : {X : Type 0} (f : X → Data) (xs : List X) → AllByRecursion (λ x. IsUtf8 (compact_text (f x))) xs → IsUtf8 (compact_text (array (items_of (map f xs))))
+array_utf8 : {X : Type 0} (f : X → Data) (xs : List X) → AllByRecursion (λ x. IsUtf8 (compact_text (f x))) xs
+    → IsUtf8 (compact_text (array (items_of (map f xs))))
 array_utf8 f xs all = IsUtf8-append (91 ∷ []) _ (IsUtf8-are_ascii (91 ∷ []) refl) (items_utf8 f false xs all)
 
 string_utf8 : (s : List ℕ) → IsPlain s → IsUtf8 (compact_text (string s))
@@ -60,7 +63,8 @@ members_utf8 later z p =
     (member_utf8 true (codes "tzid") (string z.tzid) version (IsUtf8-are_ascii (codes "tzid") refl) (string_utf8 z.tzid p.tzid)
     (member_utf8 true (codes "version") (string z.version) no_members (IsUtf8-are_ascii (codes "version") refl) (string_utf8 z.version p.version) end_utf8))))
 
-with_utf8 : (aliases : List (List ℕ)) (z : ListZone) → AllByRecursion IsPlain aliases → IsPlainZone z → IsUtf8 (compact_text (object (with_aliases aliases (zone_members z))))
+with_utf8 : (aliases : List (List ℕ)) (z : ListZone) → AllByRecursion IsPlain aliases → IsPlainZone z
+    → IsUtf8 (compact_text (object (with_aliases aliases (zone_members z))))
 unfolding strings
 with_utf8 [] z all p = object_utf8 (zone_members z) (members_utf8 false z p)
 with_utf8 (a ∷ more) z all p =
@@ -79,4 +83,5 @@ list_utf8 token zones plain all =
     let listed : Members = member (codes "timezones") (array (items_of (map zone_data zones))) no_members in
     object_utf8 (member (codes "synctoken") (string token) listed)
     (member_utf8 false (codes "synctoken") (string token) listed (IsUtf8-are_ascii (codes "synctoken") refl) (string_utf8 token plain)
-    (member_utf8 true (codes "timezones") (array (items_of (map zone_data zones))) no_members (IsUtf8-are_ascii (codes "timezones") refl) (array_utf8 zone_data zones (each_zone zones all)) end_utf8))
+    (member_utf8 true (codes "timezones") (array (items_of (map zone_data zones))) no_members (IsUtf8-are_ascii (codes "timezones") refl)
+    (array_utf8 zone_data zones (each_zone zones all)) end_utf8))

@@ -67,7 +67,8 @@ unfolding IsDistinct
 back [] ys d = d
 back (x ∷ xs) ys d = back xs ys d.1
 
-head_apart : (c : ContentData) (cs : List ContentData) (t : List ℕ) → Distinct (c ∷ cs) → has_text (c.tzid ∷ c.aliases) t ≡ true → has_text (names_of cs) t ≡ false
+head_apart : (c : ContentData) (cs : List ContentData) (t : List ℕ) → Distinct (c ∷ cs) → has_text (c.tzid ∷ c.aliases) t ≡ true
+    → has_text (names_of cs) t ≡ false
 head_apart c cs t d h = apart (c.tzid ∷ c.aliases) (names_of cs) t d h
 
 pub rest_distinct : (c : ContentData) (cs : List ContentData) → Distinct (c ∷ cs) → Distinct cs
@@ -202,11 +203,13 @@ known_none f g n [] t h = refl
 known_none f g n (c ∷ cs) t h = by (known_none f g n cs t) (bytes_eq t c.tzid) refl h
   where
     at_rest : known (changed_by f g n cs) t ≡ None → bytes_eq t c.tzid ≡ false → (b : Bool)
-        → known (map listed (cond b (entry_from (f c) (g c) c ∷ filter (λ e. nat_lt n e.changed) (entries_by f g cs)) (filter (λ e. nat_lt n e.changed) (entries_by f g cs)))) t ≡ None
+        → known (map listed (cond b (entry_from (f c) (g c) c ∷ filter (λ e. nat_lt n e.changed) (entries_by f g cs))
+        (filter (λ e. nat_lt n e.changed) (entries_by f g cs)))) t ≡ None
     at_rest k e true = rw e k
     at_rest k e false = k
 
-    by : (zone_at cs t ≡ None → known (changed_by f g n cs) t ≡ None) → (b : Bool) → bytes_eq t c.tzid ≡ b → cond b (Some c) (zone_at cs t) ≡ None → known (changed_by f g n (c ∷ cs)) t ≡ None
+    by : (zone_at cs t ≡ None → known (changed_by f g n cs) t ≡ None) → (b : Bool) → bytes_eq t c.tzid ≡ b → cond b (Some c) (zone_at cs t) ≡ None
+        → known (changed_by f g n (c ∷ cs)) t ≡ None
     by again true e k = absurd (cc)
     by again false e k = at_rest (again k) e (nat_lt n (g c))
 
@@ -216,13 +219,15 @@ known_some f g n [] t z d h = absurd (cc)
 known_some f g n (c ∷ cs) t z d h = by (known_some f g n cs t z (rest_distinct c cs d)) (bytes_eq t c.tzid) refl h
   where
     here : bytes_eq t c.tzid ≡ true → zone_at cs t ≡ None → (b : Bool)
-        → known (map listed (cond b (entry_from (f c) (g c) c ∷ filter (λ e. nat_lt n e.changed) (entries_by f g cs)) (filter (λ e. nat_lt n e.changed) (entries_by f g cs)))) t
+        → known (map listed (cond b (entry_from (f c) (g c) c ∷ filter (λ e. nat_lt n e.changed) (entries_by f g cs))
+        (filter (λ e. nat_lt n e.changed) (entries_by f g cs)))) t
         ≡ cond b (Some (listed_by f g c)) None
     here e none true = rw e
     here e none false = known_none f g n cs t none
 
     there : bytes_eq t c.tzid ≡ false → (b : Bool) → known (changed_by f g n cs) t ≡ cond (nat_lt n (g z)) (Some (listed_by f g z)) None
-        → known (map listed (cond b (entry_from (f c) (g c) c ∷ filter (λ e. nat_lt n e.changed) (entries_by f g cs)) (filter (λ e. nat_lt n e.changed) (entries_by f g cs)))) t
+        → known (map listed (cond b (entry_from (f c) (g c) c ∷ filter (λ e. nat_lt n e.changed) (entries_by f g cs))
+        (filter (λ e. nat_lt n e.changed) (entries_by f g cs)))) t
         ≡ cond (nat_lt n (g z)) (Some (listed_by f g z)) None
     there e true k = rw e k
     there e false k = k
@@ -244,7 +249,10 @@ alias_none f g n (c ∷ cs) t h = by (alias_none f g n cs t) (nat_lt n (g c))
     parts : (has_text c.aliases t ≡ false) × (aliased cs t ≡ false)
     parts = or_none (has_text c.aliases t) (aliased cs t) h
 
-    by : (aliased cs t ≡ false → is_alias (changed_by f g n cs) t ≡ false) → (b : Bool) → is_alias (map listed (cond b (entry_from (f c) (g c) c ∷ filter (λ e. nat_lt n e.changed) (entries_by f g cs)) (filter (λ e. nat_lt n e.changed) (entries_by f g cs)))) t ≡ false
+    by : (aliased cs t ≡ false → is_alias (changed_by f g n cs) t ≡ false) → (b : Bool)
+        → is_alias (map listed
+        (cond b (entry_from (f c) (g c) c ∷ filter (λ e. nat_lt n e.changed) (entries_by f g cs))
+        (filter (λ e. nat_lt n e.changed) (entries_by f g cs)))) t ≡ false
     by again true = rw parts.0 (again parts.1)
     by again false = again parts.1
 
@@ -254,16 +262,21 @@ alias_some f g n [] t z h lt k = absurd (cc)
 alias_some f g n (c ∷ cs) t z h lt k = by (λ l. alias_some f g n cs t z l lt k) (same_content z c) refl h
   where
     here : has_text c.aliases t ≡ true → (b : Bool) → b ≡ true
-        → is_alias (map listed (cond b (entry_from (f c) (g c) c ∷ filter (λ e. nat_lt n e.changed) (entries_by f g cs)) (filter (λ e. nat_lt n e.changed) (entries_by f g cs)))) t ≡ true
+        → is_alias (map listed
+        (cond b (entry_from (f c) (g c) c ∷ filter (λ e. nat_lt n e.changed) (entries_by f g cs))
+        (filter (λ e. nat_lt n e.changed) (entries_by f g cs)))) t ≡ true
     here has true e = rw has
     here has false e = absurd (cc)
 
     later : is_alias (changed_by f g n cs) t ≡ true → (b : Bool)
-        → is_alias (map listed (cond b (entry_from (f c) (g c) c ∷ filter (λ e. nat_lt n e.changed) (entries_by f g cs)) (filter (λ e. nat_lt n e.changed) (entries_by f g cs)))) t ≡ true
+        → is_alias (map listed
+        (cond b (entry_from (f c) (g c) c ∷ filter (λ e. nat_lt n e.changed) (entries_by f g cs))
+        (filter (λ e. nat_lt n e.changed) (entries_by f g cs)))) t ≡ true
     later l true = rw l (or_true (has_text c.aliases t))
     later l false = l
 
-    by : (among z cs ≡ true → is_alias (changed_by f g n cs) t ≡ true) → (b : Bool) → same_content z c ≡ b → (b || among z cs) ≡ true → is_alias (changed_by f g n (c ∷ cs)) t ≡ true
+    by : (among z cs ≡ true → is_alias (changed_by f g n cs) t ≡ true) → (b : Bool) → same_content z c ≡ b → (b || among z cs) ≡ true
+        → is_alias (changed_by f g n (c ∷ cs)) t ≡ true
     by again true e l =
         let is : z ≡ c = same_is z c e in
         here (subst (λ (y : ContentData). has_text y.aliases t ≡ true) is k) (nat_lt n (g c)) (subst (λ y. nat_lt n (g y) ≡ true) is lt)

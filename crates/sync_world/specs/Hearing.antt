@@ -37,8 +37,8 @@ pub record IsHeadOf (a : Ask) (head : Head) : Type 0 where
   pub accept : head.accept ≡ Some (accepted a)
   pub none_match : head.none_match ≡ None
 
--- what is heard in an answer: a list in a document, a file in a body, and that a token is refused in
--- a problem of this type
+-- what is heard in an answer: a list in a document, a file in a body, and that a token is refused
+-- in a problem of this type
 abbrev pub Hears : Ask → Answer → Heard → Type 0
 Hears (ask.List token) answer (heard.List doc) =
     (answer.status ≡ 200) × IsListText answer.body doc
@@ -56,8 +56,8 @@ pub record IsHeard (H : List ReleaseData) (a : Ask) (h : Heard) : Type 0 where
   pub asks_so : IsHeadOf a head
   pub hears : Hears a (action H Primary head) h
 
--- a primary that answers so knows the tokens of all its places, and has a zone's own file under each
--- of its names
+-- a primary that answers so knows the tokens of all its places, and has a zone's own file under
+-- each of its names
 abbrev pub file_bytes : List ℕ → ContentData → List ℕ
 file_bytes name c = c.file
 

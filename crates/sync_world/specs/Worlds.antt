@@ -48,8 +48,8 @@ sent_then (Some sent) mirror n = sent
 abbrev pub after : World → Heard → World
 after w h = record { history = w.history; mirror = sync_step w.mirror h; sent = None }
 
--- the mirror takes what the primary tells over its first n releases, no fewer than it had when the ask
--- was first sent
+-- the mirror takes what is heard of the primary over its first n releases, no fewer than it had
+-- when the ask was first sent
 pub record IsAnswer (hears : List ReleaseData → Ask → Heard → Type 0) (w : World) (n : ℕ)
     (v : World) (sent : Sent) (h : Heard) : Type 0 where
   pub outstanding : w.sent ≡ Some sent

@@ -21,34 +21,38 @@ ghost use Rattle.sync_world.specs.Worlds.{Sent, Step, World, IsAnswer, Leads, be
 use crate::Primary;
 use catalogue::ZoneData;
 
-/// What is heard in the answer to a request is what there is to be told, no more and no less: lists that are written read
-/// back.
+/// What is heard in the answer to a request is what there is to be told, no more and no less: lists
+/// that are written read back.
 pub fn answers_are_heard()
     ensures { (H : List ReleaseData) (a : Ask) (head : Head) (h : Heard) → IsHistory IsSound H
         → 1 ≤ length H → IsHeadOf a head
         → (told action_service H a ≡ Some h) ↔ Hears a (action H Primary head) h }
 {}
 
-/// Each request for what is outstanding is answered, at each place from the one on at which it was first sent, and the
-/// answer does not refuse the token.
+/// Each request for what is outstanding is answered, at each place from the one on at which it was
+/// first sent, and the answer does not refuse the token.
 pub fn requests_are_answered()
-    ensures { (H : List ReleaseData) (steps : List Step) (w : World) (sent : Sent) (n : ℕ) (head : Head)
+    ensures { (H : List ReleaseData) (steps : List Step) (w : World) (sent : Sent)
+        (n : ℕ) (head : Head)
         → IsHistory IsSound H → 1 ≤ length H → Leads IsSound IsHeard (begun H) steps w
         → w.sent ≡ Some sent → sent.since ≤ n → n ≤ length w.history → IsHeadOf sent.ask head
         → (h : Heard) × Hears sent.ask (action (take n w.history) Primary head) h
         × (h ≢ heard.BadToken) }
 {}
 
-/// What is heard in the answers of the actions is what there is to be told, and a token finds its place.
+/// What is heard in the answers of the actions is what there is to be told, and a token finds its
+/// place.
 pub fn actions_serve()
     ensures { Serves IsSound IsHeard action_service }
 {}
 
-/// Wherever any steps lead from a history and an empty mirror: where the answer over the first n releases lets the mirror
-/// say that it holds what the primary has, it holds exactly the last of these n releases. The answers are those of the
-/// actions, and releases are sound as they are for this service.
+/// Wherever any steps lead from a history and an empty mirror: where the answer over the first n
+/// releases lets the mirror say that it holds what the primary has, it holds exactly the last of
+/// these n releases. The answers are those of the actions, and releases are sound as they are for
+/// this service.
 pub fn mirrors_hold_releases()
-    ensures { (H : List ReleaseData) (steps : List Step) (w v : World) (n : ℕ) (sent : Sent) (h : Heard)
+    ensures { (H : List ReleaseData) (steps : List Step) (w v : World) (n : ℕ)
+        (sent : Sent) (h : Heard)
         → IsHistory IsSound H → 1 ≤ length H → Leads IsSound IsHeard (begun H) steps w
         → IsAnswer IsHeard w n v sent h → SaysHolds w.mirror h
         → HoldsLast action_service v.mirror (take n w.history) }
@@ -56,24 +60,27 @@ pub fn mirrors_hold_releases()
 
 /// The same of any primary, as it serves.
 pub fn mirrors_hold<P: Primary>()
-    ensures { (H : List ReleaseData) (steps : List Step) (w v : World) (n : ℕ) (sent : Sent) (h : Heard)
-        → Serves P.sound P.hears P.service → IsHistory P.sound H → 1 ≤ length H → Leads P.sound P.hears (begun H) steps w
+    ensures { (H : List ReleaseData) (steps : List Step) (w v : World) (n : ℕ)
+        (sent : Sent) (h : Heard)
+        → Serves P.sound P.hears P.service → IsHistory P.sound H → 1 ≤ length H
+        → Leads P.sound P.hears (begun H) steps w
         → IsAnswer P.hears w n v sent h → SaysHolds w.mirror h
         → HoldsLast P.service v.mirror (take n w.history) }
 {}
 
-/// An ask that is outstanding has an answer at each place from the one on at which it was first sent, and no answer
-/// refuses its token while no token is retired.
+/// An ask that is outstanding has an answer at each place from the one on at which it was first
+/// sent, and no answer refuses its token while no token is retired.
 pub fn asks_are_answered<P: Primary>()
     ensures { (H : List ReleaseData) (steps : List Step) (w : World) (sent : Sent) (n : ℕ)
-        → Serves P.sound P.hears P.service → IsHistory P.sound H → 1 ≤ length H → Leads P.sound P.hears (begun H) steps w
+        → Serves P.sound P.hears P.service → IsHistory P.sound H → 1 ≤ length H
+        → Leads P.sound P.hears (begun H) steps w
         → w.sent ≡ Some sent → sent.since ≤ n → n ≤ length w.history
         → IsSomeAnd (told P.service (take n w.history) sent.ask)
         (λ h. length w.history ≤ P.service.kept → h ≢ heard.BadToken) }
 {}
 
-/// The list of an earlier place, changed by the list of changes since, is the list of the last place. What became an
-/// alias goes with the change of the zone whose alias it became.
+/// The list of an earlier place, changed by the list of changes since, is the list of the last
+/// place. What became an alias goes with the change of the zone whose alias it became.
 pub fn aliases_follow<Z: ZoneData>()
     ensures { (H : List ReleaseData) (n : ℕ) → IsHistory Z.sound H → IsPlace H n
         → put_all entry_name (changes_of H n) (kept_entries (changes_of H n) (list_of (take n H)))

@@ -8,8 +8,9 @@ use std::test::Fail;
 use td_base::{Ask, Bytes, FileRead, MemoryStore, NoMemory, Store};
 use td_civil::{HI, LO, Moment, utc_text};
 
-/// What is asked, what is told of it, and whether the mirror then holds what the primary has. What is told is a list
-/// (`{..`), `refused` of a token, `lost` where nothing comes, `restart` where the mirror begins anew, and else a file.
+/// What is asked, what is told of it, and whether the mirror then holds what the primary has. What
+/// is told is a list (`{..`), `refused` of a token, `lost` where nothing comes, `restart` where the
+/// mirror begins anew, and else a file.
 pub type Row = (&'static [u8], &'static [u8], bool);
 
 /// The text of an ask.
@@ -80,8 +81,8 @@ pub fn follow(
     Ok(())
 }
 
-/// What is held, as lines: stamp, publisher and version, and of each zone its identifier, its aliases, the name of its
-/// file and its bytes.
+/// What is held, as lines: stamp, publisher and version, and of each zone its identifier, its
+/// aliases, the name of its file and its bytes.
 pub fn held(alloc: Global, mirror: &Mirror) -> Result<Bytes, Fail> {
     match mirror.ask(alloc)? {
         Ask::Get(_) => Err(Fail::new("a file is pending")),

@@ -3,7 +3,8 @@ use crate::Mirror;
 use crate::tests::following::{Row, follow, held};
 use std::test::Fail;
 
-/// Two zones are fetched, an exchange is lost, and meanwhile one of the zones becomes an alias of a new one.
+/// Two zones are fetched, an exchange is lost, and meanwhile one of the zones becomes an alias of a
+/// new one.
 const A_SYNC: &[Row] = &[
     (
         b"list",

@@ -6,4 +6,5 @@ use Rattle.sync_core.proofs.aliases.put_aliases.Given as goal
 
 abbrev pub invariant-loop-alias : goal.invariant-loop-alias
 invariant-loop-alias l = (name : List ℕ)
-    → (list_any (bytes_eq name) (drop l.alias-index l.aliases) || has_name l.names.keys name) ≡ (list_any (bytes_eq name) l.aliases || has_name l.fn.names.keys name)
+    → (list_any (bytes_eq name) (drop l.alias-index l.aliases) || has_name l.names.keys name) ≡
+    (list_any (bytes_eq name) l.aliases || has_name l.fn.names.keys name)

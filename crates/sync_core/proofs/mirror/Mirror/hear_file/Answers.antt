@@ -8,5 +8,6 @@ returns-clause-ok c =
     let fits = own.pending.ok.0 in
     let some = c.in-Some.ensures.variant.0 refl in
     rw (← c.self.view_is)
-    (file_heard own.token own.coming own.entries.items own.files.entries c.insert.new.self.entries own.pending.items c.pop_front.new.self.items c.in-Some.first.now c.in_ok-tzid.tzid c.args.bytes
+    (file_heard own.token own.coming own.entries.items own.files.entries c.insert.new.self.entries own.pending.items c.pop_front.new.self.items
+    c.in-Some.first.now c.in_ok-tzid.tzid c.args.bytes
     c.in-Some.ensures.lookup c.in_ok-tzid.ensures (omega (arith, some, fits)) c.pop_front.ensures.rest c.in_ok-insert.ensures.entries)
