@@ -1,0 +1,41 @@
+-- What one call gives of the bytes that are held, and what that is of all the bytes fed.
+use Rattle.std.specs.Prelude.{◌≡◌, ℕ, ◌+◌, ◌<◌, ◌≤◌, List, [], ◌∷◌, ◌++◌, length, take, false, IsTrue, Option, Some, None, ⊤}
+use Rattle.std.specs.List.{before_first, after_first}
+use Rattle.console.specs.Lines.{most_bytes, is_feed, has_feed, line_of, lines_of, IsInstall}
+use Rattle.console.specs.declared.line.Line.{Line}
+
+-- how many bytes stay where no line feed is held: of a longer line these show that it is too long
+abbrev pub most_held : ℕ
+most_held = most_bytes + 1
+
+-- what a call answers of the bytes held, and which it leaves
+abbrev pub Steps : List ℕ → Option Line → List ℕ → Type 0
+Steps old (Some line) new =
+    IsTrue (has_feed old) × (line ≡ line_of (before_first is_feed old))
+    × (new ≡ after_first is_feed old)
+Steps old None new = (has_feed old ≡ false) × (new ≡ take most_held old)
+
+-- the first line of the bytes held is to install
+abbrev pub HasInstall : List ℕ → Type 0
+HasInstall held = IsTrue (has_feed held) × IsInstall (line_of (before_first is_feed held))
+
+-- whatever more is fed, the lines of all bytes are those given, followed by those of what is held
+-- and of what is fed then
+abbrev pub Gives : List ℕ → List Line → List ℕ → Type 0
+Gives all given held = (more : List ℕ) → lines_of (all ++ more) ≡ given ++ lines_of (held ++ more)
+
+-- what the next call answers after these lines were given: one more, or that they are the lines of
+-- all bytes
+abbrev pub Continues : List ℕ → List Line → Option Line → List ℕ → Type 0
+Continues all given (Some line) held = Gives all (given ++ line ∷ []) held
+Continues all given None held = Gives all given held × (lines_of all ≡ given)
+
+-- a line takes bytes, so that asking again and again ends
+abbrev pub LeavesFewer : List ℕ → List ℕ → Option Line → Type 0
+LeavesFewer old new (Some line) = length new < length old
+LeavesFewer old new None = length new ≤ length old
+
+-- where there is no line, few bytes are held
+abbrev pub LeavesFew : List ℕ → Option Line → Type 0
+LeavesFew new None = length new ≤ most_held
+LeavesFew new (Some line) = ⊤

@@ -1,0 +1,22 @@
+//! Laws of the definitions, each the contract of a function that does nothing.
+ghost use Rattle.std.specs.Prelude.{◌≡◌, ℕ, List, [], ◌++◌, map, IsTrue};
+ghost use Rattle.std.specs.List.{flat_map, list_all};
+ghost use Rattle.console.specs.Lines.{ended, is_whole_text, line_of, lines_of};
+ghost use Rattle.console.specs.Steps.{Gives};
+ghost use Rattle.console.specs.declared.line.Line.{Line};
+
+/// Texts without line feeds, each followed by one, are the lines of these texts.
+pub fn reads_written()
+    ensures { (texts : List (List ℕ)) → IsTrue (list_all is_whole_text texts)
+        → lines_of (flat_map ended texts) ≡ map line_of texts }
+{}
+
+/// The lines of a list are the first of those of each longer one. What was given holds at the start,
+/// and gives the lines of all bytes at each moment.
+pub fn goes_on()
+    ensures prefix { (bytes more : List ℕ)
+        → (later : List Line) × (lines_of (bytes ++ more) ≡ lines_of bytes ++ later) }
+    ensures start { Gives [] [] [] }
+    ensures given { (all : List ℕ) (given : List Line) (held : List ℕ)
+        → Gives all given held → lines_of all ≡ given ++ lines_of held }
+{}
