@@ -1,0 +1,47 @@
+//! The rule of the shared word, and the kinds of step on it.
+use crate::knows::Knows;
+use atomic_table::{Play, Split, Table, TableRule};
+use std::alloc::Global;
+
+/// The word is 1 exactly where the flag was raised, and no sign has seen more.
+pub struct FlagRule;
+
+impl TableRule<(), Knows, ()> for FlagRule {
+    ghost use Rattle.desk_pool.specs.Flag.{Holds, owner};
+
+    ghost holds = { λ _. Holds };
+
+    ghost first = { λ _. owner };
+}
+
+/// The flag raises itself.
+pub struct Raising;
+
+impl Play<(), Knows> for Raising {
+    ghost use Rattle.desk_pool.specs.Flag.{Raises};
+
+    ghost then = { Raises };
+}
+
+/// A sign looks.
+pub struct Looking;
+
+impl Play<(), Knows> for Looking {
+    ghost use Rattle.desk_pool.specs.Flag.{Looks};
+
+    ghost then = { Looks };
+}
+
+/// The flag gives a sign, which has seen nothing.
+pub struct Sharing;
+
+impl Split<Knows> for Sharing {
+    ghost use Rattle.desk_pool.specs.Flag.{shared_left, shared_right};
+
+    ghost left = { shared_left };
+
+    ghost right = { shared_right };
+}
+
+/// One word and no slots.
+pub type Board = Table<(), Knows, (), FlagRule, Global>;
