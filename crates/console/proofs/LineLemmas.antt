@@ -1,14 +1,15 @@
 -- The lines of a list, by what has come of the first.
-use Rattle.std.proofs.Common.{◌≡◌, ◌<◌, ◌≤◌, ℕ, ◌⊎◌, inl, inr, Bool, true, false, not, ◌&&◌, ◌||◌, List, [], ◌∷◌, ◌++◌, length, take, drop, map, nat_le, refl, sym, ap, ◌∙◌, arith, append_assoc, length-append, take-append-drop}
+use Rattle.std.proofs.Common.{cond, codes, subst, ◌≡◌, ◌<◌, ◌≤◌, ℕ, ◌⊎◌, inl, inr, Bool, true, false, not, ◌&&◌, ◌||◌, List, [], ◌∷◌, ◌++◌, length, take, drop, map, nat_le, refl, sym, ap, ◌∙◌, arith, append_assoc, length-append, take-append-drop}
+use Rattle.std.specs.Str.{bytes_eq}
 use Rattle.std.specs.List.{before_first, after_first, list_all, flat_map}
-use Rattle.std.proofs.lemmas.Bool.{cases_Bool}
+use Rattle.std.proofs.lemmas.Bool.{cases_Bool, true≢false}
 use Rattle.std.proofs.lemmas.Bool.Decides.{nat_tests}
 use Rattle.std.proofs.lemmas.List.{append-nil, length-take, take_all}
 use Rattle.std.proofs.lemmas.List.Folds.{list_any-append}
 use Rattle.console.proofs.PlaceLemmas.{before_here, after_here, before_later, after_later}
 use Rattle.console.specs.declared.line.Line.{Line}
 use Rattle.console.specs.declared.line.Line.TheVariants as line
-use Rattle.console.specs.Lines.{is_feed, has_feed, is_whole_text, ended, line_of, lines_from, lines_of}
+use Rattle.console.specs.Lines.{is_folder, without_return, install_of, command_of, is_feed, has_feed, is_whole_text, ended, line_of, lines_from, lines_of}
 
 pub lines_none : (begun : List ℕ) → lines_from begun [] ≡ []
 unfolding lines_from
@@ -127,3 +128,48 @@ written [] e = lines_none []
 written (text ∷ texts) e =
     let parts : (is_whole_text text ≡ true) × (list_all is_whole_text texts ≡ true) = both (is_whole_text text) (list_all is_whole_text texts) e in
     whole_line text (flat_map ended texts) (not_true (has_feed text) parts.0) ∙ ap (λ l. line_of text ∷ l) (written texts parts.1)
+
+-- the folder of a line, or another list
+abbrev folder_or : List ℕ → Line → List ℕ
+folder_or other (line.Install folder) = folder
+folder_or other line.Sync = other
+folder_or other line.Status = other
+folder_or other line.Quit = other
+folder_or other line.Strange = other
+
+abbrev is_install : Line → Bool
+is_install (line.Install folder) = true
+is_install line.Sync = false
+is_install line.Status = false
+is_install line.Quit = false
+is_install line.Strange = false
+
+install_by : (word folder : Bool) (text rest : List ℕ) → is_folder rest ≡ folder
+    → cond (word && folder) (line.Install rest) line.Strange ≡ line.Install text → is_folder text ≡ true
+install_by true true text rest f e = subst (λ l. is_folder l ≡ true) (ap (folder_or []) e) f
+install_by true false text rest f e = absurd (true≢false (sym (ap is_install e)))
+install_by false folder text rest f e = absurd (true≢false (sym (ap is_install e)))
+
+words_by : (sync status quit : Bool) (l : Line) (text : List ℕ) → (l ≡ line.Install text → is_folder text ≡ true)
+    → cond sync line.Sync (cond status line.Status (cond quit line.Quit l)) ≡ line.Install text → is_folder text ≡ true
+words_by true status quit l text h e = absurd (true≢false (sym (ap is_install e)))
+words_by false true quit l text h e = absurd (true≢false (sym (ap is_install e)))
+words_by false false true l text h e = absurd (true≢false (sym (ap is_install e)))
+words_by false false false l text h e = h e
+
+of_command : (bytes text : List ℕ) → command_of bytes ≡ line.Install text → is_folder text ≡ true
+unfolding command_of
+of_command bytes text e =
+    words_by (bytes_eq bytes (codes "sync")) (bytes_eq bytes (codes "status")) (bytes_eq bytes (codes "quit")) (install_of bytes) text
+    (install_by (bytes_eq (take 8 bytes) (codes "install ")) (is_folder (drop 8 bytes)) text (drop 8 bytes) refl) e
+
+short_by : (short : Bool) (l : Line) (text : List ℕ) → (l ≡ line.Install text → is_folder text ≡ true)
+    → cond short l line.Strange ≡ line.Install text → is_folder text ≡ true
+short_by true l text h e = h e
+short_by false l text h e = absurd (true≢false (sym (ap is_install e)))
+
+-- the folder of an `install` is named as folders are
+pub named_folder : (bytes folder : List ℕ) → line_of bytes ≡ line.Install folder → is_folder folder ≡ true
+unfolding line_of
+named_folder bytes folder e =
+    short_by (nat_le (length bytes) 1100) (command_of (without_return bytes)) folder (of_command (without_return bytes) folder) e

@@ -1,9 +1,10 @@
 //! Laws of the definitions, each the contract of a function that does nothing.
 ghost use Rattle.std.specs.Prelude.{◌≡◌, ℕ, List, [], ◌++◌, map, IsTrue};
 ghost use Rattle.std.specs.List.{flat_map, list_all};
-ghost use Rattle.console.specs.Lines.{ended, is_whole_text, line_of, lines_of};
+ghost use Rattle.console.specs.Lines.{ended, is_folder, is_whole_text, line_of, lines_of};
 ghost use Rattle.console.specs.Steps.{Gives};
 ghost use Rattle.console.specs.declared.line.Line.{Line};
+ghost use Rattle.console.specs.declared.line.Line.TheVariants as line;
 
 /// Texts without line feeds, each followed by one, are the lines of these texts.
 pub fn reads_written()
@@ -11,8 +12,14 @@ pub fn reads_written()
         → lines_of (flat_map ended texts) ≡ map line_of texts }
 {}
 
-/// The lines of a list are the first of those of each longer one. What was given holds at the start,
-/// and gives the lines of all bytes at each moment.
+/// The folder that a line asks to install has a name as folders have.
+pub fn folders_are_named()
+    ensures { (bytes folder : List ℕ) → line_of bytes ≡ line.Install folder
+        → IsTrue (is_folder folder) }
+{}
+
+/// The lines of a list are the first of those of each longer one. `Gives` holds at the start, and
+/// at each moment the lines given, followed by those of what is held, are those of all bytes.
 pub fn goes_on()
     ensures prefix { (bytes more : List ℕ)
         → (later : List Line) × (lines_of (bytes ++ more) ≡ lines_of bytes ++ later) }

@@ -16,7 +16,7 @@ mod send_sync;
 #[cfg(test)]
 mod tests;
 
-pub use laws::{goes_on, reads_written};
+pub use laws::{folders_are_named, goes_on, reads_written};
 pub use line::Line;
 pub use lines::Lines;
 pub use replies::{reply, short};

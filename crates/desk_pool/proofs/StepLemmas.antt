@@ -14,7 +14,8 @@ set_fits : (views : List Knows) (seat : ℕ) (w : Knows) (raised : Bool) (flag :
     → ((j : ℕ) (u : Knows) → j ≢ seat → get_elem? views j ≡ some u → FitsAs u.owns u.raised raised flag j)
     → (j : ℕ) (u : Knows) → get_elem? (set views seat w) j ≡ some u → FitsAs u.owns u.raised raised flag j
 set_fits views seat w raised flag mine others j u e =
-    ⊎_elim (λ (t : (j ≡ seat) × (w ≡ u)). subst (λ (z : Knows). FitsAs z.owns z.raised raised flag j) t.1 (subst (λ (k : ℕ). FitsAs w.owns w.raised raised flag k) (sym t.0) mine))
+    ⊎_elim (λ (t : (j ≡ seat) × (w ≡ u)).
+    subst (λ (z : Knows). FitsAs z.owns z.raised raised flag j) t.1 (subst (λ (k : ℕ). FitsAs w.owns w.raised raised flag k) (sym t.0) mine))
     (λ (t : (j ≢ seat) × (get_elem? views j ≡ some u)). others j u t.0 t.1)
     (at_set views seat j w u e)
 
@@ -22,7 +23,8 @@ others_raised : (owns raised is : Bool) (flag j : ℕ) → j ≢ flag → FitsAs
 others_raised true raised is flag j other h = absurd (other h.0)
 others_raised false raised is flag j other h = λ e. refl
 
-pub raises : (slots id : ℕ) (v : Knows) (m : List (ℕ × Unit {0})) → v.owns ≡ true → Allows Holds slots id (v, m) 0 (λ _. 1) (λ _. Raises (step slots 0 1 0 none) (v, m) 1)
+pub raises : (slots id : ℕ) (v : Knows) (m : List (ℕ × Unit {0})) → v.owns ≡ true
+    → Allows Holds slots id (v, m) 0 (λ _. 1) (λ _. Raises (step slots 0 1 0 none) (v, m) 1)
 raises slots id v m owns s h size at fits =
     let mine : (id ≡ h.flag) × (v.raised ≡ h.raised) = subst (λ (b : Bool). FitsAs b v.raised h.raised h.flag id) owns (h.seats id v at) in (
       knows true true,
@@ -32,12 +34,15 @@ raises slots id v m owns s h size at fits =
         raised = true;
         flag = id;
         words = ap (λ (ws : List ℕ). set ws 0 1) h.words;
-        seats = set_fits s.views id (knows true true) true id (refl, refl) (λ j u other e. others_raised u.owns u.raised h.raised id j other (subst (λ (k : ℕ). FitsAs u.owns u.raised h.raised k j) (sym mine.0) (h.seats j u e)));
+        seats = set_fits s.views id (knows true true) true id (refl, refl)
+            (λ j u other e. others_raised u.owns u.raised h.raised id j other
+            (subst (λ (k : ℕ). FitsAs u.owns u.raised h.raised k j) (sym mine.0) (h.seats j u e)));
       },
       refl,
     )
 
-pub looks : (slots id : ℕ) (v : Knows) (m : List (ℕ × Unit {0})) → v.owns ≡ false → Allows Holds slots id (v, m) 0 (λ n. n) (Looks (step slots 0 0 0 none) (v, m))
+pub looks : (slots id : ℕ) (v : Knows) (m : List (ℕ × Unit {0})) → v.owns ≡ false
+    → Allows Holds slots id (v, m) 0 (λ n. n) (Looks (step slots 0 0 0 none) (v, m))
 looks slots id v m owns s h size at fits =
     let mine : v.raised ≡ true → h.raised ≡ true = subst (λ (b : Bool). FitsAs b v.raised h.raised h.flag id) owns (h.seats id v at) in
     let word : slice_index s.words 0 ≡ word_of h.raised = ap (λ (ws : List ℕ). slice_index ws 0) h.words in (

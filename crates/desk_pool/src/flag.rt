@@ -25,7 +25,8 @@ impl Model for StopFlag {
 
     ghost view = { λ f. sight f.seat.table_id f.seat.me };
 
-    ghost invariant = { λ f. IsSeated true (arc_value f.board).shared.table_id f.seat.table_id f.seat.me };
+    ghost invariant = { λ f.
+        IsSeated true (arc_value f.board).shared.table_id f.seat.table_id f.seat.me };
 }
 
 /// What shows a worker whether the flag was raised. It has no call that raises it. Contracts see
@@ -45,7 +46,8 @@ impl Model for StopSign {
 
     ghost view = { λ s. sight s.seat.table_id s.seat.me };
 
-    ghost invariant = { λ s. IsSeated false (arc_value s.board).shared.table_id s.seat.table_id s.seat.me };
+    ghost invariant = { λ s.
+        IsSeated false (arc_value s.board).shared.table_id s.seat.table_id s.seat.me };
 }
 
 impl StopFlag {
