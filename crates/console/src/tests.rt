@@ -1,7 +1,7 @@
 ghost use Rattle.std.specs.Prelude.{◌<◌, ◌≤◌, length};
 ghost use Rattle.console.specs.Replies.{IsShort};
 
-use crate::{Line, Lines, Said, reply, short};
+use crate::{Line, Lines, Said, folders_are_named, goes_on, reads_written, reply, short};
 use std::alloc::Global;
 use std::process::Abort;
 use td_base::{Bytes, NoMemory, Token};
@@ -338,4 +338,11 @@ fn refusals(rt: HostRuntime) -> Result<(), NoMemory> {
     )?;
     let empty = Said::Refused(Bytes::new(rt.alloc()));
     check_reply(&rt, rt.alloc(), &empty, b"refused \n")
+}
+
+#[test]
+fn calls_the_laws() {
+    reads_written();
+    folders_are_named();
+    goes_on();
 }
