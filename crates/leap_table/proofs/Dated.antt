@@ -43,7 +43,8 @@ line_steps lines i (suc k) all fits risen =
     let step = step_of_line lines i (fits i (omega arith)) in
     let s = is_second lines i step risen in
     joined (step_of lines i) (flat_map (step_of lines) (range_with_len (i + 1) k))
-    (one_step (is_expiry lines i) (int_div_euclid (second_of lines i) (pos 86400), pos 10 +ℤ (line_at lines i).correction) (day_start (second_of lines i) s.low s.high))
+    (one_step (is_expiry lines i) (int_div_euclid (second_of lines i) (pos 86400), pos 10 +ℤ (line_at lines i).correction)
+    (day_start (second_of lines i) s.low s.high))
     (line_steps lines (i + 1) k (omega arith) fits (has_risen lines i step risen))
 
 table_steps : (lines : List LeapLine) → leap_fault lines ≡ None → AllByRecursion IsDated (leap_steps lines)

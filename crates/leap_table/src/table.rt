@@ -57,7 +57,8 @@ fn add_step(steps: &mut Items<LeapStep>, lines: &[LeapLine], number: usize) -> R
     requires inside { number < length lines.now }
     requires few { length lines.now ≤ 65536 }
     requires risen { HasRisen (line_before lines.now number) number }
-    ensures step { OnOk result (pairs_of steps.new ≡ pairs_of steps.old ++ step_of lines.now number) }
+    ensures step { OnOk result
+        (pairs_of steps.new ≡ pairs_of steps.old ++ step_of lines.now number) }
     ensures fits { OnOk result (is_no_line lines.now number ≡ false) }
     ensures no_line { IfErr result (λ e. e ≢ LeapFault.NoMemory
         → is_no_line lines.now number ≡ true) }

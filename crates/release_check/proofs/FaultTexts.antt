@@ -1,8 +1,7 @@
 -- How faults are printed and shown.
-use Rattle.std.proofs.Common.{◌≡◌, ◌≢◌, List, [], ℕ, Bool, true, false, if◌then◌else◌, IsUtf8, refl, sym, ap, ◌∙◌, ◌<◌, ◌≤◌, arith, ℤ}
+use Rattle.std.proofs.Common.{◌≡◌, ◌≢◌, List, [], ℕ, Bool, true, false, if◌then◌else◌, IsUtf8, refl, sym, ap, ◌∙◌, ◌<◌, arith, ℤ}
 use Rattle.std.proofs.lemmas.Str.{IsUtf8-from_is_utf8, is_utf8-from_IsUtf8}
 use Rattle.std.specs.Str.{is_utf8}
-use Rattle.std.specs.List.{All}
 use Rattle.std.proofs.lemmas.Str.{IsUtf8-from_ascii}
 use Rattle.std.proofs.lemmas.Str.Ascii.{IsAscii-from_all}
 use Rattle.td_civil.specs.Bounds.{has_meaning}
@@ -13,7 +12,8 @@ use Rattle.release_check.specs.FaultText.{fault_text, readable, shown_text, stam
 use Rattle.release_check.specs.declared.check_fault.CheckFault.{CheckFault}
 use Rattle.release_check.specs.declared.check_fault.CheckFault.TheVariants as fault
 
-pub shown_text-is : (f : CheckFault) → ((name : List ℕ) → f ≢ fault.Duplicate name) → ((name : List ℕ) → f ≢ fault.Drops name) → ((path : List ℕ) → f ≢ fault.Absent path)
+pub shown_text-is : (f : CheckFault) → ((name : List ℕ) → f ≢ fault.Duplicate name) → ((name : List ℕ) → f ≢ fault.Drops name) → ((path : List ℕ)
+    → f ≢ fault.Absent path)
     → shown_text f ≡ fault_text f
 shown_text-is (fault.Duplicate name) no_name no_drop no_path = absurd (no_name name refl)
 shown_text-is (fault.Drops name) no_name no_drop no_path = absurd (no_drop name refl)

@@ -1,5 +1,5 @@
 -- The release of a manifest and of the zones that its files gave.
-use Rattle.std.proofs.Common.{◌≡◌, ℕ, ◌+◌, ◌≤◌, ◌<◌, nat_lt, nat_le, ℤ, ◌≤ℤ◌, ◌<ℤ◌, IfSome, codes, Bool, true, false, not, ◌||◌, if◌then◌else◌, List, [], ◌∷◌, ◌++◌, length, Option, None, Some, Result, Ok, Err, refl, ap, sym, ◌∙◌, subst, arith, IsPermutation}
+use Rattle.std.proofs.Common.{◌≡◌, ℕ, ◌+◌, ◌≤◌, ◌<◌, nat_lt, nat_le, ℤ, ◌≤ℤ◌, ◌<ℤ◌, IfSome, Bool, true, false, not, ◌||◌, if◌then◌else◌, List, [], ◌∷◌, ◌++◌, length, Option, None, Some, Result, Ok, Err, refl, ap, sym, ◌∙◌, subst, arith, IsPermutation}
 use Rattle.std.specs.List.{AllByRecursion, IsDistinct, list_all, list_any}
 use Rattle.std.specs.Cmp.Lexicographic.{nat_list_eq_equiv}
 use Rattle.std.specs.Str.{bytes_eq}
@@ -87,7 +87,8 @@ pub record Gave (files : List File) (dir : List ℕ) (before : Before) (m : Mani
   pub table : table_in files dir m.leaps ≡ Ok leaps
   pub is : release_with m contents leaps ≡ r
 
-pub gave : (files : List File) (dir : List ℕ) (before : Before) (m : Manifest) (r : ReleaseData) → release_in files dir before m ≡ Ok r → Gave files dir before m r
+pub gave : (files : List File) (dir : List ℕ) (before : Before) (m : Manifest) (r : ReleaseData) → release_in files dir before m ≡ Ok r
+    → Gave files dir before m r
 unfolding release_in
 gave files dir before m r h = by (manifest_fault before m) (contents_in files dir 0 m.zones) (table_in files dir m.leaps) refl refl refl h
   where

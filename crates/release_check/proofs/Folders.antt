@@ -1,5 +1,5 @@
 -- What looking into a folder comes to.
-use Rattle.std.proofs.Common.{◌≡◌, ◌≢◌, ℕ, List, [], map, take, Option, None, Some, Result, Ok, Err, ap, sym, ◌∙◌, refl, subst}
+use Rattle.std.proofs.Common.{◌≡◌, ◌≢◌, ℕ, List, map, take, Option, None, Some, Result, Ok, Err, ap, sym, ◌∙◌, refl, subst}
 use Rattle.std.specs.Option.{option_map}
 use Rattle.td_base.specs.Files.{File, file_at}
 use Rattle.catalogue.specs.declared.release.Leaps.{Leaps}
@@ -30,11 +30,13 @@ refused_text text manifest.NoMemory h = (λ e. cc, λ ne. absurd (ne refl))
 refused_text text f h = (λ e. cc, λ _. (_, h (λ e. cc), refl))
 
 -- what a directory gives, by what it gives equally
-gives : (files : List File) (dir : List ℕ) (before : Before) (a b : Result ReleaseData CheckFault) → a ≡ b → FolderGives files dir before a → FolderGives files dir before b
+gives : (files : List File) (dir : List ℕ) (before : Before) (a b : Result ReleaseData CheckFault) → a ≡ b → FolderGives files dir before a
+    → FolderGives files dir before b
 gives files dir before a b e h = subst (λ (r : Result ReleaseData CheckFault). FolderGives files dir before r) e h
 
 -- no manifest
-pub manifest_absent : (files : List File) (dir : List ℕ) (before : Before) (e : CheckFault) → IsFile (manifest_path dir) 1048577 (Err e) files → IsManifestIn dir before (Err e) files
+pub manifest_absent : (files : List File) (dir : List ℕ) (before : Before) (e : CheckFault) → IsFile (manifest_path dir) 1048577 (Err e) files
+    → IsManifestIn dir before (Err e) files
 manifest_absent files dir before e reads nm nr =
     let why = reads nm nr in
     gives files dir before _ _ (ap Err (sym why.0)) (absent why.1)
@@ -62,7 +64,8 @@ manifest_read files dir before prefix m is reads =
     (file.0, file.1, manifest-prefix file.0 m (subst (λ (t : List ℕ). IsManifestText t m) (sym file.2) is))
 
 -- the release of the parts
-pub release_made : (m : Manifest) (contents : List (Content (List ℕ))) (leaps : Option Leaps) (r : Release (List ℕ)) → r.stamp ≡ m.stamp → r.publisher ≡ m.publisher
+pub release_made : (m : Manifest) (contents : List (Content (List ℕ))) (leaps : Option Leaps) (r : Release (List ℕ)) → r.stamp ≡ m.stamp
+    → r.publisher ≡ m.publisher
     → r.version ≡ m.version → r.zones ≡ contents → r.leaps ≡ leaps
     → release_data (λ bytes. bytes) r ≡ release_with m (map (content_data (λ bytes. bytes)) contents) leaps
 release_made m contents leaps r s p v z l = rw (s, p, v, z, l) refl
@@ -74,7 +77,8 @@ folder_read files dir before m (Ok r) reads is = gives files dir before _ _ is (
 folder_read files dir before m (Err e) reads is = λ nm nr. gives files dir before _ _ (is nm nr) (read reads.0 m reads.1 reads.2)
 
 -- a manifest that is judged
-pub manifest_judged : (files : List File) (dir : List ℕ) (before : Before) (m : Manifest) (e : CheckFault) → (e ≢ fault.NoMemory → manifest_fault before m ≡ Some e)
+pub manifest_judged : (files : List File) (dir : List ℕ) (before : Before) (m : Manifest) (e : CheckFault) → (e ≢ fault.NoMemory
+    → manifest_fault before m ≡ Some e)
     → IsOfManifest dir m before (Err e) files
 manifest_judged files dir before m e judged nm nr = release_refused_early files dir before m e (judged nm)
 
@@ -84,13 +88,15 @@ pub zones_refused : (files : List File) (dir : List ℕ) (before : Before) (m : 
 zones_refused files dir before m e none zones nm nr = release_refused_late files dir before m e none (zones nm nr)
 
 -- a file of leap seconds that is refused
-pub leaps_refused : (files : List File) (dir : List ℕ) (before : Before) (m : Manifest) (contents : List (Content (List ℕ))) (e : CheckFault) → manifest_fault before m ≡ None
+pub leaps_refused : (files : List File) (dir : List ℕ) (before : Before) (m : Manifest) (contents : List (Content (List ℕ))) (e : CheckFault)
+    → manifest_fault before m ≡ None
     → AreZonesIn dir m.zones (Ok contents) files → IsTableIn dir m.leaps (Err e) files → IsOfManifest dir m before (Err e) files
 leaps_refused files dir before m contents e none zones table nm nr =
     release_refused_last files dir before m (map (content_data (λ bytes. bytes)) contents) e none zones (table nm nr)
 
 -- a release
-pub release_found : (files : List File) (dir : List ℕ) (before : Before) (m : Manifest) (contents : List (Content (List ℕ))) (leaps : Option Leaps) (r : Release (List ℕ))
+pub release_found : (files : List File) (dir : List ℕ) (before : Before) (m : Manifest) (contents : List (Content (List ℕ))) (leaps : Option Leaps)
+    (r : Release (List ℕ))
     → manifest_fault before m ≡ None → r.stamp ≡ m.stamp → r.publisher ≡ m.publisher → r.version ≡ m.version → r.zones ≡ contents → r.leaps ≡ leaps
     → AreZonesIn dir m.zones (Ok contents) files → IsTableIn dir m.leaps (Ok leaps) files → IsOfManifest dir m before (Ok r) files
 release_found files dir before m contents leaps r none s p v z l zones table =
@@ -98,7 +104,8 @@ release_found files dir before m contents leaps r none s p v z l zones table =
     ∙ ap Ok (sym (release_made m contents leaps r s p v z l))
 
 -- the release of a folder is sound, and may follow what stands before it
-pub sound_folder : (files : List File) (dir : List ℕ) (before : Before) (r : ReleaseData) (s : Result ReleaseData CheckFault) → s ≡ Ok r → FolderGives files dir before s → IsSound r
+pub sound_folder : (files : List File) (dir : List ℕ) (before : Before) (r : ReleaseData) (s : Result ReleaseData CheckFault) → s ≡ Ok r
+    → FolderGives files dir before s → IsSound r
 sound_folder files dir before r _ e (absent h) = absurd (cc)
 sound_folder files dir before r _ e (refused text f h is) = absurd (cc)
 sound_folder files dir before r _ e (read text m h is) =
@@ -107,12 +114,14 @@ sound_folder files dir before r _ e (read text m h is) =
     subst (λ (x : ReleaseData). IsSound x) of.is (sound_release m of.contents of.leaps formed (zones_of_folder files dir 0 m.zones of.contents of.read)
     (sound_table files dir m.leaps of.leaps formed.expires of.table))
 
-pub following_folder : (files : List File) (dir : List ℕ) (before : Before) (r : ReleaseData) (s : Result ReleaseData CheckFault) → s ≡ Ok r → FolderGives files dir before s → Follows before r
+pub following_folder : (files : List File) (dir : List ℕ) (before : Before) (r : ReleaseData) (s : Result ReleaseData CheckFault) → s ≡ Ok r
+    → FolderGives files dir before s → Follows before r
 following_folder files dir before r _ e (absent h) = absurd (cc)
 following_folder files dir before r _ e (refused text f h is) = absurd (cc)
 following_folder files dir before r _ e (read text m h is) =
     let of = gave files dir before m r e in
-    subst (λ (x : ReleaseData). Follows before x) of.is (follows before m of.contents of.leaps of.none (zones_of_folder files dir 0 m.zones of.contents of.read))
+    subst (λ (x : ReleaseData). Follows before x) of.is (follows before m of.contents of.leaps of.none
+    (zones_of_folder files dir 0 m.zones of.contents of.read))
 
 -- a manifest value with a text that has not its form
 pub form_refused : (files : List File) (dir : List ℕ) (before : Before) (m : Manifest) (e : CheckFault) → (e ≢ fault.NoMemory → form_fault m ≡ Some e)

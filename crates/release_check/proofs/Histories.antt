@@ -1,8 +1,8 @@
 -- What a catalogue holds is what its histories leave.
-use Rattle.std.proofs.Common.{◌≡◌, ◌∙◌, ℕ, List, length, Option, None, Some, Result, Ok, Err, IfOk, ap, refl, sym, subst}
+use Rattle.std.proofs.Common.{◌≡◌, ◌∙◌, ℕ, List, length, Option, None, Some, Result, Ok, Err, IfOk, ap, sym, subst}
 use Rattle.catalogue.specs.Counts.{stands_count}
-use Rattle.catalogue.specs.Histories.{last_release, Fits}
-use Rattle.catalogue.specs.Holdings.{StandsFor, place_count, release_held}
+use Rattle.catalogue.specs.Histories.{Fits}
+use Rattle.catalogue.specs.Holdings.{StandsFor, release_held}
 use Rattle.catalogue.specs.Releases.{ReleaseData, release_data}
 use Rattle.catalogue.specs.declared.release.Release.{Release}
 use Rattle.td_base.specs.Files.{File}
@@ -36,7 +36,8 @@ pub found_each : {T : Type 0} (a b : StoreView) (last : Option (Catalogue (List 
     → Finds a b r (P (before_held last)) → Finds a b r (λ files. ForEachBefore last (λ H. P (before_of H) files))
 found_each a b last r P found = finds_as a b r r _ _ (λ files h. for_each last (λ x. P x files) h) (λ e. e) found
 
-pub fits_result : (last : Option (Catalogue (List ℕ))) (r : Result (Release (List ℕ)) CheckFault) → IfOk r (λ x. Follows (before_held last) (release_data (λ bytes. bytes) x))
+pub fits_result : (last : Option (Catalogue (List ℕ))) (r : Result (Release (List ℕ)) CheckFault)
+    → IfOk r (λ x. Follows (before_held last) (release_data (λ bytes. bytes) x))
     → IfOk r (λ x. ForEachBefore last (λ H. Fits H (release_data (λ bytes. bytes) x)))
 fits_result last (Ok x) h = fits_each last (release_data (λ bytes. bytes) x) h
 fits_result last (Err e) h = tt

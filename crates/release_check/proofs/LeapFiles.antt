@@ -1,5 +1,5 @@
 -- The table of leap seconds of a release, as its file gives it.
-use Rattle.std.proofs.Common.{◌≡◌, ◌≢◌, ℕ, ◌<◌, ◌≤◌, true, List, [], ◌∷◌, length, map, take, ℤ, Option, None, Some, Result, Ok, Err, ⊎_elim, IfSome, IsTrue, refl, ap, sym, subst, ◌∙◌, arith}
+use Rattle.std.proofs.Common.{◌≡◌, ◌≢◌, ℕ, ◌<◌, ◌≤◌, true, List, [], ◌∷◌, length, map, take, ℤ, Option, None, Some, Ok, Err, ⊎_elim, IfSome, refl, ap, sym, subst, ◌∙◌, arith}
 use Rattle.std.specs.Option.{option_map}
 use Rattle.std.proofs.lemmas.List.{take_all, length-take-le}
 use Rattle.td_base.specs.FirstFault.{◌or_else◌}
@@ -34,7 +34,8 @@ use Rattle.release_check.proofs.Prefixes.{fits_or_longer, too_large}
 abbrev in_order : Option TzifFault → Option LeapCause → Option CheckFault
 in_order read lines = option_map of_file read or_else option_map of_cause lines
 
-leap_file_fault-is : (bytes : List ℕ) (read : Option TzifFault) (lines : Option LeapCause) → first_fault bytes ≡ read → leap_fault (lists_of bytes).leaps ≡ lines
+leap_file_fault-is : (bytes : List ℕ) (read : Option TzifFault) (lines : Option LeapCause) → first_fault bytes ≡ read
+    → leap_fault (lists_of bytes).leaps ≡ lines
     → leap_file_fault bytes ≡ in_order read lines
 unfolding leap_file_fault
 leap_file_fault-is bytes read lines r l = rw (← r, ← l) refl
@@ -67,7 +68,8 @@ refused_by_table bytes lists (table.Step line) none is h = (λ e. cc, λ _. no_t
 refused_by_table bytes lists (table.Midnight line) none is h = (λ e. cc, λ _. no_table bytes lists (table.Midnight line) none is (h (λ e. cc)))
 
 -- a table
-pub clear_table : (bytes : List ℕ) (lists : ZoneFile) → first_fault bytes ≡ None → lists ≡ lists_of bytes → table_fault lists.leaps ≡ None → leap_file_fault bytes ≡ None
+pub clear_table : (bytes : List ℕ) (lists : ZoneFile) → first_fault bytes ≡ None → lists ≡ lists_of bytes → table_fault lists.leaps ≡ None
+    → leap_file_fault bytes ≡ None
 clear_table bytes lists none is h =
     leap_file_fault-is bytes None None none (ap (λ (z : ZoneFile). leap_fault z.leaps) (sym is) ∙ unmapped table_cause (leap_fault lists.leaps) h)
 
@@ -139,7 +141,8 @@ table_refused files dir l name prefix e is judged reads nm nr =
     from_prefix_refused (path_in dir l.file) l.expires (file_at files (path_in dir l.file)) prefix e read (judged nm)
 
 pub table_read : (files : List File) (dir : List ℕ) (l : ManifestLeaps) (name expires prefix : List ℕ) (t : Leaps) → name ≡ l.file → expires ≡ l.expires
-    → leap_file_fault prefix ≡ None → t ≡ table_of prefix expires → IsFile (path_in dir name) 65537 (Ok prefix) files → IsTableIn dir (Some l) (Ok (Some t)) files
+    → leap_file_fault prefix ≡ None → t ≡ table_of prefix expires → IsFile (path_in dir name) 65537 (Ok prefix) files
+    → IsTableIn dir (Some l) (Ok (Some t)) files
 table_read files dir l name expires prefix t is expiry none made_is reads =
     let read : IsFile (path_in dir l.file) 65537 (Ok prefix) files = subst (λ (x : List ℕ). IsFile (path_in dir x) 65537 (Ok prefix) files) is reads in
     from_prefix (path_in dir l.file) l.expires (file_at files (path_in dir l.file)) prefix read none
@@ -150,12 +153,14 @@ sound_made : (bytes expires : List ℕ) → leap_file_fault bytes ≡ None → i
 unfolding table_of leap_file_fault
 sound_made bytes expires none date = record {
   file = unmapped of_file (first_fault bytes) (first (option_map of_file (first_fault bytes)) (option_map of_cause (leap_fault (lists_of bytes).leaps)) none);
-  lines = unmapped of_cause (leap_fault (lists_of bytes).leaps) (second (option_map of_file (first_fault bytes)) (option_map of_cause (leap_fault (lists_of bytes).leaps)) none);
+  lines = unmapped of_cause (leap_fault (lists_of bytes).leaps) (second (option_map of_file (first_fault bytes))
+      (option_map of_cause (leap_fault (lists_of bytes).leaps)) none);
   steps = pairs_again (leap_steps (lists_of bytes).leaps);
   expires = date;
 }
 
-sound_from : (path expires : List ℕ) (found : Option (List ℕ)) (t : Option Leaps) → is_date_text expires ≡ true → table_from path expires found ≡ Ok t → IfSome t IsSoundLeaps
+sound_from : (path expires : List ℕ) (found : Option (List ℕ)) (t : Option Leaps) → is_date_text expires ≡ true → table_from path expires found ≡ Ok t
+    → IfSome t IsSoundLeaps
 sound_from path expires None t date h = absurd cc
 sound_from path expires (Some bytes) t date h = by (leap_file_fault bytes) refl h
   where
@@ -165,12 +170,14 @@ sound_from path expires (Some bytes) t date h = by (leap_file_fault bytes) refl 
         let same : Some (table_of bytes expires) ≡ t = cc in
         subst (λ (o : Option Leaps). IfSome o IsSoundLeaps) same (sound_made bytes expires is date)
 
-pub sound_table : (files : List File) (dir : List ℕ) (named : Option ManifestLeaps) (t : Option Leaps) → has_date named ≡ true → table_in files dir named ≡ Ok t → IfSome t IsSoundLeaps
+pub sound_table : (files : List File) (dir : List ℕ) (named : Option ManifestLeaps) (t : Option Leaps) → has_date named ≡ true
+    → table_in files dir named ≡ Ok t → IfSome t IsSoundLeaps
 sound_table files dir None t date h =
     let same : None ≡ t = cc in
     subst (λ (o : Option Leaps). IfSome o IsSoundLeaps) same tt
 sound_table files dir (Some l) t date h = sound_from (path_in dir l.file) l.expires (file_at files (path_in dir l.file)) t date h
 
 -- a table that was read so
-pub sound_read : (prefix expires : List ℕ) (t : Leaps) → leap_file_fault prefix ≡ None → t ≡ table_of prefix expires → is_date_text expires ≡ true → IsSoundLeaps t
+pub sound_read : (prefix expires : List ℕ) (t : Leaps) → leap_file_fault prefix ≡ None → t ≡ table_of prefix expires → is_date_text expires ≡ true
+    → IsSoundLeaps t
 sound_read prefix expires t none is date = subst (λ (x : Leaps). IsSoundLeaps x) (sym is) (sound_made prefix expires none date)

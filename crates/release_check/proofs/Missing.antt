@@ -1,5 +1,5 @@
 -- Names of the last release that are missing, in their order.
-use Rattle.std.proofs.Common.{◌≡◌, ℕ, ◌+◌, ◌≤◌, Bool, true, false, not, if◌then◌else◌, List, [], ◌∷◌, length, drop, Option, None, Some, refl, ap, sym, ◌∙◌, get_or}
+use Rattle.std.proofs.Common.{◌≡◌, ℕ, ◌+◌, ◌≤◌, Bool, true, false, List, [], ◌∷◌, length, drop, None, Some, refl, ap, sym, ◌∙◌}
 use Rattle.std.specs.List.{list_any, slice_get}
 use Rattle.std.specs.Str.{bytes_eq}
 use Rattle.std.proofs.lemmas.List.{at_drop_more, drop_all}
@@ -7,7 +7,6 @@ use Rattle.std.proofs.lemmas.Option.{slice_get_within, get_or_from_slice_get}
 use Rattle.catalogue.specs.Holdings.{names_held, release_held}
 use Rattle.catalogue.specs.declared.holding.Catalogue.{Catalogue}
 use Rattle.release_check.specs.HistoryFaults.{drop_fault, first_missing}
-use Rattle.release_check.specs.declared.check_fault.CheckFault.{CheckFault}
 use Rattle.release_check.specs.declared.check_fault.CheckFault.TheVariants as fault
 
 drop_step : (xs : List (List ℕ)) (i : ℕ) (x : List ℕ) → slice_get xs i ≡ Some x → drop i xs ≡ x ∷ drop (i + 1) xs
@@ -15,10 +14,12 @@ drop_step xs i x h =
     at_drop_more (λ (ys : List (List ℕ)). ys) xs i x (slice_get_within xs i x h)
     ∙ ap (λ y. y ∷ drop (i + 1) xs) (get_or_from_slice_get xs i x x h)
 
-pub there : (new : List (List ℕ)) (name : List ℕ) (rest : List (List ℕ)) → list_any (bytes_eq name) new ≡ true → first_missing (name ∷ rest) new ≡ first_missing rest new
+pub there : (new : List (List ℕ)) (name : List ℕ) (rest : List (List ℕ)) → list_any (bytes_eq name) new ≡ true
+    → first_missing (name ∷ rest) new ≡ first_missing rest new
 there new name rest h = rw h refl
 
-pub gone : (new : List (List ℕ)) (name : List ℕ) (rest : List (List ℕ)) → list_any (bytes_eq name) new ≡ false → first_missing (name ∷ rest) new ≡ Some (fault.Drops name)
+pub gone : (new : List (List ℕ)) (name : List ℕ) (rest : List (List ℕ)) → list_any (bytes_eq name) new ≡ false
+    → first_missing (name ∷ rest) new ≡ Some (fault.Drops name)
 gone new name rest h = rw h refl
 
 -- what the names from one on tell is what all do
@@ -46,7 +47,8 @@ one_same x xs a b true false e f same rest = absurd cc
 one_same x xs a b false true e f same rest = absurd cc
 one_same x xs a b false false e f same rest = gone a x xs e ∙ sym (gone b x xs f)
 
-pub same_missing : (old a b : List (List ℕ)) → ((text : List ℕ) → list_any (bytes_eq text) a ≡ list_any (bytes_eq text) b) → first_missing old a ≡ first_missing old b
+pub same_missing : (old a b : List (List ℕ)) → ((text : List ℕ) → list_any (bytes_eq text) a ≡ list_any (bytes_eq text) b)
+    → first_missing old a ≡ first_missing old b
 same_missing [] a b same = refl
 same_missing (x ∷ xs) a b same = one_same x xs a b _ _ refl refl (same x) (same_missing xs a b same)
 

@@ -29,7 +29,8 @@ same_fault : (a b : List ℕ) (f g : ManifestFault) → a ≡ b → manifest_tex
 same_fault a b f g e h k = let t = ap manifest_text_fault e in cc
 
 -- a text with a fault is no manifest
-fault_and_manifest : (laws : Readings) (a b : List ℕ) (f : ManifestFault) (m : Manifest) (P : Type 0) → a ≡ b → manifest_text_fault a ≡ Some f → IsManifestText b m → P
+fault_and_manifest : (laws : Readings) (a b : List ℕ) (f : ManifestFault) (m : Manifest) (P : Type 0) → a ≡ b → manifest_text_fault a ≡ Some f
+    → IsManifestText b m → P
 fault_and_manifest laws a b f m P e h is = let t = ap manifest_text_fault e in let n = laws.sound b m is in absurd (clash h (t ∙ n))
   where
     clash : manifest_text_fault a ≡ Some f → manifest_text_fault a ≡ None → ⊥

@@ -47,7 +47,8 @@ some_lines n (l ∷ ls) footer meant some = refl
 pub file_fault-leaps : (n : ℕ) (bytes : List ℕ) (lists : ZoneFile) → first_fault bytes ≡ None → lists ≡ lists_of bytes → 0 < length lists.leaps
     → file_fault n bytes ≡ Some (fault.LeapsInZone n)
 file_fault-leaps n bytes lists none is some =
-    file_fault-is n bytes None lists.leaps _ _ none (ap (λ z. z.leaps) (sym is)) refl refl ∙ some_lines n lists.leaps (footer_text_fault (lists_of bytes).footer) (meaning_fault n bytes) some
+    file_fault-is n bytes None lists.leaps _ _ none (ap (λ z. z.leaps) (sym is)) refl refl
+    ∙ some_lines n lists.leaps (footer_text_fault (lists_of bytes).footer) (meaning_fault n bytes) some
 
 -- no leap lines
 no_lines : (lines : List LeapLine) → length lines ≡ 0 → lines ≡ []
@@ -92,7 +93,8 @@ abbrev in_meaning : ℕ → Bool → Bool → Bool → Option CheckFault
 in_meaning n agrees named beyond_rules =
     when (not agrees) (fault.FooterDisagrees n) or_else when (not named) (fault.NameBeyond n) or_else when beyond_rules (fault.RuleBeyond n)
 
-all_pass : (n : ℕ) (agrees named beyond_rules : Bool) → in_meaning n agrees named beyond_rules ≡ None → (agrees ≡ true) × (named ≡ true) × (beyond_rules ≡ false)
+all_pass : (n : ℕ) (agrees named beyond_rules : Bool) → in_meaning n agrees named beyond_rules ≡ None
+    → (agrees ≡ true) × (named ≡ true) × (beyond_rules ≡ false)
 all_pass n false named beyond_rules h = absurd cc
 all_pass n true false beyond_rules h = absurd cc
 all_pass n true true true h = absurd cc

@@ -88,8 +88,8 @@ release_in files dir before m = unless (manifest_fault before m) (files_in files
 abbrev pub examined_in : List File → List ℕ → Before → Manifest → Result ReleaseData CheckFault
 examined_in files dir before m = unless (form_fault m) (release_in files dir before m)
 
--- what a directory gives after what stands before it: a fault where the manifest is absent or refused, and else what the
--- manifest and the files that it names give
+-- what a directory gives after what stands before it: a fault where the manifest is absent or refused,
+-- and else what the manifest and the files that it names give
 pub data FolderGives (files : List File) (dir : List ℕ) (before : Before)
     : Result ReleaseData CheckFault → Type 0 where
   absent : file_at files (manifest_path dir) ≡ None

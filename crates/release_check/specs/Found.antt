@@ -70,12 +70,12 @@ Answers given (Err e) = Blames e (given ≡ Err e)
 
 -- the release of a manifest and the files of a directory after what stands before it, or the first
 -- fault, where the texts of the manifest have their forms and where they are judged
-abbrev pub IsOfManifest : List ℕ → Manifest → Before → Result (Release (List ℕ)) CheckFault → List File
-    → Type 0
+abbrev pub IsOfManifest : List ℕ → Manifest → Before → Result (Release (List ℕ)) CheckFault
+    → List File → Type 0
 IsOfManifest dir m before result files = Answers (release_in files dir before m) result
 
-abbrev pub IsExaminedIn : List ℕ → Manifest → Before → Result (Release (List ℕ)) CheckFault → List File
-    → Type 0
+abbrev pub IsExaminedIn : List ℕ → Manifest → Before → Result (Release (List ℕ)) CheckFault
+    → List File → Type 0
 IsExaminedIn dir m before result files = Answers (examined_in files dir before m) result
 
 -- the release of a directory after what stands before it, or its first fault

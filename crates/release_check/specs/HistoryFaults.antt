@@ -19,7 +19,8 @@ stamp_fault (Some last) new =
 
 -- the first of some names, in their order, that is none of the new ones
 abbrev pub first_missing : List (List ℕ) → List (List ℕ) → Option CheckFault
-first_missing old new = option_map fault.Drops (find (λ name. not (list_any (bytes_eq name) new)) old)
+first_missing old new =
+    option_map fault.Drops (find (λ name. not (list_any (bytes_eq name) new)) old)
 
 -- a name of the last release is none of the new ones: the least of these is told
 abbrev pub drop_fault : Option ReleaseData → List (List ℕ) → Option CheckFault

@@ -1,5 +1,5 @@
 -- What a function that looks for a fault of a folder answers.
-use Rattle.std.specs.Prelude.{◌≡◌, ◌≢◌, ℕ, List, Option, None, Some, Result, Ok, Err}
+use Rattle.std.specs.Prelude.{◌≡◌, ◌≢◌, ℕ, List, Option, Some, Result, Ok, Err}
 use Rattle.td_base.specs.FirstFault.{Judges}
 use Rattle.tzif_reader.specs.declared.tzif_fault.TzifFault.{TzifFault}
 use Rattle.tzif_reader.specs.declared.tzif_fault.TzifFault.TheVariants as tzif

@@ -36,7 +36,8 @@ pub fn check<S: Store>(
     ensures held { Finds (S.seen store.old) (S.seen store.new) result
         (IsReleaseIn dir.now (before_held (option_copied last.entry)) result) }
     ensures found { Finds (S.seen store.old) (S.seen store.new) result (λ files.
-        ForEachBefore (option_copied last.entry) (λ H. IsReleaseIn dir.now (before_of H) result files)) }
+        ForEachBefore (option_copied last.entry) (λ H.
+        IsReleaseIn dir.now (before_of H) result files)) }
     ensures sound { IfOk result (λ r. IsSound (release_data (λ bytes. bytes) r)) }
     ensures follows { IfOk result (λ r. Follows (before_held (option_copied last.entry))
         (release_data (λ bytes. bytes) r)) }
@@ -46,8 +47,8 @@ pub fn check<S: Store>(
     release_in(alloc, dir, store, last)
 }
 
-/// The release of a manifest that is at hand, over the files of a folder of the store, or the first fault: a text of the
-/// manifest that has not its form, and then those that `check` tells.
+/// The release of a manifest that is at hand, over the files of a folder of the store, or the first fault: a text of
+/// the manifest that has not its form, and then those that `check` tells.
 pub fn examine<S: Store>(
     alloc: Global,
     manifest: &Manifest,

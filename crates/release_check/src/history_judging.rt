@@ -17,7 +17,8 @@ use zone_meaning::Zone;
 
 /// Whether a release is earlier than the last one.
 pub fn judge_stamp(stamp: Moment, last: Option<&Catalogue<Zone>>) -> Result<(), CheckFault>
-    ensures { JudgesUnread (stamp_fault (before_held (option_copied last.entry)).last stamp) result }
+    ensures { JudgesUnread (stamp_fault (before_held (option_copied last.entry)).last stamp)
+        result }
 {
     match last {
         None => Ok(()),

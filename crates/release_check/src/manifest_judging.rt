@@ -21,7 +21,8 @@ pub fn judge<'a>(
     manifest: &'a Manifest,
     last: Option<&'a Catalogue<Zone>>,
 ) -> Result<(), CheckFault>
-    ensures { JudgesUnread (manifest_fault (before_held (option_copied last.entry)) manifest.now) result }
+    ensures { JudgesUnread (manifest_fault (before_held (option_copied last.entry)) manifest.now)
+        result }
 {
     let zones = manifest.zones.as_slice();
     let names = names_in(alloc, zones)?;

@@ -2,6 +2,7 @@
 mod folders;
 mod histories;
 mod slim_files;
+mod values;
 
 use crate::{CheckFault, check};
 use std::alloc::Global;

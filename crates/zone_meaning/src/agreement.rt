@@ -62,7 +62,8 @@ fn is_last_state(lists: &ZoneFile, footer: &Footer, last: Moment) -> bool
     requires lawful { IsLawful footer.now }
     requires meaning { HasMeaning last.seconds }
     ensures { result
-        ≡ same_local (state_of footer.now last.seconds) (after lists.now (length lists.now.moments)) }
+        ≡ same_local (state_of footer.now last.seconds)
+        (after lists.now (length lists.now.moments)) }
 {
     let state = posix_footer::at(footer, last);
     state.is_same(&state_after(lists, lists.moments.len()))

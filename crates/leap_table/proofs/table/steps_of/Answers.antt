@@ -19,4 +19,5 @@ loop-number-preserved c =
     c.in_ok-add_step.ensures.step c.in_ok-add_step.ensures.fits
 
 pub returns-clause-fault : goal.returns-clause-fault
-returns-clause-fault c = (end_so_far c.args.lines.now c.loop-number.steps c.loop-number.number (omega (arith, c.loop-number-test.false)) c.loop-number.invariant).1
+returns-clause-fault c = (end_so_far c.args.lines.now c.loop-number.steps c.loop-number.number (omega (arith, c.loop-number-test.false))
+    c.loop-number.invariant).1

@@ -1,6 +1,6 @@
-use Rattle.std.proofs.Common.{◌∙◌, refl, sym, subst, map, option_copied}
+use Rattle.std.proofs.Common.{◌∙◌, refl, sym, subst, option_copied}
 use Rattle.std.proofs.lemmas.Result.{err_from_is_err_and}
-use Rattle.catalogue.specs.Releases.{ReleaseData, content_data}
+use Rattle.catalogue.specs.Releases.{ReleaseData}
 use Rattle.zone_meaning.specs.Sound.{IsSound}
 use Rattle.release_check.specs.Before.{Follows, before_held}
 use Rattle.release_check.proofs.Fitting.{follows, sound_release}
@@ -32,18 +32,22 @@ returns-in_err-leaps-clause-found g c =
 pub returns-clause-found : goal.returns-clause-found
 returns-clause-found g c =
     finds_then _ _ _ _ _ _ _ _ _
-    (λ files. release_found files c.args.dir.now (before_held (option_copied c.args.last)) c.args.manifest.now c.in_ok-zones.zones c.in_ok-leaps.leaps _ c.in_ok-judge.ensures
+    (λ files. release_found files c.args.dir.now (before_held (option_copied c.args.last)) c.args.manifest.now c.in_ok-zones.zones c.in_ok-leaps.leaps _
+    c.in_ok-judge.ensures
     refl (c.in_ok-from_slice.ensures ∙ c.as_slice-2.ensures) (c.in_ok-from_slice-2.ensures ∙ c.as_slice-3.ensures) refl refl)
     (λ e. absurd (ok_is_no_err _ _ e)) (rw c.as_slice.ensures at c.in_ok-zones.ensures.found) c.in_ok-leaps.ensures.found
 
 pub returns-clause-sound : goal.returns-clause-sound
 returns-clause-sound g c =
     subst (λ (r : ReleaseData). IsSound r)
-    (sym (release_made c.args.manifest.now c.in_ok-zones.zones c.in_ok-leaps.leaps _ refl (c.in_ok-from_slice.ensures ∙ c.as_slice-2.ensures) (c.in_ok-from_slice-2.ensures ∙ c.as_slice-3.ensures) refl refl))
+    (sym (release_made c.args.manifest.now c.in_ok-zones.zones c.in_ok-leaps.leaps _ refl (c.in_ok-from_slice.ensures
+    ∙ c.as_slice-2.ensures) (c.in_ok-from_slice-2.ensures ∙ c.as_slice-3.ensures) refl refl))
     (sound_release c.args.manifest.now _ c.in_ok-leaps.leaps c.requires (rw c.as_slice.ensures at c.in_ok-zones.ensures.of) c.in_ok-leaps.ensures.sound)
 
 pub returns-clause-follows : goal.returns-clause-follows
 returns-clause-follows g c =
     subst (λ (r : ReleaseData). Follows (before_held (option_copied c.args.last)) r)
-    (sym (release_made c.args.manifest.now c.in_ok-zones.zones c.in_ok-leaps.leaps _ refl (c.in_ok-from_slice.ensures ∙ c.as_slice-2.ensures) (c.in_ok-from_slice-2.ensures ∙ c.as_slice-3.ensures) refl refl))
-    (follows (before_held (option_copied c.args.last)) c.args.manifest.now _ c.in_ok-leaps.leaps c.in_ok-judge.ensures (rw c.as_slice.ensures at c.in_ok-zones.ensures.of))
+    (sym (release_made c.args.manifest.now c.in_ok-zones.zones c.in_ok-leaps.leaps _ refl (c.in_ok-from_slice.ensures
+    ∙ c.as_slice-2.ensures) (c.in_ok-from_slice-2.ensures ∙ c.as_slice-3.ensures) refl refl))
+    (follows (before_held (option_copied c.args.last)) c.args.manifest.now _ c.in_ok-leaps.leaps c.in_ok-judge.ensures
+    (rw c.as_slice.ensures at c.in_ok-zones.ensures.of))

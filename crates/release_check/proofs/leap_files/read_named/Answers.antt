@@ -23,7 +23,8 @@ returns-in_err-table-clause-found g c =
 pub returns-clause-found : goal.returns-clause-found
 returns-clause-found g c =
     finds_as _ _ _ _ _ _
-    (λ files. table_read files c.args.dir.now c.args.leaps.now c.as_slice.result.now c.as_slice-2.result.now c.in_ok-file.file _ c.as_slice.ensures c.as_slice-2.ensures
+    (λ files. table_read files c.args.dir.now c.args.leaps.now c.as_slice.result.now c.as_slice-2.result.now c.in_ok-file.file _ c.as_slice.ensures
+    c.as_slice-2.ensures
     c.in_ok-table.ensures.judged c.in_ok-table.ensures.table)
     (λ e. absurd (ok_is_no_err _ _ e)) c.in_ok-file.ensures
 

@@ -1,4 +1,4 @@
-use Rattle.std.proofs.Common.{◌≡◌, ◌∙◌, ap, sym, true, false, None, arith}
+use Rattle.std.proofs.Common.{◌≡◌, ◌∙◌, ap, sym, None, arith}
 use Rattle.tzif_reader.specs.Cut.{lists_of}
 use Rattle.tzif_reader.specs.Faults.{first_fault}
 use Rattle.std.proofs.lemmas.Result.{err_from_is_err_and}
@@ -8,7 +8,8 @@ use Rattle.release_check.proofs.zone_files.zone_in.Goals as goal
 
 pub returns-in-Err-clause-judged : goal.returns-in-Err-clause-judged
 returns-in-Err-clause-judged c =
-    rw (c.of_reader.ensures) (judged_by_reader c.args.number c.args.file c.in-Err.fault (λ ne. ap first_fault (sym c.as_slice.ensures) ∙ c.in-Err.ensures.fault ne))
+    rw (c.of_reader.ensures) (judged_by_reader c.args.number c.args.file c.in-Err.fault (λ ne. ap first_fault (sym c.as_slice.ensures)
+    ∙ c.in-Err.ensures.fault ne))
 
 pub returns-then-len-gt0-clause-judged : goal.returns-then-len-gt0-clause-judged
 returns-then-len-gt0-clause-judged c =
@@ -31,7 +32,11 @@ returns-in_err-judge_zone-clause-judged c =
     let is = file_fault-meant c.args.number c.args.file none
     (no_leaps c.args.file c.in-Ok.lists (c.in-Ok.ensures.exact ∙ ap lists_of c.as_slice.ensures) (omega arith))
     c.in-Ok-zone_from_lists.ensures.no_fault in
-    rw (p.1, p.2) (c.in_err-judge_zone.ensures.0, λ ne. is ∙ ap (meaning_fault c.args.number) (sym c.in-Ok-zone_from_lists.ensures.ok) ∙ c.in_err-judge_zone.ensures.1 ne)
+    rw (p.1, p.2) (
+      c.in_err-judge_zone.ensures.0,
+      λ ne. is ∙ ap (meaning_fault c.args.number) (sym c.in-Ok-zone_from_lists.ensures.ok)
+          ∙ c.in_err-judge_zone.ensures.1 ne,
+    )
 
 pub returns-clause-judged : goal.returns-clause-judged
 returns-clause-judged c =
