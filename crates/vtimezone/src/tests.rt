@@ -18,7 +18,7 @@ use std::process::Abort;
 use std::test::Fail;
 use td_base::{Bytes, NoMemory};
 use td_civil::{HI, LO, Moment};
-use zone_meaning::{Zone, footer, zone_of};
+use zone_meaning::{Zone, ZoneFault, footer, zone_of};
 
 /// Whether yearly rules say what the footer of a zone says.
 fn is_carried(zone: &Zone) -> bool
@@ -87,25 +87,32 @@ fn end_of(rt: &impl Abort, row: &Row) -> Option<Moment>
     }
 }
 
-fn expect_calendar(rt: &impl Abort, alloc: Global, row: &Row) -> Result<(), Fail> {
+/// The range of a row, which has a meaning.
+fn range_of(rt: &impl Abort, row: &Row) -> Range
+    ensures from { HasMeaning result.from.seconds }
+    ensures until { IsEndOf result.from.seconds (end_in result) }
+{
     assert!(rt; LO <= row.from && row.from < HI);
-    let range = Range {
+    Range {
         from: Moment { seconds: row.from },
         until: end_of(rt, row),
-    };
+    }
+}
+
+fn expect_text(rt: &impl Abort, alloc: Global, row: &Row, text: &Bytes) -> Result<(), NoMemory> {
+    let wanted = wanted(alloc, row)?;
+    assert_eq!(rt; text.as_slice(), wanted.as_slice());
+    assert_eq!(rt; text.len(), row.len);
+    Ok(())
+}
+
+fn expect_calendar(rt: &impl Abort, alloc: Global, row: &Row) -> Result<(), ZoneFault> {
+    let range = range_of(rt, row);
     let zone = zone_of(alloc, slim(alloc, &row.plan)?)?;
     let carried = is_carried(&zone);
     assert!(rt; carried);
     let text = calendar(alloc, &zone, row, range)?;
-    let wanted = wanted(alloc, row)?;
-    assert_eq!(rt;
-        text.as_slice(),
-        wanted.as_slice(),
-        "{:?} until {:?}",
-        row.plan.footer,
-        row.until
-    );
-    assert_eq!(rt; text.len(), row.len);
+    expect_text(rt, alloc, row, &text)?;
     Ok(())
 }
 
