@@ -1,0 +1,73 @@
+-- How a history grows by the release of a folder.
+use Rattle.std.proofs.Common.{◌≡◌, ℕ, List, [], ◌∷◌, ◌++◌, Option, None, Some, Ok, IfSome, refl, sym, ap, ◌∙◌, subst}
+use Rattle.std.specs.List.{last_or}
+use Rattle.std.proofs.lemmas.List.{map-append}
+use Rattle.td_base.specs.Views.{StoreView}
+use Rattle.catalogue.specs.Holdings.{StandsFor, release_held}
+use Rattle.catalogue.specs.Releases.{ReleaseData, release_data}
+use Rattle.catalogue.specs.declared.holding.Catalogue.{Catalogue}
+use Rattle.catalogue.specs.declared.release.Release.{Release}
+use Rattle.zone_meaning.specs.Sound.{IsSound}
+use Rattle.release_check.specs.Before.{ForEachBefore, before_of}
+use Rattle.release_check.specs.Found.{Finds, IsReleaseIn}
+use Rattle.installer.specs.Installing.{GrowsBy, Installs, history_of}
+
+abbrev held : Catalogue (List ℕ) → ReleaseData
+held c = release_held (λ file. file) c
+
+abbrev Stands : Catalogue (List ℕ) → List ReleaseData → Type 0
+Stands c H = StandsFor (λ file. file) IsSound c H
+
+some_map : {A : Type 0} {P Q : A → Type 0} (o : Option A) → ((x : A) → P x → Q x) → IfSome o P → IfSome o Q
+some_map None f h = tt
+some_map (Some x) f h = f x h
+
+-- ---- the last release
+
+last_snoc : (o : Option ReleaseData) (H : List ReleaseData) (r : ReleaseData) → last_or o (H ++ r ∷ []) ≡ Some r
+last_snoc o [] r = refl
+last_snoc o (x ∷ H) r = last_snoc (Some x) H r
+
+same_last : (c : Catalogue (List ℕ)) (H : List ReleaseData) (r : ReleaseData) → Stands c (H ++ r ∷ []) → r ≡ held c
+same_last c H r s = let e : Some r ≡ Some (held c) = sym (last_snoc None H r) ∙ s.last in cc e
+
+pub stands_held : (c : Catalogue (List ℕ)) (H : List ReleaseData) (r : ReleaseData) → Stands c (H ++ r ∷ []) → Stands c (H ++ held c ∷ [])
+stands_held c H r s = subst (λ x. Stands c (H ++ x ∷ [])) (same_last c H r s) s
+
+-- ---- an install
+
+pub grew : (old new : StoreView) (dir : List ℕ) (c : Catalogue (List ℕ)) (H : List ReleaseData) (r : Release (List ℕ)) (next : Catalogue (List ℕ))
+    → Stands c H → Finds old new (Ok r) (λ files. ForEachBefore (Some c) (λ G. IsReleaseIn dir (before_of G) (Ok r) files)) → Stands next (H ++ release_data (λ file. file) r ∷ [])
+    → Installs old new dir H (λ c'. H ++ held c' ∷ []) (Ok next)
+grew old new dir c H r next s f n = record {
+  later = f.later;
+  told = some_map old.files (λ files t. (
+    release_data (λ file. file) r,
+    t H s,
+    ap (λ x. H ++ x ∷ []) (sym (same_last next H (release_data (λ file. file) r) n)),
+  )) f.told;
+  failed = λ e. absurd (cc e);
+}
+
+-- the same install, seen by another value
+pub seen_as : {A B : Type 0} (old new : StoreView) (dir : List ℕ) (H : List ReleaseData) (f : A → List ReleaseData) (g : B → List ReleaseData) (a : A) (b : B)
+    → Installs old new dir H f (Ok a) → g b ≡ f a → Installs old new dir H g (Ok b)
+seen_as old new dir H f g a b p e = record {
+  later = p.later;
+  told = some_map old.files (λ files t. (t.0, t.1, e ∙ t.2)) p.told;
+  failed = λ h. absurd (cc h);
+}
+
+-- ---- histories of published catalogues
+
+pub history_more : (list : List (Catalogue (List ℕ))) (c : Catalogue (List ℕ)) → history_of (list ++ c ∷ []) ≡ history_of list ++ held c ∷ []
+history_more list c = map-append held list (c ∷ [])
+
+pub published_stands : (list : List (Catalogue (List ℕ))) (c : Catalogue (List ℕ)) → Stands c (history_of list ++ held c ∷ [])
+    → Stands c (history_of (list ++ c ∷ []))
+published_stands list c s = subst (Stands c) (sym (history_more list c)) s
+
+pub grows : (c : Catalogue (List ℕ)) (H now : List ReleaseData) → Stands c (H ++ held c ∷ []) → now ≡ H ++ held c ∷ [] → GrowsBy H now
+grows c H now s e =
+    let is = s.history H (held c) [] refl in
+    record { release = held c; now_is = e; sound = is.is_sound; fits = is.fits }

@@ -1,0 +1,46 @@
+ghost use Rattle.std.specs.Prelude.{◌≡◌, [], ◌∷◌, ◌++◌, IfOk};
+ghost use Rattle.catalogue.specs.Holdings.{StandsFor, release_held};
+ghost use Rattle.zone_meaning.specs.Sound.{IsSound};
+ghost use Rattle.zone_meaning.specs.ZoneHistories.{ForEachZoneHistory};
+ghost use Rattle.installer.specs.Installing.{Installs};
+
+use crate::install_fault::InstallFault;
+use catalogue::Catalogue;
+use release_check::check;
+use std::alloc::Global;
+use td_base::Store;
+use zone_meaning::Zone;
+
+/// The catalogue of a history that begins with the release of a folder.
+pub fn first_in<S: Store>(
+    alloc: Global,
+    dir: &[u8],
+    store: &mut S,
+) -> Result<Catalogue<Zone>, InstallFault>
+    ensures found { Installs (S.seen store.old) (S.seen store.new) dir.now []
+        (λ c. release_held (λ file. file) c ∷ []) result }
+    ensures stands { IfOk result (λ c.
+        StandsFor (λ file. file) IsSound c (release_held (λ file. file) c ∷ [])) }
+{
+    let release = check(alloc, dir, store, None)?;
+    let catalogue = Catalogue::first(alloc, release)?;
+    Ok(catalogue)
+}
+
+/// The catalogue of the history of another one, with the release that a folder gives after it.
+pub fn next_in<S: Store>(
+    alloc: Global,
+    dir: &[u8],
+    store: &mut S,
+    last: &Catalogue<Zone>,
+) -> Result<Catalogue<Zone>, InstallFault>
+    ensures found { ForEachZoneHistory last.now (λ H.
+        Installs (S.seen store.old) (S.seen store.new) dir.now H
+        (λ c. H ++ release_held (λ file. file) c ∷ []) result) }
+    ensures stands { IfOk result (λ c. ForEachZoneHistory last.now (λ H.
+        StandsFor (λ file. file) IsSound c (H ++ release_held (λ file. file) c ∷ []))) }
+{
+    let release = check(alloc, dir, store, Some(last))?;
+    let catalogue = last.next(alloc, release)?;
+    Ok(catalogue)
+}

@@ -1,0 +1,101 @@
+ghost use Rattle.std.specs.Prelude.{◌≡◌, ◌<◌, [], length, All, None, Some, IfOk, OnErr, false};
+ghost use Rattle.std.specs.List.{last_or};
+ghost use mathlib.Core.List.{IsPrefix};
+ghost use Rattle.catalogue.specs.Holdings.{StandsFor};
+ghost use Rattle.publication.specs.Views.{IsNewDesk};
+ghost use Rattle.zone_meaning.specs.Sound.{IsSound};
+ghost use Rattle.installer.specs.Installing.{GrowsBy, Installs, history_of};
+
+use crate::growing::{first_in, next_in};
+use crate::install_fault::InstallFault;
+use catalogue::Catalogue;
+use publication::{Desk, Ended, Publisher, Receipt, make};
+use std::alloc::Global;
+use std::marker::Model;
+use std::sync::Wait;
+use td_base::{NoMemory, Store};
+use zone_meaning::Zone;
+
+/// Publishes the catalogues of one history. It is not `Drop`: each path ends it by `end` or `close`.
+pub struct Installer {
+    publisher: Publisher<Catalogue<Zone>>,
+}
+
+impl Model for Installer {
+    ghost use Rattle.std.specs.Prelude.{List, ℕ};
+    ghost use Rattle.catalogue.specs.declared.holding.Catalogue.{Catalogue};
+    ghost use Rattle.publication.specs.Views.{PublishedView};
+
+    ghost Value = { PublishedView (Catalogue (List ℕ)) };
+
+    ghost view = { λ i. record { pair = i.publisher.pair; list = i.publisher.list } };
+}
+
+impl Installer {
+    /// Publishes the release of a first folder, for so many desks. An empty `dir` stands for the
+    /// store's own top. Nothing is published after a fault.
+    pub fn open<R: Wait, S: Store>(
+        rt: &R,
+        alloc: Global,
+        dir: &[u8],
+        store: &mut S,
+        desks: u32,
+    ) -> Result<(Installer, Vec<Desk<Catalogue<Zone>>>), InstallFault>
+        requires { 0 < desks }
+        ensures found { Installs (S.seen store.old) (S.seen store.new) dir.now []
+            (λ p. history_of p.0.list) result }
+        ensures grown { IfOk result (λ p. GrowsBy [] (history_of p.0.list)) }
+        ensures number { IfOk result (λ p. length p.1.items ≡ desks) }
+        ensures each { IfOk result (λ p. All (IsNewDesk p.0.pair p.0.list false) p.1.items) }
+    {
+        let catalogue = first_in(alloc, dir, store)?;
+        let (publisher, made) = make(rt, alloc, catalogue, desks)?;
+        Ok((Installer { publisher }, made))
+    }
+
+    /// Publishes the release of one more folder, where the folder gives one after the history so
+    /// far. It may wait for desks that are entering.
+    pub fn install<R: Wait, S: Store>(
+        &mut self,
+        rt: &R,
+        alloc: Global,
+        dir: &[u8],
+        store: &mut S,
+    ) -> Result<Receipt<Catalogue<Zone>>, InstallFault>
+        ensures found { Installs (S.seen store.old) (S.seen store.new) dir.now
+            (history_of self.old.list) (λ r. history_of r.list) result }
+        ensures grown { IfOk result (λ r. GrowsBy (history_of self.old.list) (history_of r.list)) }
+        ensures longer { IfOk result (λ r. IsPrefix self.old.list r.list) }
+        ensures receipt { IfOk result (λ r. (r.pair ≡ self.old.pair) × (r.list ≡ self.new.list)
+            × (r.ended ≡ false)) }
+        ensures refused { OnErr result (self.new.list ≡ self.old.list) }
+        ensures pair { self.new.pair ≡ self.old.pair }
+    {
+        let last = self.publisher.last();
+        let catalogue = next_in(alloc, dir, store, last)?;
+        let receipt = self.publisher.publish(rt, catalogue)?;
+        Ok(receipt)
+    }
+
+    /// The catalogue published last, which stands for the whole history.
+    pub fn last(&self) -> &Catalogue<Zone>
+        ensures last { last_or None self.now.list ≡ Some result.now }
+        ensures stands { StandsFor (λ file. file) IsSound result.now (history_of self.now.list) }
+    {
+        self.publisher.last()
+    }
+
+    /// Ends the history. After `Err` the installer is gone. It may wait for desks that are entering.
+    pub fn end<R: Wait>(self, rt: &R) -> Result<Ended<Catalogue<Zone>>, NoMemory>
+        ensures { IfOk result (λ e. (e.pair ≡ self.pair) × (e.list ≡ self.list)) }
+    {
+        let Installer { publisher } = self;
+        publisher.end(rt)
+    }
+
+    /// Waits for desks that are entering, and gives up what is shown.
+    pub fn close<R: Wait>(self, rt: &R) {
+        let Installer { publisher } = self;
+        publisher.close(rt);
+    }
+}

@@ -1,0 +1,18 @@
+//! Grows a history by the releases of folders, and publishes each.
+//!
+//! [`Installer::open`] publishes the release of a first folder for so many desks, and
+//! [`Installer::install`] that of one more. A release is published exactly where the folder gives it
+//! after the history so far, and where memory serves; every refusal leaves the history as it was.
+//! What an install says is `Installs` of specs/Installing.antt.
+#![tactic(auto)]
+
+mod growing;
+mod install_fault;
+mod installing;
+mod send_sync;
+
+pub use install_fault::InstallFault;
+pub use installing::Installer;
+
+#[cfg(test)]
+mod tests;
