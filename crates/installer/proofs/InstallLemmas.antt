@@ -37,7 +37,8 @@ stands_held c H r s = subst (λ x. Stands c (H ++ x ∷ [])) (same_last c H r s)
 -- ---- an install
 
 pub grew : (old new : StoreView) (dir : List ℕ) (c : Catalogue (List ℕ)) (H : List ReleaseData) (r : Release (List ℕ)) (next : Catalogue (List ℕ))
-    → Stands c H → Finds old new (Ok r) (λ files. ForEachBefore (Some c) (λ G. IsReleaseIn dir (before_of G) (Ok r) files)) → Stands next (H ++ release_data (λ file. file) r ∷ [])
+    → Stands c H → Finds old new (Ok r) (λ files. ForEachBefore (Some c) (λ G. IsReleaseIn dir (before_of G) (Ok r) files))
+        → Stands next (H ++ release_data (λ file. file) r ∷ [])
     → Installs old new dir H (λ c'. H ++ held c' ∷ []) (Ok next)
 grew old new dir c H r next s f n = record {
   later = f.later;
@@ -50,7 +51,8 @@ grew old new dir c H r next s f n = record {
 }
 
 -- the same install, seen by another value
-pub seen_as : {A B : Type 0} (old new : StoreView) (dir : List ℕ) (H : List ReleaseData) (f : A → List ReleaseData) (g : B → List ReleaseData) (a : A) (b : B)
+pub seen_as : {A B : Type 0} (old new : StoreView) (dir : List ℕ) (H : List ReleaseData) (f : A → List ReleaseData) (g : B
+    → List ReleaseData) (a : A) (b : B)
     → Installs old new dir H f (Ok a) → g b ≡ f a → Installs old new dir H g (Ok b)
 seen_as old new dir H f g a b p e = record {
   later = p.later;

@@ -16,7 +16,8 @@ use std::sync::Wait;
 use td_base::{NoMemory, Store};
 use zone_meaning::Zone;
 
-/// Publishes the catalogues of one history. It is not `Drop`: each path ends it by `end` or `close`.
+/// Publishes the catalogues of one history. It is not `Drop`: each path ends it by `end` or
+/// `close`.
 pub struct Installer {
     publisher: Publisher<Catalogue<Zone>>,
 }
@@ -54,7 +55,8 @@ impl Installer {
     }
 
     /// Publishes the release of one more folder, where the folder gives one after the history so
-    /// far. It may wait for desks that are entering.
+    /// far. The next catalogue is made before the publish, which is the last that may be refused,
+    /// for want of memory alone. It may wait for desks that are entering.
     pub fn install<R: Wait, S: Store>(
         &mut self,
         rt: &R,
@@ -85,7 +87,8 @@ impl Installer {
         self.publisher.last()
     }
 
-    /// Ends the history. After `Err` the installer is gone. It may wait for desks that are entering.
+    /// Ends the history. After `Err` the installer is gone. It may wait for desks that are
+    /// entering.
     pub fn end<R: Wait>(self, rt: &R) -> Result<Ended<Catalogue<Zone>>, NoMemory>
         ensures { IfOk result (λ e. (e.pair ≡ self.pair) × (e.list ≡ self.list)) }
     {

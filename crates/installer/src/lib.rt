@@ -1,9 +1,9 @@
 //! Grows a history by the releases of folders, and publishes each.
 //!
 //! [`Installer::open`] publishes the release of a first folder for so many desks, and
-//! [`Installer::install`] that of one more. A release is published exactly where the folder gives it
-//! after the history so far, and where memory serves; every refusal leaves the history as it was.
-//! What an install says is `Installs` of specs/Installing.antt.
+//! [`Installer::install`] that of one more. A release is published exactly where the folder gives
+//! it after the history so far, and where memory serves; every refusal leaves the history as it
+//! was. What an install says is `Installs` of specs/Installing.antt.
 #![tactic(auto)]
 
 mod growing;

@@ -104,6 +104,8 @@ impl<V: Value, T: Sets<V>> PublisherOf<V, T> {
             return Err(NoMemory);
         };
         let added: &V = &value;
+        // From here on the operation alone takes memory. It carries the history with the value in
+        // it, and so can be made only after the value was added.
         self.stuck = true;
         if !self.history.add(added) {
             return Err(NoMemory);
