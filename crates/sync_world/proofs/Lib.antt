@@ -21,3 +21,4 @@ pub mod TokenTexts
 pub mod SoundLists
 pub mod Answering
 pub mod Requests
+pub mod Retired

@@ -1,5 +1,5 @@
 -- What a primary tells of its releases (RFC 7808, sections 5.2 and 5.3).
-use Rattle.std.specs.Prelude.{ℕ, ◌<◌, ◌+◌, ◌≤◌, List, length, take, map, Option, None, Some, option_map, ◌≡◌, ◌⊎◌}
+use Rattle.std.specs.Prelude.{ℕ, ◌<◌, ◌+◌, ◌≤◌, List, length, take, map, Option, None, Some, option_map, ◌≡◌, ◌≢◌, ◌⊎◌}
 use Rattle.td_base.specs.declared.report.Ask.{Ask}
 use Rattle.td_base.specs.declared.report.Ask.TheVariants as ask
 use Rattle.catalogue.specs.Histories.{IsHistory, meta, token_of}
@@ -73,3 +73,13 @@ pub record Serves (sound : ReleaseData → Type 0) (hears : List ReleaseData →
   pub heard_is_told : HeardIsTold sound hears P
   pub finds : FindsPlaces sound P
   pub finds_no_other : FindsNoOther sound P
+
+-- the token is that of a place that there was by then, and from then on it is refused only once the
+-- place is none of the last ones whose tokens are known for certain
+pub record IsTokenOf (P : Service) (H : List ReleaseData) (since : ℕ) (token : List ℕ) : Type 0 where
+  pub place : ℕ
+  pub is_place : IsPlace H place
+  pub by_then : place ≤ since
+  pub is : token ≡ token_of H place
+  pub known : (n : ℕ) → since ≤ n → n ≤ length H → n < place + P.kept
+      → told P (take n H) (ask.List (Some token)) ≢ Some heard.BadToken

@@ -2,6 +2,7 @@
 ghost use Rattle.std.specs.Prelude.{◌≡◌, ◌≢◌, ◌↔◌, ℕ, ◌≤◌, List, length, take, Some};
 ghost use Rattle.std.specs.Option.{IsSomeAnd};
 ghost use Rattle.td_base.specs.declared.report.Ask.{Ask};
+ghost use Rattle.td_base.specs.declared.report.Ask.TheVariants as ask;
 ghost use Rattle.td_base.specs.declared.report.Role.TheVariants.{Primary};
 ghost use Rattle.catalogue.specs.Histories.{IsHistory};
 ghost use Rattle.catalogue.specs.Releases.{ReleaseData};
@@ -15,7 +16,7 @@ ghost use Rattle.sync_core.specs.declared.heard_type.Heard.{Heard};
 ghost use Rattle.sync_core.specs.declared.heard_type.Heard.TheVariants as heard;
 ghost use Rattle.sync_world.specs.Hearing.{Hears, IsHeadOf, IsHeard, action_service};
 ghost use Rattle.sync_world.specs.Holding.{HoldsLast, SaysHolds};
-ghost use Rattle.sync_world.specs.Primaries.{IsPlace, Serves, changes_of, list_of, told};
+ghost use Rattle.sync_world.specs.Primaries.{IsPlace, IsTokenOf, Serves, changes_of, list_of, told};
 ghost use Rattle.sync_world.specs.Worlds.{Sent, Step, World, IsAnswer, Leads, begun};
 
 use crate::Primary;
@@ -77,6 +78,16 @@ pub fn asks_are_answered<P: Primary>()
         → w.sent ≡ Some sent → sent.since ≤ n → n ≤ length w.history
         → IsSomeAnd (told P.service (take n w.history) sent.ask)
         (λ h. length w.history ≤ P.service.kept → h ≢ heard.BadToken) }
+{}
+
+/// The token of an outstanding ask is that of a place, and no answer refuses it until that place is
+/// retired.
+pub fn tokens_are_refused_late<P: Primary>()
+    ensures { (H : List ReleaseData) (steps : List Step) (w : World) (since : ℕ) (token : List ℕ)
+        → Serves P.sound P.hears P.service → IsHistory P.sound H → 1 ≤ length H
+        → Leads P.sound P.hears (begun H) steps w
+        → w.sent ≡ Some (record { ask = ask.List (Some token); since = since })
+        → IsTokenOf P.service w.history since token }
 {}
 
 /// The list of an earlier place, changed by the list of changes since, is the list of the last

@@ -15,6 +15,6 @@ mod tests;
 
 pub use laws::{
     actions_serve, aliases_follow, answers_are_heard, asks_are_answered, mirrors_hold,
-    mirrors_hold_releases, requests_are_answered,
+    mirrors_hold_releases, requests_are_answered, tokens_are_refused_late,
 };
 pub use primary::{Actions, Primary};
