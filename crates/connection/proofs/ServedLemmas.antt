@@ -64,7 +64,7 @@ replies_more answer before (h ∷ hs) head (q ∷ qs) place e =
     ap (λ l. reply_at answer before h q ++ l) (replies_more answer (before + 1) hs head qs place (omega (arith, e)))
     ∙ (ap (λ n. reply_at answer before h q ++ (replies_after answer (before + 1) hs qs ++ reply_at answer n head place)) (omega arith)
     ∙ sym (append_assoc (reply_at answer before h q) (replies_after answer (before + 1) hs qs)
-        (reply_at answer (before + length (h ∷ hs)) head place)))
+    (reply_at answer (before + length (h ∷ hs)) head place)))
 
 replies_next : (answer : ℕ → Head → Answer) (heads : List Head) (head : Head) (places : List ℕ) (place : ℕ) → length places ≡ length heads
     → replies answer (heads ++ head ∷ []) (places ++ place ∷ []) ≡ replies answer heads places ++ reply_at answer (length heads) head place
@@ -124,7 +124,7 @@ replied_none answer = record { placed = refl; told = refl }
 pub closed_by_request : (answer : ℕ → Head → Answer) (count : ℕ) (read : List ℕ) (left : Option (List ℕ)) (written places : List ℕ)
     (before : List Head) (last : Head) (held : List ℕ) (rf wf : Type 0)
     → IsNeeded read → ArePlaces count places → HasReplied answer (before ++ last ∷ []) places written → Gives read (before ++ last ∷ []) held
-        → IsOpen before
+    → IsOpen before
     → is_last (length before) last ≡ true
     → Served answer count (record { read = read; left = left; written = written; places = places }) rf wf end.Closed
 closed_by_request answer count read left written places before last held rf wf need are h g o l = record {
@@ -192,10 +192,10 @@ read_failed answer count read left written places heads held rf wf need are h a 
 pub reply_cut : (answer : ℕ → Head → Answer) (count : ℕ) (read : List ℕ) (left : Option (List ℕ)) (written places : List ℕ)
     (before : List Head) (last : Head) (held : List ℕ) (place : ℕ) (reply : List ℕ) (sent : ℕ) (rf wf : Type 0)
     → IsNeeded read → ArePlaces count (places ++ place ∷ []) → HasReplied answer before places written → Gives read (before ++ last ∷ []) held
-        → IsOpen before
+    → IsOpen before
     → reply ≡ reply_at answer (length before) last place → wf
     → Served answer count (record { read = read; left = left; written = written ++ take sent reply; places = places ++ place ∷ [] }) rf wf
-        end.WriteFault
+    end.WriteFault
 reply_cut answer count read left written places before last held place reply sent rf wf need are h g o r f = record {
   needed = need;
   places = are;
@@ -240,7 +240,7 @@ refusal_cut answer count read left written places heads status sent rf wf need a
 pub gave_up : (answer : ℕ → Head → Answer) (count : ℕ) (read : List ℕ) (left : Option (List ℕ)) (written places : List ℕ)
     (heads : List Head) (held : List ℕ) (sent : ℕ) (rf wf : Type 0)
     → IsNeeded read → ArePlaces count places → HasReplied answer heads places written → Gives read heads held → IsOpen heads
-        → (sent < length (fixed 503) → wf)
+    → (sent < length (fixed 503) → wf)
     → Served answer count (record { read = read; left = left; written = written ++ take sent (fixed 503); places = places }) rf wf end.NoMemory
 gave_up answer count read left written places heads held sent rf wf need are h g o f = record {
   needed = need;
@@ -261,10 +261,10 @@ gave_up answer count read left written places heads held sent rf wf need are h g
 pub gave_up_begun : (answer : ℕ → Head → Answer) (count : ℕ) (read : List ℕ) (left : Option (List ℕ)) (written places : List ℕ)
     (heads : List Head) (next : Head) (held : List ℕ) (place sent : ℕ) (rf wf : Type 0)
     → IsNeeded read → ArePlaces count (places ++ place ∷ []) → HasReplied answer heads places written → Gives read (heads ++ next ∷ []) held
-        → IsOpen heads
+    → IsOpen heads
     → (sent < length (fixed 503) → wf)
     → Served answer count (record { read = read; left = left; written = written ++ take sent (fixed 503); places = places ++ place ∷ [] }) rf wf
-        end.NoMemory
+    end.NoMemory
 gave_up_begun answer count read left written places heads next held place sent rf wf need are h g o f = record {
   needed = need;
   places = are;

@@ -251,7 +251,7 @@ pub enter_refused : (desk : DeskView (Catalogue (List ℕ))) (role : Role) (a b 
 enter_refused desk role a b c d held new places head s h p =
     let before : Exchanges a c (s.read ++ h.read) s.written = read_on a b c s.read h.read s.written s.exchanges h.exchanges in
     let given : (rest : List ℕ) × Gives (s.read ++ h.read) s.given rest =
-        gives_before (s.read ++ h.read) s.given head new (h.comes s.read s.given s.gives) in
+    gives_before (s.read ++ h.read) s.given head new (h.comes s.read s.given s.gives) in
     record {
       read = s.read ++ h.read;
       written = s.written ++ take p.sent (fixed 503);
@@ -293,7 +293,7 @@ read_failed desk role a b c held new places s h =
           served.read_failed (answer_at H role) (length H) (s.read ++ h.read) c.left s.written places s.given new
           (ConnReadFailed a c) (ConnWriteFailed a c) (h.needed s.read s.given s.gives s.open_after s.needed)
           (served.wider (length desk.seen) (length H) places (size desk H st) s.are) (s.replied H st) asks.0 s.open_after
-              (omega (arith, s.exchanges.read_faults, asks.1));
+          (omega (arith, s.exchanges.read_faults, asks.1));
     }
 
 -- a head was refused

@@ -38,7 +38,7 @@ stands_held c H r s = subst (λ x. Stands c (H ++ x ∷ [])) (same_last c H r s)
 
 pub grew : (old new : StoreView) (dir : List ℕ) (c : Catalogue (List ℕ)) (H : List ReleaseData) (r : Release (List ℕ)) (next : Catalogue (List ℕ))
     → Stands c H → Finds old new (Ok r) (λ files. ForEachBefore (Some c) (λ G. IsReleaseIn dir (before_of G) (Ok r) files))
-        → Stands next (H ++ release_data (λ file. file) r ∷ [])
+    → Stands next (H ++ release_data (λ file. file) r ∷ [])
     → Installs old new dir H (λ c'. H ++ held c' ∷ []) (Ok next)
 grew old new dir c H r next s f n = record {
   later = f.later;
