@@ -1,5 +1,5 @@
 -- From what a call does to the end of a run.
-use Rattle.std.proofs.Common.{◌≡◌, ◌≢◌, ℕ, List, [], ◌∷◌, ◌++◌, Option, None, Some, IfSome, IsSome, Ok, Err, inl, inr, refl, sym, subst}
+use Rattle.std.proofs.Common.{◌≡◌, ◌≢◌, ℕ, List, [], ◌∷◌, ◌++◌, Option, None, Some, IfSome, Ok, Err, inl, inr, refl, sym, subst}
 use Rattle.std.specs.Prelude.{ℤ, codes}
 use Rattle.td_base.specs.Cause.{StoreFailed}
 use Rattle.td_base.specs.Files.{File, file_at}
@@ -10,22 +10,25 @@ use Rattle.td_base.specs.declared.outside.FileRead.TheVariants as looked
 use Rattle.td_base.specs.declared.report.End.{End}
 use Rattle.td_base.specs.declared.transfer.Written.TheVariants as written
 use Rattle.td_base.proofs.LaterLemmas.{source_refl, sink_refl, looks_later, writes_all_later, prints_later}
-use Rattle.catalogue.specs.Releases.{release_data}
-use Rattle.catalogue.specs.declared.release.Release.{Release}
+use Rattle.catalogue.specs.Releases.{ReleaseData}
+use Rattle.catalogue.specs.declared.holding.Catalogue.{Catalogue}
 use Rattle.release_check.specs.FaultText.{fault_text}
-use Rattle.release_check.specs.Folder.{FolderGives}
-use Rattle.release_check.specs.Found.{Finds, IsReleaseIn}
-use Rattle.release_check.specs.declared.check_fault.CheckFault.{CheckFault}
+use Rattle.installer.specs.Installing.{history_of}
+use Rattle.installer.specs.declared.install_fault.InstallFault.{InstallFault}
+use Rattle.installer.specs.declared.install_fault.InstallFault.TheVariants as install
+use Rattle.publication.specs.Views.{DeskView}
 use Rattle.release_check.specs.declared.check_fault.CheckFault.TheVariants as fault
 use Rattle.zone_meaning.specs.Faults.{zone_fault}
 use Rattle.zone_meaning.specs.declared.zone_fault.ZoneFault.{ZoneFault}
-use Rattle.td_top.specs.Called.{print, CallsFor, release, no_release, state, no_zone, no_file}
-use Rattle.td_top.specs.Ends.{printed, served, unread, out_of_memory, Printed}
+use Rattle.td_top.specs.Called.{print, CallsFor, releases, no_release, state, no_zone, no_file}
+use Rattle.td_top.specs.Ends.{printed, served, unread, out_of_memory, IsSilent, Printed}
+use Rattle.td_top.specs.Folders.{Stops}
 use Rattle.td_top.specs.Grammar.{Asked, answer, at}
+use Rattle.td_top.specs.Installed.{InstallsAll}
 use Rattle.td_top.specs.Lines.{refused_line}
 use Rattle.td_top.specs.Outside.{outside, Later}
 use Rattle.td_top.specs.Statuses.{status_of}
-use Rattle.td_top.specs.Tells.{EndsLater, ServesLater, Tells, Refuses, RefusesFolder, Shows, ShowsBy}
+use Rattle.td_top.specs.Tells.{EndsLater, ServesLater, Tells, Refuses, RefusesFolder, RefusesInstall, Shows, ShowsBy}
 use Rattle.td_top.specs.declared.status.Status.{Status}
 use Rattle.td_top.specs.declared.status.Status.TheVariants as status
 use Rattle.td_top.proofs.ZonesShown.{IsOfPrefix, of_prefix}
@@ -47,7 +50,7 @@ abbrev later_by : (s t : StoreView) (i : SourceView) (old new : SinkView) → La
 later_by s t i old new store output = record { store = store; input = source_refl i; output = output }
 
 -- memory ran out before anything was printed
-pub ends_empty : (asked : Option Asked) (s t : StoreView) (i : SourceView) (old new : SinkView) (end : Status) → IsSome asked
+pub ends_empty : (asked : Option Asked) (s t : StoreView) (i : SourceView) (old new : SinkView) (end : Status) → IsSilent asked
     → LaterStore s t → end ≡ status.NoMemory → new ≡ old → EndsLater asked (outside s i old) (outside t i new) end
 ends_empty asked s t i old new end some store is e =
     subst (λ (x : Status). EndsLater asked (outside s i old) (outside t i new) x) (sym is) (record {
@@ -56,7 +59,7 @@ ends_empty asked s t i old new end some store is e =
     })
 
 -- a file was not read
-pub ends_unread : (asked : Option Asked) (s t : StoreView) (i : SourceView) (old new : SinkView) (end : Status) → IsSome asked → StoreFailed s t
+pub ends_unread : (asked : Option Asked) (s t : StoreView) (i : SourceView) (old new : SinkView) (end : Status) → IsSilent asked → StoreFailed s t
     → LaterStore s t → end ≡ status.NotRead → new ≡ old → EndsLater asked (outside s i old) (outside t i new) end
 ends_unread asked s t i old new end some failed store is e =
     subst (λ (x : Status). EndsLater asked (outside s i old) (outside t i new) x) (sym is) (record {
@@ -73,35 +76,31 @@ ends_printed asked s t i old new called text end calls store h = record {
 }
 
 pub ends_told : (asked : Option Asked) (s t : StoreView) (i : SourceView) (old new : SinkView) (called : Status) (text : List ℕ) (end : Status)
-    → IsSome asked → CallsFor s.files asked (print called text) → LaterStore s t → Tells called text old new end
+    → IsSilent asked → CallsFor s.files asked (print called text) → LaterStore s t → Tells called text old new end
     → EndsLater asked (outside s i old) (outside t i new) end
 ends_told asked s t i old new called text end some calls store (inl h) = ends_printed asked s t i old new called text end calls store h
 ends_told asked s t i old new called text end some calls store (inr h) = ends_empty asked s t i old new end some store h.0 h.1
 
 -- a folder that is refused
-blamed : (dir : List ℕ) (f : CheckFault) (o : Option (List File)) → f ≢ fault.NoMemory → f ≢ fault.ReadFault
-    → IfSome o (IsReleaseIn dir (Err f)) → IfSome o (λ fs. FolderGives fs dir (Err f))
-blamed dir f None memory read told = tt
-blamed dir f (Some fs) memory read told = told memory read
+pub ends_refused : (dirs : List (List ℕ)) (e : InstallFault) (s t : StoreView) (i : SourceView)
+    (old new : SinkView) (end : Status) → InstallsAll dirs s t (Err e) → RefusesInstall e old new end
+    → EndsLater (Some (answer dirs)) (outside s i old) (outside t i new) end
+ends_refused dirs install.NoMemory s t i old new end h r = ends_empty (Some (answer dirs)) s t i old new end tt h.later r.0 r.1
+ends_refused dirs (install.Check fault.NoMemory) s t i old new end h r = ends_empty (Some (answer dirs)) s t i old new end tt h.later r.0 r.1
+ends_refused dirs (install.Check fault.ReadFault) s t i old new end h r =
+    ends_unread (Some (answer dirs)) s t i old new end tt (h.failed refl) h.later r.0 r.1
+ends_refused dirs (install.Check f) s t i old new end h r =
+    let stops : (H : List ReleaseData) × Stops s.files dirs H f = h.came (λ e. cc) (λ e. cc) in
+    ends_told (Some (answer dirs)) s t i old new status.Refused (refused_line (fault_text f)) end tt (no_release dirs stops.0 f stops.1) h.later r
 
-pub ends_refused : (dir : List ℕ) (f : CheckFault) (s t : StoreView) (i : SourceView) (old new : SinkView) (end : Status)
-    → Finds {T = Release (List ℕ)} s t (Err f) (IsReleaseIn dir (Err f)) → RefusesFolder f old new end
-    → EndsLater (Some (answer dir)) (outside s i old) (outside t i new) end
-ends_refused dir fault.NoMemory s t i old new end found h = ends_empty (Some (answer dir)) s t i old new end refl found.later h.0 h.1
-ends_refused dir fault.ReadFault s t i old new end found h =
-    ends_unread (Some (answer dir)) s t i old new end refl (found.failed refl) found.later h.0 h.1
-ends_refused dir f s t i old new end found h =
-    ends_told (Some (answer dir)) s t i old new status.Refused (refused_line (fault_text f)) end refl
-    (no_release dir f (λ e. cc) (λ e. cc) (blamed dir f s.files (λ e. cc) (λ e. cc) found.told)) found.later h
-
--- a release that is served
-pub ends_served : (dir : List ℕ) (r : Release (List ℕ)) (s t : StoreView) (i j : SourceView) (old new : SinkView) (end : End) (is : Status)
-    → is ≡ status_of end → Finds s t (Ok r) (IsReleaseIn dir (Ok r)) → ServesLater (release_data (λ bytes. bytes) r ∷ []) i j old new end
-    → EndsLater (Some (answer dir)) (outside s i old) (outside t j new) is
-ends_served dir r s t i j old new end is same found h =
-    subst (λ (e : Status). EndsLater (Some (answer dir)) (outside s i old) (outside t j new) e) (sym same) (record {
-      ends = served (release_data (λ bytes. bytes) r ∷ []) end (release dir (release_data (λ bytes. bytes) r) found.told) (h.serves s t);
-      later = record { store = found.later; input = h.input; output = h.output };
+-- a history that is served
+pub ends_served : (dirs : List (List ℕ)) (desk : DeskView (Catalogue (List ℕ))) (s t : StoreView) (i j : SourceView)
+    (old new : SinkView) (end : End) (is : Status) → is ≡ status_of end → InstallsAll dirs s t (Ok desk)
+    → ServesLater (history_of desk.seen) i j old new end → EndsLater (Some (answer dirs)) (outside s i old) (outside t j new) is
+ends_served dirs desk s t i j old new end is same h served_so =
+    subst (λ (e : Status). EndsLater (Some (answer dirs)) (outside s i old) (outside t j new) e) (sym same) (record {
+      ends = served (history_of desk.seen) end (releases dirs (history_of desk.seen) h.came.give) (served_so.serves s t);
+      later = record { store = h.later; input = served_so.input; output = served_so.output };
     })
 
 -- a zone file whose state is shown
@@ -109,10 +108,10 @@ shows : (path bytes : List ℕ) (m : ℤ) (s t : StoreView) (i : SourceView) (ol
     → zone_fault bytes ≡ f → IsOfPrefix path bytes s.files → LaterStore s t → ShowsBy bytes m f old new end
     → EndsLater (Some (at path m)) (outside s i old) (outside t i new) end
 shows path bytes m s t i old new end None is of store h =
-    ends_told (Some (at path m)) s t i old new status.Done _ end refl (state path bytes m (of.clear is) is) store h
+    ends_told (Some (at path m)) s t i old new status.Done _ end tt (state path bytes m (of.clear is) is) store h
 shows path bytes m s t i old new end (Some f) is of store h =
     let whole = of.refused f is in
-    ends_told (Some (at path m)) s t i old new status.Refused _ end refl (no_zone path whole.0 m f whole.1 whole.2) store h
+    ends_told (Some (at path m)) s t i old new status.Refused _ end tt (no_zone path whole.0 m f whole.1 whole.2) store h
 
 pub ends_shown : (path bytes : List ℕ) (m : ℤ) (s t : StoreView) (i : SourceView) (old new : SinkView) (end : Status)
     → Looks s t path 65537 (looked.Found bytes) → Shows bytes m old new end → EndsLater (Some (at path m)) (outside s i old) (outside t i new) end
@@ -128,5 +127,5 @@ pub ends_absent : (path : List ℕ) (m : ℤ) (s t : StoreView) (i : SourceView)
     → Looks s t path 65537 looked.Absent → Refuses (codes "8 Absent " ++ path) old new end
     → EndsLater (Some (at path m)) (outside s i old) (outside t i new) end
 ends_absent path m s t i old new end looks h =
-    ends_told (Some (at path m)) s t i old new status.Refused _ end refl (no_file path m (absent path s.files looks.told))
+    ends_told (Some (at path m)) s t i old new status.Refused _ end tt (no_file path m (absent path s.files looks.told))
     (looks_later s t path 65537 looked.Absent looks) h

@@ -2,4 +2,6 @@ pub mod Meant
 pub mod ZonesShown
 pub mod Endings
 pub mod Refusals
-pub mod Connections
+pub mod Checked
+pub mod Installing
+pub mod Desks

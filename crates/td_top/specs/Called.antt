@@ -1,15 +1,14 @@
 -- What words call for, over the files of a store.
-use Rattle.std.specs.Prelude.{◌≡◌, ◌≢◌, ℕ, List, [], ◌∷◌, ◌++◌, codes, Option, None, Some, IfSome, Ok, Err, ℤ}
+use Rattle.std.specs.Prelude.{◌≡◌, ℕ, List, ◌++◌, codes, Option, None, Some, IfSome, ℤ}
 use Rattle.td_base.specs.Files.{File, file_at}
 use Rattle.catalogue.specs.Releases.{ReleaseData}
 use Rattle.release_check.specs.FaultText.{fault_text as folder_text}
-use Rattle.release_check.specs.Folder.{FolderGives}
 use Rattle.release_check.specs.declared.check_fault.CheckFault.{CheckFault}
-use Rattle.release_check.specs.declared.check_fault.CheckFault.TheVariants as fault
 use Rattle.zone_meaning.specs.Faults.{zone_fault}
 use Rattle.zone_meaning.specs.FaultText.{fault_text as zone_text}
 use Rattle.zone_meaning.specs.State.{zone_state}
 use Rattle.zone_meaning.specs.declared.zone_fault.ZoneFault.{ZoneFault}
+use Rattle.td_top.specs.Folders.{FoldersGive, Stops}
 use Rattle.td_top.specs.Grammar.{Asked, answer, at}
 use Rattle.td_top.specs.Lines.{refused_line, state_line, usage_line}
 use Rattle.td_top.specs.declared.status.Status.{Status}
@@ -21,17 +20,17 @@ pub data Called : Type 0 where
   print : Status → List ℕ → Called
   serve : List ReleaseData → Called
 
--- What the words call for, where the store tells its files; where it does not, for some folder or
--- for some file. The state is a function of a file's bytes: `one_zone_file` of tzif_reader ties
+-- What the words call for, where the store tells its files; where it does not, for some releases or
+-- for some file. What `check` prints comes line by line, and is told in `Checks`. The state is a function of a file's bytes: `one_zone_file` of tzif_reader ties
 -- what a file has to its layout, and the clause `rules` of zone_meaning's `at` ties the state to
 -- the rules of RFC 9636.
 pub data CallsFor (files : Option (List File)) : Option Asked → Called → Type 0 where
   usage : CallsFor files None (print status.Usage usage_line)
-  release : (dir : List ℕ) (r : ReleaseData) → IfSome files (λ fs. FolderGives fs dir (Ok r))
-      → CallsFor files (Some (answer dir)) (serve (r ∷ []))
-  no_release : (dir : List ℕ) (f : CheckFault) → f ≢ fault.NoMemory → f ≢ fault.ReadFault
-      → IfSome files (λ fs. FolderGives fs dir (Err f))
-      → CallsFor files (Some (answer dir)) (print status.Refused (refused_line (folder_text f)))
+  releases : (dirs : List (List ℕ)) (H : List ReleaseData) → FoldersGive files dirs H
+      → CallsFor files (Some (answer dirs)) (serve H)
+  no_release : (dirs : List (List ℕ)) (H : List ReleaseData) (f : CheckFault)
+      → Stops files dirs H f
+      → CallsFor files (Some (answer dirs)) (print status.Refused (refused_line (folder_text f)))
   state : (path bytes : List ℕ) (m : ℤ) → IfSome files (λ fs. file_at fs path ≡ Some bytes)
       → zone_fault bytes ≡ None
       → CallsFor files (Some (at path m)) (print status.Done (state_line (zone_state bytes m)))

@@ -1,5 +1,5 @@
 -- How a run ends.
-use Rattle.std.specs.Prelude.{◌≡◌, ℕ, List, Option, IsSome}
+use Rattle.std.specs.Prelude.{◌≡◌, ℕ, List, Option, None, Some, ⊤}
 use Rattle.td_base.specs.Cause.{StoreFailed}
 use Rattle.td_base.specs.Transfer.{Prints, WritesAll}
 use Rattle.td_base.specs.Views.{SinkView}
@@ -7,7 +7,8 @@ use Rattle.td_base.specs.declared.report.End.{End}
 use Rattle.td_base.specs.declared.transfer.Written.TheVariants as written
 use Rattle.catalogue.specs.Releases.{ReleaseData}
 use Rattle.td_top.specs.Called.{print, serve, CallsFor}
-use Rattle.td_top.specs.Grammar.{Asked}
+use Rattle.td_top.specs.Checks.{Checks}
+use Rattle.td_top.specs.Grammar.{Asked, answer, check, at}
 use Rattle.td_top.specs.Outside.{Outside}
 use Rattle.td_top.specs.Served.{Serves}
 use Rattle.td_top.specs.Statuses.{status_of}
@@ -23,6 +24,13 @@ Printed status.Usage text old new status.Usage = Prints old new text
 Printed status.Refused text old new status.Refused = Prints old new text
 Printed called text old new end = ⊥
 
+-- a command that prints nothing before its end
+abbrev pub IsSilent : Option Asked → Type 0
+IsSilent None = ⊥
+IsSilent (Some (answer dirs)) = ⊤
+IsSilent (Some (check dirs)) = ⊥
+IsSilent (Some (at path m)) = ⊤
+
 -- how a run ends with a status
 pub data Ends (asked : Option Asked) (before after : Outside) : Status → Type 0 where
   -- by the text that is called for; the input is left alone
@@ -33,9 +41,13 @@ pub data Ends (asked : Option Asked) (before after : Outside) : Status → Type 
   -- by the end of the connection that is called for
   served : (H : List ReleaseData) (end : End) → CallsFor before.store.files asked (serve H)
       → Serves H before after end → Ends asked before after (status_of end)
+  -- by the folders that are checked; the input is left alone
+  checked : (dirs : List (List ℕ)) (end : Status) → asked ≡ Some (check dirs)
+      → Checks dirs before.store after.store before.output after.output end
+      → after.input ≡ before.input → Ends asked before after end
   -- by a file that was not read; the input and the output are left alone
-  unread : IsSome asked → StoreFailed before.store after.store → after.input ≡ before.input
+  unread : IsSilent asked → StoreFailed before.store after.store → after.input ≡ before.input
       → after.output ≡ before.output → Ends asked before after status.NotRead
   -- before anything was printed or served, because memory ran out
-  out_of_memory : IsSome asked → after.input ≡ before.input → after.output ≡ before.output
+  out_of_memory : IsSilent asked → after.input ≡ before.input → after.output ≡ before.output
       → Ends asked before after status.NoMemory

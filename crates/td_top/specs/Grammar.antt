@@ -1,14 +1,20 @@
 -- The words of the command line.
 use Rattle.std.specs.Prelude.{ℕ, List, [], ◌∷◌, length, codes, Bool, false, not, ◌&&◌, ◌==◌, nat_le, if◌then◌else◌, ℤ, Option, None, Some, option_and_then}
 use Rattle.std.specs.Option.{option_map}
+use Rattle.std.specs.List.{list_all}
 use Rattle.std.specs.Str.{bytes_eq}
 use Rattle.td_civil.specs.Bounds.{has_meaning}
 use Rattle.td_civil.specs.Reading.{moment_in}
 
 -- what words ask for
 pub data Asked : Type 0 where
-  answer : List ℕ → Asked
+  answer : List (List ℕ) → Asked
+  check : List (List ℕ) → Asked
   at : List ℕ → ℤ → Asked
+
+-- the most folders that a command takes
+abbrev pub most_folders : ℕ
+most_folders = 64
 
 -- 1 to 1,024 bytes that do not begin with a dash
 abbrev pub is_path_word : List ℕ → Bool
@@ -23,10 +29,14 @@ if_meant m = if has_meaning m then Some m else None
 unfoldable pub meant_moment : List ℕ → Option ℤ
 meant_moment word = option_and_then if_meant (moment_in word)
 
--- `answer DIR`, by the words after its name
-abbrev pub answer_of : List (List ℕ) → Option Asked
-answer_of (folder ∷ []) = if is_path_word folder then Some (answer folder) else None
-answer_of _ = None
+-- at least one word and no more than there may be folders, each of which may name one
+unfoldable pub are_folders : List (List ℕ) → Bool
+are_folders words =
+    nat_le 1 (length words) && nat_le (length words) most_folders && list_all is_path_word words
+
+-- the command over folders, where the words name some
+abbrev pub over_folders : (List (List ℕ) → Asked) → List (List ℕ) → Option Asked
+over_folders command words = if are_folders words then Some (command words) else None
 
 -- `at FILE MOMENT`
 abbrev pub at_of : List (List ℕ) → Option Asked
@@ -38,5 +48,6 @@ at_of _ = None
 abbrev pub command_of : List (List ℕ) → Option Asked
 command_of [] = None
 command_of (name ∷ words) =
-    if bytes_eq name (codes "answer") then answer_of words
+    if bytes_eq name (codes "answer") then over_folders answer words
+    else if bytes_eq name (codes "check") then over_folders check words
     else if bytes_eq name (codes "at") then at_of words else None

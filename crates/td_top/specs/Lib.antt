@@ -2,8 +2,12 @@ pub mod Grammar
 pub mod Commands
 pub mod Outside
 pub mod Lines
+pub mod Folders
 pub mod Called
+pub mod Checks
 pub mod Served
 pub mod Statuses
 pub mod Ends
 pub mod Tells
+pub mod Steps
+pub mod Installed

@@ -7,6 +7,8 @@ use Rattle.catalogue.specs.Releases.{ReleaseData}
 use Rattle.release_check.specs.FaultText.{fault_text as folder_text}
 use Rattle.release_check.specs.declared.check_fault.CheckFault.{CheckFault}
 use Rattle.release_check.specs.declared.check_fault.CheckFault.TheVariants as fault
+use Rattle.installer.specs.declared.install_fault.InstallFault.{InstallFault}
+use Rattle.installer.specs.declared.install_fault.InstallFault.TheVariants as install
 use Rattle.zone_meaning.specs.Faults.{zone_fault}
 use Rattle.zone_meaning.specs.FaultText.{fault_text as zone_text}
 use Rattle.zone_meaning.specs.State.{zone_state}
@@ -53,6 +55,11 @@ abbrev pub RefusesFolder : CheckFault → SinkView → SinkView → Status → T
 RefusesFolder fault.NoMemory old new end = IsLeft old new end status.NoMemory
 RefusesFolder fault.ReadFault old new end = IsLeft old new end status.NotRead
 RefusesFolder f old new end = Refuses (folder_text f) old new end
+
+-- a folder that was not installed ends a run
+abbrev pub RefusesInstall : InstallFault → SinkView → SinkView → Status → Type 0
+RefusesInstall install.NoMemory old new end = IsLeft old new end status.NoMemory
+RefusesInstall (install.Check f) old new end = RefusesFolder f old new end
 
 -- the state of a zone file ends a run, or the file's fault does
 abbrev pub ShowsBy : List ℕ → ℤ → Option ZoneFault → SinkView → SinkView → Status → Type 0

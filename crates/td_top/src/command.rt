@@ -1,7 +1,9 @@
-ghost use Rattle.std.specs.Prelude.{◌≡◌, [], ◌∷◌, IfSome};
+ghost use Rattle.std.specs.Prelude.{◌≡◌, ◌<◌, [], ◌∷◌, length, IfSome, IsTrue};
+ghost use Rattle.std.specs.List.{list_all};
 ghost use Rattle.std.specs.Option.{option_map};
 ghost use Rattle.td_civil.specs.Bounds.{HasMeaning};
-ghost use Rattle.td_top.specs.Grammar.{command_of, answer_of, at_of, if_meant, is_path_word, meant_moment};
+ghost use Rattle.td_top.specs.Grammar.{command_of, over_folders, are_folders, at_of};
+ghost use Rattle.td_top.specs.Grammar.{answer, check, if_meant, is_path_word, meant_moment};
 ghost use Rattle.td_top.specs.Commands.{plain_command, IsMeantCommand};
 
 use td_base::Bytes;
@@ -10,11 +12,16 @@ use td_civil::{HI, LO, Moment, moment_of};
 /// The most bytes that a word which names a folder or a file may have.
 const PATH_LIMIT: usize = 1_024;
 
+/// The most folders of a command.
+const MOST_FOLDERS: usize = 64;
+
 /// What the words ask for.
 #[derive(Clone, Copy, Debug)]
 pub enum Command<'a> {
-    /// Install the folder, and answer the input as one connection.
-    Answer { folder: &'a [u8] },
+    /// Install the folders, and answer the input as one connection.
+    Answer { folders: &'a [Bytes] },
+    /// Check the folders as one history.
+    Check { folders: &'a [Bytes] },
     /// Print the state of a zone file at a moment.
     At { file: &'a [u8], moment: Moment },
 }
@@ -37,6 +44,8 @@ fn read_named<'a>(name: &[u8], words: &'a [Bytes]) -> Option<Command<'a>>
 {
     if name == b"answer".as_slice() {
         read_answer(words)
+    } else if name == b"check".as_slice() {
+        read_check(words)
     } else if name == b"at".as_slice() {
         read_at(words)
     } else {
@@ -44,27 +53,49 @@ fn read_named<'a>(name: &[u8], words: &'a [Bytes]) -> Option<Command<'a>>
     }
 }
 
-/// `answer DIR`
+/// `answer DIR..`
 fn read_answer(words: &[Bytes]) -> Option<Command<'_>>
-    ensures spelled { option_map plain_command result ≡ answer_of words.now }
+    ensures spelled { option_map plain_command result ≡ over_folders answer words.now }
     ensures meant { IfSome result IsMeantCommand }
 {
-    match words {
-        [folder] => answer_over(folder.as_slice()),
-        _ => None,
-    }
-}
-
-/// The command over a folder, if the word may name one.
-fn answer_over(folder: &[u8]) -> Option<Command<'_>>
-    ensures spelled { option_map plain_command result ≡ answer_of (folder.now ∷ []) }
-    ensures meant { IfSome result IsMeantCommand }
-{
-    if is_path_word(folder) {
-        Some(Command::Answer { folder })
+    if are_folders(words) {
+        Some(Command::Answer { folders: words })
     } else {
         None
     }
+}
+
+/// `check DIR..`
+fn read_check(words: &[Bytes]) -> Option<Command<'_>>
+    ensures spelled { option_map plain_command result ≡ over_folders check words.now }
+    ensures meant { IfSome result IsMeantCommand }
+{
+    if are_folders(words) {
+        Some(Command::Check { folders: words })
+    } else {
+        None
+    }
+}
+
+/// Whether the words may name the folders of a command.
+#[tactic(auto, unfolding(crate::specs::Grammar::are_folders))]
+fn are_folders(words: &[Bytes]) -> bool
+    ensures test { result ≡ are_folders words.now }
+    ensures some { IsTrue result → 0 < length words.now }
+{
+    1 <= words.len() && words.len() <= MOST_FOLDERS && are_path_words(words)
+}
+
+/// Whether each of the words may name a folder.
+fn are_path_words(words: &[Bytes]) -> bool
+    ensures { result ≡ list_all is_path_word words.now }
+{
+    for word in words {
+        if !is_path_word(word.as_slice()) {
+            return false;
+        }
+    }
+    true
 }
 
 /// `at FILE MOMENT`

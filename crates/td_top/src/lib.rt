@@ -4,13 +4,13 @@
 #![tactic(auto)]
 
 mod answering;
+mod checking;
 mod command;
 mod printing;
+mod refusing;
 mod running;
 mod serving;
 mod state_line;
 mod status;
-#[cfg(test)]
-mod tests;
 
 pub use running::run;

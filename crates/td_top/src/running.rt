@@ -8,11 +8,13 @@ ghost use Rattle.td_top.specs.Tells.{EndsLater};
 ghost use Rattle.td_top.specs.declared.status.Status.{Status};
 
 use crate::answering::answer;
+use crate::checking::check_folders;
 use crate::command::{Command, read_words};
 use crate::printing::print;
 use crate::state_line::state_at;
 use crate::status::Status;
 use std::alloc::Global;
+use std::sync::Wait;
 use td_base::{Bytes, Sink, Source, Store};
 
 /// The line that is printed for words that are no command.
@@ -21,9 +23,11 @@ const USAGE: &[u8] = b"usage: tzdistd answer|serve|mirror|check|at|load\n";
 /// Does what the words of a command line ask for, over a store of files, an input and an output, and gives the status
 /// with which the process ends.
 ///
-/// `answer DIR` reads the release of a folder and serves the input and the output, as one connection, over it.
+/// `answer DIR..` installs the releases of folders, in their order, and serves the input and the output, as one
+/// connection, over the last. `check DIR..` checks folders as one history, with a line for each.
 /// `at FILE MOMENT` prints the state of a zone file at a moment.
-pub fn run<S: Store, C: Source, K: Sink>(
+pub fn run<R: Wait, S: Store, C: Source, K: Sink>(
+    rt: &R,
     alloc: Global,
     words: &[Bytes],
     store: &mut S,
@@ -40,11 +44,12 @@ pub fn run<S: Store, C: Source, K: Sink>(
     ensures later { Later (outside (S.seen store.old) (C.seen input.old) (K.seen output.old))
         (outside (S.seen store.new) (C.seen input.new) (K.seen output.new)) }
 {
-    do_words(alloc, words, store, input, output).number()
+    do_words(rt, alloc, words, store, input, output).number()
 }
 
 /// Does what the words ask for.
-fn do_words<S: Store, C: Source, K: Sink>(
+fn do_words<R: Wait, S: Store, C: Source, K: Sink>(
+    rt: &R,
     alloc: Global,
     words: &[Bytes],
     store: &mut S,
@@ -56,7 +61,8 @@ fn do_words<S: Store, C: Source, K: Sink>(
         (outside (S.seen store.new) (C.seen input.new) (K.seen output.new)) result }
 {
     match read_words(words) {
-        Some(Command::Answer { folder }) => answer(alloc, folder, store, input, output),
+        Some(Command::Answer { folders }) => answer(rt, alloc, folders, store, input, output),
+        Some(Command::Check { folders }) => check_folders(alloc, folders, store, output),
         Some(Command::At { file, moment }) => state_at(alloc, file, moment, store, output),
         None => usage(output),
     }

@@ -1,4 +1,24 @@
+use Rattle.std.proofs.Common.{rules, ◌≡◌, true, ℕ, List, length, map, sym, ap, subst, refl}
+use Rattle.std.specs.List.{AllByRecursion}
+use Rattle.installer.specs.Installing.{history_of}
+use Rattle.td_top.specs.Tells.{ServesLater}
+use Rattle.td_top.proofs.Desks.{served_over, all_latest}
 use Rattle.td_top.proofs.serving.serve.Goals as goal
 
-pub returns-in-Err : goal.returns-in-Err
-returns-in-Err g c = c.give_up.ensures _ (g.C.Source.seen c.args.input.now)
+pub returns : goal.returns
+returns g c =
+    let h = c.serve-report.ensures.served in
+    let e = c.serve-report.ensures.ended c.requires in
+    record {
+      serves = λ s t. record {
+        read = h.read;
+        written = h.written;
+        places = c.serve-report.result.places;
+        consumed = search (h.exchanges.consumed, rules);
+        appended = search (h.exchanges.taken, rules);
+        served = search (served_over c.serve-report.new.desk c.args.desk.now.seen _ _ _ c.serve-report.result e.0 h, rules);
+        latest = all_latest c.args.desk.now.seen c.serve-report.result.places e.2;
+      };
+      input = search rules;
+      output = search rules;
+    }

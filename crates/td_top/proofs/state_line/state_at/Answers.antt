@@ -14,9 +14,9 @@ returns-in-Absent g c = λ input.
 
 pub returns-in-Failed : goal.returns-in-Failed
 returns-in-Failed g c = λ input.
-    ends_unread (Some (at c.args.file.now c.args.moment.seconds)) _ _ input _ _ _ refl (c.in-Failed.ensures.look.failed refl)
+    ends_unread (Some (at c.args.file.now c.args.moment.seconds)) _ _ input _ _ _ tt (c.in-Failed.ensures.look.failed refl)
     (looks_later _ _ _ _ _ c.in-Failed.ensures.look) refl refl
 
 pub returns-in-NoMemory : goal.returns-in-NoMemory
 returns-in-NoMemory g c = λ input.
-    ends_empty (Some (at c.args.file.now c.args.moment.seconds)) _ _ input _ _ _ refl (looks_later _ _ _ _ _ c.in-NoMemory.ensures.look) refl refl
+    ends_empty (Some (at c.args.file.now c.args.moment.seconds)) _ _ input _ _ _ tt (looks_later _ _ _ _ _ c.in-NoMemory.ensures.look) refl refl

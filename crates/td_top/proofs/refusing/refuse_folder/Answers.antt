@@ -1,5 +1,5 @@
 use Rattle.td_top.proofs.Refusals.{refuses_told}
-use Rattle.td_top.proofs.answering.refuse_folder.Goals as goal
+use Rattle.td_top.proofs.refusing.refuse_folder.Goals as goal
 
 pub returns-in_default : goal.returns-in_default
 returns-in_default g c =

@@ -1,0 +1,26 @@
+-- How a connection over a desk that has seen all is one over the whole history.
+use Rattle.std.proofs.Common.{◌≡◌, ℕ, List, [], ◌∷◌, length, map, sym, ap, subst, refl, ◌∙◌, append-nil}
+use Rattle.std.specs.List.{AllByRecursion}
+use Rattle.std.proofs.lemmas.List.{length-map}
+use Rattle.catalogue.specs.declared.holding.Catalogue.{Catalogue}
+use Rattle.connection.specs.Serving.{ServedOver, Serves}
+use Rattle.installer.specs.Installing.{history_of}
+use Rattle.publication.specs.Views.{DeskView}
+use Rattle.td_base.specs.Views.{ConnView}
+use Rattle.td_base.specs.declared.report.Report.{Report}
+use Rattle.td_base.specs.declared.report.Role.{Role}
+
+-- each place is the last of the history
+pub all_latest : (seen : List (Catalogue (List ℕ))) (places : List ℕ) → AllByRecursion (λ p. p ≡ length seen) places
+    → AllByRecursion (λ p. p ≡ length (history_of seen)) places
+all_latest seen [] h = tt
+all_latest seen (p ∷ ps) h = (h.0 ∙ sym (length-map seen _), all_latest seen ps h.1)
+
+-- over what the desk had seen, where it has seen nothing more
+pub served_over : (desk : DeskView (Catalogue (List ℕ))) (seen : List (Catalogue (List ℕ))) (role : Role) (before now : ConnView) (report : Report)
+    → desk.seen ≡ seen → (h : Serves desk role before now report)
+    → ServedOver (history_of seen) role before now (record { read = h.read; left = now.left; written = h.written; places = report.places }) report
+served_over desk seen role before now report same h =
+    subst (λ (all : List (Catalogue (List ℕ))). ServedOver (history_of all) role before now
+    (record { read = h.read; left = now.left; written = h.written; places = report.places }) report) same
+    (h.served (history_of desk.seen) ([], append-nil (history_of desk.seen)))

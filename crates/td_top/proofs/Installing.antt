@@ -1,0 +1,222 @@
+-- How a row of folders is installed, one after another.
+use Rattle.std.proofs.Common.{◌≡◌, ◌≢◌, ℕ, ◌+◌, ◌-◌, ◌<◌, List, [], ◌∷◌, ◌++◌, length, take, drop, get_or, true, false, All, Option, None, Some, IfSome, IsErrOf, Result, Ok, Err, refl, sym, subst, ap, ◌∙◌, append_assoc, append-nil, arith}
+use Rattle.std.proofs.lemmas.List.{take-append-drop, take_all}
+use Rattle.std.proofs.lemmas.List.Elements.{All-head}
+use Rattle.td_base.specs.Files.{File}
+use Rattle.td_base.specs.Later.{LaterStore}
+use Rattle.td_base.specs.Views.{StoreView}
+use Rattle.td_base.proofs.LaterLemmas.{store_trans}
+use Rattle.catalogue.specs.Releases.{ReleaseData}
+use Rattle.catalogue.specs.declared.holding.Catalogue.{Catalogue}
+use Rattle.installer.specs.Installing.{GrowsBy, Installed, Installs, history_of}
+use Rattle.installer.specs.declared.install_fault.InstallFault.{InstallFault}
+use Rattle.installer.specs.declared.install_fault.InstallFault.TheVariants as install
+use Rattle.json_forms.proofs.ListSteps.{take_next}
+use Rattle.logbook.specs.Pages.{Book}
+use Rattle.publication.specs.Views.{DeskView, IsNewDesk}
+use Rattle.release_check.specs.Found.{Blames}
+use Rattle.release_check.specs.declared.check_fault.CheckFault.{CheckFault}
+use Rattle.release_check.specs.declared.check_fault.CheckFault.TheVariants as fault
+use Rattle.td_top.specs.Folders.{FoldersGive, GivesAfter, Stops, none, more}
+use Rattle.td_top.specs.Installed.{AllCame, Extends, InstallsAll, InstallsRest, Refused}
+
+-- ---- rows
+
+-- one item more
+pub taken_more : (dirs : List (List ℕ)) (i : ℕ) (d : List ℕ) → i < length dirs → d ≡ get_or dirs i d → take (i + 1) dirs ≡ take i dirs ++ d ∷ []
+taken_more dirs i d less is = sym (take_next dirs i d d less is refl)
+
+-- an item between those before it and those after it
+pub parted : (dirs : List (List ℕ)) (i : ℕ) (d : List ℕ) → i < length dirs → d ≡ get_or dirs i d → dirs ≡ take i dirs ++ d ∷ drop (i + 1) dirs
+parted dirs i d less is =
+    sym (take-append-drop (i + 1) dirs)
+    ∙ ap (λ (front : List (List ℕ)). front ++ drop (i + 1) dirs) (taken_more dirs i d less is)
+    ∙ append_assoc (take i dirs) (d ∷ []) (drop (i + 1) dirs)
+
+-- the first item of a row
+pub headed : (dirs : List (List ℕ)) (d : List ℕ) → 0 < length dirs → d ≡ get_or dirs 0 d → dirs ≡ d ∷ drop 1 dirs
+headed [] d less is = absurd (omega (arith, less))
+headed (x ∷ xs) d less is = ap (λ (y : List ℕ). y ∷ xs) (sym is)
+
+-- the others of a row
+pub others_are : (dirs : List (List ℕ)) → take (length dirs - 1) (drop 1 dirs) ≡ drop 1 dirs
+others_are [] = refl
+others_are (x ∷ xs) = take_all (length (x ∷ xs) - 1) xs (omega arith)
+
+-- the last of a list
+last_same : (H : List ReleaseData) (a b : ReleaseData) → H ++ a ∷ [] ≡ H ++ b ∷ [] → a ≡ b
+last_same [] a b e = cc
+last_same (x ∷ H) a b e = last_same H a b (cc)
+
+-- ---- one folder
+
+-- what an install told of a release that joined the history
+gave : (o : Option (List File)) (dir : List ℕ) (H : List ReleaseData) {A : Type 0} (history : A → List ReleaseData) (a : A) (r : ReleaseData)
+    → history a ≡ H ++ r ∷ [] → IfSome o (λ files. Installed files dir H history (Ok a)) → GivesAfter o H dir (Ok r)
+gave None dir H history a r is told = tt
+gave (Some fs) dir H history a r is told =
+    subst (λ (x : ReleaseData). GivesAfter (Some fs) H dir (Ok x)) (last_same H told.0 r (sym told.2 ∙ is)) told.1
+
+pub gives : {A : Type 0} (s t : StoreView) (dir : List ℕ) (H : List ReleaseData) (history : A → List ReleaseData) (a : A) (r : ReleaseData)
+    → history a ≡ H ++ r ∷ [] → Installs s t dir H history (Ok a) → GivesAfter s.files H dir (Ok r)
+gives s t dir H history a r is h = gave s.files dir H history a r is h.told
+
+-- and of a fault
+blamed : (o : Option (List File)) (dir : List ℕ) (H : List ReleaseData) {A : Type 0} (history : A → List ReleaseData) (f : CheckFault)
+    → IfSome o (λ files. Installed files dir H history (Err (install.Check f))) → Blames f (GivesAfter o H dir (Err f))
+blamed None dir H history f told = λ memory read. tt
+blamed (Some fs) dir H history f told = told
+
+pub blames : {A : Type 0} (s t : StoreView) (dir : List ℕ) (H : List ReleaseData) (history : A → List ReleaseData) (f : CheckFault)
+    → Installs s t dir H history (Err (install.Check f)) → Blames f (GivesAfter s.files H dir (Err f))
+blames s t dir H history f h = blamed s.files dir H history f h.told
+
+-- ---- a row of folders
+
+pub stops_here : (files : Option (List File)) (first : List (List ℕ)) (dir : List ℕ) (rest dirs : List (List ℕ)) (H : List ReleaseData) (f : CheckFault)
+    → dirs ≡ first ++ dir ∷ rest → FoldersGive files first H → GivesAfter files H dir (Err f) → f ≢ fault.NoMemory → f ≢ fault.ReadFault → Stops files dirs H f
+stops_here files first dir rest dirs H f is give after memory read = record {
+  first = first;
+  dir = dir;
+  rest = rest;
+  dirs_are = is;
+  give = give;
+  gives = after;
+  of_files = (memory, read);
+}
+
+-- no folder
+pub extends_none : (files : Option (List File)) (H : List ReleaseData) → Extends files [] H H
+extends_none files H = λ first give. subst (λ (dirs : List (List ℕ)). FoldersGive files dirs H) (sym (append-nil first)) give
+
+-- one folder more
+pub extends_more : (files : Option (List File)) (dirs : List (List ℕ)) (i : ℕ) (d : List ℕ) (old now next : List ReleaseData) → i < length dirs
+    → d ≡ get_or dirs i d → Extends files (take i dirs) old now → (r : ReleaseData) → next ≡ now ++ r ∷ [] → GivesAfter files now d (Ok r)
+    → Extends files (take (i + 1) dirs) old next
+extends_more files dirs i d old now next less is extends r next_is after = λ first give.
+    let row : (first ++ take i dirs) ++ d ∷ [] ≡ first ++ take (i + 1) dirs =
+    append_assoc first (take i dirs) (d ∷ []) ∙ ap (λ (front : List (List ℕ)). first ++ front) (sym (taken_more dirs i d less is)) in
+    let one : FoldersGive files ((first ++ take i dirs) ++ d ∷ []) (now ++ r ∷ []) = more (first ++ take i dirs) now d r (extends first give) after in
+    subst (λ (H : List ReleaseData). FoldersGive files (first ++ take (i + 1) dirs) H) (sym next_is)
+    (subst (λ (front : List (List ℕ)). FoldersGive files front (now ++ r ∷ [])) row one)
+
+-- an error of one result as that of another
+err_as : {A B : Type 0} (e x : InstallFault) → IsErrOf {T = A} (Err e) x → IsErrOf {T = B} (Err e) x
+err_as e x h = let same : e ≡ x = cc in ap Err same
+
+-- the files are those of the beginning
+pub kept_gives : (s t : StoreView) (H : List ReleaseData) (dir : List ℕ) (r : Result ReleaseData CheckFault) → LaterStore s t
+    → GivesAfter t.files H dir r → GivesAfter s.files H dir r
+kept_gives s t H dir r store h = subst (λ (files : Option (List File)). GivesAfter files H dir r) store.kept h
+
+pub rest_more : {A : Type 0} (s t u : StoreView) (dirs : List (List ℕ)) (i : ℕ) (d : List ℕ) (old now next : List ReleaseData)
+    (history : A → List ReleaseData) (a : A) → i < length dirs → d ≡ get_or dirs i d → LaterStore s t → Extends s.files (take i dirs) old now
+    → Installs t u d now history (Ok a) → GrowsBy now (history a) → history a ≡ next → Extends s.files (take (i + 1) dirs) old next
+rest_more s t u dirs i d old now next history a less is store extends h grows same =
+    extends_more s.files dirs i d old now next less is extends grows.release (sym same ∙ grows.now_is)
+    (kept_gives s t now d (Ok grows.release) store (gives t u d now history a grows.release grows.now_is h))
+
+-- a folder that is refused
+refused_at : {A : Type 0} (s t u : StoreView) (dirs : List (List ℕ)) (i : ℕ) (d : List ℕ) (old now : List ReleaseData) (history : A → List ReleaseData)
+    (e : InstallFault) → i < length dirs → d ≡ get_or dirs i d → LaterStore s t → Extends s.files (take i dirs) old now
+    → Installs t u d now history (Err e) → (first : List (List ℕ)) → FoldersGive s.files first old → Refused s.files (first ++ dirs) e
+refused_at s t u dirs i d old now history install.NoMemory less is store extends h first give = tt
+refused_at s t u dirs i d old now history (install.Check f) less is store extends h first give = λ memory read.
+    let row : first ++ dirs ≡ (first ++ take i dirs) ++ d ∷ drop (i + 1) dirs =
+    ap (λ (all : List (List ℕ)). first ++ all) (parted dirs i d less is) ∙ sym (append_assoc first (take i dirs) (d ∷ drop (i + 1) dirs)) in (
+      now,
+      stops_here s.files (first ++ take i dirs) d (drop (i + 1) dirs) (first ++ dirs) now f row (extends first give)
+          (kept_gives s t now d (Err f) store (blames t u d now history f h memory read)) memory read,
+    )
+
+pub rest_refused : {A : Type 0} (s t u : StoreView) (dirs : List (List ℕ)) (i : ℕ) (d : List ℕ) (old now end : List (Catalogue (List ℕ)))
+    (history : A → List ReleaseData) (e : InstallFault) → i < length dirs → d ≡ get_or dirs i d → LaterStore s t
+    → Extends s.files (take i dirs) (history_of old) (history_of now) → Installs t u d (history_of now) history (Err e)
+    → InstallsRest dirs s u old end (Err e)
+rest_refused {A = A} s t u dirs i d old now end history e less is store extends h = record {
+  later = store_trans s t u store h.later;
+  failed = λ same. omega (arith, store.later, h.failed (err_as {A = Unit} {B = A} e (install.Check fault.ReadFault) same));
+  came = refused_at s t u dirs i d (history_of old) (history_of now) history e less is store extends h;
+}
+
+pub rest_done : (s t : StoreView) (dirs row : List (List ℕ)) (old now : List (Catalogue (List ℕ))) (u : Unit) → row ≡ dirs → LaterStore s t
+    → Extends s.files row (history_of old) (history_of now) → InstallsRest dirs s t old now (Ok u)
+rest_done s t dirs row old now u same store extends = record {
+  later = store;
+  failed = λ e. cc;
+  came = subst (λ (all : List (List ℕ)). Extends s.files all (history_of old) (history_of now)) same extends;
+}
+
+-- the first folder
+pub first_gives : (files : Option (List File)) (d : List ℕ) (H : List ReleaseData) (r : ReleaseData) → H ≡ [] ++ r ∷ [] → GivesAfter files [] d (Ok r)
+    → FoldersGive files (d ∷ []) H
+first_gives files d H r is after = subst (λ (x : List ReleaseData). FoldersGive files (d ∷ []) x) (sym is) (more [] [] d r none after)
+
+pub first_refused : {A : Type 0} (s t : StoreView) (d : List ℕ) (rest dirs : List (List ℕ)) (history : A → List ReleaseData) (e : InstallFault)
+    → dirs ≡ d ∷ rest → Installs s t d [] history (Err e) → Refused s.files dirs e
+first_refused s t d rest dirs history install.NoMemory is h = tt
+first_refused s t d rest dirs history (install.Check f) is h = λ memory read.
+    ([], stops_here s.files [] d rest dirs [] f is none (blames s t d [] history f h memory read) memory read)
+
+-- ---- all folders
+
+-- the first of them is refused
+pub all_refused : {A : Type 0} (s t : StoreView) (d : List ℕ) (rest dirs : List (List ℕ))
+    (history : A → List ReleaseData) (e : InstallFault) → dirs ≡ d ∷ rest → Installs s t d [] history (Err e) → InstallsAll dirs s t (Err e)
+all_refused {A = A} s t d rest dirs history e is h = record {
+  later = h.later;
+  failed = λ same. h.failed (err_as {A = DeskView (Catalogue (List ℕ))} {B = A} e (install.Check fault.ReadFault) same);
+  came = first_refused s t d rest dirs history e is h;
+}
+
+-- memory ran out after some were installed
+pub all_without_memory : (s t u : StoreView) (dirs : List (List ℕ)) → LaterStore s t
+    → LaterStore t u → InstallsAll dirs s u (Err install.NoMemory)
+all_without_memory s t u dirs p q = record { later = store_trans s t u p q; failed = λ same. cc; came = tt }
+
+-- one of the others is refused
+pub all_stopped : {A : Type 0} (s t u : StoreView) (d : List ℕ) (rest dirs : List (List ℕ))
+    (history : A → List ReleaseData) (a : A) (list end : List (Catalogue (List ℕ))) (e : InstallFault) → dirs ≡ d ∷ rest
+    → Installs s t d [] history (Ok a) → GrowsBy [] (history a) → history a ≡ history_of list → InstallsRest rest t u list end (Err e)
+    → InstallsAll dirs s u (Err e)
+all_stopped s t u d rest dirs history a list end e is h grows same others =
+    let give : FoldersGive s.files (d ∷ []) (history_of list) =
+    first_gives s.files d (history_of list) grows.release (sym same ∙ grows.now_is) (gives s t d [] history a grows.release grows.now_is h) in
+    let before : FoldersGive t.files (d ∷ []) (history_of list) =
+    subst (λ (files : Option (List File)). FoldersGive files (d ∷ []) (history_of list)) (sym h.later.kept) give in
+    record {
+      later = store_trans s t u h.later others.later;
+      failed = λ wrong. omega (arith, h.later.later, others.failed (err_as {A = DeskView (Catalogue (List ℕ))} {B = Unit} e (install.Check fault.ReadFault) wrong));
+      came = subst (λ (all : List (List ℕ)). Refused s.files all e) (sym is)
+          (subst (λ (files : Option (List File)). Refused files (d ∷ rest) e) h.later.kept (others.came (d ∷ []) before));
+    }
+
+-- all were installed, and the desk has seen all
+pub all_came : {A : Type 0} (s t u : StoreView) (d : List ℕ) (rest dirs : List (List ℕ))
+    (history : A → List ReleaseData) (a : A) (list end : List (Catalogue (List ℕ))) (unit : Unit) (desk : DeskView (Catalogue (List ℕ))) → dirs ≡ d ∷ rest
+    → Installs s t d [] history (Ok a) → GrowsBy [] (history a) → history a ≡ history_of list → InstallsRest rest t u list end (Ok unit)
+    → desk.seen ≡ end → desk.ended ≡ true → InstallsAll dirs s u (Ok desk)
+all_came s t u d rest dirs history a list end unit desk is h grows same others seen ended =
+    let give : FoldersGive s.files (d ∷ []) (history_of list) =
+    first_gives s.files d (history_of list) grows.release (sym same ∙ grows.now_is) (gives s t d [] history a grows.release grows.now_is h) in
+    let before : FoldersGive t.files (d ∷ []) (history_of list) =
+    subst (λ (files : Option (List File)). FoldersGive files (d ∷ []) (history_of list)) (sym h.later.kept) give in
+    let whole : FoldersGive s.files (d ∷ rest) (history_of end) =
+    subst (λ (files : Option (List File)). FoldersGive files (d ∷ rest) (history_of end)) h.later.kept (others.came (d ∷ []) before) in
+    record {
+      later = store_trans s t u h.later others.later;
+      failed = λ wrong. cc;
+      came = record {
+        give = subst (λ (all : List (List ℕ)). FoldersGive s.files all (history_of desk.seen)) (sym is)
+            (subst (λ (list : List (Catalogue (List ℕ))). FoldersGive s.files (d ∷ rest) (history_of list)) (sym seen) whole);
+        ended = ended;
+      };
+    }
+
+-- one desk
+pub one_desk : (pair : Book) (list : List (Catalogue (List ℕ))) (desks : List (DeskView (Catalogue (List ℕ)))) (now : Book) → length desks ≡ 1
+    → All (IsNewDesk pair list false) desks → now ≡ pair
+    → (d : DeskView (Catalogue (List ℕ))) × (desks ≡ d ∷ []) × (d.pair ≡ now)
+one_desk pair list [] now one new same = absurd (omega (arith, one))
+one_desk pair list (d ∷ []) now one new same = (d, refl, (All-head (IsNewDesk pair list false) d [] new).1 ∙ sym same)
+one_desk pair list (d ∷ e ∷ ds) now one new same = absurd (omega (arith, one))

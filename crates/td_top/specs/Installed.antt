@@ -1,0 +1,63 @@
+-- What installing a row of folders comes to.
+use Rattle.std.specs.Prelude.{◌≡◌, ⊤, ℕ, List, ◌++◌, true, Option, Result, Ok, Err, IsErrOf}
+use Rattle.td_base.specs.Cause.{StoreFailed}
+use Rattle.td_base.specs.Files.{File}
+use Rattle.td_base.specs.Later.{LaterStore}
+use Rattle.td_base.specs.Views.{StoreView}
+use Rattle.catalogue.specs.Releases.{ReleaseData}
+use Rattle.catalogue.specs.declared.holding.Catalogue.{Catalogue}
+use Rattle.installer.specs.Installing.{history_of}
+use Rattle.installer.specs.declared.install_fault.InstallFault.{InstallFault}
+use Rattle.installer.specs.declared.install_fault.InstallFault.TheVariants as install
+use Rattle.publication.specs.Views.{DeskView}
+use Rattle.release_check.specs.Found.{Blames}
+use Rattle.release_check.specs.declared.check_fault.CheckFault.TheVariants as fault
+use Rattle.td_top.specs.Folders.{FoldersGive, Stops}
+
+-- the folders were not all installed: one of them has this fault, unless memory or a read failed
+abbrev pub Refused : Option (List File) → List (List ℕ) → InstallFault → Type 0
+Refused files dirs install.NoMemory = ⊤
+Refused files dirs (install.Check f) = Blames f ((H : List ReleaseData) × Stops files dirs H f)
+
+-- folders that come after others were installed, and their history is now this one
+abbrev pub Extends : Option (List File) → List (List ℕ) → List ReleaseData → List ReleaseData
+    → Type 0
+Extends files dirs old now =
+    (first : List (List ℕ)) → FoldersGive files first old → FoldersGive files (first ++ dirs) now
+
+abbrev pub RestCame : Option (List File) → List (List ℕ) → List ReleaseData → List ReleaseData
+    → Result Unit InstallFault → Type 0
+RestCame files dirs old now (Ok u) = Extends files dirs old now
+RestCame files dirs old now (Err e) =
+    (first : List (List ℕ)) → FoldersGive files first old → Refused files (first ++ dirs) e
+
+-- folders were installed after others, up to the first that is refused
+pub record InstallsRest (dirs : List (List ℕ)) (s t : StoreView)
+    (old now : List (Catalogue (List ℕ))) (result : Result Unit InstallFault) : Type 0 where
+  pub later : LaterStore s t
+  pub failed : IsErrOf result (install.Check fault.ReadFault) → StoreFailed s t
+  pub came : RestCame s.files dirs (history_of old) (history_of now) result
+
+-- a desk that has seen what was published, after which nothing follows
+pub record SawAll (files : Option (List File)) (dirs : List (List ℕ))
+    (desk : DeskView (Catalogue (List ℕ))) : Type 0 where
+  pub give : FoldersGive files dirs (history_of desk.seen)
+  pub ended : desk.ended ≡ true
+
+-- the desk, where there is one
+abbrev pub desk_in : {A : Type 0} → Result (A × DeskView (Catalogue (List ℕ))) InstallFault
+    → Result (DeskView (Catalogue (List ℕ))) InstallFault
+desk_in (Ok p) = Ok p.1
+desk_in (Err e) = Err e
+
+abbrev pub AllCame : Option (List File) → List (List ℕ)
+    → Result (DeskView (Catalogue (List ℕ))) InstallFault → Type 0
+AllCame files dirs (Ok desk) = SawAll files dirs desk
+AllCame files dirs (Err e) = Refused files dirs e
+
+-- the folders were installed, and a desk has seen all, up to the first that is refused
+pub record InstallsAll (dirs : List (List ℕ)) (s t : StoreView)
+    (result : Result (DeskView (Catalogue (List ℕ))) InstallFault) : Type 0 where
+  pub later : LaterStore s t
+  pub failed : IsErrOf result (install.Check fault.ReadFault) → StoreFailed s t
+  pub came : AllCame s.files dirs result

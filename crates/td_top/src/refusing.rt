@@ -1,0 +1,50 @@
+ghost use Rattle.std.specs.Prelude.{◌≡◌, IfOk};
+ghost use Rattle.release_check.specs.FaultText.{fault_text};
+ghost use Rattle.td_top.specs.Tells.{Refuses, RefusesFolder, RefusesInstall};
+
+use crate::printing::refuse;
+use crate::status::Status;
+use installer::InstallFault;
+use release_check::CheckFault;
+use std::alloc::Global;
+use td_base::{Bytes, NoMemory, Sink};
+
+/// Ends a run for a folder that was not installed.
+pub fn refuse_install<K: Sink>(alloc: Global, fault: &InstallFault, output: &mut K) -> Status
+    ensures { RefusesInstall fault.now (K.seen output.old) (K.seen output.new) result }
+{
+    match fault {
+        InstallFault::NoMemory => Status::NoMemory,
+        InstallFault::Check(fault) => refuse_folder(alloc, fault, output),
+    }
+}
+
+/// Ends a run for the fault of its folder.
+fn refuse_folder<K: Sink>(alloc: Global, fault: &CheckFault, output: &mut K) -> Status
+    ensures { RefusesFolder fault.now (K.seen output.old) (K.seen output.new) result }
+{
+    match fault {
+        CheckFault::NoMemory => Status::NoMemory,
+        CheckFault::ReadFault => Status::NotRead,
+        _ => tell_fault(alloc, fault, output),
+    }
+}
+
+/// Prints the fault of a folder.
+fn tell_fault<K: Sink>(alloc: Global, fault: &CheckFault, output: &mut K) -> Status
+    ensures { Refuses (fault_text fault.now) (K.seen output.old) (K.seen output.new) result }
+{
+    match fault_text(alloc, fault) {
+        Ok(text) => refuse(alloc, &text, output),
+        Err(NoMemory) => Status::NoMemory,
+    }
+}
+
+/// The text of the fault of a folder.
+fn fault_text(alloc: Global, fault: &CheckFault) -> Result<Bytes, NoMemory>
+    ensures { IfOk result (λ text. text ≡ fault_text fault.now) }
+{
+    let mut text = Bytes::new(alloc);
+    fault.put(alloc, &mut text)?;
+    Ok(text)
+}
