@@ -32,6 +32,7 @@ fn main(rt: HostRuntime) -> ExitCode {
     let mut input = RealSource::new(rt.stdin());
     let mut output = RealSink::new(rt.stdout());
     let status = td_top::run(
+        &rt,
         rt.alloc(),
         words.as_slice(),
         &mut store,

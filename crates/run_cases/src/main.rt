@@ -1,0 +1,27 @@
+//! Runs the top call over the cases of a table on standard input, each over objects in memory, and
+//! tells of each that ends otherwise than the table says. The table explains its own lines.
+#![tactic(auto)]
+
+mod case;
+mod script;
+mod texts;
+
+use script::Script;
+use std::io;
+
+fn main(rt: HostRuntime) -> io::Result<()> {
+    let mut script = Script::new(rt.alloc());
+    for line in rt.lines(rt.alloc()) {
+        let line = line?;
+        let report = script.read_line(&rt, line.as_str())?;
+        if !report.is_empty() {
+            println!(rt; "{report}")?;
+        }
+    }
+    println!(rt;
+        "{} runs, {} as the table says",
+        script.runs(),
+        script.right()
+    )?;
+    Ok(())
+}
