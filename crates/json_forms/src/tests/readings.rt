@@ -42,6 +42,143 @@ const LISTS: &[(&str, Option<usize>)] = &[
         Some(1),
     ),
     (r#"{"synctoken":"t","timezones":[7]}"#, Some(1)),
+    (
+        r#"{"synctoken":"aaaaaaaaaaaaaaaaaaaaaaaaaaaaaaaaaaaaaaaaaaaaaaaaaaaaaaaaaaaaaaaa","timezones":[]}"#,
+        None,
+    ),
+    (
+        r#"{"synctoken":"aaaaaaaaaaaaaaaaaaaaaaaaaaaaaaaaaaaaaaaaaaaaaaaaaaaaaaaaaaaaaaaaa","timezones":[]}"#,
+        Some(0),
+    ),
+    (r#"{"synctoken":"!~","timezones":[]}"#, None),
+    (r#"{"synctoken":"a\u00e9","timezones":[]}"#, Some(0)),
+    (r#"{"synctoken":7,"timezones":[]}"#, Some(0)),
+    (r#"{"synctoken":"t"}"#, Some(0)),
+    (r#"{"synctoken":"t","timezones":null}"#, Some(0)),
+    (
+        r#"{"synctoken":"t","timezones":[{"tzid":"A","etag":"e","last-modified":"2025-01-20T00:00:00Z","publisher":"p","version":"v"},{"etag":"e","last-modified":"2025-01-20T00:00:00Z","publisher":"p","version":"v"}]}"#,
+        Some(2),
+    ),
+    (
+        r#"{"synctoken":"t","timezones":[{"tzid":7,"etag":"e","last-modified":"2025-01-20T00:00:00Z","publisher":"p","version":"v"}]}"#,
+        Some(1),
+    ),
+    (
+        r#"{"synctoken":"t","timezones":[{"tzid":"A","etag":"e","last-modified":"2025-01-20T00:00:00Z","publisher":"p","version":"v"},{"tzid":"A","last-modified":"2025-01-20T00:00:00Z","publisher":"p","version":"v"}]}"#,
+        Some(2),
+    ),
+    (
+        r#"{"synctoken":"t","timezones":[{"tzid":"A","etag":7,"last-modified":"2025-01-20T00:00:00Z","publisher":"p","version":"v"}]}"#,
+        Some(1),
+    ),
+    (
+        r#"{"synctoken":"t","timezones":[{"tzid":"A","etag":"e","last-modified":"2025-01-20T00:00:00Z","publisher":"p","version":"v"},{"tzid":"A","etag":"e","publisher":"p","version":"v"}]}"#,
+        Some(2),
+    ),
+    (
+        r#"{"synctoken":"t","timezones":[{"tzid":"A","etag":"e","last-modified":7,"publisher":"p","version":"v"}]}"#,
+        Some(1),
+    ),
+    (
+        r#"{"synctoken":"t","timezones":[{"tzid":"A","etag":"e","last-modified":"2025-01-20T00:00:00Z","publisher":"p","version":"v"},{"tzid":"A","etag":"e","last-modified":"2025-01-20T00:00:00Z","version":"v"}]}"#,
+        Some(2),
+    ),
+    (
+        r#"{"synctoken":"t","timezones":[{"tzid":"A","etag":"e","last-modified":"2025-01-20T00:00:00Z","publisher":7,"version":"v"}]}"#,
+        Some(1),
+    ),
+    (
+        r#"{"synctoken":"t","timezones":[{"tzid":"A","etag":"e","last-modified":"2025-01-20T00:00:00Z","publisher":"p","version":"v"},{"tzid":"A","etag":"e","last-modified":"2025-01-20T00:00:00Z","publisher":"p"}]}"#,
+        Some(2),
+    ),
+    (
+        r#"{"synctoken":"t","timezones":[{"tzid":"A","etag":"e","last-modified":"2025-01-20T00:00:00Z","publisher":"p","version":7}]}"#,
+        Some(1),
+    ),
+    (
+        r#"{"synctoken":"t","timezones":[{"tzid":"A","etag":"e","last-modified":"2025-01-20T00:00:00Z","publisher":"aaaaaaaaaaaaaaaaaaaaaaaaaaaaaaaaaaaaaaaaaaaaaaaaaaaaaaaaaaaaaaaa","version":"v"}]}"#,
+        None,
+    ),
+    (
+        r#"{"synctoken":"t","timezones":[{"tzid":"A","etag":"e","last-modified":"2025-01-20T00:00:00Z","publisher":"aaaaaaaaaaaaaaaaaaaaaaaaaaaaaaaaaaaaaaaaaaaaaaaaaaaaaaaaaaaaaaaaa","version":"v"}]}"#,
+        Some(1),
+    ),
+    (
+        r#"{"synctoken":"t","timezones":[{"tzid":"A","etag":"e","last-modified":"2025-01-20T00:00:00Z","publisher":"","version":"v"}]}"#,
+        Some(1),
+    ),
+    (
+        r#"{"synctoken":"t","timezones":[{"tzid":"A","etag":"e","last-modified":"2025-01-20T00:00:00Z","publisher":"\u007f","version":"v"}]}"#,
+        Some(1),
+    ),
+    (
+        r#"{"synctoken":"t","timezones":[{"tzid":"A","etag":"e","last-modified":"2025-01-20T00:00:00Z","publisher":"p","version":"aaaaaaaaaaaaaaaaaaaaaaaaaaaaaaaaaaaaaaaaaaaaaaaaaaaaaaaaaaaaaaaa"}]}"#,
+        None,
+    ),
+    (
+        r#"{"synctoken":"t","timezones":[{"tzid":"A","etag":"e","last-modified":"2025-01-20T00:00:00Z","publisher":"p","version":"aaaaaaaaaaaaaaaaaaaaaaaaaaaaaaaaaaaaaaaaaaaaaaaaaaaaaaaaaaaaaaaaa"}]}"#,
+        Some(1),
+    ),
+    (
+        r#"{"synctoken":"t","timezones":[{"tzid":"A","etag":"e","last-modified":"2025-01-20T00:00:00Z","publisher":"p","version":""}]}"#,
+        Some(1),
+    ),
+    (
+        r#"{"synctoken":"t","timezones":[{"tzid":"A","etag":"e","last-modified":"2025-01-20T00:00:00Z","publisher":"p","version":"\u007f"}]}"#,
+        Some(1),
+    ),
+    (
+        r#"{"synctoken":"t","timezones":[{"tzid":"aaaaaaaaaaaaaaaaaaaaaaaaaaaaaaaaaaaaaaaaaaaaaaaaaaaaaaaaaaaaaaaa","etag":"e","last-modified":"2025-01-20T00:00:00Z","publisher":"p","version":"v"}]}"#,
+        None,
+    ),
+    (
+        r#"{"synctoken":"t","timezones":[{"tzid":"aaaaaaaaaaaaaaaaaaaaaaaaaaaaaaaaaaaaaaaaaaaaaaaaaaaaaaaaaaaaaaaaa","etag":"e","last-modified":"2025-01-20T00:00:00Z","publisher":"p","version":"v"}]}"#,
+        Some(1),
+    ),
+    (
+        r#"{"synctoken":"t","timezones":[{"tzid":"","etag":"e","last-modified":"2025-01-20T00:00:00Z","publisher":"p","version":"v"}]}"#,
+        Some(1),
+    ),
+    (
+        r#"{"synctoken":"t","timezones":[{"tzid":"A","etag":"e","last-modified":"2025-01-20T00:00:00Z","publisher":"p","version":"v","aliases":["bbbbbbbbbbbbbbbbbbbbbbbbbbbbbbbbbbbbbbbbbbbbbbbbbbbbbbbbbbbbbbbb"]}]}"#,
+        None,
+    ),
+    (
+        r#"{"synctoken":"t","timezones":[{"tzid":"A","etag":"e","last-modified":"2025-01-20T00:00:00Z","publisher":"p","version":"v","aliases":["bbbbbbbbbbbbbbbbbbbbbbbbbbbbbbbbbbbbbbbbbbbbbbbbbbbbbbbbbbbbbbbbb"]}]}"#,
+        Some(1),
+    ),
+    (
+        r#"{"synctoken":"t","timezones":[{"tzid":"A","etag":"e","last-modified":"2025-01-20T00:00:00Z","publisher":"p","version":"v","aliases":[]}]}"#,
+        None,
+    ),
+    (
+        r#"{"synctoken":"t","timezones":[{"tzid":"A","etag":"e","last-modified":"2025-01-20T00:00:00Z","publisher":"p","version":"v","aliases":["/b"]}]}"#,
+        Some(1),
+    ),
+    (
+        r#"{"synctoken":"t","timezones":[{"tzid":"A","etag":"e","last-modified":"2025-01-20T00:00:00Z","publisher":"p","version":"v","aliases":{}}]}"#,
+        Some(1),
+    ),
+    (
+        r#"{"synctoken":"t","timezones":[{"tzid":"A","etag":"e","last-modified":"0000-01-01T00:00:00Z","publisher":"p","version":"v"}]}"#,
+        None,
+    ),
+    (
+        r#"{"synctoken":"t","timezones":[{"tzid":"A","etag":"e","last-modified":"2025-01-20T24:00:00Z","publisher":"p","version":"v"}]}"#,
+        Some(1),
+    ),
+    (
+        r#"{"synctoken":"t","timezones":[{"tzid":"A","etag":"e","last-modified":"2025-01-20","publisher":"p","version":"v"}]}"#,
+        Some(1),
+    ),
+    (
+        r#"{"synctoken":"t","timezones":[{"tzid":"A","etag":"e","last-modified":"2025-01-20T00:00:00Z","publisher":"p","version":"v"},[]]}"#,
+        Some(2),
+    ),
+    (
+        r#"{"synctoken":"t","timezones":[{"tzid":"A","etag":"e","last-modified":"2025-01-20T00:00:00Z","publisher":"p","version":"v"},{"tzid":"A","etag":"e","last-modified":"2025-01-20T00:00:00Z","publisher":"p","version":"v"}]}"#,
+        None,
+    ),
 ];
 
 fn place_in(alloc: Global, text: &str) -> Result<Option<usize>, NoMemory> {
@@ -50,6 +187,43 @@ fn place_in(alloc: Global, text: &str) -> Result<Option<usize>, NoMemory> {
         Err(BadList::BadList(place)) => Ok(Some(place)),
         Err(BadList::NoMemory) => Err(NoMemory),
     }
+}
+
+/// A list of so many zones, the first of which has so many aliases.
+fn list_of(alloc: Global, zones: usize, aliases: usize) -> Result<String, Fail> {
+    let mut text = r#"{"synctoken":"t","timezones":["#.to_string(alloc)?;
+    for zone in 0..zones {
+        text.push_str(if zone == 0 {
+            r#"{"aliases":["#
+        } else {
+            r#",{"aliases":["#
+        })?;
+        for alias in 0..if zone == 0 { aliases } else { 0 } {
+            text.push_str(if alias == 0 { r#""b""# } else { r#","b""# })?;
+        }
+        text.push_str(
+            r#"],"tzid":"A","etag":"","last-modified":"2025-01-20T00:00:00Z","publisher":"p","version":"v"}"#,
+        )?;
+    }
+    text.push_str("]}")?;
+    Ok(text)
+}
+
+/// How many zones a list has, how many aliases the first of them, and where it is no list.
+const CROWDS: &[(usize, usize, Option<usize>)] = &[
+    (1_024, 0, None),
+    (1_025, 0, Some(0)),
+    (1, 4_095, None),
+    (1, 4_096, Some(0)),
+];
+
+#[test]
+fn counts_zones_and_names(rt: HostRuntime) -> Result<(), Fail> {
+    for (zones, aliases, place) in CROWDS {
+        let text = list_of(rt.alloc(), *zones, *aliases)?;
+        assert_eq!(rt; place_in(rt.alloc(), text.as_str())?, *place);
+    }
+    Ok(())
 }
 
 const YORK: &str =
