@@ -1,0 +1,164 @@
+#!/usr/bin/env python3
+"""Measures the built program over a release folder: what each action costs.
+
+    bench/requests.py RELEASE_DIR [--program PATH] [--rounds N] [--zone TZID]
+
+Each action is asked for once, and then 1,000 times, on one stream that `answer` serves. The
+difference of the two, over 999, is what a further request costs: processor microseconds (user and
+system) and bytes. Beside it stands the time that the program takes to read, check and publish the
+release, which is the run without any request less one that prints the usage line. Figures are
+medians over several rounds, in each of which all runs come once. It needs Python's standard
+library alone, is run by hand on an idle machine, and is no part of the gate.
+"""
+
+import argparse
+import json
+import os
+import platform
+import statistics
+import subprocess
+import sys
+import tempfile
+from urllib.parse import quote
+
+ROOT = os.path.dirname(os.path.dirname(os.path.abspath(__file__)))
+MANY = 1000
+YEAR = "start=2025-01-01T00:00:00Z&end=2026-01-01T00:00:00Z"
+
+
+class Run:
+    """One run of the program: its output, processor seconds and peak memory in kilobytes."""
+
+    def __init__(self, program, words, stream):
+        with tempfile.TemporaryFile() as given, tempfile.TemporaryFile() as taken:
+            given.write(stream)
+            given.seek(0)
+            child = subprocess.Popen(
+                [program, *words], stdin=given, stdout=taken, stderr=subprocess.DEVNULL
+            )
+            _, status, usage = os.wait4(child.pid, 0)
+            child.returncode = os.waitstatus_to_exitcode(status)
+            taken.seek(0)
+            self.output = taken.read()
+        self.status = child.returncode
+        self.seconds = usage.ru_utime + usage.ru_stime
+        self.memory = usage.ru_maxrss
+
+
+def head(target, *lines):
+    """A request head."""
+    return "\r\n".join([f"GET {target} HTTP/1.1", "Host: x", *lines, "", ""]).encode()
+
+
+def first_reply(output):
+    """The status, the fields and the body of the first reply of an output."""
+    front, _, rest = output.partition(b"\r\n\r\n")
+    lines = front.decode("ascii").split("\r\n")
+    fields = dict(line.split(": ", 1) for line in lines[1:])
+    body = rest[: int(fields.get("Content-Length", "0"))]
+    return int(lines[0].split(" ")[1]), fields, body
+
+
+def ask(program, folder, request):
+    """The first reply to one request, which is to be 200."""
+    run = Run(program, ["answer", folder], request)
+    if run.status != 0 or not run.output:
+        sys.exit(f"{program} answer {folder} ended with status {run.status}: {run.output[:200]!r}")
+    status, fields, body = first_reply(run.output)
+    if status != 200:
+        sys.exit(f"{request!r} was answered {status}")
+    return fields, body
+
+
+def requests_of(program, folder, zone):
+    """The requests that are measured, each with its name and the status that it is to get."""
+    listing = json.loads(ask(program, folder, head("/tzdist/zones"))[1])
+    names = [item["tzid"] for item in listing["timezones"]]
+    if zone is None:
+        zone = "America/New_York" if "America/New_York" in names else names[0]
+    path = "/tzdist/zones/" + quote(zone, safe="")
+    tag = ask(program, folder, head(path))[0]["ETag"]
+    token = quote(listing["synctoken"], safe="")
+    return zone, len(names), [
+        ("full list", head("/tzdist/zones"), 200),
+        ("list since the last token", head(f"/tzdist/zones?changedsince={token}"), 200),
+        ("get as calendar, whole", head(path), 200),
+        ("get as calendar, a year", head(f"{path}?{YEAR}"), 200),
+        ("get as TZif", head(path, "Accept: application/tzif"), 200),
+        ("get with its tag", head(path, f"If-None-Match: {tag}"), 304),
+        ("expand, a year", head(f"{path}/observances?{YEAR}"), 200),
+        ("find `*york`", head("/tzdist/zones?pattern=*york"), 200),
+        ("capabilities", head("/tzdist/capabilities"), 200),
+        ("unknown target", head("/tzdist/nothing"), 400),
+    ]
+
+
+def measure(program, folder, rounds, requests):
+    """The runs of each request, once and many times, and of the release alone."""
+    once = {name: [] for name, _, _ in requests}
+    many = {name: [] for name, _, _ in requests}
+    empty, usage = [], []
+    for _ in range(rounds):
+        usage.append(Run(program, [], b""))
+        empty.append(Run(program, ["answer", folder], b""))
+        for name, request, status in requests:
+            for runs, count in ((once, 1), (many, MANY)):
+                run = Run(program, ["answer", folder], request * count)
+                if run.status != 0 or first_reply(run.output)[0] != status:
+                    sys.exit(f"{name}: ended with {run.status}, {run.output[:200]!r}")
+                runs[name].append(run)
+    return once, many, empty, usage
+
+
+def processor():
+    """The name of the processor."""
+    try:
+        with open("/proc/cpuinfo") as lines:
+            for line in lines:
+                if line.startswith("model name"):
+                    return line.split(":", 1)[1].strip()
+    except OSError:
+        pass
+    return platform.processor() or "unknown"
+
+
+def median(runs, value):
+    return statistics.median(value(run) for run in runs)
+
+
+def release_bytes(folder):
+    return sum(
+        os.path.getsize(os.path.join(at, name)) for at, _, names in os.walk(folder) for name in names
+    )
+
+
+def main():
+    parser = argparse.ArgumentParser(description=__doc__.split("\n")[0])
+    parser.add_argument("folder", metavar="RELEASE_DIR")
+    parser.add_argument("--program", default=os.path.join(ROOT, "crates/tzdistd/out/tzdistd"))
+    parser.add_argument("--rounds", type=int, default=7)
+    parser.add_argument("--zone")
+    words = parser.parse_args()
+    if not os.path.exists(words.program):
+        sys.exit(f"{words.program} is not built: README says how")
+    zone, zones, requests = requests_of(words.program, words.folder, words.zone)
+    once, many, empty, usage = measure(words.program, words.folder, words.rounds, requests)
+
+    print(f"{processor()}, {os.cpu_count()} processors; {zones} zones; {zone}; {words.rounds} rounds")
+    print()
+    print("| Request | Processor microseconds | Bytes of the reply | Peak memory, KiB |")
+    print("|---|---|---|---|")
+    for name, _, _ in requests:
+        seconds = median(many[name], lambda r: r.seconds) - median(once[name], lambda r: r.seconds)
+        size = median(many[name], lambda r: len(r.output)) - median(once[name], lambda r: len(r.output))
+        memory = median(many[name], lambda r: r.memory)
+        print(f"| {name} | {seconds / (MANY - 1) * 1e6:.1f} | {size / (MANY - 1):.0f} | {memory:.0f} |")
+    reading = median(empty, lambda r: r.seconds) - median(usage, lambda r: r.seconds)
+    memory = median(empty, lambda r: r.memory) - median(usage, lambda r: r.memory)
+    print()
+    print(f"Reading, checking and publishing the release: {reading * 1e3:.1f} ms of processor time, "
+          f"{memory:.0f} KiB of memory for {release_bytes(words.folder) / 1024:.0f} KiB of files.")
+
+
+if __name__ == "__main__":
+    main()
