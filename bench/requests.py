@@ -19,6 +19,7 @@ import statistics
 import subprocess
 import sys
 import tempfile
+import threading
 from urllib.parse import quote
 
 ROOT = os.path.dirname(os.path.dirname(os.path.abspath(__file__)))
@@ -27,7 +28,7 @@ YEAR = "start=2025-01-01T00:00:00Z&end=2026-01-01T00:00:00Z"
 
 
 class Run:
-    """One run of the program: its output, processor seconds and peak memory in kilobytes."""
+    """One run of the program: its output and its processor seconds."""
 
     def __init__(self, program, words, stream):
         with tempfile.TemporaryFile() as given, tempfile.TemporaryFile() as taken:
@@ -42,7 +43,33 @@ class Run:
             self.output = taken.read()
         self.status = child.returncode
         self.seconds = usage.ru_utime + usage.ru_stime
-        self.memory = usage.ru_maxrss
+
+
+def peak_memory(program, words, stream, size):
+    """The most memory in kilobytes that a run has had once it wrote so many bytes of output."""
+    child = subprocess.Popen(
+        [program, *words], stdin=subprocess.PIPE, stdout=subprocess.PIPE, stderr=subprocess.DEVNULL
+    )
+    writer = threading.Thread(target=lambda: (child.stdin.write(stream), child.stdin.flush()))
+    writer.start()
+    while size > 0:
+        piece = child.stdout.read1(1 << 20)
+        if not piece:
+            sys.exit(f"{program} ended before it had written all")
+        size -= len(piece)
+    with open(f"/proc/{child.pid}/status") as lines:
+        memory = next(int(line.split()[1]) for line in lines if line.startswith("VmHWM"))
+    writer.join()
+    child.stdin.close()
+    child.wait()
+    return memory
+
+
+def empty_release(at):
+    """A release without zones in a folder."""
+    with open(os.path.join(at, "manifest.json"), "w") as manifest:
+        json.dump({"publisher": "-", "version": "-", "stamp": "2000-01-01T00:00:00Z", "zones": []}, manifest)
+    return at
 
 
 def head(target, *lines):
@@ -148,13 +175,20 @@ def main():
     print()
     print("| Request | Processor microseconds | Bytes of the reply | Peak memory, KiB |")
     print("|---|---|---|---|")
+    asked = {name: request for name, request, _ in requests}
     for name, _, _ in requests:
         seconds = median(many[name], lambda r: r.seconds) - median(once[name], lambda r: r.seconds)
-        size = median(many[name], lambda r: len(r.output)) - median(once[name], lambda r: len(r.output))
-        memory = median(many[name], lambda r: r.memory)
-        print(f"| {name} | {seconds / (MANY - 1) * 1e6:.1f} | {size / (MANY - 1):.0f} | {memory:.0f} |")
+        size = len(once[name][0].output)
+        memory = peak_memory(
+            words.program, ["answer", words.folder], asked[name] * (MANY - 1), size * (MANY - 1)
+        )
+        print(f"| {name} | {seconds / (MANY - 1) * 1e6:.1f} | {size} | {memory} |")
     reading = median(empty, lambda r: r.seconds) - median(usage, lambda r: r.seconds)
-    memory = median(empty, lambda r: r.memory) - median(usage, lambda r: r.memory)
+    request = head("/tzdist/nothing")
+    size = len(Run(words.program, ["answer", words.folder], request).output)
+    memory = peak_memory(words.program, ["answer", words.folder], request, size)
+    with tempfile.TemporaryDirectory() as at:
+        memory -= peak_memory(words.program, ["answer", empty_release(at)], request, size)
     print()
     print(f"Reading, checking and publishing the release: {reading * 1e3:.1f} ms of processor time, "
           f"{memory:.0f} KiB of memory for {release_bytes(words.folder) / 1024:.0f} KiB of files.")
