@@ -6,6 +6,10 @@ use Rattle.td_base.specs.Views.{SourceView, SinkView, StoreView, ConnView}
 abbrev pub Rose : ℕ → ℕ → Type 0
 Rose before now = min (before + 1) (2 ^ 64 - 1) ≤ now
 
+-- a count of faults rose by at least so many, or stands at its last value
+abbrev pub RoseBy : ℕ → ℕ → ℕ → Type 0
+RoseBy n before now = min (before + n) (2 ^ 64 - 1) ≤ now
+
 -- that object failed between the two moments
 abbrev pub SourceFailed : SourceView → SourceView → Type 0
 SourceFailed before now = Rose before.faults now.faults

@@ -1,4 +1,6 @@
 pub mod Cause
+pub mod DoorViews
+pub mod Doors
 pub mod Files
 pub mod FirstFault
 pub mod Later
@@ -11,3 +13,4 @@ pub mod Stored
 pub mod TargetForm
 pub mod Transfer
 pub mod Views
+pub mod Works

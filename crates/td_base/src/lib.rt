@@ -7,6 +7,7 @@
 
 mod byte_list;
 mod digits;
+mod door;
 mod failing_calls;
 mod faulty;
 mod faulty_conn;
@@ -20,12 +21,14 @@ mod memory_store;
 mod name_forms;
 #[cfg(test)]
 mod name_table;
+mod network;
 mod no_memory;
 mod outside;
 mod piece_sizes;
 mod report;
 mod send_sync;
 mod short_text;
+mod spawner;
 #[cfg(test)]
 mod tests;
 mod transfer;
@@ -33,6 +36,7 @@ mod value;
 
 pub use byte_list::Bytes;
 pub use digits::{put_decimal, put_hex, put_sized, read_decimal};
+pub use door::{Accepted, Door, DoorAnswer};
 pub use faulty::Faulty;
 pub use faulty_conn::FaultyConn;
 pub use item_list::Items;
@@ -42,10 +46,12 @@ pub use memory_sink::MemorySink;
 pub use memory_source::MemorySource;
 pub use memory_store::MemoryStore;
 pub use name_forms::{is_file_name, is_identifier, is_label};
+pub use network::{Made, Network};
 pub use no_memory::NoMemory;
 pub use outside::{Conn, FileRead, ReadStep, Sink, Source, Store, WriteStep};
 pub use report::{Ask, End, MOST_PLACES, Places, Report, Role};
 pub use short_text::ShortText;
+pub use spawner::{Spawner, Work};
 pub use transfer::{SourceFault, Written, read_to_end, send_whole, write_whole};
 pub use value::Value;
 

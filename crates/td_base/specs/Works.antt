@@ -1,0 +1,17 @@
+-- What starting a work comes to.
+use Rattle.std.specs.Prelude.{◌≡◌, ℕ, ◌≤◌, Result, Ok, Err}
+use Rattle.td_base.specs.Cause.{Rose}
+
+module _ {W Running : Type 0} (work_of : Running → W) where
+  -- what runs stands for the work; a work that was not started comes back, and the count of faults
+  -- rose
+  abbrev pub StartGives : ℕ → ℕ → W → Result Running W → Type 0
+  StartGives before now work (Ok running) = work_of running ≡ work
+  StartGives before now work (Err back) = (back ≡ work) × Rose before now
+
+-- one call to start a work: the count of faults never falls, and a work was not started only where
+-- it rose
+pub record Starts {W Running : Type 0} (work_of : Running → W) (before now : ℕ) (work : W)
+    (result : Result Running W) : Type 0 where
+  pub gives : StartGives work_of before now work result
+  pub later : before ≤ now

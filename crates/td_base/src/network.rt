@@ -1,0 +1,29 @@
+ghost use Rattle.td_base.specs.DoorViews.{NetworkView};
+ghost use Rattle.td_base.specs.Doors.{Opens};
+
+use crate::Door;
+use std::alloc::Global;
+
+/// What a [`Network`] made of a call.
+#[derive(Debug, Drop)]
+pub enum Made<T> {
+    /// What was asked for.
+    Given(T),
+    /// The network failed.
+    Failed,
+    /// There is no memory for it.
+    NoMemory,
+}
+
+/// What opens doors at addresses. One in memory tells which doors it will give and which it gave;
+/// the real network tells nothing.
+pub trait Network {
+    type Door: Door;
+
+    ghost seen: { Self → NetworkView };
+
+    /// Opens so many doors at an address, through which connections to it come.
+    fn doors(&mut self, alloc: Global, address: &[u8], number: u32) -> Made<Vec<Self::Door>>
+        ensures opens { Opens Self.Door.seen (seen self.old) (seen self.new) address.now number
+            result };
+}
