@@ -1,7 +1,8 @@
 -- The place of the first line feed.
-use Rattle.std.proofs.Common.{◌≡◌, ◌+◌, ℕ, suc, ◌⊎◌, inl, inr, Bool, true, false, List, [], ◌∷◌, length, take, drop, ltb, cond, Some, None, refl, sym, ap, ◌∙◌, arith}
+use Rattle.std.proofs.Common.{◌≡◌, ◌+◌, ℕ, Option, suc, ◌⊎◌, inl, inr, Bool, true, false, List, [], ◌∷◌, length, take, drop, ltb, cond, Some, None, refl, sym, ap, ◌∙◌, arith}
 use Rattle.std.specs.List.{position, position_or_len, before_first, after_first, list_any}
-use Rattle.std.proofs.lemmas.Bool.{cases_Bool, lt-ltb}
+use Rattle.std.specs.Option.{IsSome}
+use Rattle.std.proofs.lemmas.Bool.{cases_Bool, lt-ltb, true≢false}
 use Rattle.std.proofs.lemmas.Bool.Decides.{nat_tests}
 use Rattle.std.proofs.lemmas.Option.{none-some, same_Some}
 use Rattle.console.specs.Lines.{is_feed, has_feed}
@@ -56,3 +57,8 @@ at_feed bytes at e =
 -- no line ends
 pub no_feed : (bytes : List ℕ) → position is_feed bytes ≡ None → has_feed bytes ≡ false
 no_feed bytes e = any_place is_feed bytes ∙ none_by (ltb (position_or_len is_feed bytes) (length bytes)) (position_or_len is_feed bytes) e
+
+-- where a line ends, there is a place at which the first does
+pub some_place : (bytes : List ℕ) (place : Option ℕ) → place ≡ position is_feed bytes → has_feed bytes ≡ true → IsSome place
+some_place bytes (Some at) e feed = refl
+some_place bytes None e feed = absurd (true≢false (sym feed ∙ no_feed bytes (sym e)))

@@ -16,7 +16,7 @@ no_lines bytes e = ap lines_of (sym (append-nil bytes)) ∙ (all_begun [] bytes 
 pub given_all : (all : List ℕ) (given : List Line) (held : List ℕ) → Gives all given held → lines_of all ≡ given ++ lines_of held
 given_all all given held g = ap lines_of (sym (append-nil all)) ∙ (g [] ∙ ap (λ l. given ++ lines_of l) (append-nil held))
 
-continues : (old : List ℕ) (o : Option Line) (new : List ℕ) → Steps old o new
+pub continues : (old : List ℕ) (o : Option Line) (new : List ℕ) → Steps old o new
     → (all : List ℕ) (given : List Line) → Gives all given old → Continues all given o new
 continues old (Some line) new s all given g = λ more.
     rw (s.1, s.2)

@@ -8,6 +8,10 @@ use Rattle.console.specs.declared.line.Line.{Line}
 abbrev pub most_held : ℕ
 most_held = most_bytes + 1
 
+-- what the first line of the bytes asks for
+abbrev pub first_line : List ℕ → Line
+first_line held = line_of (before_first is_feed held)
+
 -- what a call answers of the bytes held, and which it leaves
 abbrev pub Steps : List ℕ → Option Line → List ℕ → Type 0
 Steps old (Some line) new =

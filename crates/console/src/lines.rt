@@ -1,7 +1,7 @@
-ghost use Rattle.std.specs.Prelude.{◌≡◌, ℕ, List, [], ◌+◌, ◌<◌, ◌≤◌, ◌++◌, drop, length, take, IfSome, IfOk, OnOk, OnErr};
+ghost use Rattle.std.specs.Prelude.{◌≡◌, ℕ, List, [], ◌∷◌, ◌+◌, ◌<◌, ◌≤◌, ◌++◌, drop, length, take, IfSome, IfOk, OnOk, OnErr, IsTrue, Some};
 ghost use Rattle.std.specs.List.{position};
-ghost use Rattle.console.specs.Lines.{is_feed, line_of, IsInstall};
-ghost use Rattle.console.specs.Steps.{Continues, Gives, HasInstall, LeavesFewer, LeavesFew, Steps};
+ghost use Rattle.console.specs.Lines.{has_feed, is_feed, line_of, IsInstall};
+ghost use Rattle.console.specs.Steps.{Continues, Gives, HasInstall, LeavesFewer, LeavesFew, Steps, first_line};
 ghost use Rattle.console.specs.declared.line.Line.{Line};
 
 use crate::Line;
@@ -73,6 +73,20 @@ impl Lines {
         ensures few { IfOk result (LeavesFew self.new) }
     {
         self.step()
+    }
+
+    /// Takes off the first line unread, for which no memory is needed.
+    pub fn pass_over(&mut self)
+        requires { IsTrue (has_feed self.old) }
+        ensures steps { Steps self.old (Some (first_line self.old)) self.new }
+
+        // Over all the bytes that were fed, with the lines given so far.
+        ensures cutting { (all : List ℕ) (given : List Line)
+            → Gives all given self.old → Gives all (given ++ first_line self.old ∷ []) self.new }
+        ensures fewer { length self.new < length self.old }
+    {
+        let len = self.first_feed().unwrap();
+        self.take_line(len);
     }
 
     /// The same, by the place of the first line feed.
