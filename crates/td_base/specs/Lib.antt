@@ -12,5 +12,6 @@ pub mod Sized
 pub mod Stored
 pub mod TargetForm
 pub mod Transfer
+pub mod Turns
 pub mod Views
 pub mod Works

@@ -1,8 +1,20 @@
--- What starting a work comes to.
+-- Which work a running one is, and what starting a work comes to.
 use Rattle.std.specs.Prelude.{◌≡◌, ℕ, ◌≤◌, Result, Ok, Err}
 use Rattle.td_base.specs.Cause.{Rose}
+use Rattle.td_base.specs.declared.running.Running.{Running}
+use Rattle.td_base.specs.declared.running.Running.TheVariants as running
+
+-- the work that a thread does, or that is done when it is joined
+abbrev pub work_of : {W D : Type 0} → Running W D → W
+work_of (running.InThread handle) = handle.promise.work.value
+work_of (running.AtJoin work) = work
 
 module _ {W Running : Type 0} (work_of : Running → W) where
+  -- what runs stands for the work, and else the work comes back
+  abbrev pub BeginsWork : W → Result Running W → Type 0
+  BeginsWork work (Ok running) = work_of running ≡ work
+  BeginsWork work (Err back) = back ≡ work
+
   -- what runs stands for the work; a work that was not started comes back, and the count of faults
   -- rose
   abbrev pub StartGives : ℕ → ℕ → W → Result Running W → Type 0

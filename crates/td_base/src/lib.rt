@@ -26,13 +26,17 @@ mod no_memory;
 mod outside;
 mod piece_sizes;
 mod report;
+mod running;
 mod send_sync;
 mod short_text;
 mod spawner;
+mod start_thread;
 #[cfg(test)]
 mod tests;
 mod transfer;
+mod turn;
 mod value;
+mod work;
 
 pub use byte_list::Bytes;
 pub use digits::{put_decimal, put_hex, put_sized, read_decimal};
@@ -50,10 +54,12 @@ pub use network::{Made, Network};
 pub use no_memory::NoMemory;
 pub use outside::{Conn, FileRead, ReadStep, Sink, Source, Store, WriteStep};
 pub use report::{Ask, End, MOST_PLACES, Places, Report, Role};
+pub use running::Running;
 pub use short_text::ShortText;
-pub use spawner::{Spawner, Work};
+pub use spawner::{Begin, Spawner};
 pub use transfer::{SourceFault, Written, read_to_end, send_whole, write_whole};
 pub use value::Value;
+pub use work::Work;
 
 /// The token of a place in a history: its number in decimal, a dash and hex digits.
 pub type Token = ShortText<32>;

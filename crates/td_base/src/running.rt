@@ -1,0 +1,12 @@
+use crate::turn::{KeepsWork, Turn};
+use crate::work::Work;
+use std::thread::PromisedHandle;
+
+/// A work that was started and was not joined yet.
+#[derive(Drop)]
+pub enum Running<W: Work> {
+    /// A thread does it.
+    InThread(PromisedHandle<Turn<W, W::Done>, KeepsWork<W>>),
+    /// It is done when it is joined.
+    AtJoin(W),
+}
