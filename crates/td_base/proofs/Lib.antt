@@ -1,8 +1,10 @@
+pub mod DoorLemmas
 pub mod FaultLemmas
 pub mod FaultyLemmas
 pub mod LaterLemmas
 pub mod LeastLemmas
 pub mod NameCutLemmas
+pub mod NetworkLemmas
 pub mod PlainLemmas
 pub mod PrefixLemmas
 pub mod StoredLemmas

@@ -5,6 +5,9 @@ pub mod Files
 pub mod FirstFault
 pub mod Later
 pub mod Memory
+pub mod MemoryDoorFields
+pub mod MemoryDoors
+pub mod MemoryNetworks
 pub mod NameCuts
 pub mod Names
 pub mod Outside

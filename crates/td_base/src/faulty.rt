@@ -13,8 +13,8 @@ use std::marker::Model;
 /// among them.
 #[derive(Debug, Drop)]
 pub struct Faulty<S> {
-    inner: S,
-    calls: FailingCalls,
+    pub(crate) inner: S,
+    pub(crate) calls: FailingCalls,
 }
 
 impl<S> Model for Faulty<S> {

@@ -61,6 +61,13 @@ impl MemorySource {
     {
         &self.bytes.as_slice()[..self.at]
     }
+
+    /// The bytes that are left.
+    pub fn left(&self) -> &[u8]
+        ensures { result.now ≡ self.now.left }
+    {
+        &self.bytes.as_slice()[self.at..]
+    }
 }
 
 impl Source for MemorySource {

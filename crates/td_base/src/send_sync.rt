@@ -1,9 +1,10 @@
 //! The types of this crate may be sent to other threads and shared with them, generic ones where
 //! their parts may.
 use crate::{
-    Ask, Bytes, End, Faulty, FaultyConn, FileRead, Items, MemoryConn, MemorySink, MemorySource,
-    MemoryStore, NoMemory, Places, ReadStep, Report, Role, ShortText, SourceFault, Token,
-    WriteStep, Written,
+    Accepted, Ask, Bytes, Door, DoorAnswer, DoorStep, End, Faulty, FaultyConn, FaultyDoor,
+    FileRead, Items, Made, MemoryConn, MemoryDoor, MemoryNetwork, MemorySink, MemorySource,
+    MemoryStore, NoMemory, Opened, Places, ReadStep, Report, Role, Served, ShortText, SourceFault,
+    Token, WriteStep, Written,
 };
 
 fn is_shared<T: Send + Sync>() {}
@@ -26,6 +27,11 @@ fn types_are_shared() {
     is_shared::<MemorySink>();
     is_shared::<MemoryStore>();
     is_shared::<MemoryConn>();
+    is_shared::<DoorAnswer>();
+    is_shared::<DoorStep>();
+    is_shared::<Served>();
+    is_shared::<MemoryDoor>();
+    is_shared::<Opened>();
 }
 
 fn generic_types_are_shared<T: Send + Sync, const N: usize>() {
@@ -33,4 +39,11 @@ fn generic_types_are_shared<T: Send + Sync, const N: usize>() {
     is_shared::<ShortText<N>>();
     is_shared::<Faulty<T>>();
     is_shared::<FaultyConn<T>>();
+    is_shared::<FaultyDoor<T>>();
+    is_shared::<Accepted<T>>();
+    is_shared::<Made<T>>();
+}
+
+fn networks_are_shared<D: Door + Send + Sync>() {
+    is_shared::<MemoryNetwork<D>>();
 }

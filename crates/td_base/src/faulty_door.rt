@@ -1,0 +1,102 @@
+ghost use Rattle.std.specs.Prelude.{◌≡◌, Some, None, true, false};
+ghost use Rattle.td_base.specs.Doors.{Accepts, Finishes, HasOut, answer_of};
+ghost use Rattle.td_base.specs.Memory.{counted, is_chosen};
+ghost use Rattle.td_base.specs.MemoryDoors.{faulty_door, is_failed_accept};
+
+use crate::failing_calls::FailingCalls;
+use crate::{Accepted, Door, DoorAnswer, Items, Report};
+use std::marker::Model;
+
+/// A door of which chosen calls of `accept` fail without reaching it. Calls count from 1. Its count
+/// of faults is the number of its answers that say that it failed, those of the door inside among
+/// them.
+#[derive(Debug, Drop)]
+pub struct FaultyDoor<D> {
+    inner: D,
+    calls: FailingCalls,
+    last: Option<DoorAnswer>,
+}
+
+impl<D> Model for FaultyDoor<D> {
+    ghost use Rattle.td_base.specs.MemoryDoors.{FaultyDoorState};
+
+    ghost Value = { FaultyDoorState D };
+
+    ghost view = { λ f. record { inner = f.inner; calls = f.calls; last = f.last } };
+}
+
+impl<D> FaultyDoor<D> {
+    /// The door, of which the calls of `accept` with these numbers are to fail.
+    pub fn new(inner: D, failing: Items<u64>) -> FaultyDoor<D>
+        ensures { result ≡ record {
+          inner = inner;
+          calls = record { failing = failing; calls = 0; faults = 0 };
+          last = None;
+        } }
+    {
+        let calls = FailingCalls::new(failing);
+        FaultyDoor {
+            inner,
+            calls,
+            last: None,
+        }
+    }
+
+    /// The door inside.
+    pub fn inner(&self) -> &D
+        ensures { result.now ≡ self.now.inner }
+    {
+        &self.inner
+    }
+}
+
+impl<D: Door> Door for FaultyDoor<D> {
+    type Conn = D::Conn;
+
+    ghost seen = { faulty_door D.seen };
+
+    fn accept(&mut self) -> Accepted<D::Conn>
+        ensures accepts { Accepts D.Conn.seen (faulty_door D.seen self.old)
+            (faulty_door D.seen self.new) result }
+        ensures calls { self.new.calls ≡ counted self.old.calls (is_failed_accept result) }
+        ensures chosen { is_chosen self.old.calls ≡ true
+            → (result ≡ Accepted.Failed) × (self.new.inner ≡ self.old.inner) }
+        ensures other { is_chosen self.old.calls ≡ false
+            → Accepts D.Conn.seen (D.seen self.old.inner) (D.seen self.new.inner) result }
+    {
+        if self.calls.begin() {
+            self.calls.count_fault();
+            self.last = Some(DoorAnswer::Failed);
+            return Accepted::Failed;
+        }
+        let accepted = self.inner.accept();
+        if let Accepted::Failed = &accepted {
+            self.calls.count_fault();
+        }
+        self.last = Some(answer(&accepted));
+        accepted
+    }
+
+    fn finish(&mut self, conn: D::Conn, report: Report)
+        requires { HasOut (faulty_door D.seen self.old) }
+        ensures finishes { Finishes (faulty_door D.seen self.old) (faulty_door D.seen self.new)
+            (D.Conn.seen conn) report }
+        ensures calls { self.new.calls ≡ self.old.calls }
+        ensures inner { Finishes (D.seen self.old.inner) (D.seen self.new.inner)
+            (D.Conn.seen conn) report }
+    {
+        self.inner.finish(conn, report);
+    }
+}
+
+/// Which answer this is.
+fn answer<C>(accepted: &Accepted<C>) -> DoorAnswer
+    ensures { result ≡ answer_of accepted.now }
+{
+    match accepted {
+        Accepted::Given(_) => DoorAnswer::Given,
+        Accepted::Idle => DoorAnswer::Idle,
+        Accepted::Ended => DoorAnswer::Ended,
+        Accepted::Failed => DoorAnswer::Failed,
+    }
+}
