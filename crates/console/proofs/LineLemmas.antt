@@ -9,7 +9,8 @@ use Rattle.std.proofs.lemmas.List.Folds.{list_any-append}
 use Rattle.console.proofs.PlaceLemmas.{before_here, after_here, before_later, after_later}
 use Rattle.console.specs.declared.line.Line.{Line}
 use Rattle.console.specs.declared.line.Line.TheVariants as line
-use Rattle.console.specs.Lines.{is_folder, without_return, install_of, command_of, is_feed, has_feed, is_whole_text, ended, line_of, lines_from, lines_of}
+use Rattle.td_base.specs.Names.{is_path_word}
+use Rattle.console.specs.Lines.{without_return, install_of, command_of, is_feed, has_feed, is_whole_text, ended, line_of, lines_from, lines_of}
 
 pub lines_none : (begun : List ℕ) → lines_from begun [] ≡ []
 unfolding lines_from
@@ -144,32 +145,32 @@ is_install line.Status = false
 is_install line.Quit = false
 is_install line.Strange = false
 
-install_by : (word folder : Bool) (text rest : List ℕ) → is_folder rest ≡ folder
-    → cond (word && folder) (line.Install rest) line.Strange ≡ line.Install text → is_folder text ≡ true
-install_by true true text rest f e = subst (λ l. is_folder l ≡ true) (ap (folder_or []) e) f
+install_by : (word folder : Bool) (text rest : List ℕ) → is_path_word rest ≡ folder
+    → cond (word && folder) (line.Install rest) line.Strange ≡ line.Install text → is_path_word text ≡ true
+install_by true true text rest f e = subst (λ l. is_path_word l ≡ true) (ap (folder_or []) e) f
 install_by true false text rest f e = absurd (true≢false (sym (ap is_install e)))
 install_by false folder text rest f e = absurd (true≢false (sym (ap is_install e)))
 
-words_by : (sync status quit : Bool) (l : Line) (text : List ℕ) → (l ≡ line.Install text → is_folder text ≡ true)
-    → cond sync line.Sync (cond status line.Status (cond quit line.Quit l)) ≡ line.Install text → is_folder text ≡ true
+words_by : (sync status quit : Bool) (l : Line) (text : List ℕ) → (l ≡ line.Install text → is_path_word text ≡ true)
+    → cond sync line.Sync (cond status line.Status (cond quit line.Quit l)) ≡ line.Install text → is_path_word text ≡ true
 words_by true status quit l text h e = absurd (true≢false (sym (ap is_install e)))
 words_by false true quit l text h e = absurd (true≢false (sym (ap is_install e)))
 words_by false false true l text h e = absurd (true≢false (sym (ap is_install e)))
 words_by false false false l text h e = h e
 
-of_command : (bytes text : List ℕ) → command_of bytes ≡ line.Install text → is_folder text ≡ true
+of_command : (bytes text : List ℕ) → command_of bytes ≡ line.Install text → is_path_word text ≡ true
 unfolding command_of
 of_command bytes text e =
     words_by (bytes_eq bytes (codes "sync")) (bytes_eq bytes (codes "status")) (bytes_eq bytes (codes "quit")) (install_of bytes) text
-    (install_by (bytes_eq (take 8 bytes) (codes "install ")) (is_folder (drop 8 bytes)) text (drop 8 bytes) refl) e
+    (install_by (bytes_eq (take 8 bytes) (codes "install ")) (is_path_word (drop 8 bytes)) text (drop 8 bytes) refl) e
 
-short_by : (short : Bool) (l : Line) (text : List ℕ) → (l ≡ line.Install text → is_folder text ≡ true)
-    → cond short l line.Strange ≡ line.Install text → is_folder text ≡ true
+short_by : (short : Bool) (l : Line) (text : List ℕ) → (l ≡ line.Install text → is_path_word text ≡ true)
+    → cond short l line.Strange ≡ line.Install text → is_path_word text ≡ true
 short_by true l text h e = h e
 short_by false l text h e = absurd (true≢false (sym (ap is_install e)))
 
 -- the folder of an `install` is named as folders are
-pub named_folder : (bytes folder : List ℕ) → line_of bytes ≡ line.Install folder → is_folder folder ≡ true
+pub named_folder : (bytes folder : List ℕ) → line_of bytes ≡ line.Install folder → is_path_word folder ≡ true
 unfolding line_of
 named_folder bytes folder e =
     short_by (nat_le (length bytes) 1100) (command_of (without_return bytes)) folder (of_command (without_return bytes) folder) e

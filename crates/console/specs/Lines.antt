@@ -2,17 +2,13 @@
 use Rattle.std.specs.Prelude.{ℕ, ◌-◌, List, [], ◌∷◌, ◌++◌, length, take, drop, codes, Bool, false, not, ◌&&◌, ◌==◌, nat_le, if◌then◌else◌, ⊤}
 use Rattle.std.specs.List.{list_any}
 use Rattle.std.specs.Str.{bytes_eq}
+use Rattle.td_base.specs.Names.{is_path_word}
 use Rattle.console.specs.declared.line.Line.{Line}
 use Rattle.console.specs.declared.line.Line.TheVariants as line
 
 -- how many bytes a line may have before its line feed
 abbrev pub most_bytes : ℕ
 most_bytes = 1100
-
--- the name of a folder: 1 to 1,024 bytes that do not begin with a dash
-abbrev pub is_folder : List ℕ → Bool
-is_folder [] = false
-is_folder (b ∷ bs) = not (b == 45) && nat_le (length (b ∷ bs)) 1024
 
 -- the text without one carriage return at its end
 abbrev pub without_return : List ℕ → List ℕ
@@ -21,10 +17,10 @@ without_return text =
     then take (length text - 1) text
     else text
 
--- `install` and a space, and then the name of a folder
+-- `install` and a space, and then the path of a folder
 abbrev pub install_of : List ℕ → Line
 install_of text =
-    if bytes_eq (take 8 text) (codes "install ") && is_folder (drop 8 text)
+    if bytes_eq (take 8 text) (codes "install ") && is_path_word (drop 8 text)
     then line.Install (drop 8 text)
     else line.Strange
 

@@ -1,10 +1,11 @@
 //! Laws of the definitions, each the contract of a function that does nothing.
 ghost use Rattle.std.specs.Prelude.{◌≡◌, ℕ, List, [], ◌++◌, map, IsTrue};
 ghost use Rattle.std.specs.List.{flat_map, list_all};
-ghost use Rattle.console.specs.Lines.{ended, is_folder, is_whole_text, line_of, lines_of};
+ghost use Rattle.console.specs.Lines.{ended, is_whole_text, line_of, lines_of};
 ghost use Rattle.console.specs.Steps.{Gives};
 ghost use Rattle.console.specs.declared.line.Line.{Line};
 ghost use Rattle.console.specs.declared.line.Line.TheVariants as line;
+ghost use Rattle.td_base.specs.Names.{is_path_word};
 
 /// Texts without line feeds, each followed by one, are the lines of these texts.
 pub fn reads_written()
@@ -12,10 +13,10 @@ pub fn reads_written()
         → lines_of (flat_map ended texts) ≡ map line_of texts }
 {}
 
-/// The folder that a line asks to install has a name as folders have.
+/// The folder that a line asks to install has a path as words may name one.
 pub fn folders_are_named()
     ensures { (bytes folder : List ℕ) → line_of bytes ≡ line.Install folder
-        → IsTrue (is_folder folder) }
+        → IsTrue (is_path_word folder) }
 {}
 
 /// The lines of a list are the first of those of each longer one. `Gives` holds at the start, and

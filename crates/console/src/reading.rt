@@ -4,13 +4,10 @@ ghost use Rattle.console.specs.Lines as spec;
 
 use crate::Line;
 use std::alloc::Global;
-use td_base::{Bytes, NoMemory};
+use td_base::{Bytes, NoMemory, is_path_word};
 
 /// How many bytes a line may have before its line feed.
 pub const MOST_BYTES: usize = 1_100;
-
-/// How many bytes the name of a folder may have.
-const MOST_FOLDER_BYTES: usize = 1_024;
 
 /// The line of the bytes before a line feed.
 #[tactic(auto, unfolding(crate::specs::Lines::line_of))]
@@ -55,17 +52,9 @@ fn read_install(alloc: Global, text: &[u8]) -> Result<Line, NoMemory>
     ensures memory { OnErr result (spec.IsInstall (spec.install_of text.now)) }
 {
     match text.strip_prefix(b"install ") {
-        Some(folder) if is_folder(folder) => Ok(Line::Install(Bytes::from_slice(alloc, folder)?)),
+        Some(folder) if is_path_word(folder) => Ok(Line::Install(Bytes::from_slice(
+            alloc, folder,
+        )?)),
         _ => Ok(Line::Strange),
-    }
-}
-
-/// Whether a text may name a folder: 1 to 1,024 bytes that do not begin with a dash.
-fn is_folder(text: &[u8]) -> bool
-    ensures { result ≡ spec.is_folder text.now }
-{
-    match text {
-        [] => false,
-        [first, ..] => *first != b'-' && text.len() <= MOST_FOLDER_BYTES,
     }
 }

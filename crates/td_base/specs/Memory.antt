@@ -9,6 +9,8 @@ use Rattle.td_base.specs.declared.outside.WriteStep.{WriteStep}
 use Rattle.td_base.specs.declared.outside.WriteStep.TheVariants as write
 use Rattle.td_base.specs.declared.outside.FileRead.{FileRead}
 use Rattle.td_base.specs.declared.outside.FileRead.TheVariants as file
+use Rattle.td_base.specs.declared.spawner.Begin.{Begin}
+use Rattle.td_base.specs.declared.spawner.Begin.TheVariants as begin
 
 -- ---- sizes of pieces
 
@@ -79,6 +81,11 @@ is_failed_look (file.Found bytes) = false
 is_failed_look file.Absent = false
 is_failed_look file.Failed = true
 is_failed_look file.NoMemory = false
+
+abbrev pub is_refused_begin : Begin → Bool
+is_refused_begin begin.InThread = false
+is_refused_begin begin.AtJoin = false
+is_refused_begin begin.Refused = true
 
 -- an object of which chosen calls fail: the object inside, and its calls
 pub record FaultyState (S : Type 0) : Type 0 where

@@ -1,9 +1,10 @@
 -- The texts that name things in a release: identifiers of time zones, files, publishers and
 -- versions.
-use Rattle.std.specs.Prelude.{ℕ, List, [], ◌∷◌, length, Bool, IsTrue, not, ◌&&◌, ◌||◌, ◌==◌, nat_le}
+use Rattle.std.specs.Prelude.{ℕ, List, [], ◌∷◌, length, Bool, IsTrue, false, not, ◌&&◌, ◌||◌, ◌==◌, nat_le}
 use Rattle.std.specs.Prelude.{if◌then◌else◌}
 use Rattle.std.specs.List.{list_all, list_any}
 use Rattle.std.specs.Str.{bytes_eq}
+use Rattle.td_base.specs.declared.name_forms.TheConstants.{MOST_PATH_BYTES}
 
 -- the byte before the first piece
 abbrev pub with_first : ℕ → List (List ℕ) → List (List ℕ)
@@ -63,3 +64,9 @@ IsPlain text = IsTrue (list_all is_printable text)
 unfoldable pub is_label : List ℕ → Bool
 is_label text =
     nat_le 1 (length text) && nat_le (length text) most_label_bytes && list_all is_printable text
+
+-- the path of a file or folder where words or lines name one: 1 to 1,024 bytes that do not begin
+-- with a dash
+abbrev pub is_path_word : List ℕ → Bool
+is_path_word [] = false
+is_path_word (b ∷ bs) = not (b == 45) && nat_le (length (b ∷ bs)) MOST_PATH_BYTES

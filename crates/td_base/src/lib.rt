@@ -15,6 +15,7 @@ mod faulty;
 mod faulty_conn;
 mod faulty_door;
 mod faulty_network;
+mod faulty_spawner;
 mod item_list;
 mod joined;
 pub mod laws;
@@ -23,6 +24,7 @@ mod memory_door;
 mod memory_network;
 mod memory_sink;
 mod memory_source;
+mod memory_spawner;
 mod memory_store;
 mod name_forms;
 #[cfg(test)]
@@ -36,6 +38,8 @@ mod running;
 mod send_sync;
 mod short_text;
 mod spawner;
+#[cfg(test)]
+mod spawner_tests;
 mod start_thread;
 #[cfg(test)]
 mod tests;
@@ -57,8 +61,9 @@ pub use memory_door::{DoorStep, MemoryDoor, Served};
 pub use memory_network::{MemoryNetwork, Opened};
 pub use memory_sink::MemorySink;
 pub use memory_source::MemorySource;
+pub use memory_spawner::MemorySpawner;
 pub use memory_store::MemoryStore;
-pub use name_forms::{is_file_name, is_identifier, is_label};
+pub use name_forms::{MOST_PATH_BYTES, is_file_name, is_identifier, is_label, is_path_word};
 pub use network::{Made, Network};
 pub use no_memory::NoMemory;
 pub use outside::{Conn, FileRead, ReadStep, Sink, Source, Store, WriteStep};

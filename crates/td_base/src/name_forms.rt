@@ -14,6 +14,9 @@ const MOST_FILE_NAME_BYTES: usize = 128;
 /// The most bytes of a label.
 const MOST_LABEL_BYTES: usize = 64;
 
+/// The most bytes of the path of a file or folder where words or lines name one.
+pub const MOST_PATH_BYTES: usize = 1_024;
+
 /// Whether a text may be the identifier of a time zone, or an alias of one: 1 to 64 letters, digits
 /// and `_+-./`, without a slash at an end and without two in a row.
 #[tactic(auto, unfolding(crate::specs::Names::is_path))]
@@ -38,6 +41,17 @@ pub fn is_label(text: &[u8]) -> bool
     ensures { result ≡ names.is_label text.now }
 {
     !text.is_empty() && text.len() <= MOST_LABEL_BYTES && is_printable(text)
+}
+
+/// Whether a word may be the path of a file or folder: 1 to 1,024 bytes that do not begin with a
+/// dash.
+pub fn is_path_word(word: &[u8]) -> bool
+    ensures { result ≡ names.is_path_word word.now }
+{
+    match word {
+        [] => false,
+        [first, ..] => *first != b'-' && word.len() <= MOST_PATH_BYTES,
+    }
 }
 
 /// Whether each byte is a printable ASCII byte.

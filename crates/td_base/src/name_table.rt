@@ -1,4 +1,4 @@
-use crate::{is_file_name, is_identifier, is_label};
+use crate::{is_file_name, is_identifier, is_label, is_path_word};
 use std::test::Fail;
 
 /// `unit`, so many times over.
@@ -87,6 +87,24 @@ fn labels(rt: HostRuntime) -> Result<(), Fail> {
     for (count, fits) in [(1, true), (64, true), (65, false)] {
         let text = repeated(&rt, b" ", count)?;
         assert_eq!(rt; is_label(text.as_slice()), fits, "{count} spaces");
+    }
+    Ok(())
+}
+
+#[test]
+fn path_words(rt: HostRuntime) -> Result<(), Fail> {
+    for (text, fits) in [
+        ("", false),
+        ("-", false),
+        ("--all", false),
+        ("a-", true),
+        ("/ /\n", true),
+    ] {
+        assert_eq!(rt; is_path_word(text.as_bytes()), fits, "{text:?}");
+    }
+    for (count, fits) in [(1, true), (1_024, true), (1_025, false)] {
+        let text = repeated(&rt, b"/", count)?;
+        assert_eq!(rt; is_path_word(text.as_slice()), fits, "{count} slashes");
     }
     Ok(())
 }

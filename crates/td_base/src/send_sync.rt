@@ -3,8 +3,8 @@
 use crate::{
     Accepted, Ask, Bytes, Door, DoorAnswer, DoorStep, End, Faulty, FaultyConn, FaultyDoor,
     FileRead, Items, Made, MemoryConn, MemoryDoor, MemoryNetwork, MemorySink, MemorySource,
-    MemoryStore, NoMemory, Opened, Places, ReadStep, Report, Role, Served, ShortText, SourceFault,
-    Token, WriteStep, Written,
+    MemorySpawner, MemoryStore, NoMemory, Opened, Places, ReadStep, Report, Role, Served,
+    ShortText, SourceFault, Token, WriteStep, Written,
 };
 
 fn is_shared<T: Send + Sync>() {}
@@ -32,6 +32,7 @@ fn types_are_shared() {
     is_shared::<Served>();
     is_shared::<MemoryDoor>();
     is_shared::<Opened>();
+    is_shared::<MemorySpawner>();
 }
 
 fn generic_types_are_shared<T: Send + Sync, const N: usize>() {
