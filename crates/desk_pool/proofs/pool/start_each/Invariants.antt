@@ -1,0 +1,11 @@
+use Rattle.std.proofs.Common.{◌≡◌, ◌+◌, ◌≤◌, ◌++◌, map, length}
+use Rattle.std.specs.Vec.{vec_capacity}
+use Rattle.td_base.specs.Works.{work_of}
+use Rattle.desk_pool.proofs.pool.start_each.Given as goal
+
+abbrev pub invariant-loop-work : goal.invariant-loop-work
+invariant-loop-work g l = record {
+  whole : map work_of l.running.items ++ l.work-iterator.rest.items ≡ l.fn.works.items;
+  room : length l.running.items + length l.work-iterator.rest.items ≤ vec_capacity l.running;
+  later : g.S.Spawner.faults l.fn.spawner ≤ g.S.Spawner.faults l.spawner;
+}

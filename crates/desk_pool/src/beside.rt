@@ -1,0 +1,23 @@
+ghost use Rattle.std.specs.Prelude.{◌≡◌, true, false, Bool};
+
+use std::sync::Wait;
+
+/// What the caller's thread does while works run in threads of their own, and what ends it.
+pub trait Beside {
+    ghost stopped: { Self → Bool };
+
+    ghost ran: { Self → Self → Type 0 };
+
+    ghost halted: { Self → Self → Type 0 };
+
+    /// Does it. It may wait for what comes from outside.
+    fn run<R: Wait>(&mut self, rt: &R)
+        requires { stopped self.old ≡ false }
+        ensures ran { ran self.old self.new }
+        ensures goes_on { stopped self.new ≡ false };
+
+    /// Tells the works to end. It is called before they are joined.
+    fn stop(&mut self)
+        ensures halted { halted self.old self.new }
+        ensures stopped { stopped self.new ≡ true };
+}

@@ -1,0 +1,136 @@
+//! Works in threads of their own, beside one thing of the caller's thread.
+ghost use Rattle.std.specs.Prelude.{◌≡◌, ◌<◌, ◌≤◌, [], length, map, take, vec_len};
+ghost use Rattle.std.specs.Prelude.{false, IfOk};
+ghost use Rattle.std.specs.Vec.{vec_capacity};
+ghost use Rattle.td_base.specs.Works.{work_of};
+ghost use Rattle.desk_pool.specs.Pool.{DoesEach, GivesResults, HasRefusal, IsStopped};
+ghost use Rattle.desk_pool.specs.Pool.{LeavesBeside, LeavesSpawner};
+ghost use Rattle.desk_pool.specs.Starting.{StartsWorks, HasRefused};
+
+use crate::beside::Beside;
+use crate::pool_end::PoolEnd;
+use std::alloc::Global;
+use std::sync::Wait;
+use std::thread::Threads;
+use td_base::{NoMemory, Running, Spawner, Work};
+
+/// Starts each work, does what is beside them in the caller's thread, stops that, and joins the
+/// works. Where a work is refused, that and the later ones are dropped, and what is beside them is
+/// stopped without having run. All memory is taken before anything is started.
+pub fn run_beside<W, S, M, R>(
+    rt: &R,
+    alloc: Global,
+    spawner: &mut S,
+    works: Vec<W>,
+    beside: &mut M,
+) -> PoolEnd<W::Done>
+where
+    W: Work + Send + Drop + 'static,
+    W::Done: Send + Drop + 'static,
+    S: Spawner,
+    M: Beside,
+    R: Threads + Wait + Copy + Send + 'static,
+    requires { M.stopped beside.old ≡ false }
+    ensures results { GivesResults W.does works.items result }
+    ensures beside { LeavesBeside M.ran M.halted beside.old beside.new result }
+    ensures stopped { IsStopped (M.stopped beside.new) result }
+    ensures refusal { HasRefusal (S.faults spawner.old) (S.faults spawner.new) result }
+    ensures later { S.faults spawner.old ≤ S.faults spawner.new }
+    ensures spawner { LeavesSpawner spawner.old spawner.new result }
+{
+    let Ok(room) = room_for(alloc, works.len()) else {
+        return PoolEnd::NoMemory;
+    };
+    let Room { running, dones } = room;
+    match start_each(rt, alloc, spawner, works, running) {
+        Started::All(running) => {
+            beside.run(rt);
+            beside.stop();
+            PoolEnd::All(join_each(rt, spawner, running, dones))
+        }
+        Started::Refused(running) => {
+            beside.stop();
+            PoolEnd::NotStarted(join_each(rt, spawner, running, dones))
+        }
+    }
+}
+
+/// Room for what runs, and for what comes of it.
+#[derive(Drop)]
+struct Room<T, D> {
+    running: Vec<T>,
+    dones: Vec<D>,
+}
+
+fn room_for<T: Drop, D: Drop>(alloc: Global, works: usize) -> Result<Room<T, D>, NoMemory>
+    ensures empty { IfOk result (λ r. (r.running.items ≡ []) × (r.dones.items ≡ [])) }
+    ensures room { IfOk result
+        (λ r. (works ≤ vec_capacity r.running) × (works ≤ vec_capacity r.dones)) }
+{
+    let running = Vec::with_capacity(alloc, works)?;
+    let dones = Vec::with_capacity(alloc, works)?;
+    Ok(Room { running, dones })
+}
+
+/// How far starting the works came.
+#[derive(Drop)]
+pub(crate) enum Started<T> {
+    /// All run.
+    All(Vec<T>),
+    /// One was refused. Those before it run.
+    Refused(Vec<T>),
+}
+
+/// Starts the works in order, up to the first that is refused.
+#[tactic(auto, using(crate::proofs::PoolLemmas::are_first))]
+fn start_each<W, S, R>(
+    rt: &R,
+    alloc: Global,
+    spawner: &mut S,
+    works: Vec<W>,
+    room: Vec<Running<W>>,
+) -> Started<Running<W>>
+where
+    W: Work + Send + Drop + 'static,
+    W::Done: Send + Drop + 'static,
+    S: Spawner,
+    R: Threads + Wait + Copy + Send + 'static,
+    requires empty { room.items ≡ [] }
+    requires room { vec_len works ≤ vec_capacity room }
+    ensures works { StartsWorks work_of works.items result }
+    ensures refused { HasRefused (S.faults spawner.old) (S.faults spawner.new) result }
+    ensures later { S.faults spawner.old ≤ S.faults spawner.new }
+{
+    let mut running = room;
+    for work in works {
+        match spawner.start(rt, alloc, work) {
+            Ok(started) => running.push_reserved(started),
+            Err(_) => return Started::Refused(running),
+        }
+    }
+    Started::All(running)
+}
+
+/// Joins what runs, in order.
+fn join_each<W, S, R>(
+    rt: &R,
+    spawner: &mut S,
+    running: Vec<Running<W>>,
+    room: Vec<W::Done>,
+) -> Vec<W::Done>
+where
+    W: Work + Drop,
+    W::Done: Drop,
+    S: Spawner,
+    R: Threads + Wait,
+    requires empty { room.items ≡ [] }
+    requires room { vec_len running ≤ vec_capacity room }
+    ensures dones { DoesEach W.does (map work_of running.items) result.items }
+    ensures later { S.faults spawner.old ≤ S.faults spawner.new }
+{
+    let mut dones = room;
+    for running in running {
+        dones.push_reserved(spawner.join(rt, running));
+    }
+    dones
+}
