@@ -24,14 +24,14 @@ module _ {V : Type 0} where
 
   -- ---- a desk goes on
 
-  goes_on_same : (a b : DeskView V) → b ≡ a → GoesOn a b
+  pub goes_on_same : (a b : DeskView V) → b ≡ a → GoesOn a b
   goes_on_same a b e = record {
     pair = ap (λ d. d.pair) e;
     longer = subst (λ l. IsPrefix a.seen l) (sym (ap (λ d. d.seen) e)) (prefix_self a.seen);
     ended = λ h. (ap (λ d. d.seen) e, ap (λ d. d.ended) e ∙ h);
   }
 
-  goes_on_both : (a b c : DeskView V) → GoesOn a b → GoesOn b c → GoesOn a c
+  pub goes_on_both : (a b c : DeskView V) → GoesOn a b → GoesOn b c → GoesOn a c
   goes_on_both a b c p q = record {
     pair = q.pair ∙ p.pair;
     longer = prefix_trans a.seen b.seen c.seen p.longer q.longer;

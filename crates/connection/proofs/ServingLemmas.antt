@@ -60,10 +60,10 @@ starts desk role a = record {
 
 -- ---- histories
 
-history_longer : (xs ys : List (Catalogue (List ℕ))) → IsPrefix xs ys → IsPrefix (history_of xs) (history_of ys)
+pub history_longer : (xs ys : List (Catalogue (List ℕ))) → IsPrefix xs ys → IsPrefix (history_of xs) (history_of ys)
 history_longer xs ys p = (history_of p.0, sym (map-append (release_held (λ f. f)) xs p.0) ∙ ap history_of p.1)
 
-history_length : (xs : List (Catalogue (List ℕ))) → length (history_of xs) ≡ length xs
+pub history_length : (xs : List (Catalogue (List ℕ))) → length (history_of xs) ≡ length xs
 history_length xs = length-map xs (release_held (λ f. f))
 
 -- a longer history has no fewer places

@@ -1,3 +1,4 @@
+pub mod DoorWorks
 pub mod Entering
 pub mod Exchanges
 pub mod Hearing
@@ -5,3 +6,4 @@ pub mod Replies
 pub mod Sending
 pub mod Served
 pub mod Serving
+pub mod Turns

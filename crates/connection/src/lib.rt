@@ -7,13 +7,21 @@
 //! that were written. What becomes of the desk is `Enters` of specs/Entering.antt.
 #![tactic(auto)]
 
+#[cfg(test)]
+mod door_tests;
+mod door_work;
 mod hearing;
 mod laws;
+#[cfg(test)]
+mod listed_door;
 mod replying;
+mod send_sync;
 mod sending;
 mod serving;
 #[cfg(test)]
 mod tests;
+mod turn;
 
+pub use door_work::{DoorDone, DoorWork};
 pub use laws::{nothing_needed, one_closing};
 pub use serving::serve;

@@ -99,7 +99,7 @@ fn no_zones(rt: &impl Abort, alloc: Global) -> Result<Catalogue<Zone>, NoMemory>
 }
 
 /// A publisher of it, and a desk.
-fn one_desk<R: Wait + Abort>(
+pub fn one_desk<R: Wait + Abort>(
     rt: &R,
     alloc: Global,
 ) -> Result<(Publisher<Catalogue<Zone>>, Desk<Catalogue<Zone>>), NoMemory> {

@@ -1,0 +1,55 @@
+ghost use Rattle.connection.specs.Turns.{HasServed, NoneOut, TakesTurn};
+ghost use Rattle.json_forms.specs.PlainTexts.{IsPlainRole};
+
+use crate::serving::serve;
+use catalogue::Catalogue;
+use desk_pool::StopSign;
+use publication::Desk;
+use std::alloc::Global;
+use td_base::{Accepted, Door, Role};
+use zone_meaning::Zone;
+
+/// What came of one turn.
+#[derive(Clone, Copy, Debug, PartialEq, Eq)]
+pub enum Turn {
+    /// A connection was served, or none waited.
+    GoesOn,
+    /// The door failed.
+    Failed,
+    /// No connection is still to come.
+    Ended,
+    /// No connection waited, and the flag was raised.
+    Stopped,
+}
+
+/// Asks the door for a connection and serves it. Only where none waits it looks at the sign.
+pub fn take_turn<D: Door>(
+    alloc: Global,
+    role: &Role,
+    door: &mut D,
+    desk: &mut Desk<Catalogue<Zone>>,
+    sign: &mut StopSign,
+) -> Turn
+    requires role { IsPlainRole role.now }
+    requires door { NoneOut (D.seen door.old) }
+    ensures { TakesTurn role.now (D.seen door.old) (D.seen door.new) desk.old desk.new
+        sign.old sign.new result }
+{
+    match door.accept() {
+        Accepted::Given(conn) => {
+            let mut conn = conn;
+            let report = serve(alloc, role, desk, &mut conn);
+            door.finish(conn, report);
+            Turn::GoesOn
+        }
+        Accepted::Idle => {
+            if sign.is_raised() {
+                Turn::Stopped
+            } else {
+                Turn::GoesOn
+            }
+        }
+        Accepted::Ended => Turn::Ended,
+        Accepted::Failed => Turn::Failed,
+    }
+}
