@@ -42,25 +42,15 @@ fn append_folded(out: &mut Bytes, room: usize, octets: &[u8]) -> Result<usize, N
         → out.new ++ folded left rest ≡ out.old ++ folded room (octets.now ++ rest)) }
     ensures kept { take (length out.old) out.new ≡ out.old }
 {
-    let mut left = room;
-    for octet in octets {
-        left = append_octet(out, left, *octet)?;
-    }
-    Ok(left)
-}
-
-/// Appends an octet to a line that has room for so many more, and answers the room after it.
-#[tactic(auto, unfolding(crate::specs::Lines::folded))]
-fn append_octet(out: &mut Bytes, room: usize, octet: u8) -> Result<usize, NoMemory>
-    ensures ok { IfOk result (λ left. (rest : List ℕ)
-        → out.new ++ folded left rest ≡ out.old ++ folded room (octet ∷ rest)) }
-    ensures kept { take (length out.old) out.new ≡ out.old }
-{
-    if room == 0 {
+    let mut room = room;
+    let mut left = octets;
+    'lines: while room < left.len() {
+        let (front, rest) = left.split_at(room);
+        out.append(front)?;
         out.append(b"\r\n ")?;
-        out.push(octet)?;
-        return Ok(MOST_OCTETS - 2);
+        left = rest;
+        room = MOST_OCTETS - 1;
     }
-    out.push(octet)?;
-    Ok(room - 1)
+    out.append(left)?;
+    Ok(room - left.len())
 }
