@@ -26,4 +26,6 @@ pub use receipt::Receipt;
 pub use shown::{Sets, Shown};
 
 #[cfg(test)]
+mod refusal_tests;
+#[cfg(test)]
 mod tests;

@@ -10,6 +10,7 @@ use crate::edition::Edition;
 use crate::history::HistoryWriter;
 use crate::publisher::{Publisher, PublisherOf, edition_of};
 use crate::rule::Stage;
+use crate::shown::Shown;
 use crate::stage::{new_reader, open};
 use std::alloc::Global;
 use std::sync::{Arc, Wait};
@@ -83,7 +84,8 @@ pub fn make<V: Value, R: Wait>(
     }
     let last = edition_of(kept, &history.front, number);
     let edition = edition_of(value, &history.front, number);
-    let mut stage = open(rt, alloc, edition, desks)?;
+    let copies = (Shown { edition: None }, Shown { edition: None });
+    let mut stage = open(rt, alloc, copies, edition, desks)?;
     let Ok(made) = desks_of(&mut stage, alloc, &last, desks) else {
         drop(stage.take(rt));
         return Err(NoMemory);

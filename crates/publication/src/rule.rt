@@ -61,7 +61,10 @@ impl<V> Join<View<V>> for TakingOver {
     ghost spent = { spent };
 }
 
-pub type DeskReader<V> = Reader<Shown<V>, View<V>, ShownRule<V>>;
+/// The side of a desk, over copies of the type `T`.
+pub type ReaderOf<V, T> = Reader<T, View<V>, ShownRule<V>>;
+
+pub type DeskReader<V> = ReaderOf<V, Shown<V>>;
 
 /// The side of the publisher. The copies are of a type of their own, since a struct that is generic
 /// in the value cannot hold a writer of the copies of that value.

@@ -8,8 +8,8 @@ ghost use Rattle.publication.specs.ShownRule.{home_of, opened};
 ghost use Rattle.publication.specs.Entering.{IsNewReader};
 
 use crate::edition::Edition;
-use crate::rule::{DeskReader, Opening, Publishing, Stage, StageOf, TakingOver, Telling};
-use crate::shown::{Sets, Shown};
+use crate::rule::{Opening, Publishing, ReaderOf, StageOf, TakingOver, Telling};
+use crate::shown::Sets;
 use std::alloc::{AllocError, Global};
 use std::sync::Wait;
 use td_base::{NoMemory, Value};
@@ -41,24 +41,27 @@ pub(crate) fn show<V: Value, T: Sets<V>, R: Wait>(
     (stage, Ok(()))
 }
 
-/// Makes what is shown, with a first edition. Nothing was shown before, so no reader can have seen
-/// less.
-pub(crate) fn open<V: Value, R: Wait>(
+/// Makes what is shown of two copies, with a first edition. Nothing was shown before, so no reader
+/// can have seen less.
+pub(crate) fn open<V: Value, T: Sets<V>, R: Wait>(
     rt: &R,
     alloc: Global,
+    copies: (T, T),
     edition: Edition<V>,
     desks: u32,
-) -> Result<Stage<V>, NoMemory>
+) -> Result<StageOf<V, T>, NoMemory>
     requires desks { 0 < desks }
     requires some_value { 0 < length (values edition.front.log) }
+    requires vacant { T.content copies.0 ≡ None }
+    requires alike { T.state copies.0 ≡ T.state copies.1 }
     ensures { IfOk result (λ s.
         view s.desk.place ≡ opened (home_of edition.front.book) (values edition.front.log)) }
 {
-    let (first, second) = (Shown { edition: None }, Shown { edition: None });
-    let Ok(stage) = Stage::new(alloc, first, second, desks as usize) else {
+    let (first, second) = copies;
+    let Ok(stage) = StageOf::<V, T>::new(alloc, first, second, desks as usize) else {
         return Err(NoMemory);
     };
-    let mut stage: Stage<V> = stage;
+    let mut stage = stage;
     let Ok(()) = stage.append(edition) else {
         drop(stage.take(rt));
         return Err(NoMemory);
@@ -72,7 +75,9 @@ pub(crate) fn open<V: Value, R: Wait>(
 }
 
 /// The reader of a desk, which was told what is published.
-pub(crate) fn new_reader<V: Value>(stage: &mut Stage<V>) -> Result<DeskReader<V>, NoMemory>
+pub(crate) fn new_reader<V: Value, T: Sets<V>>(
+    stage: &mut StageOf<V, T>,
+) -> Result<ReaderOf<V, T>, NoMemory>
     requires { (view stage.old.desk.place).role ≡ AtStage }
     ensures stage { view stage.new.desk.place ≡ view stage.old.desk.place }
     ensures reader { IfOk result (λ r. IsNewReader (view stage.old.desk.place) (view r.place)) }

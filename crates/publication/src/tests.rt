@@ -1,6 +1,6 @@
 ghost use Rattle.std.specs.Prelude.{◌≡◌};
 
-use crate::{Desk, Publisher, make};
+use crate::{Desk, Publisher, PublisherOf, Sets, make};
 use std::alloc::Global;
 use std::sync::Wait;
 use std::test::*;
@@ -9,8 +9,8 @@ use td_base::Value;
 
 /// A number, which stands for each list of so many numbers.
 #[derive(Debug, Drop)]
-struct Tally {
-    number: u32,
+pub struct Tally {
+    pub number: u32,
 }
 
 impl Value for Tally {
@@ -31,7 +31,7 @@ impl Value for Tally {
     ghost counts = { λ x xs h. h };
 }
 
-fn make_tally(number: u32) -> Tally
+pub fn make_tally(number: u32) -> Tally
     ensures { result.number ≡ number }
 {
     Tally { number }
@@ -50,7 +50,11 @@ const NONE_REFUSED: EnterCounts = EnterCounts {
 };
 
 // Publishes so many values, each one more than the last, and says how many it did.
-fn publishes<R: Wait>(rt: &R, publisher: &mut Publisher<Tally>, times: u32) -> u32
+pub fn publishes<R: Wait, T: Sets<Tally>>(
+    rt: &R,
+    publisher: &mut PublisherOf<Tally, T>,
+    times: u32,
+) -> u32
     ensures { publisher.new.pair ≡ publisher.old.pair }
 {
     let mut done = 0u32;
