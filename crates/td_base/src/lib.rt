@@ -40,6 +40,8 @@ mod short_text;
 mod spawner;
 #[cfg(test)]
 mod spawner_tests;
+#[cfg(test)]
+mod start_tests;
 mod start_thread;
 #[cfg(test)]
 mod tests;

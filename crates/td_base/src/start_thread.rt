@@ -7,13 +7,26 @@ use std::alloc::Global;
 use std::snapshot::Snapshot;
 use std::sync::atomic::{AtomicBool, Ordering};
 use std::sync::{Arc, Wait};
-use std::thread;
-use std::thread::Threads;
+use std::thread::{Builder, Threads};
 
 /// Starts a thread that does the work, or hands the work back where the system makes none or there
 /// is no memory for the word by which the closure learns of that. The closure comes back from the
 /// system, and gives the work that it holds only if it is called, so the word says what it is to do.
 pub fn start_thread<W: Work + Send + Drop + 'static, R: Threads + Wait + Copy + Send + 'static>(
+    rt: &R,
+    alloc: Global,
+    work: W,
+) -> Result<Running<W>, W>
+where
+    W::Done: Send + Drop + 'static,
+    ensures { BeginsWork work_of work result }
+{
+    start_by(Builder::new(), rt, alloc, work)
+}
+
+/// The same, with what the builder says of the thread.
+pub fn start_by<W: Work + Send + Drop + 'static, R: Threads + Wait + Copy + Send + 'static>(
+    builder: Builder,
     rt: &R,
     alloc: Global,
     work: W,
@@ -32,7 +45,7 @@ where
     let promise = KeepsWork {
         work: Snapshot::of(&work),
     };
-    match thread::spawn_with(&rt, promise, move || take_turn(rt, work, word)) {
+    match builder.spawn_with(&rt, promise, move || take_turn(rt, work, word)) {
         Ok(handle) => Ok(Running::InThread(handle)),
         Err(closure) => {
             refused.store(true, Ordering::SeqCst);
