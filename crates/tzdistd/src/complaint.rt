@@ -1,5 +1,5 @@
 use crate::OUT_OF_MEMORY;
-use crate::real_store::LookFailure;
+use devices::LookFailure;
 use std::fmt::{Display, Formatter};
 use std::io::{Eprint, ErrorKind};
 use std::{fmt, str};

@@ -7,17 +7,12 @@ ghost use Rattle.std.specs.Prelude.{◌≡◌};
 ghost use Rattle.std.specs.Process.{exit_status};
 
 mod complaint;
-mod real_sink;
-mod real_source;
-mod real_store;
 #[cfg(test)]
 mod tests;
 mod words;
 
 use complaint::complain;
-use real_sink::RealSink;
-use real_source::RealSource;
-use real_store::RealStore;
+use devices::{RealSink, RealSource, RealStore};
 use std::process::ExitCode;
 
 /// The status where memory ran out.

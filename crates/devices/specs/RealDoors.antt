@@ -1,0 +1,21 @@
+-- What contracts see of a real connection and a real door: how often they failed, and what a door
+-- answered last.
+use Rattle.std.specs.Prelude.{None}
+use Rattle.devices.specs.declared.real_conn.RealConn.{RealConn}
+use Rattle.devices.specs.declared.real_door.RealDoor.{RealDoor}
+use Rattle.td_base.specs.DoorViews.{DoorView}
+use Rattle.td_base.specs.Views.{ConnView}
+
+abbrev pub conn_view : RealConn → ConnView
+conn_view c = record {
+  given = None;
+  left = None;
+  taken = None;
+  read_faults = c.read_faults;
+  write_faults = c.write_faults;
+  source = 0;
+  sink = 0;
+}
+
+abbrev pub door_view : RealDoor → DoorView
+door_view d = record { content = None; last = d.last; faults = d.faults }

@@ -1,0 +1,44 @@
+//! The real objects of the outside, each over one of the traits of `td_base`, and a pair of doors in
+//! memory for tests of two threads. [`RealSource`] and [`RealSink`] are streams, [`RealStore`] the
+//! files of the system, [`RealNetwork`], [`RealDoor`] and [`RealConn`] a TCP listener with its
+//! connections, [`RealSpawner`] threads. They tell what the system tells, which is nothing beyond
+//! the count of what failed (`specs/Opened.antt`,
+//! `specs/RealDoors.antt`). [`gate_pair`] makes the two
+//! doors (`specs/Gates.antt`).
+#![tactic(auto)]
+
+mod gate_conn;
+mod gate_door;
+mod gate_state;
+mod gates;
+mod link;
+mod listening;
+#[cfg(test)]
+mod net_tests;
+mod passing;
+mod real_conn;
+mod real_door;
+mod real_network;
+mod real_sink;
+mod real_source;
+mod real_spawner;
+mod real_store;
+mod send_sync;
+#[cfg(test)]
+mod stream_tests;
+#[cfg(test)]
+mod thread_tests;
+
+pub use gate_conn::GateConn;
+pub use gate_door::GateDoor;
+pub use gates::gate_pair;
+pub use link::{
+    LINGER_BYTES, LINGER_TURNS, LINGER_WAIT_MILLIS, READ_WAIT_SECONDS, WRITE_WAIT_SECONDS,
+};
+pub use real_conn::RealConn;
+pub use real_door::{ACCEPT_WAIT_MILLIS, RealDoor};
+pub use real_network::{ListenFailure, RealNetwork};
+pub use real_sink::RealSink;
+pub use real_source::RealSource;
+pub use real_spawner::RealSpawner;
+pub use real_store::{LookFailure, RealStore};

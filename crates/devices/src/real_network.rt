@@ -1,0 +1,135 @@
+ghost use Rattle.std.specs.Prelude.{◌≡◌, ◌≤◌, None, All, IfOk, length};
+ghost use Rattle.td_base.specs.Cause.{Rose};
+ghost use Rattle.td_base.specs.Doors.{IsNewDoor};
+ghost use Rattle.devices.specs.RealDoors.{door_view};
+
+use crate::listening::Listening;
+use crate::real_door::RealDoor;
+use std::alloc::{AllocError, AllocFailed, Global};
+use std::io::{Error, ErrorKind};
+use std::net::{Net, TcpListener, TcpStream};
+use std::str;
+use std::sync::Arc;
+use td_base::{Bytes, Door, Made, Network};
+
+/// At which address no door was opened last, if there was memory to keep it, and why.
+#[derive(Debug, Drop)]
+pub struct ListenFailure {
+    pub address: Option<Bytes>,
+    pub kind: ErrorKind,
+}
+
+/// The network of the system. An address is `HOST:PORT`: an IPv4 address, an IPv6 address in
+/// brackets, or a host's name, of which the system's resolver knows an address. Port 0 is any free
+/// one. It tells nothing. Its faults count the calls that failed.
+#[derive(Drop)]
+pub struct RealNetwork<'a, R> {
+    rt: &'a R,
+    faults: u64,
+    failure: Option<ListenFailure>,
+}
+
+/// Why no doors were opened.
+#[derive(Drop)]
+enum OpenFault {
+    NoMemory,
+    System(ErrorKind),
+}
+
+impl From<Error> for OpenFault {
+    fn from(error: Error) -> OpenFault {
+        OpenFault::System(error.kind())
+    }
+}
+
+impl From<AllocError> for OpenFault {
+    fn from(_: AllocError) -> OpenFault {
+        OpenFault::NoMemory
+    }
+}
+
+impl<T: Drop> From<AllocFailed<T>> for OpenFault {
+    fn from(_: AllocFailed<T>) -> OpenFault {
+        OpenFault::NoMemory
+    }
+}
+
+impl<'a, R> RealNetwork<'a, R> {
+    /// The network that the runtime reaches, of which no call failed yet.
+    pub fn new(rt: &'a R) -> RealNetwork<'a, R>
+        ensures faults { result.faults ≡ 0 }
+        ensures failure { result.failure ≡ None }
+    {
+        RealNetwork {
+            rt,
+            faults: 0,
+            failure: None,
+        }
+    }
+
+    /// The address at which it did not listen last.
+    pub fn failure(&self) -> Option<&ListenFailure> {
+        self.failure.as_ref()
+    }
+
+    /// Counts a call that failed.
+    fn fail(&mut self, alloc: Global, address: &[u8], kind: ErrorKind)
+        ensures later { self.old.faults ≤ self.new.faults }
+        ensures rose { Rose self.old.faults self.new.faults }
+    {
+        self.faults = self.faults.saturating_add(1);
+        let address = Bytes::from_slice(alloc, address).ok();
+        self.failure = Some(ListenFailure { address, kind });
+    }
+}
+
+impl<'a, R: Net<Listener = TcpListener, Stream = TcpStream>> Network for RealNetwork<'a, R> {
+    type Door = RealDoor;
+
+    ghost seen = { λ n. record { content = None; faults = n.faults } };
+
+    /// Binds one socket, at which each of the doors accepts. An address without a port, one that is
+    /// in use and one that no name server knows are failed calls.
+    fn doors(&mut self, alloc: Global, address: &[u8], number: u32) -> Made<Vec<RealDoor>> {
+        match open(self.rt, alloc, address, number) {
+            Ok(doors) => Made::Given(doors),
+            Err(OpenFault::NoMemory) => Made::NoMemory,
+            Err(OpenFault::System(kind)) => {
+                self.fail(alloc, address, kind);
+                Made::Failed
+            }
+        }
+    }
+}
+
+/// Binds a socket and makes so many doors at it.
+fn open<R: Net<Listener = TcpListener, Stream = TcpStream>>(
+    rt: &R,
+    alloc: Global,
+    address: &[u8],
+    number: u32,
+) -> Result<Vec<RealDoor>, OpenFault>
+    ensures number { IfOk result (λ doors. length doors.items ≡ number) }
+    ensures new { IfOk result (λ doors. All (λ door. IsNewDoor (door_view door)) doors.items) }
+{
+    let listening = listen(rt, alloc, address)?;
+    let mut doors = Vec::new(alloc);
+    for _ in 0..number {
+        doors.push(RealDoor::new(rt, alloc, &listening)?)?;
+    }
+    Ok(doors)
+}
+
+/// Binds a socket that does not block.
+fn listen<R: Net<Listener = TcpListener, Stream = TcpStream>>(
+    rt: &R,
+    alloc: Global,
+    address: &[u8],
+) -> Result<Listening, OpenFault> {
+    let Ok(address) = str::from_utf8(address) else {
+        return Err(OpenFault::System(ErrorKind::InvalidInput));
+    };
+    let listener = TcpListener::bind(rt, address)?;
+    listener.set_nonblocking(true)?;
+    Ok(Arc::new(alloc, listener)?)
+}
