@@ -1,16 +1,15 @@
 -- Connections of a door, served one after the other.
-use Rattle.std.proofs.Common.{◌≡◌, ℕ, ◌+◌, ◌≤◌, min, ◌-◌, ◌^◌, List, [], ◌∷◌, ◌++◌, length, Option, Some, None, IfSome, refl, sym, ap, ◌∙◌, subst, arith}
+use Rattle.std.proofs.Common.{◌≡◌, ℕ, ◌+◌, ◌≤◌, List, [], ◌∷◌, ◌++◌, length, Option, Some, None, refl, sym, ap, ◌∙◌, subst, arith}
 use Rattle.std.proofs.Common.{append_assoc, append-nil, length-append}
 use Rattle.std.specs.Io.KnownBytes.{Appends, Consumes}
 use Rattle.std.specs.List.{AllByRecursion}
 use Rattle.std.proofs.lemmas.List.Concat.{flat_map-append}
-use mathlib.Core.List.{IsPrefix}
 use Rattle.catalogue.specs.Releases.{ReleaseData}
 use Rattle.catalogue.specs.declared.holding.Catalogue.{Catalogue}
 use Rattle.publication.specs.Views.{DeskView}
 use Rattle.publication.proofs.Beginnings.{prefix_length, prefix_self, prefix_trans}
-use Rattle.td_base.specs.Cause.{Rose, RoseBy}
-use Rattle.td_base.specs.DoorViews.{DoorContent, DoorView, Finished}
+use Rattle.td_base.specs.Cause.{Rose}
+use Rattle.td_base.specs.DoorViews.{DoorContent, Finished}
 use Rattle.td_base.specs.Doors.{GivesNext, IsNewConn, IsUnfailed, handed_back}
 use Rattle.td_base.specs.Views.{ConnView}
 use Rattle.td_base.specs.declared.report.End.{End}

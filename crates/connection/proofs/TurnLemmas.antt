@@ -1,19 +1,17 @@
 -- A worker's turns, one after the other.
-use Rattle.std.proofs.Common.{◌≡◌, ℕ, ◌+◌, ◌≤◌, ◌⊎◌, inl, inr, List, [], ◌∷◌, ◌++◌, length, length-append, true, false, Bool, Option, Some, None, IfSome, refl, sym, ap, ◌∙◌, subst, arith}
+use Rattle.std.proofs.Common.{◌≡◌, ℕ, ◌+◌, ◌≤◌, ◌⊎◌, inl, inr, List, [], ◌∷◌, length, length-append, true, false, Option, Some, None, IfSome, refl, sym, ap, ◌∙◌, subst, arith}
 use Rattle.std.specs.List.{AllByRecursion}
-use mathlib.Core.List.{IsPrefix}
 use Rattle.catalogue.specs.declared.holding.Catalogue.{Catalogue}
 use Rattle.desk_pool.specs.Flag.{Sight}
 use Rattle.publication.specs.Views.{DeskView}
 use Rattle.td_base.specs.Cause.{Rose, RoseBy}
 use Rattle.td_base.specs.DoorViews.{DoorContent, DoorView}
-use Rattle.td_base.specs.Doors.{AcceptTold, Accepts, FinishTold, Finishes, GivesNext, HasOut, IsUnfailed}
+use Rattle.td_base.specs.Doors.{AcceptTold, Accepts, FinishTold, Finishes, HasOut, IsUnfailed}
 use Rattle.td_base.specs.Views.{ConnView}
-use Rattle.td_base.specs.declared.door.Accepted.{Accepted}
 use Rattle.td_base.specs.declared.door.Accepted.TheVariants as accepted
 use Rattle.td_base.specs.declared.report.Report.{Report}
 use Rattle.td_base.specs.declared.report.Role.{Role}
-use Rattle.connection.specs.DoorWorks.{DoesDoor, ServesTold, Stops, at_end, at_flag, by_faults}
+use Rattle.connection.specs.DoorWorks.{DoesDoor, ServesTold, at_end, at_flag, by_faults}
 use Rattle.connection.specs.Entering.{GoesOn, HasCounted}
 use Rattle.connection.specs.Serving.{Serves}
 use Rattle.connection.specs.Turns.{HasServed, NoneOut, TakesTurn, TurnTells}

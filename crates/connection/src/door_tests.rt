@@ -92,9 +92,12 @@ const CASES: &[Case] = &[
 
 /// Whether a connection with a list request was answered at the first place.
 fn is_answered(conn: &FaultyConn<MemoryConn>, report: &Report) -> bool {
-    conn.inner().sink.taken().starts_with(b"HTTP/1.1 200 OK\r\n")
+    conn.inner()
+        .sink
+        .taken()
+        .starts_with(b"HTTP/1.1 200 OK\r\n")
         && report.end == End::Closed
-        && report.places.as_slice() == [1]
+        && report.places.as_slice() == [1].as_slice()
 }
 
 /// Whether nothing was read or answered, since the read failed.
