@@ -1,4 +1,4 @@
-use Rattle.std.proofs.Common.{◌≡◌, ◌∷◌, ◌++◌, [], ◌∙◌, ap, rules}
+use Rattle.std.proofs.Common.{◌≡◌, ◌∷◌, ◌++◌, [], rules}
 use Rattle.td_base.specs.declared.memory_door.DoorStep.TheVariants as step
 use Rattle.td_base.proofs.DoorLemmas.{pushed_inputs, AreFresh-append}
 use Rattle.td_base.proofs.memory_door.MemoryDoor.push_conn.Goals as goal

@@ -1,4 +1,4 @@
-use Rattle.std.proofs.Common.{◌≡◌, take, drop, rules, sym, ◌∙◌, ap, map}
+use Rattle.std.proofs.Common.{◌≡◌, take, drop, rules, sym}
 use Rattle.std.proofs.lemmas.List.{drop-map, map-append}
 use Rattle.td_base.proofs.NetworkLemmas.{first_tell}
 use Rattle.td_base.proofs.memory_network.MemoryNetwork.give.Goals as goal
