@@ -185,3 +185,90 @@ fn a_first_folder_that_is_refused(rt: HostRuntime) -> Result<(), NoMemory> {
     assert_eq!(rt; opened(&rt, rt.alloc(), b"c")?.as_slice(), b"".as_slice());
     Ok(())
 }
+
+/// What a history has come to: its releases, the zones and names of the last one, and the place at
+/// which a desk answers after an enter.
+#[derive(Clone, Copy, Debug, PartialEq, Eq)]
+struct Stand {
+    releases: u32,
+    zones: usize,
+    names: usize,
+    entered: u32,
+}
+
+const BEFORE: Stand = Stand {
+    releases: 1,
+    zones: 1,
+    names: 1,
+    entered: 1,
+};
+
+const GROWN: Stand = Stand {
+    releases: 2,
+    zones: 2,
+    names: 3,
+    entered: 2,
+};
+
+fn stand_of(installer: &Installer, desk: &mut Desk<Catalogue<Zone>>) -> Stand {
+    let last = installer.last();
+    Stand {
+        releases: last.count(),
+        zones: last.len(),
+        names: last.name_count(),
+        entered: entered(desk),
+    }
+}
+
+/// Whether the release joins the history, and what that comes to. Nothing where it is refused for
+/// another cause than memory.
+fn joins<R: Wait>(
+    rt: &R,
+    alloc: Global,
+    store: &mut MemoryStore,
+    installer: &mut Installer,
+    desk: &mut Desk<Catalogue<Zone>>,
+) -> Option<(bool, Stand)> {
+    let joined = match installer.install(rt, alloc, b"b", store) {
+        Ok(receipt) => {
+            drop(receipt);
+            true
+        }
+        Err(InstallFault::NoMemory) => false,
+        Err(InstallFault::Check(_fault)) => return None,
+    };
+    Some((joined, stand_of(installer, desk)))
+}
+
+/// Installs a release, and once more where it was refused. Nothing where there is no memory to
+/// begin with.
+fn installed<R: Wait>(
+    rt: &R,
+    alloc: Global,
+) -> Result<(Option<(bool, Stand)>, Option<(bool, Stand)>), InstallFault> {
+    let mut store = folders(alloc)?;
+    let (installer, desks) = Installer::open(rt, alloc, b"a", &mut store, 1)?;
+    let (mut installer, mut desks) = (installer, desks);
+    let mut desk = desks.pop().unwrap();
+    let first = joins(rt, alloc, &mut store, &mut installer, &mut desk);
+    let second = match first {
+        Some((false, _)) => joins(rt, alloc, &mut store, &mut installer, &mut desk),
+        _ => first,
+    };
+    installer.close(rt);
+    Ok((first, second))
+}
+
+/// A release joins the history whole or not at all, and where one allocation failed the next
+/// install has it join. `bench/each_allocation.py` fails each allocation of this test in turn.
+#[test]
+fn a_release_joins_or_does_not(rt: HostRuntime) {
+    match installed(&rt, rt.alloc()) {
+        Err(InstallFault::NoMemory) => {}
+        Err(InstallFault::Check(_fault)) => assert!(rt; false),
+        Ok((first, second)) => {
+            assert!(rt; first == Some((true, GROWN)) || first == Some((false, BEFORE)));
+            assert_eq!(rt; second, Some((true, GROWN)));
+        }
+    }
+}
