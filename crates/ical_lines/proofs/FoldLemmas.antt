@@ -1,8 +1,8 @@
 -- Folding a line part by part.
-use Rattle.std.proofs.Common.{◌≡◌, ℕ, zero, suc, ◌-◌, ◌<◌, ◌≤◌, ◌==◌, false, List, [], ◌∷◌, ◌++◌, length, take, drop, refl, sym, ap, ◌∙◌, append_assoc, arith}
+use Rattle.std.proofs.Common.{◌≡◌, ℕ, zero, suc, ◌+◌, ◌-◌, ◌<◌, ◌≤◌, ◌==◌, false, List, [], ◌∷◌, ◌++◌, length, take, drop, refl, sym, ap, ◌∙◌, append_assoc, arith}
 use Rattle.std.proofs.Math.Dec.{eqb-suc-zero}
 use Rattle.std.proofs.Math.Nat.{sub-zero}
-use Rattle.std.proofs.lemmas.List.{append-nil}
+use Rattle.std.proofs.lemmas.List.{append-nil, length-append}
 use Rattle.ical_lines.specs.Lines.{folded, content_line, most_octets}
 
 -- three parts one after another are the whole
@@ -40,6 +40,16 @@ cut : (octets rest : List ℕ) (room : ℕ) → room < length octets
 cut [] rest room h = absurd (omega arith)
 cut (b ∷ bs) rest zero h = unfold folded in refl
 cut (b ∷ bs) rest (suc room) h = roomy room b (bs ++ rest) ∙ ap (λ l. b ∷ l) (cut bs rest room (omega arith))
+
+-- a line that fits is its parts, and CRLF
+pub short_line : (out name value : List ℕ) → length name + length value < most_octets
+    → (((out ++ name) ++ 58 ∷ []) ++ value) ++ 13 ∷ 10 ∷ [] ≡ out ++ content_line (name ++ 58 ∷ value)
+unfolding folded content_line
+short_line out name value h =
+    let line = name ++ 58 ∷ value in
+    let enough : length line ≤ most_octets = simp length-append (omega arith) in
+    let as_is : folded most_octets line ≡ line = ap (folded most_octets) (sym (append-nil line)) ∙ fits line [] most_octets enough ∙ append-nil line in
+    rw as_is (simp append_assoc)
 
 -- ---- what is appended of octets, where these are left
 module _ (out start left octets : List ℕ) (room first : ℕ)

@@ -1,5 +1,5 @@
 //! Content lines, written.
-ghost use Rattle.std.specs.Prelude.{◌≡◌, ℕ, List, ◌∷◌, ◌++◌, length, take, IfOk, OnOk, OnErr};
+ghost use Rattle.std.specs.Prelude.{◌≡◌, ◌<◌, ℕ, ◌+◌, List, ◌∷◌, ◌++◌, length, take, IfOk, OnOk, OnErr};
 ghost use Rattle.ical_lines.specs.Lines.{folded, content_line};
 
 use td_base::{Bytes, NoMemory};
@@ -26,6 +26,31 @@ pub fn line(out: &mut Bytes, name: &[u8], value: &[u8]) -> Result<(), NoMemory>
 
 /// Appends the line. Where memory runs out its beginning stays.
 fn append_line(out: &mut Bytes, name: &[u8], value: &[u8]) -> Result<(), NoMemory>
+    ensures ok { OnOk result (out.new ≡ out.old ++ content_line (name.now ++ 58 ∷ value.now)) }
+    ensures kept { take (length out.old) out.new ≡ out.old }
+{
+    if name.len() + value.len() < MOST_OCTETS {
+        append_short(out, name, value)
+    } else {
+        append_long(out, name, value)
+    }
+}
+
+/// Appends a line that needs no folding.
+fn append_short(out: &mut Bytes, name: &[u8], value: &[u8]) -> Result<(), NoMemory>
+    requires { length name.now + length value.now < 75 }
+    ensures ok { OnOk result (out.new ≡ out.old ++ content_line (name.now ++ 58 ∷ value.now)) }
+    ensures kept { take (length out.old) out.new ≡ out.old }
+{
+    out.append(name)?;
+    out.append(b":")?;
+    out.append(value)?;
+    out.append(b"\r\n")?;
+    Ok(())
+}
+
+/// Appends a line that may need folding.
+fn append_long(out: &mut Bytes, name: &[u8], value: &[u8]) -> Result<(), NoMemory>
     ensures ok { OnOk result (out.new ≡ out.old ++ content_line (name.now ++ 58 ∷ value.now)) }
     ensures kept { take (length out.old) out.new ≡ out.old }
 {

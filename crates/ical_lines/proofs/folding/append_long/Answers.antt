@@ -1,6 +1,6 @@
 use Rattle.std.proofs.Common.{◌∙◌}
 use Rattle.ical_lines.proofs.FoldLemmas.{three_parts}
-use Rattle.ical_lines.proofs.folding.append_line.Goals as goal
+use Rattle.ical_lines.proofs.folding.append_long.Goals as goal
 
 pub returns-clause-ok : goal.returns-clause-ok
 returns-clause-ok c =
