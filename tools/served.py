@@ -34,12 +34,13 @@ def free_port(host=HOST):
 
 
 class Served:
-    """A server over folders at a free port, which has said that it is ready."""
+    """A server over folders at a free port, which has said that it is ready. It is started by the
+    words `by`, which end by running those that come after them."""
 
-    def __init__(self, folders, workers=2, program=PROGRAM, at=DATA, host=HOST):
+    def __init__(self, folders, workers=2, program=PROGRAM, at=DATA, host=HOST, by=()):
         for again in (True, True, False):
             self.port = free_port(host)
-            words = [program, "serve", address_of(self.port, host), str(workers), *folders]
+            words = [*by, program, "serve", address_of(self.port, host), str(workers), *folders]
             self._start(words, at)
             try:
                 first = self.line(timeout=30)

@@ -415,6 +415,23 @@ def bad_peers(program):
         same("standard error", server.errors, b"")
 
 
+def few_descriptors(program):
+    """Where connections find no descriptor, workers wait for one, and none of them ends."""
+    by = ["sh", "-c", 'ulimit -n 12; exec "$@"', "sh"]
+    with Served(["data/a"], workers=16, program=program, by=by) as server:
+        peers = [Client(server.port) for _ in range(40)]
+        for peer in peers:
+            peer.send(request(ZONES))
+        time.sleep(2)
+        for peer in peers:
+            peer.reset()
+        for _ in range(32):
+            with Client(server.port) as client:
+                same("the list", client.ask(ZONES, "Connection: close").body, LIST)
+        same("status", server.say("status"), f"serving {FIRST} 1")
+        same("the status", server.quit(), 0)
+
+
 def silence(program):
     """A stream that gives nothing ends: after a second if another waits, else after ten."""
     with Served(["data/a"], workers=1, program=program) as server, Client(server.port) as first:
@@ -454,6 +471,7 @@ CHECKS = [
     stalled_write,
     silence,
     bad_peers,
+    few_descriptors,
     whole_releases,
     replies,
     pipelined,
