@@ -2,7 +2,7 @@
 """Measures `tzdistd serve` as it is built, over a release folder.
 
     bench/serve.py RELEASE_DIR [--program PATH] [--only PART,..] [--seconds N] [--rounds N]
-                   [--installs N] [--zone TZID]
+                   [--installs N] [--zone TZID] [--no-nginx] [--no-wrk]
 
 The parts:
 
@@ -264,7 +264,7 @@ class Bench:
         self.words = words
         self.folder = os.path.abspath(words.folder)
         self.program = os.path.abspath(words.program)
-        self.wrk = shutil.which("wrk")
+        self.wrk = None if words.no_wrk else shutil.which("wrk")
         self.nginx = None if words.no_nginx else shutil.which("nginx")
         self.drive = by_wrk if self.wrk else by_processes
         with self.served([self.folder], 1) as server:
@@ -532,6 +532,7 @@ def main():
     parser.add_argument("--installs", type=int, default=10_000, help="of the part memory")
     parser.add_argument("--zone")
     parser.add_argument("--no-nginx", action="store_true")
+    parser.add_argument("--no-wrk", action="store_true")
     words = parser.parse_args()
     parts = words.only.split(",")
     if unknown := [part for part in parts if part not in PARTS]:
