@@ -417,15 +417,20 @@ def bad_peers(program):
 
 def few_descriptors(program):
     """Where connections find no descriptor, workers wait for one, and none of them ends."""
-    by = ["sh", "-c", 'ulimit -n 12; exec "$@"', "sh"]
-    with Served(["data/a"], workers=16, program=program, by=by) as server:
-        peers = [Client(server.port) for _ in range(40)]
+    with Served(["data/a"], workers=4, program=program) as server:
+        # as many descriptors as a server has, and two connections
+        most = len(os.listdir(f"/proc/{server.pid}/fd")) + 2
+        same("the status", server.quit(), 0)
+    by = ["sh", "-c", f'ulimit -n {most}; exec "$@"', "sh"]
+    with Served(["data/a"], workers=4, program=program, by=by) as server:
+        peers = [Client(server.port) for _ in range(20)]
         for peer in peers:
-            peer.send(request(ZONES))
+            peer.send(request(ZONES)[:-2])
+        # meanwhile each of the others fails to accept many times
         time.sleep(2)
         for peer in peers:
             peer.reset()
-        for _ in range(32):
+        for _ in range(16):
             with Client(server.port) as client:
                 same("the list", client.ask(ZONES, "Connection: close").body, LIST)
         same("status", server.say("status"), f"serving {FIRST} 1")
