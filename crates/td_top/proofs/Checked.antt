@@ -55,7 +55,7 @@ unfolding ok_lines_after
 no_lines = refl
 
 -- a text that was written whole, and another after it, whole or cut
-written_more : (a b c : SinkView) (one two : List ℕ) → WritesAll a b one written.Whole → WritesAll b c two written.Whole
+pub written_more : (a b c : SinkView) (one two : List ℕ) → WritesAll a b one written.Whole → WritesAll b c two written.Whole
     → WritesAll a c (one ++ two) written.Whole
 written_more a b c one two p q = record {
   told = Appends-trans a.taken b.taken c.taken one two p.told q.told;
@@ -63,7 +63,7 @@ written_more a b c one two p q = record {
   failed = λ e. cc;
 }
 
-written_nothing : (a : SinkView) → WritesAll a a [] written.Whole
+pub written_nothing : (a : SinkView) → WritesAll a a [] written.Whole
 written_nothing a = record { told = Appends-nil a.taken; later = omega arith; failed = λ e. cc }
 
 -- ---- one folder
@@ -182,7 +182,7 @@ begun : (files : Option (List File)) (dirs : List (List ℕ)) (i : ℕ) (H : Lis
 begun files dirs i H give = record { first = take i dirs; rest = drop i dirs; dirs_are = sym (take-append-drop i dirs); give = give }
 
 -- a cut line after whole ones
-cut_more : (a b c : SinkView) (one two : List ℕ) → WritesAll a b one written.Whole → WritesAll b c two written.Cut → WritesAll a c (one ++ two) written.Cut
+pub cut_more : (a b c : SinkView) (one two : List ℕ) → WritesAll a b one written.Whole → WritesAll b c two written.Cut → WritesAll a c (one ++ two) written.Cut
 cut_more a b c one two p q = record {
   told = (
     length one + q.told.0,
@@ -198,6 +198,8 @@ stopped : (dirs : List (List ℕ)) (i : ℕ) (d : List ℕ) (s t u : StoreView) 
     → WritesAll old middle (ok_lines H) written.Whole → EndsAt H d t u middle new end → Checks dirs s u old new end
 stopped dirs i d s t u old middle new H status.Done less is store next give lines h = absurd h
 stopped dirs i d s t u old middle new H status.Usage less is store next give lines h = absurd h
+stopped dirs i d s t u old middle new H status.NotStarted less is store next give lines h = absurd h
+stopped dirs i d s t u old middle new H status.NoNetwork less is store next give lines h = absurd h
 stopped dirs i d s t u old middle new H status.Refused less is store next give lines h =
     refused H h.why middle
     (stops_here s.files (take i dirs) d (drop (i + 1) dirs) dirs H h.why (parted dirs i d less is) give (kept_gives s t H d (Err h.why) store h.gives)

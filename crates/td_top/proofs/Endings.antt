@@ -7,7 +7,6 @@ use Rattle.td_base.specs.Later.{LaterStore, LaterSink}
 use Rattle.td_base.specs.Outside.{FileTells, Looks}
 use Rattle.td_base.specs.Views.{StoreView, SourceView, SinkView}
 use Rattle.td_base.specs.declared.outside.FileRead.TheVariants as looked
-use Rattle.td_base.specs.declared.report.End.{End}
 use Rattle.td_base.specs.declared.transfer.Written.TheVariants as written
 use Rattle.td_base.proofs.LaterLemmas.{source_refl, sink_refl, looks_later, writes_all_later, prints_later}
 use Rattle.catalogue.specs.Releases.{ReleaseData}
@@ -16,19 +15,17 @@ use Rattle.release_check.specs.FaultText.{fault_text}
 use Rattle.installer.specs.Installing.{history_of}
 use Rattle.installer.specs.declared.install_fault.InstallFault.{InstallFault}
 use Rattle.installer.specs.declared.install_fault.InstallFault.TheVariants as install
-use Rattle.publication.specs.Views.{DeskView}
 use Rattle.release_check.specs.declared.check_fault.CheckFault.TheVariants as fault
 use Rattle.zone_meaning.specs.Faults.{zone_fault}
 use Rattle.zone_meaning.specs.declared.zone_fault.ZoneFault.{ZoneFault}
-use Rattle.td_top.specs.Called.{print, CallsFor, releases, no_release, state, no_zone, no_file}
+use Rattle.td_top.specs.Called.{print, CallsFor, folders_of, releases, no_release, state, no_zone, no_file}
 use Rattle.td_top.specs.Ends.{printed, served, unread, out_of_memory, IsSilent, Printed}
 use Rattle.td_top.specs.Folders.{Stops}
 use Rattle.td_top.specs.Grammar.{Asked, answer, at}
 use Rattle.td_top.specs.Installed.{InstallsAll}
 use Rattle.td_top.specs.Lines.{refused_line}
 use Rattle.td_top.specs.Outside.{outside, Later}
-use Rattle.td_top.specs.Statuses.{status_of}
-use Rattle.td_top.specs.Tells.{EndsLater, ServesLater, Tells, Refuses, RefusesFolder, RefusesInstall, Shows, ShowsBy}
+use Rattle.td_top.specs.Tells.{EndsLater, ServesLast, Tells, Refuses, RefusesFolder, RefusesInstall, Shows, ShowsBy}
 use Rattle.td_top.specs.declared.status.Status.{Status}
 use Rattle.td_top.specs.declared.status.Status.TheVariants as status
 use Rattle.td_top.proofs.ZonesShown.{IsOfPrefix, of_prefix}
@@ -82,26 +79,29 @@ ends_told asked s t i old new called text end some calls store (inl h) = ends_pr
 ends_told asked s t i old new called text end some calls store (inr h) = ends_empty asked s t i old new end some store h.0 h.1
 
 -- a folder that is refused
-pub ends_refused : (dirs : List (List ℕ)) (e : InstallFault) (s t : StoreView) (i : SourceView)
-    (old new : SinkView) (end : Status) → InstallsAll dirs s t (Err e) → RefusesInstall e old new end
-    → EndsLater (Some (answer dirs)) (outside s i old) (outside t i new) end
-ends_refused dirs install.NoMemory s t i old new end h r = ends_empty (Some (answer dirs)) s t i old new end tt h.later r.0 r.1
-ends_refused dirs (install.Check fault.NoMemory) s t i old new end h r = ends_empty (Some (answer dirs)) s t i old new end tt h.later r.0 r.1
-ends_refused dirs (install.Check fault.ReadFault) s t i old new end h r =
-    ends_unread (Some (answer dirs)) s t i old new end tt (h.failed refl) h.later r.0 r.1
-ends_refused dirs (install.Check f) s t i old new end h r =
+pub ends_refused : (asked : Asked) (dirs : List (List ℕ)) (e : InstallFault) (s t : StoreView) (i : SourceView)
+    (old new : SinkView) (end : Status) → folders_of asked ≡ Some dirs → IsSilent (Some asked) → InstallsAll dirs s t (Err e) → RefusesInstall e old new end
+    → EndsLater (Some asked) (outside s i old) (outside t i new) end
+ends_refused asked dirs install.NoMemory s t i old new end folders silent h r = ends_empty (Some asked) s t i old new end silent h.later r.0 r.1
+ends_refused asked dirs (install.Check fault.NoMemory) s t i old new end folders silent h r = ends_empty (Some asked) s t i old new end silent h.later r.0 r.1
+ends_refused asked dirs (install.Check fault.ReadFault) s t i old new end folders silent h r =
+    ends_unread (Some asked) s t i old new end silent (h.failed refl) h.later r.0 r.1
+ends_refused asked dirs (install.Check f) s t i old new end folders silent h r =
     let stops : (H : List ReleaseData) × Stops s.files dirs H f = h.came (λ e. cc) (λ e. cc) in
-    ends_told (Some (answer dirs)) s t i old new status.Refused (refused_line (fault_text f)) end tt (no_release dirs stops.0 f stops.1) h.later r
+    ends_told (Some asked) s t i old new status.Refused (refused_line (fault_text f)) end silent (no_release asked dirs stops.0 f folders stops.1) h.later r
 
--- a history that is served
-pub ends_served : (dirs : List (List ℕ)) (desk : DeskView (Catalogue (List ℕ))) (s t : StoreView) (i j : SourceView)
-    (old new : SinkView) (end : End) (is : Status) → is ≡ status_of end → InstallsAll dirs s t (Ok desk)
-    → ServesLater (history_of desk.seen) i j old new end → EndsLater (Some (answer dirs)) (outside s i old) (outside t j new) is
-ends_served dirs desk s t i j old new end is same h served_so =
-    subst (λ (e : Status). EndsLater (Some (answer dirs)) (outside s i old) (outside t j new) e) (sym same) (record {
-      ends = served (history_of desk.seen) end (releases dirs (history_of desk.seen) h.came.give) (served_so.serves s t);
-      later = record { store = h.later; input = served_so.input; output = served_so.output };
+-- a history that is served, or for which there is no memory
+pub ends_served : (dirs : List (List ℕ)) (list : List (Catalogue (List ℕ))) (s t : StoreView) (i j : SourceView)
+    (old new : SinkView) (is : Status) → InstallsAll dirs s t (Ok list)
+    → ServesLast (history_of list) i j old new is → EndsLater (Some (answer dirs)) (outside s i old) (outside t j new) is
+ends_served dirs list s t i j old new is h (inl so) =
+    subst (λ (e : Status). EndsLater (Some (answer dirs)) (outside s i old) (outside t j new) e) (sym so.1) (record {
+      ends = served (history_of list) so.0 (releases dirs (history_of list) h.came) (so.2.serves s t);
+      later = record { store = h.later; input = so.2.input; output = so.2.output };
     })
+ends_served dirs list s t i j old new is h (inr none) =
+    subst (λ (k : SourceView). EndsLater (Some (answer dirs)) (outside s i old) (outside t k new) is) (sym none.1.0)
+    (ends_empty (Some (answer dirs)) s t i old new is tt h.later none.0 none.1.1)
 
 -- a zone file whose state is shown
 shows : (path bytes : List ℕ) (m : ℤ) (s t : StoreView) (i : SourceView) (old new : SinkView) (end : Status) (f : Option ZoneFault)

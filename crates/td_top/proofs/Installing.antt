@@ -1,7 +1,8 @@
 -- How a row of folders is installed, one after another.
 use Rattle.std.proofs.Common.{◌≡◌, ◌≢◌, ℕ, ◌+◌, ◌-◌, ◌<◌, List, [], ◌∷◌, ◌++◌, length, take, drop, get_or, true, false, All, Option, None, Some, IfSome, IsErrOf, Result, Ok, Err, refl, sym, subst, ap, ◌∙◌, append_assoc, append-nil, arith}
-use Rattle.std.proofs.lemmas.List.{take-append-drop, take_all}
-use Rattle.std.proofs.lemmas.List.Elements.{All-head}
+use Rattle.std.proofs.lemmas.List.{length-append, take-append-drop, take_all}
+use Rattle.std.specs.Option.{option_to_list}
+use Rattle.std.proofs.lemmas.List.Elements.{All-pop, All-weaker}
 use Rattle.td_base.specs.Files.{File}
 use Rattle.td_base.specs.Later.{LaterStore}
 use Rattle.td_base.specs.Views.{StoreView}
@@ -71,6 +72,38 @@ pub blames : {A : Type 0} (s t : StoreView) (dir : List ℕ) (H : List ReleaseDa
     → Installs s t dir H history (Err (install.Check f)) → Blames f (GivesAfter s.files H dir (Err f))
 blames s t dir H history f h = blamed s.files dir H history f h.told
 
+-- an error of one result as that of another
+err_as : {A B : Type 0} (e x : InstallFault) → IsErrOf {T = A} (Err e) x → IsErrOf {T = B} (Err e) x
+err_as e x h = let same : e ≡ x = cc in ap Err same
+
+-- ---- the history that an install tells of, by another result
+
+ok_told : {A B : Type 0} (o : Option (List File)) (dir : List ℕ) (H : List ReleaseData) (h : A → List ReleaseData) (k : B → List ReleaseData) (a : A) (b : B)
+    → k b ≡ h a → IfSome o (λ files. Installed files dir H h (Ok a)) → IfSome o (λ files. Installed files dir H k (Ok b))
+ok_told None dir H h k a b same told = tt
+ok_told (Some fs) dir H h k a b same told = (told.0, told.1, same ∙ told.2)
+
+pub installs_ok : {A B : Type 0} (s t : StoreView) (dir : List ℕ) (H : List ReleaseData) (h : A → List ReleaseData) (k : B → List ReleaseData) (a : A) (b : B)
+    → k b ≡ h a → Installs s t dir H h (Ok a) → Installs s t dir H k (Ok b)
+installs_ok s t dir H h k a b same i = record {
+  later = i.later;
+  told = ok_told s.files dir H h k a b same i.told;
+  failed = λ e. cc;
+}
+
+err_told : {A B : Type 0} (o : Option (List File)) (dir : List ℕ) (H : List ReleaseData) (h : A → List ReleaseData) (k : B → List ReleaseData) (e : InstallFault)
+    → IfSome o (λ files. Installed files dir H h (Err e)) → IfSome o (λ files. Installed files dir H k (Err e))
+err_told None dir H h k e told = tt
+err_told (Some fs) dir H h k e told = told
+
+pub installs_err : {A B : Type 0} (s t : StoreView) (dir : List ℕ) (H : List ReleaseData) (h : A → List ReleaseData) (k : B → List ReleaseData) (e : InstallFault)
+    → Installs s t dir H h (Err e) → Installs s t dir H k (Err e)
+installs_err {A = A} {B = B} s t dir H h k e i = record {
+  later = i.later;
+  told = err_told s.files dir H h k e i.told;
+  failed = λ same. i.failed (err_as {A = B} {B = A} e (install.Check fault.ReadFault) same);
+}
+
 -- ---- a row of folders
 
 pub stops_here : (files : Option (List File)) (first : List (List ℕ)) (dir : List ℕ) (rest dirs : List (List ℕ)) (H : List ReleaseData) (f : CheckFault)
@@ -99,10 +132,6 @@ extends_more files dirs i d old now next less is extends r next_is after = λ fi
     let one : FoldersGive files ((first ++ take i dirs) ++ d ∷ []) (now ++ r ∷ []) = more (first ++ take i dirs) now d r (extends first give) after in
     subst (λ (H : List ReleaseData). FoldersGive files (first ++ take (i + 1) dirs) H) (sym next_is)
     (subst (λ (front : List (List ℕ)). FoldersGive files front (now ++ r ∷ [])) row one)
-
--- an error of one result as that of another
-err_as : {A B : Type 0} (e x : InstallFault) → IsErrOf {T = A} (Err e) x → IsErrOf {T = B} (Err e) x
-err_as e x h = let same : e ≡ x = cc in ap Err same
 
 -- the files are those of the beginning
 pub kept_gives : (s t : StoreView) (H : List ReleaseData) (dir : List ℕ) (r : Result ReleaseData CheckFault) → LaterStore s t
@@ -165,7 +194,7 @@ pub all_refused : {A : Type 0} (s t : StoreView) (d : List ℕ) (rest dirs : Lis
     (history : A → List ReleaseData) (e : InstallFault) → dirs ≡ d ∷ rest → Installs s t d [] history (Err e) → InstallsAll dirs s t (Err e)
 all_refused {A = A} s t d rest dirs history e is h = record {
   later = h.later;
-  failed = λ same. h.failed (err_as {A = DeskView (Catalogue (List ℕ))} {B = A} e (install.Check fault.ReadFault) same);
+  failed = λ same. h.failed (err_as {A = List (Catalogue (List ℕ))} {B = A} e (install.Check fault.ReadFault) same);
   came = first_refused s t d rest dirs history e is h;
 }
 
@@ -186,17 +215,17 @@ all_stopped s t u d rest dirs history a list end e is h grows same others =
     subst (λ (files : Option (List File)). FoldersGive files (d ∷ []) (history_of list)) (sym h.later.kept) give in
     record {
       later = store_trans s t u h.later others.later;
-      failed = λ wrong. omega (arith, h.later.later, others.failed (err_as {A = DeskView (Catalogue (List ℕ))} {B = Unit} e (install.Check fault.ReadFault) wrong));
+      failed = λ wrong. omega (arith, h.later.later, others.failed (err_as {A = List (Catalogue (List ℕ))} {B = Unit} e (install.Check fault.ReadFault) wrong));
       came = subst (λ (all : List (List ℕ)). Refused s.files all e) (sym is)
           (subst (λ (files : Option (List File)). Refused files (d ∷ rest) e) h.later.kept (others.came (d ∷ []) before));
     }
 
--- all were installed, and the desk has seen all
+-- all were installed
 pub all_came : {A : Type 0} (s t u : StoreView) (d : List ℕ) (rest dirs : List (List ℕ))
-    (history : A → List ReleaseData) (a : A) (list end : List (Catalogue (List ℕ))) (unit : Unit) (desk : DeskView (Catalogue (List ℕ))) → dirs ≡ d ∷ rest
+    (history : A → List ReleaseData) (a : A) (list end : List (Catalogue (List ℕ))) (unit : Unit) → dirs ≡ d ∷ rest
     → Installs s t d [] history (Ok a) → GrowsBy [] (history a) → history a ≡ history_of list → InstallsRest rest t u list end (Ok unit)
-    → desk.seen ≡ end → desk.ended ≡ true → InstallsAll dirs s u (Ok desk)
-all_came s t u d rest dirs history a list end unit desk is h grows same others seen ended =
+    → InstallsAll dirs s u (Ok end)
+all_came s t u d rest dirs history a list end unit is h grows same others =
     let give : FoldersGive s.files (d ∷ []) (history_of list) =
     first_gives s.files d (history_of list) grows.release (sym same ∙ grows.now_is) (gives s t d [] history a grows.release grows.now_is h) in
     let before : FoldersGive t.files (d ∷ []) (history_of list) =
@@ -206,17 +235,18 @@ all_came s t u d rest dirs history a list end unit desk is h grows same others s
     record {
       later = store_trans s t u h.later others.later;
       failed = λ wrong. cc;
-      came = record {
-        give = subst (λ (all : List (List ℕ)). FoldersGive s.files all (history_of desk.seen)) (sym is)
-            (subst (λ (list : List (Catalogue (List ℕ))). FoldersGive s.files (d ∷ rest) (history_of list)) (sym seen) whole);
-        ended = ended;
-      };
+      came = subst (λ (all : List (List ℕ)). FoldersGive s.files all (history_of end)) (sym is) whole;
     }
 
--- one desk
-pub one_desk : (pair : Book) (list : List (Catalogue (List ℕ))) (desks : List (DeskView (Catalogue (List ℕ)))) (now : Book) → length desks ≡ 1
-    → All (IsNewDesk pair list false) desks → now ≡ pair
-    → (d : DeskView (Catalogue (List ℕ))) × (desks ≡ d ∷ []) × (d.pair ≡ now)
-one_desk pair list [] now one new same = absurd (omega (arith, one))
-one_desk pair list (d ∷ []) now one new same = (d, refl, (All-head (IsNewDesk pair list false) d [] new).1 ∙ sym same)
-one_desk pair list (d ∷ e ∷ ds) now one new same = absurd (omega (arith, one))
+-- ---- desks
+
+-- the desks that are left once one was taken off new ones
+pub parts_desks : (pair now : Book) (list : List (Catalogue (List ℕ))) (all first : List (DeskView (Catalogue (List ℕ)))) (last : Option (DeskView (Catalogue (List ℕ))))
+    (desk : DeskView (Catalogue (List ℕ))) (n : ℕ) → now ≡ pair → all ≡ first ++ option_to_list last → last ≡ Some desk → length all ≡ n + 1
+    → All (IsNewDesk pair list false) all → (length first ≡ n) × All (λ d. d.pair ≡ now) first
+parts_desks pair now list all first last desk n same is some many new =
+    let parts = All-pop (IsNewDesk pair list false) all first last is new in
+    let taken : all ≡ first ++ desk ∷ [] = is ∙ ap (λ o. first ++ option_to_list o) some in (
+      omega (arith, many, ap length taken, length-append first (desk ∷ [])),
+      All-weaker (IsNewDesk pair list false) (λ d. d.pair ≡ now) (λ d h. h.1 ∙ sym same) first parts.0,
+    )

@@ -5,3 +5,11 @@ pub mod Refusals
 pub mod Checked
 pub mod Installing
 pub mod Desks
+pub mod LineLemmas
+pub mod TalkLemmas
+pub mod TurnLemmas
+pub mod ServerLemmas
+pub mod WorkLemmas
+pub mod RunLemmas
+pub mod WorkerLemmas
+pub mod BesideLemmas

@@ -9,7 +9,7 @@ use Rattle.zone_meaning.specs.FaultText.{fault_text as zone_text}
 use Rattle.zone_meaning.specs.State.{zone_state}
 use Rattle.zone_meaning.specs.declared.zone_fault.ZoneFault.{ZoneFault}
 use Rattle.td_top.specs.Folders.{FoldersGive, Stops}
-use Rattle.td_top.specs.Grammar.{Asked, answer, at}
+use Rattle.td_top.specs.Grammar.{Asked, answer, at, check, serve as serve_doors}
 use Rattle.td_top.specs.Lines.{refused_line, state_line, usage_line}
 use Rattle.td_top.specs.declared.status.Status.{Status}
 use Rattle.td_top.specs.declared.status.Status.TheVariants as status
@@ -20,6 +20,13 @@ pub data Called : Type 0 where
   print : Status → List ℕ → Called
   serve : List ReleaseData → Called
 
+-- the folders whose releases are installed
+abbrev pub folders_of : Asked → Option (List (List ℕ))
+folders_of (answer dirs) = Some dirs
+folders_of (serve_doors address workers dirs) = Some dirs
+folders_of (check dirs) = None
+folders_of (at path m) = None
+
 -- What the words call for, where the store tells its files; where it does not, for some releases or
 -- for some file. What `check` prints comes line by line, and is told in `Checks`. The state is a function of a file's bytes: `one_zone_file` of tzif_reader ties
 -- what a file has to its layout, and the clause `rules` of zone_meaning's `at` ties the state to
@@ -28,9 +35,9 @@ pub data CallsFor (files : Option (List File)) : Option Asked → Called → Typ
   usage : CallsFor files None (print status.Usage usage_line)
   releases : (dirs : List (List ℕ)) (H : List ReleaseData) → FoldersGive files dirs H
       → CallsFor files (Some (answer dirs)) (serve H)
-  no_release : (dirs : List (List ℕ)) (H : List ReleaseData) (f : CheckFault)
-      → Stops files dirs H f
-      → CallsFor files (Some (answer dirs)) (print status.Refused (refused_line (folder_text f)))
+  no_release : (asked : Asked) (dirs : List (List ℕ)) (H : List ReleaseData) (f : CheckFault)
+      → folders_of asked ≡ Some dirs → Stops files dirs H f
+      → CallsFor files (Some asked) (print status.Refused (refused_line (folder_text f)))
   state : (path bytes : List ℕ) (m : ℤ) → IfSome files (λ fs. file_at fs path ≡ Some bytes)
       → zone_fault bytes ≡ None
       → CallsFor files (Some (at path m)) (print status.Done (state_line (zone_state bytes m)))

@@ -1,7 +1,7 @@
 -- The code's commands as what words ask for.
-use Rattle.std.specs.Prelude.{⊤, ◌<◌, length}
+use Rattle.std.specs.Prelude.{⊤, ◌<◌, ◌≤◌, length}
 use Rattle.td_civil.specs.Bounds.{HasMeaning}
-use Rattle.td_top.specs.Grammar.{Asked, answer, check, at}
+use Rattle.td_top.specs.Grammar.{Asked, answer, check, at, serve, most_workers}
 use Rattle.td_top.specs.declared.command.Command.{Command}
 use Rattle.td_top.specs.declared.command.Command.TheVariants as command
 
@@ -10,9 +10,12 @@ abbrev pub plain_command : Command → Asked
 plain_command (command.Answer folders) = answer folders.now
 plain_command (command.Check folders) = check folders.now
 plain_command (command.At file moment) = at file.now moment.seconds
+plain_command (command.Serve address workers folders) = serve address.now workers folders.now
 
--- a command names a folder to serve, and its moment has a meaning
+-- a command names a folder to serve, its moment has a meaning, and its workers are few
 abbrev pub IsMeantCommand : Command → Type 0
 IsMeantCommand (command.Answer folders) = 0 < length folders.now
 IsMeantCommand (command.Check folders) = ⊤
 IsMeantCommand (command.At file moment) = HasMeaning moment.seconds
+IsMeantCommand (command.Serve address workers folders) =
+    (workers ≤ most_workers) × (0 < length folders.now)

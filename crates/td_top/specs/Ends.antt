@@ -8,7 +8,7 @@ use Rattle.td_base.specs.declared.transfer.Written.TheVariants as written
 use Rattle.catalogue.specs.Releases.{ReleaseData}
 use Rattle.td_top.specs.Called.{print, serve, CallsFor}
 use Rattle.td_top.specs.Checks.{Checks}
-use Rattle.td_top.specs.Grammar.{Asked, answer, check, at}
+use Rattle.td_top.specs.Grammar.{Asked, answer, check, at, serve as serve_doors}
 use Rattle.td_top.specs.Outside.{Outside}
 use Rattle.td_top.specs.Served.{Serves}
 use Rattle.td_top.specs.Statuses.{status_of}
@@ -30,6 +30,7 @@ IsSilent None = ⊥
 IsSilent (Some (answer dirs)) = ⊤
 IsSilent (Some (check dirs)) = ⊥
 IsSilent (Some (at path m)) = ⊤
+IsSilent (Some (serve_doors address workers dirs)) = ⊤
 
 -- how a run ends with a status
 pub data Ends (asked : Option Asked) (before after : Outside) : Status → Type 0 where

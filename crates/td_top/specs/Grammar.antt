@@ -1,8 +1,10 @@
 -- The words of the command line.
-use Rattle.std.specs.Prelude.{ℕ, List, [], ◌∷◌, length, codes, Bool, false, not, ◌&&◌, ◌==◌, nat_le, if◌then◌else◌, ℤ, Option, None, Some, option_and_then}
+use Rattle.std.specs.Prelude.{ℕ, List, [], ◌∷◌, length, codes, decimal, Bool, false, not, ◌&&◌, ◌||◌, ◌==◌, nat_le}
+use Rattle.std.specs.Prelude.{if◌then◌else◌, ℤ, Option, None, Some, option_and_then}
 use Rattle.std.specs.Option.{option_map}
-use Rattle.std.specs.List.{list_all}
+use Rattle.std.specs.List.{find, list_all, range_with_len}
 use Rattle.std.specs.Str.{bytes_eq}
+use Rattle.td_base.specs.Names.{is_path_word}
 use Rattle.td_civil.specs.Bounds.{has_meaning}
 use Rattle.td_civil.specs.Reading.{moment_in}
 
@@ -11,15 +13,11 @@ pub data Asked : Type 0 where
   answer : List (List ℕ) → Asked
   check : List (List ℕ) → Asked
   at : List ℕ → ℤ → Asked
+  serve : List ℕ → ℕ → List (List ℕ) → Asked
 
 -- the most folders that a command takes
 abbrev pub most_folders : ℕ
 most_folders = 64
-
--- 1 to 1,024 bytes that do not begin with a dash
-abbrev pub is_path_word : List ℕ → Bool
-is_path_word [] = false
-is_path_word (b ∷ bs) = not (b == 45) && nat_le (length (b ∷ bs)) 1024
 
 -- the moment, where it has a meaning
 abbrev pub if_meant : ℤ → Option ℤ
@@ -44,10 +42,39 @@ at_of (file ∷ moment ∷ []) =
     if is_path_word file then option_map (λ m. at file m) (meant_moment moment) else None
 at_of _ = None
 
+-- a byte of a network address: a letter, a digit, or one of `.`, `:`, `-`, `[` and `]`
+abbrev pub is_address_byte : ℕ → Bool
+is_address_byte b =
+    (nat_le 65 b && nat_le b 90) || (nat_le 97 b && nat_le b 122) || (nat_le 48 b && nat_le b 57)
+    || (b == 46) || (b == 58) || (b == 45) || (b == 91) || (b == 93)
+
+-- 1 to 255 such bytes that do not begin with a dash
+abbrev pub is_address : List ℕ → Bool
+is_address [] = false
+is_address (b ∷ bs) =
+    not (b == 45) && nat_le (length (b ∷ bs)) 255 && list_all is_address_byte (b ∷ bs)
+
+-- the most workers
+abbrev pub most_workers : ℕ
+most_workers = 64
+
+-- the number of workers that a word writes in decimal, from 1 to the most
+unfoldable pub workers_in : List ℕ → Option ℕ
+workers_in word = find (λ n. bytes_eq (decimal n) word) (range_with_len 1 most_workers)
+
+-- `serve ADDRESS WORKERS DIR..`
+abbrev pub serve_of : List (List ℕ) → Option Asked
+serve_of (address ∷ workers ∷ dirs) =
+    if is_address address
+    then option_and_then (λ n. over_folders (serve address n) dirs) (workers_in workers)
+    else None
+serve_of _ = None
+
 -- the command that the words spell: its name first, and then what stands after it
 abbrev pub command_of : List (List ℕ) → Option Asked
 command_of [] = None
 command_of (name ∷ words) =
     if bytes_eq name (codes "answer") then over_folders answer words
     else if bytes_eq name (codes "check") then over_folders check words
-    else if bytes_eq name (codes "at") then at_of words else None
+    else if bytes_eq name (codes "at") then at_of words
+    else if bytes_eq name (codes "serve") then serve_of words else None

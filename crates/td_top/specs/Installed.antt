@@ -1,5 +1,5 @@
 -- What installing a row of folders comes to.
-use Rattle.std.specs.Prelude.{◌≡◌, ⊤, ℕ, List, ◌++◌, true, Option, Result, Ok, Err, IsErrOf}
+use Rattle.std.specs.Prelude.{◌≡◌, ⊤, ℕ, List, ◌++◌, length, All, Option, Result, Ok, Err, IsErrOf}
 use Rattle.td_base.specs.Cause.{StoreFailed}
 use Rattle.td_base.specs.Files.{File}
 use Rattle.td_base.specs.Later.{LaterStore}
@@ -9,10 +9,10 @@ use Rattle.catalogue.specs.declared.holding.Catalogue.{Catalogue}
 use Rattle.installer.specs.Installing.{history_of}
 use Rattle.installer.specs.declared.install_fault.InstallFault.{InstallFault}
 use Rattle.installer.specs.declared.install_fault.InstallFault.TheVariants as install
-use Rattle.publication.specs.Views.{DeskView}
 use Rattle.release_check.specs.Found.{Blames}
 use Rattle.release_check.specs.declared.check_fault.CheckFault.TheVariants as fault
 use Rattle.td_top.specs.Folders.{FoldersGive, Stops}
+use Rattle.td_top.specs.declared.opening.Opened.{Opened}
 
 -- the folders were not all installed: one of them has this fault, unless memory or a read failed
 abbrev pub Refused : Option (List File) → List (List ℕ) → InstallFault → Type 0
@@ -38,26 +38,24 @@ pub record InstallsRest (dirs : List (List ℕ)) (s t : StoreView)
   pub failed : IsErrOf result (install.Check fault.ReadFault) → StoreFailed s t
   pub came : RestCame s.files dirs (history_of old) (history_of now) result
 
--- a desk that has seen what was published, after which nothing follows
-pub record SawAll (files : Option (List File)) (dirs : List (List ℕ))
-    (desk : DeskView (Catalogue (List ℕ))) : Type 0 where
-  pub give : FoldersGive files dirs (history_of desk.seen)
-  pub ended : desk.ended ≡ true
-
--- the desk, where there is one
-abbrev pub desk_in : {A : Type 0} → Result (A × DeskView (Catalogue (List ℕ))) InstallFault
-    → Result (DeskView (Catalogue (List ℕ))) InstallFault
-desk_in (Ok p) = Ok p.1
-desk_in (Err e) = Err e
+-- the catalogues that were published, where the folders were installed
+abbrev pub published_in : Result Opened InstallFault → Result (List (Catalogue (List ℕ))) InstallFault
+published_in (Ok opened) = Ok opened.session.installer.list
+published_in (Err e) = Err e
 
 abbrev pub AllCame : Option (List File) → List (List ℕ)
-    → Result (DeskView (Catalogue (List ℕ))) InstallFault → Type 0
-AllCame files dirs (Ok desk) = SawAll files dirs desk
+    → Result (List (Catalogue (List ℕ))) InstallFault → Type 0
+AllCame files dirs (Ok list) = FoldersGive files dirs (history_of list)
 AllCame files dirs (Err e) = Refused files dirs e
 
--- the folders were installed, and a desk has seen all, up to the first that is refused
+-- the folders were installed, up to the first that is refused
 pub record InstallsAll (dirs : List (List ℕ)) (s t : StoreView)
-    (result : Result (DeskView (Catalogue (List ℕ))) InstallFault) : Type 0 where
+    (result : Result (List (Catalogue (List ℕ))) InstallFault) : Type 0 where
   pub later : LaterStore s t
   pub failed : IsErrOf result (install.Check fault.ReadFault) → StoreFailed s t
   pub came : AllCame s.files dirs result
+
+-- so many further desks were made, of the same pair
+pub record HasDesks (workers : ℕ) (opened : Opened) : Type 0 where
+  pub number : length opened.desks.items ≡ workers
+  pub pairs : All (λ d. d.pair ≡ opened.session.installer.pair) opened.desks.items

@@ -11,3 +11,13 @@ pub mod Ends
 pub mod Tells
 pub mod Steps
 pub mod Installed
+pub mod Talk
+pub mod Sessions
+pub mod Talking
+pub mod Turns
+pub mod Consoles
+pub mod Worlds
+pub mod Server
+pub mod Works
+pub mod Serving
+pub mod RunEnds

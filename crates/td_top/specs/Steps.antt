@@ -77,6 +77,8 @@ EndsAt H dir s t old new status.Usage = ⊥
 EndsAt H dir s t old new status.Refused = IsRefused s.files H dir old new
 EndsAt H dir s t old new status.NotRead = StoreFailed s t × (new ≡ old)
 EndsAt H dir s t old new status.NotWritten = IsCut s.files H dir old new
+EndsAt H dir s t old new status.NotStarted = ⊥
+EndsAt H dir s t old new status.NoNetwork = ⊥
 EndsAt H dir s t old new status.NoMemory = new ≡ old
 
 abbrev pub Comes : List ReleaseData → List ℕ → StoreView → StoreView → SinkView → SinkView

@@ -18,6 +18,7 @@ use Rattle.td_top.specs.Grammar.{Asked}
 use Rattle.td_top.specs.Lines.{refused_line, state_line}
 use Rattle.td_top.specs.Outside.{Outside, Later, outside}
 use Rattle.td_top.specs.Served.{Serves}
+use Rattle.td_top.specs.Statuses.{status_of}
 use Rattle.td_top.specs.declared.status.Status.{Status}
 use Rattle.td_top.specs.declared.status.Status.TheVariants as status
 
@@ -33,6 +34,13 @@ pub record ServesLater (H : List ReleaseData) (i j : SourceView) (old new : Sink
   pub serves : (s t : StoreView) → Serves H (outside s i old) (outside t j new) end
   pub input : LaterSource i j
   pub output : LaterSink old new
+
+-- the input and the output were served over a history, or memory ran out before
+abbrev pub ServesLast : List ReleaseData → SourceView → SourceView → SinkView → SinkView → Status
+    → Type 0
+ServesLast H i j old new end =
+    ((how : End) × (end ≡ status_of how) × ServesLater H i j old new how)
+    ⊎ ((end ≡ status.NoMemory) × ((j ≡ i) × (new ≡ old)))
 
 -- a text that may end a run with this status
 abbrev pub CanPrint : Status → Type 0

@@ -1,14 +1,15 @@
-ghost use Rattle.std.specs.Prelude.{◌≡◌, ◌<◌, ◌∷◌, [], length, true, IfOk, Some};
+ghost use Rattle.std.specs.Prelude.{◌≡◌, ◌<◌, length, true, IfOk, Some};
+ghost use Rattle.installer.specs.Installing.{history_of};
 ghost use Rattle.td_top.specs.Grammar.{answer};
-ghost use Rattle.td_top.specs.Installed.{InstallsAll, InstallsRest, desk_in};
 ghost use Rattle.td_top.specs.Outside.{outside};
-ghost use Rattle.td_top.specs.Tells.{EndsLater};
+ghost use Rattle.td_top.specs.Tells.{EndsLater, ServesLast};
 
+use crate::opening::{Opened, open_all};
 use crate::refusing::refuse_install;
 use crate::serving::serve;
+use crate::session::Session;
 use crate::status::{Status, status_of};
 use catalogue::Catalogue;
-use installer::{InstallFault, Installer};
 use publication::{Desk, Ended};
 use std::alloc::Global;
 use std::sync::Wait;
@@ -30,69 +31,45 @@ pub fn answer<R: Wait, S: Store, C: Source, K: Sink>(
         (outside (S.seen store.old) (C.seen input.old) (K.seen output.old))
         (outside (S.seen store.new) (C.seen input.new) (K.seen output.new)) result }
 {
-    match install_all(rt, alloc, folders, store) {
+    match open_all(rt, alloc, folders, store, 0) {
+        Ok(Opened { session, desks: _ }) => serve_last(rt, alloc, session, input, output),
+        Err(fault) => refuse_install(alloc, &fault, output),
+    }
+}
+
+/// Serves the input and the output over the last release of a session, whose history ends.
+fn serve_last<R: Wait, C: Source, K: Sink>(
+    rt: &R,
+    alloc: Global,
+    session: Session,
+    input: &mut C,
+    output: &mut K,
+) -> Status
+    ensures { ServesLast (history_of session.installer.list)
+        (C.seen input.old) (C.seen input.new) (K.seen output.old) (K.seen output.new) result }
+{
+    match end_history(rt, session) {
         Ok((ended, mut desk)) => {
             let end = serve(alloc, &mut desk, input, output);
             ended.close(rt);
             status_of(end)
         }
-        Err(fault) => refuse_install(alloc, &fault, output),
+        Err(NoMemory) => Status::NoMemory,
     }
 }
 
-/// Installs the releases of folders, and gives a desk that has seen all of them, after which none
-/// follows. What is shown stays until the other value is closed.
-fn install_all<R: Wait, S: Store>(
-    rt: &R,
-    alloc: Global,
-    folders: &[Bytes],
-    store: &mut S,
-) -> Result<(Ended<Catalogue<Zone>>, Desk<Catalogue<Zone>>), InstallFault>
-    requires { 0 < length folders.now }
-    ensures { InstallsAll folders.now (S.seen store.old) (S.seen store.new)
-        (desk_in result) }
-{
-    let first = folders[0].as_slice();
-    let (mut installer, desks) = Installer::open(rt, alloc, first, store, 1)?;
-    if let Err(fault) = install_rest(rt, alloc, &folders[1..], store, &mut installer) {
-        installer.close(rt);
-        return Err(fault);
-    }
-    match end_history(rt, installer, desks) {
-        Ok(all) => Ok(all),
-        Err(NoMemory) => Err(InstallFault::NoMemory),
-    }
-}
-
-/// Installs the releases of further folders, each after those before it.
-fn install_rest<R: Wait, S: Store>(
-    rt: &R,
-    alloc: Global,
-    folders: &[Bytes],
-    store: &mut S,
-    installer: &mut Installer,
-) -> Result<(), InstallFault>
-    ensures rest { InstallsRest folders.now (S.seen store.old) (S.seen store.new)
-        installer.old.list installer.new.list result }
-    ensures pair { installer.new.pair ≡ installer.old.pair }
-{
-    for folder in folders {
-        installer.install(rt, alloc, folder.as_slice(), store)?;
-    }
-    Ok(())
-}
-
-/// Ends a history, and lets its one desk learn all of it.
+/// Ends the history of a session, and lets its desk learn that. What is shown stays until the other
+/// value is closed.
 fn end_history<R: Wait>(
     rt: &R,
-    installer: Installer,
-    desks: Vec<Desk<Catalogue<Zone>>>,
+    session: Session,
 ) -> Result<(Ended<Catalogue<Zone>>, Desk<Catalogue<Zone>>), NoMemory>
-    requires one { (d : _) × (desks.items ≡ d ∷ []) × (d.pair ≡ installer.pair) }
-    ensures { IfOk result (λ p. (p.1.seen ≡ installer.list) × (p.1.ended ≡ true)) }
+    ensures { IfOk result (λ p. (p.1.seen ≡ session.installer.list) × (p.1.ended ≡ true)) }
 {
-    let mut desks = desks;
-    let mut desk = desks.pop().unwrap();
+    let Session {
+        installer,
+        mut desk,
+    } = session;
     let mut ended = installer.end(rt)?;
     match ended.receipt() {
         Ok(receipt) => {

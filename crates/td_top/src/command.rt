@@ -1,29 +1,48 @@
-ghost use Rattle.std.specs.Prelude.{◌≡◌, ◌<◌, [], ◌∷◌, length, IfSome, IsTrue};
+ghost use Rattle.std.specs.Prelude.{◌≡◌, ◌<◌, ◌≤◌, [], ◌∷◌, length, IfSome, IsTrue};
 ghost use Rattle.std.specs.List.{list_all};
 ghost use Rattle.std.specs.Option.{option_map};
+ghost use Rattle.td_base.specs.Names.{is_path_word};
 ghost use Rattle.td_civil.specs.Bounds.{HasMeaning};
 ghost use Rattle.td_top.specs.Grammar.{command_of, over_folders, are_folders, at_of};
-ghost use Rattle.td_top.specs.Grammar.{answer, check, if_meant, is_path_word, meant_moment};
+ghost use Rattle.td_top.specs.Grammar.{answer, check, if_meant, meant_moment};
+ghost use Rattle.td_top.specs.Grammar.{is_address, is_address_byte, most_workers, serve_of};
+ghost use Rattle.td_top.specs.Grammar.{workers_in};
 ghost use Rattle.td_top.specs.Commands.{plain_command, IsMeantCommand};
 
-use td_base::Bytes;
+use td_base::{Bytes, is_path_word, read_decimal};
 use td_civil::{HI, LO, Moment, moment_of};
-
-/// The most bytes that a word which names a folder or a file may have.
-const PATH_LIMIT: usize = 1_024;
 
 /// The most folders of a command.
 const MOST_FOLDERS: usize = 64;
+
+/// The most bytes of a network address.
+const ADDRESS_LIMIT: usize = 255;
+
+/// The most workers.
+const MOST_WORKERS: u64 = 64;
 
 /// What the words ask for.
 #[derive(Clone, Copy, Debug)]
 pub enum Command<'a> {
     /// Install the folders, and answer the input as one connection.
-    Answer { folders: &'a [Bytes] },
+    Answer {
+        folders: &'a [Bytes],
+    },
     /// Check the folders as one history.
-    Check { folders: &'a [Bytes] },
+    Check {
+        folders: &'a [Bytes],
+    },
     /// Print the state of a zone file at a moment.
-    At { file: &'a [u8], moment: Moment },
+    At {
+        file: &'a [u8],
+        moment: Moment,
+    },
+    /// Serve an address by so many workers, over the releases of folders.
+    Serve {
+        address: &'a [u8],
+        workers: u32,
+        folders: &'a [Bytes],
+    },
 }
 
 /// The command that the words spell, if they are of the grammar.
@@ -48,6 +67,8 @@ fn read_named<'a>(name: &[u8], words: &'a [Bytes]) -> Option<Command<'a>>
         read_check(words)
     } else if name == b"at".as_slice() {
         read_at(words)
+    } else if name == b"serve".as_slice() {
+        read_serve(words)
     } else {
         None
     }
@@ -121,13 +142,77 @@ fn at_moment<'a>(file: &'a [u8], moment: &[u8]) -> Option<Command<'a>>
     Some(Command::At { file, moment })
 }
 
-/// Whether a word may name a folder or a file: 1 to 1,024 bytes that do not begin with a dash.
-fn is_path_word(word: &[u8]) -> bool
-    ensures { result ≡ is_path_word word.now }
+/// `serve ADDRESS WORKERS DIR..`
+fn read_serve(words: &[Bytes]) -> Option<Command<'_>>
+    ensures spelled { option_map plain_command result ≡ serve_of words.now }
+    ensures meant { IfSome result IsMeantCommand }
+{
+    match words {
+        [address, workers, folders @ ..] => {
+            serve_at(address.as_slice(), workers.as_slice(), folders)
+        }
+        _ => None,
+    }
+}
+
+/// The command that serves an address, if the words may name one, some workers and folders.
+fn serve_at<'a>(address: &'a [u8], workers: &[u8], folders: &'a [Bytes]) -> Option<Command<'a>>
+    ensures spelled { option_map plain_command result
+        ≡ serve_of (address.now ∷ workers.now ∷ folders.now) }
+    ensures meant { IfSome result IsMeantCommand }
+{
+    if !is_address(address) {
+        return None;
+    }
+    let workers = read_workers(workers)?;
+    if !are_folders(folders) {
+        return None;
+    }
+    Some(Command::Serve {
+        address,
+        workers,
+        folders,
+    })
+}
+
+/// Whether a word may name a network address: 1 to 255 letters, digits and `.:-[]` that do not
+/// begin with a dash.
+fn is_address(word: &[u8]) -> bool
+    ensures { result ≡ is_address word.now }
 {
     match word {
         [] => false,
-        [first, ..] => *first != b'-' && word.len() <= PATH_LIMIT,
+        [first, ..] => *first != b'-' && word.len() <= ADDRESS_LIMIT && are_address_bytes(word),
+    }
+}
+
+/// Whether each byte may stand in a network address.
+fn are_address_bytes(word: &[u8]) -> bool
+    ensures { result ≡ list_all is_address_byte word.now }
+{
+    for byte in word {
+        if !is_address_byte(*byte) {
+            return false;
+        }
+    }
+    true
+}
+
+/// Whether a byte may stand in a network address.
+fn is_address_byte(byte: u8) -> bool
+    ensures { result ≡ is_address_byte byte }
+{
+    byte.is_ascii_alphanumeric() || matches!(byte, b'.' | b':' | b'-' | b'[' | b']')
+}
+
+/// The number of workers that a word writes in decimal.
+fn read_workers(word: &[u8]) -> Option<u32>
+    ensures value { result ≡ workers_in word.now }
+    ensures few { IfSome result (λ n. n ≤ most_workers) }
+{
+    match read_decimal(word) {
+        Some(number) if 1 <= number && number <= MOST_WORKERS => Some(number as u32),
+        _ => None,
     }
 }
 

@@ -6,11 +6,20 @@
 mod answering;
 mod checking;
 mod command;
+mod console_beside;
+mod opening;
+mod operator;
+mod outcome;
 mod printing;
 mod refusing;
 mod running;
+mod server;
 mod serving;
+mod session;
 mod state_line;
 mod status;
+mod talking;
+mod works;
 
+pub use outcome::Outcome;
 pub use running::run;

@@ -41,7 +41,7 @@ fn tell_fault<K: Sink>(alloc: Global, fault: &CheckFault, output: &mut K) -> Sta
 }
 
 /// The text of the fault of a folder.
-fn fault_text(alloc: Global, fault: &CheckFault) -> Result<Bytes, NoMemory>
+pub fn fault_text(alloc: Global, fault: &CheckFault) -> Result<Bytes, NoMemory>
     ensures { IfOk result (λ text. text ≡ fault_text fault.now) }
 {
     let mut text = Bytes::new(alloc);

@@ -1,70 +1,122 @@
-ghost use Rattle.std.specs.Prelude.{◌≡◌, None};
+ghost use Rattle.std.specs.Prelude.{◌≡◌, None, map};
 ghost use Rattle.td_base.specs.Views.{SourceView, StoreView};
-ghost use Rattle.td_top.specs.Ends.{Ends};
 ghost use Rattle.td_top.specs.Grammar.{command_of};
-ghost use Rattle.td_top.specs.Outside.{Later, outside};
+ghost use Rattle.td_top.specs.Outside.{outside};
+ghost use Rattle.td_top.specs.RunEnds.{RunEnds, RunEndsLater};
 ghost use Rattle.td_top.specs.Statuses.{number_of};
 ghost use Rattle.td_top.specs.Tells.{EndsLater};
+ghost use Rattle.td_top.specs.Worlds.{LaterWorld, world};
 ghost use Rattle.td_top.specs.declared.status.Status.{Status};
 
 use crate::answering::answer;
 use crate::checking::check_folders;
 use crate::command::{Command, read_words};
+use crate::outcome::{Ending, Outcome};
 use crate::printing::print;
+use crate::server::serve_doors;
 use crate::state_line::state_at;
 use crate::status::Status;
 use std::alloc::Global;
 use std::sync::Wait;
-use td_base::{Bytes, Sink, Source, Store};
+use std::thread::Threads;
+use td_base::{Bytes, Door, Network, Sink, Source, Spawner, Store};
 
 /// The line that is printed for words that are no command.
 const USAGE: &[u8] = b"usage: tzdistd answer|serve|mirror|check|at|load\n";
 
-/// Does what the words of a command line ask for, over a store of files, an input and an output, and gives the status
-/// with which the process ends.
+/// Does what the words of a command line ask for, over a store of files, an input and an output, and, to serve
+/// connections, over a network and a spawner of workers. It gives the status with which the process ends, and the
+/// doors that were served.
 ///
 /// `answer DIR..` installs the releases of folders, in their order, and serves the input and the output, as one
-/// connection, over the last. `check DIR..` checks folders as one history, with a line for each.
-/// `at FILE MOMENT` prints the state of a zone file at a moment.
-pub fn run<R: Wait, S: Store, C: Source, K: Sink>(
+/// connection, over the last. `serve ADDRESS WORKERS DIR..` serves the connections of an address by so many workers,
+/// while an operator talks over the input and the output. `check DIR..` checks folders as one history, with a line for
+/// each. `at FILE MOMENT` prints the state of a zone file at a moment.
+pub fn run<R, S, C, K, N, W>(
     rt: &R,
     alloc: Global,
     words: &[Bytes],
     store: &mut S,
     input: &mut C,
     output: &mut K,
-) -> u8
-    // The status stands for one of the ends, and each is tied to what the words call for and to what became of the
-    // store, the input and the output. Memory may run out at any time.
-    ensures ends { (status : Status) × (result ≡ number_of status) × Ends (command_of words.now)
-        (outside (S.seen store.old) (C.seen input.old) (K.seen output.old))
-        (outside (S.seen store.new) (C.seen input.new) (K.seen output.new)) status }
+    net: &mut N,
+    spawner: &mut W,
+) -> Outcome<N::Door>
+where
+    R: Threads + Wait + Copy + Send + 'static,
+    S: Store,
+    C: Source,
+    K: Sink,
+    N: Network,
+    N::Door: Send + Drop + 'static,
+    <N::Door as Door>::Conn: Send + 'static,
+    W: Spawner,
+    // The status stands for one of the ends, and each is tied to what the words call for and to what became of all
+    // that is outside. Memory may run out at any time.
+    ensures ends { (status : Status) × (result.status ≡ number_of status) × RunEnds (command_of words.now)
+        (world (outside (S.seen store.old) (C.seen input.old) (K.seen output.old))
+        (N.seen net.old) (W.faults spawner.old))
+        (world (outside (S.seen store.new) (C.seen input.new) (K.seen output.new))
+        (N.seen net.new) (W.faults spawner.new))
+        (map N.Door.seen result.doors.items) status }
 
     // No file changed, the input was only read, the output only written, and no count of faults fell.
-    ensures later { Later (outside (S.seen store.old) (C.seen input.old) (K.seen output.old))
-        (outside (S.seen store.new) (C.seen input.new) (K.seen output.new)) }
+    ensures later { LaterWorld
+        (world (outside (S.seen store.old) (C.seen input.old) (K.seen output.old))
+        (N.seen net.old) (W.faults spawner.old))
+        (world (outside (S.seen store.new) (C.seen input.new) (K.seen output.new))
+        (N.seen net.new) (W.faults spawner.new)) }
 {
-    do_words(rt, alloc, words, store, input, output).number()
+    do_words(rt, alloc, words, store, input, output, net, spawner).outcome()
 }
 
 /// Does what the words ask for.
-fn do_words<R: Wait, S: Store, C: Source, K: Sink>(
+fn do_words<R, S, C, K, N, W>(
     rt: &R,
     alloc: Global,
     words: &[Bytes],
     store: &mut S,
     input: &mut C,
     output: &mut K,
-) -> Status
-    ensures { EndsLater (command_of words.now)
-        (outside (S.seen store.old) (C.seen input.old) (K.seen output.old))
-        (outside (S.seen store.new) (C.seen input.new) (K.seen output.new)) result }
+    net: &mut N,
+    spawner: &mut W,
+) -> Ending<N::Door>
+where
+    R: Threads + Wait + Copy + Send + 'static,
+    S: Store,
+    C: Source,
+    K: Sink,
+    N: Network,
+    N::Door: Send + Drop + 'static,
+    <N::Door as Door>::Conn: Send + 'static,
+    W: Spawner,
+    ensures { RunEndsLater (command_of words.now)
+        (world (outside (S.seen store.old) (C.seen input.old) (K.seen output.old))
+        (N.seen net.old) (W.faults spawner.old))
+        (world (outside (S.seen store.new) (C.seen input.new) (K.seen output.new))
+        (N.seen net.new) (W.faults spawner.new))
+        (map N.Door.seen result.doors.items) result.status }
 {
     match read_words(words) {
-        Some(Command::Answer { folders }) => answer(rt, alloc, folders, store, input, output),
-        Some(Command::Check { folders }) => check_folders(alloc, folders, store, output),
-        Some(Command::At { file, moment }) => state_at(alloc, file, moment, store, output),
-        None => usage(output),
+        Some(
+            Command::Serve {
+                address,
+                workers,
+                folders,
+            },
+        ) => serve_doors(
+            rt, alloc, address, workers, folders, store, input, output, net, spawner,
+        ),
+        Some(Command::Answer { folders }) => {
+            Ending::closed(alloc, answer(rt, alloc, folders, store, input, output))
+        }
+        Some(Command::Check { folders }) => {
+            Ending::closed(alloc, check_folders(alloc, folders, store, output))
+        }
+        Some(Command::At { file, moment }) => {
+            Ending::closed(alloc, state_at(alloc, file, moment, store, output))
+        }
+        None => Ending::closed(alloc, usage(output)),
     }
 }
 

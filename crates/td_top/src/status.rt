@@ -1,6 +1,7 @@
-ghost use Rattle.std.specs.Prelude.{◌≡◌};
-ghost use Rattle.td_top.specs.Statuses.{number_of, status_of};
+ghost use Rattle.std.specs.Prelude.{◌≡◌, if◌then◌else◌};
+ghost use Rattle.td_top.specs.Statuses.{number_of, status_for, status_of};
 
+use crate::talking::TalkEnd;
 use td_base::End;
 
 /// How a run ends.
@@ -16,6 +17,10 @@ pub enum Status {
     NotRead,
     /// 4: a write failed.
     NotWritten,
+    /// 5: a worker was not started.
+    NotStarted,
+    /// 6: the network failed, or a door of it sixteen times.
+    NoNetwork,
     /// 70: memory ran out.
     NoMemory,
 }
@@ -31,6 +36,8 @@ impl Status {
             Status::Refused => 2,
             Status::NotRead => 3,
             Status::NotWritten => 4,
+            Status::NotStarted => 5,
+            Status::NoNetwork => 6,
             Status::NoMemory => 70,
         }
     }
@@ -45,5 +52,28 @@ pub fn status_of(end: End) -> Status
         End::ReadFault => Status::NotRead,
         End::WriteFault => Status::NotWritten,
         End::NoMemory => Status::NoMemory,
+    }
+}
+
+/// The status for the end of a talk beside workers, of which one may have ended because its door is
+/// worn.
+pub fn status_for(end: TalkEnd, worn: bool) -> Status
+    ensures { result ≡ status_for end worn }
+{
+    match end {
+        TalkEnd::Quit | TalkEnd::InputEnded => served(worn),
+        TalkEnd::NotRead => Status::NotRead,
+        TalkEnd::NotWritten => Status::NotWritten,
+    }
+}
+
+/// The status after the work was done, unless a door is worn.
+fn served(worn: bool) -> Status
+    ensures { result ≡ (if worn then Status.NoNetwork else Status.Done) }
+{
+    if worn {
+        Status::NoNetwork
+    } else {
+        Status::Done
     }
 }

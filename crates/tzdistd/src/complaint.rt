@@ -1,8 +1,9 @@
 use crate::OUT_OF_MEMORY;
-use devices::LookFailure;
+use devices::{ListenFailure, LookFailure};
 use std::fmt::{Display, Formatter};
 use std::io::{Eprint, ErrorKind};
 use std::{fmt, str};
+use td_base::Bytes;
 
 /// The status where a file or the input was not read.
 const READ_FAULT: u8 = 3;
@@ -10,70 +11,94 @@ const READ_FAULT: u8 = 3;
 /// The status where the output was not written.
 const WRITE_FAULT: u8 = 4;
 
-/// What an operator reads where a run ended by a failure of the outside: which file or stream, and
-/// the system's word for why.
+/// The status where a worker was not started.
+const NOT_STARTED: u8 = 5;
+
+/// The status where the network failed.
+const NO_NETWORK: u8 = 6;
+
+/// The last failure of each object, if it failed.
+#[derive(Clone, Copy, Debug)]
+pub struct Failures<'a> {
+    pub store: Option<&'a LookFailure>,
+    pub input: Option<ErrorKind>,
+    pub output: Option<ErrorKind>,
+    /// Of making the doors of an address.
+    pub network: Option<&'a ListenFailure>,
+    /// Of accepting at one of the doors.
+    pub door: Option<ErrorKind>,
+}
+
+impl Failures<'_> {
+    /// Nothing failed.
+    pub const NONE: Failures<'static> = Failures {
+        store: None,
+        input: None,
+        output: None,
+        network: None,
+        door: None,
+    };
+}
+
+/// What an operator reads where a run ended by a failure of the outside: which file, stream or
+/// address, and the system's word for why.
 #[derive(Clone, Copy, Debug)]
 pub enum Complaint<'a> {
     OutOfMemory,
     File(&'a str, ErrorKind),
     Input(ErrorKind),
     Output(ErrorKind),
+    Worker,
+    Address(&'a str, ErrorKind),
+    Door(ErrorKind),
 }
 
 impl<'a> Complaint<'a> {
-    /// The complaint for a status, from the last failure of each object. A file that failed is
-    /// named rather than the input, which is read after files. A status that tells of no failure
-    /// has none.
-    pub fn of(
-        status: u8,
-        store: Option<&'a LookFailure>,
-        input: Option<ErrorKind>,
-        output: Option<ErrorKind>,
-    ) -> Option<Complaint<'a>> {
+    /// The complaint for a status, from what failed. Where the input failed it is named rather than
+    /// a file: what ends by a file has not begun with the input, and a console goes on after a file
+    /// that was not read. A status that tells of no failure has none.
+    pub fn of(status: u8, failures: Failures<'a>) -> Option<Complaint<'a>> {
         match status {
             OUT_OF_MEMORY => Some(Complaint::OutOfMemory),
-            READ_FAULT => match store {
-                Some(failure) => Some(Complaint::File(name_of(failure), failure.kind)),
-                None => Complaint::of_input(input),
-            },
-            WRITE_FAULT => Complaint::of_output(output),
+            READ_FAULT => of_reading(failures),
+            WRITE_FAULT => Some(Complaint::Output(failures.output?)),
+            NOT_STARTED => Some(Complaint::Worker),
+            NO_NETWORK => of_network(failures),
             _ => None,
         }
     }
+}
 
-    fn of_input(failure: Option<ErrorKind>) -> Option<Complaint<'a>> {
-        match failure {
-            Some(kind) => Some(Complaint::Input(kind)),
-            None => None,
-        }
+/// What was not read.
+fn of_reading(failures: Failures<'_>) -> Option<Complaint<'_>> {
+    if let Some(kind) = failures.input {
+        return Some(Complaint::Input(kind));
     }
+    let failure = failures.store?;
+    Some(Complaint::File(text_of(&failure.path, "a file"), failure.kind))
+}
 
-    fn of_output(failure: Option<ErrorKind>) -> Option<Complaint<'a>> {
-        match failure {
-            Some(kind) => Some(Complaint::Output(kind)),
-            None => None,
-        }
+/// Where no connection comes from.
+fn of_network(failures: Failures<'_>) -> Option<Complaint<'_>> {
+    if let Some(kind) = failures.door {
+        return Some(Complaint::Door(kind));
+    }
+    let failure = failures.network?;
+    Some(Complaint::Address(text_of(&failure.address, "an address"), failure.kind))
+}
+
+/// The name of what failed, where it can be printed.
+fn text_of<'a>(name: &'a Option<Bytes>, otherwise: &'static str) -> &'a str {
+    match name {
+        Some(name) => str::from_utf8(name.as_slice()).unwrap_or("a name that is not UTF-8"),
+        None => otherwise,
     }
 }
 
 /// Says on standard error what failed, where the status tells of a failure.
-pub fn complain<R: Eprint>(
-    rt: &R,
-    status: u8,
-    store: Option<&LookFailure>,
-    input: Option<ErrorKind>,
-    output: Option<ErrorKind>,
-) {
-    if let Some(complaint) = Complaint::of(status, store, input, output) {
+pub fn complain<R: Eprint>(rt: &R, status: u8, failures: Failures<'_>) {
+    if let Some(complaint) = Complaint::of(status, failures) {
         let _ = eprintln!(rt; "tzdistd: {complaint}");
-    }
-}
-
-/// The path that failed, where it can be printed.
-fn name_of(failure: &LookFailure) -> &str {
-    match &failure.path {
-        Some(path) => str::from_utf8(path.as_slice()).unwrap_or("a path that is not UTF-8"),
-        None => "a file",
     }
 }
 
@@ -84,6 +109,9 @@ impl Display for Complaint<'_> {
             Complaint::File(path, kind) => write!(f, "cannot read {path}: {kind}"),
             Complaint::Input(kind) => write!(f, "cannot read standard input: {kind}"),
             Complaint::Output(kind) => write!(f, "cannot write standard output: {kind}"),
+            Complaint::Worker => f.write_str("cannot start a worker"),
+            Complaint::Address(address, kind) => write!(f, "cannot listen at {address}: {kind}"),
+            Complaint::Door(kind) => write!(f, "cannot accept connections: {kind}"),
         }
     }
 }

@@ -11,8 +11,9 @@ mod complaint;
 mod tests;
 mod words;
 
-use complaint::complain;
-use devices::{RealSink, RealSource, RealStore};
+use complaint::{Failures, complain};
+use devices::{RealDoor, RealNetwork, RealSink, RealSource, RealSpawner, RealStore};
+use std::io::ErrorKind;
 use std::process::ExitCode;
 
 /// The status where memory ran out.
@@ -20,28 +21,43 @@ const OUT_OF_MEMORY: u8 = 70;
 
 fn main(rt: HostRuntime) -> ExitCode {
     let Ok(words) = words::collect(rt.alloc(), &rt) else {
-        complain(&rt, OUT_OF_MEMORY, None, None, None);
+        complain(&rt, OUT_OF_MEMORY, Failures::NONE);
         return exit_code(OUT_OF_MEMORY);
     };
     let mut store = RealStore::new(&rt);
     let mut input = RealSource::new(rt.stdin());
     let mut output = RealSink::new(rt.stdout());
-    let status = td_top::run(
+    let mut net = RealNetwork::new(&rt);
+    let mut spawner = RealSpawner::new();
+    let outcome = td_top::run(
         &rt,
         rt.alloc(),
         words.as_slice(),
         &mut store,
         &mut input,
         &mut output,
+        &mut net,
+        &mut spawner,
     );
-    complain(
-        &rt,
-        status,
-        store.failure(),
-        input.failure(),
-        output.failure(),
-    );
-    exit_code(status)
+    let failures = Failures {
+        store: store.failure(),
+        input: input.failure(),
+        output: output.failure(),
+        network: net.failure(),
+        door: door_failure(&outcome.doors),
+    };
+    complain(&rt, outcome.status, failures);
+    exit_code(outcome.status)
+}
+
+/// Why one of the doors failed last, if one did.
+fn door_failure(doors: &[RealDoor]) -> Option<ErrorKind> {
+    for door in doors {
+        if let Some(kind) = door.failure() {
+            return Some(kind);
+        }
+    }
+    None
 }
 
 /// The program ends with the status itself.

@@ -1,6 +1,6 @@
-use crate::complaint::Complaint;
+use crate::complaint::{Complaint, Failures};
 use crate::words;
-use devices::LookFailure;
+use devices::{ListenFailure, LookFailure};
 use std::env::FillError;
 use std::io::ErrorKind;
 use std::rt::Env;
@@ -51,33 +51,51 @@ fn collects_words_byte_for_byte(rt: HostRuntime) -> Result<(), Fail> {
 
 #[test]
 fn says_what_failed(rt: HostRuntime) -> Result<(), Fail> {
-    let path = Bytes::from_slice(rt.alloc(), b"a/utc")?;
-    let failure = LookFailure {
-        path: Some(path),
-        kind: ErrorKind::PermissionDenied,
+    let denied = ErrorKind::PermissionDenied;
+    let file = LookFailure {
+        path: Some(Bytes::from_slice(rt.alloc(), b"a/utc")?),
+        kind: denied,
     };
-    let denied = Some(ErrorKind::PermissionDenied);
-    let closed = Some(ErrorKind::BrokenPipe);
+    let taken = ListenFailure {
+        address: Some(Bytes::from_slice(rt.alloc(), b"127.0.0.1:80")?),
+        kind: ErrorKind::AddrInUse,
+    };
+    let nameless = ListenFailure {
+        address: None,
+        kind: denied,
+    };
+    let all = Failures {
+        store: Some(&file),
+        input: Some(ErrorKind::TimedOut),
+        output: Some(ErrorKind::BrokenPipe),
+        network: Some(&taken),
+        door: Some(ErrorKind::ConnectionAborted),
+    };
+    let unread = Failures { input: None, ..all };
+    let closed = Failures { door: None, ..all };
+    let unnamed = Failures {
+        network: Some(&nameless),
+        ..closed
+    };
     let rows = [
-        (Complaint::of(0, Some(&failure), denied, closed), ""),
-        (Complaint::of(2, Some(&failure), denied, closed), ""),
-        (
-            Complaint::of(3, Some(&failure), denied, closed),
-            "cannot read a/utc: permission denied",
-        ),
-        (
-            Complaint::of(3, None, denied, closed),
-            "cannot read standard input: permission denied",
-        ),
-        (
-            Complaint::of(4, None, None, closed),
-            "cannot write standard output: broken pipe",
-        ),
-        (Complaint::of(70, None, None, None), "out of memory"),
+        (0, all, ""),
+        (1, all, ""),
+        (2, all, ""),
+        (3, all, "cannot read standard input: timed out"),
+        (3, unread, "cannot read a/utc: permission denied"),
+        (3, Failures::NONE, ""),
+        (4, all, "cannot write standard output: broken pipe"),
+        (4, Failures::NONE, ""),
+        (5, Failures::NONE, "cannot start a worker"),
+        (6, all, "cannot accept connections: connection aborted"),
+        (6, closed, "cannot listen at 127.0.0.1:80: address in use"),
+        (6, unnamed, "cannot listen at an address: permission denied"),
+        (6, Failures::NONE, ""),
+        (70, Failures::NONE, "out of memory"),
     ];
-    for (complaint, want) in rows {
+    for (status, failures, want) in rows {
         let mut text = format!(in rt.alloc(); "")?;
-        if let Some(complaint) = complaint {
+        if let Some(complaint) = Complaint::of(status, failures) {
             text = format!(in rt.alloc(); "{complaint}")?;
         }
         assert_eq!(rt; text.as_str(), want);

@@ -1,6 +1,6 @@
 use Rattle.std.proofs.Common.{◌≡◌, drop}
 use Rattle.std.specs.List.{list_all}
-use Rattle.td_top.specs.Grammar.{is_path_word}
+use Rattle.td_base.specs.Names.{is_path_word}
 use Rattle.td_top.proofs.command.are_path_words.Given as goal
 
 abbrev pub invariant-loop-word : goal.invariant-loop-word

@@ -1,17 +1,37 @@
-use Rattle.td_top.proofs.Refusals.{ends_as}
+use Rattle.std.proofs.Common.{rules}
+use Rattle.td_top.proofs.RunLemmas.{ran_alone, runs_as}
 use Rattle.td_top.proofs.running.do_words.Goals as goal
+
+pub serve_doors-requires-clause-folders : goal.serve_doors-requires-clause-folders
+serve_doors-requires-clause-folders g c =
+    let meant = rw c.in-Some-Serve.field-0-is at c.in-Some-Serve.ensures.meant in search (meant.1, rules)
+
+pub serve_doors-requires-clause-workers : goal.serve_doors-requires-clause-workers
+serve_doors-requires-clause-workers g c =
+    let meant = rw c.in-Some-Serve.field-0-is at c.in-Some-Serve.ensures.meant in search (meant.0, rules)
+
+pub returns-in-Some-Serve : goal.returns-in-Some-Serve
+returns-in-Some-Serve g c = runs_as _ _ _ _ _ _ (rw c.in-Some-Serve.field-0-is at c.in-Some-Serve.ensures.spelled) c.serve_doors.ensures
 
 pub answer-requires : goal.answer-requires
 answer-requires g c = rw c.in-Some-Answer.field-0-is at c.in-Some-Answer.ensures.meant
 
+pub returns-in-Some-Answer : goal.returns-in-Some-Answer
+returns-in-Some-Answer g c =
+    ran_alone g.N.Door.Door.seen _ _ _ _ _ _ _ _ _ c.closed.ensures.status c.closed.ensures.doors
+    (rw c.in-Some-Answer.field-0-is at c.in-Some-Answer.ensures.spelled) c.answer.ensures
+
 pub returns-in-Some-Check : goal.returns-in-Some-Check
 returns-in-Some-Check g c =
-    ends_as _ _ _ _ _ (rw c.in-Some-Check.field-0-is at c.in-Some-Check.ensures.spelled) (c.check_folders.ensures (g.C.Source.seen c.args.input.now))
+    ran_alone g.N.Door.Door.seen _ _ _ _ _ _ _ _ _ c.closed-in-Some-Check.ensures.status c.closed-in-Some-Check.ensures.doors
+    (rw c.in-Some-Check.field-0-is at c.in-Some-Check.ensures.spelled) (c.check_folders.ensures (g.C.Source.seen c.args.input.now))
 
 pub returns-in-Some-At : goal.returns-in-Some-At
 returns-in-Some-At g c =
-    ends_as _ _ _ _ _ (rw c.in-Some-At.field-0-is at c.in-Some-At.ensures.spelled) (c.state_at.ensures (g.C.Source.seen c.args.input.now))
+    ran_alone g.N.Door.Door.seen _ _ _ _ _ _ _ _ _ c.closed-in-Some-At.ensures.status c.closed-in-Some-At.ensures.doors
+    (rw c.in-Some-At.field-0-is at c.in-Some-At.ensures.spelled) (c.state_at.ensures (g.C.Source.seen c.args.input.now))
 
 pub returns-in-None : goal.returns-in-None
 returns-in-None g c =
-    ends_as _ _ _ _ _ c.in-None.ensures.spelled (c.usage.ensures (g.S.Store.seen c.args.store.now) (g.C.Source.seen c.args.input.now))
+    ran_alone g.N.Door.Door.seen _ _ _ _ _ _ _ _ _ c.closed-in-None.ensures.status c.closed-in-None.ensures.doors
+    c.in-None.ensures.spelled (c.usage.ensures (g.S.Store.seen c.args.store.now) (g.C.Source.seen c.args.input.now))

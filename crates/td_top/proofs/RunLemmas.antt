@@ -1,0 +1,147 @@
+-- How a run ends over all that is outside it.
+use Rattle.std.proofs.Common.{◌≡◌, ℕ, ◌≤◌, List, [], map, Option, None, Some, IfSome, Ok, refl, sym, subst, arith}
+use Rattle.td_base.specs.Cause.{Rose, RoseBy}
+use Rattle.td_base.specs.DoorViews.{DoorView, NetworkView}
+use Rattle.td_base.specs.Files.{File}
+use Rattle.td_base.specs.Later.{LaterSink, LaterSource, LaterStore}
+use Rattle.td_base.specs.Views.{SinkView, SourceView, StoreView}
+use Rattle.td_base.proofs.LaterLemmas.{sink_refl, source_refl, store_refl, store_trans}
+use Rattle.catalogue.specs.Releases.{ReleaseData}
+use Rattle.catalogue.specs.declared.holding.Catalogue.{Catalogue}
+use Rattle.connection.specs.DoorWorks.{WorkView}
+use Rattle.console.specs.declared.line.Line.{Line}
+use Rattle.console.specs.declared.said.Said.{Said}
+use Rattle.installer.specs.Installing.{history_of}
+use Rattle.td_top.specs.Grammar.{Asked, serve}
+use Rattle.td_top.specs.Installed.{InstallsAll}
+use Rattle.td_top.specs.Outside.{Later, Outside, outside}
+use Rattle.td_top.specs.RunEnds.{RunEndsLater, alone, opened}
+use Rattle.td_top.specs.Server.{LeavesStreams, OpenedEnds, OpensDoors, no_network, served as served_opened, not_started as not_started_opened, out_of_memory as out_of_memory_opened}
+use Rattle.td_top.specs.Serving.{ServesBeside, ServesOpened}
+use Rattle.td_top.specs.Talk.{Talk, Talks, begun}
+use Rattle.td_top.specs.Talking.{AnswersOperator, EndsBy}
+use Rattle.td_top.specs.Tells.{EndsLater}
+use Rattle.td_top.specs.Works.{AreWorks, WorksEnd, not_started, out_of_memory, served}
+use Rattle.td_top.specs.Worlds.{LaterWorld, World, world}
+use Rattle.td_top.specs.declared.session.Session.{Session}
+use Rattle.td_top.specs.declared.status.Status.{Status}
+use Rattle.td_top.specs.declared.talking.TalkEnd.{TalkEnd}
+use Rattle.td_top.specs.declared.talking.TalkEnd.TheVariants as end
+
+-- nothing was done
+pub outside_refl : (a : Outside) → Later a a
+outside_refl a = record { store = store_refl a.store; input = source_refl a.input; output = sink_refl a.output }
+
+-- ---- after an opening
+
+-- the doors of an address were served beside a talk
+ends_opened : (address : List ℕ) (workers : ℕ) (opening : List ReleaseData) (before after : World) (given doors : List DoorView) (is : Status)
+    → OpensDoors before.network after.network address workers given
+    → WorksEnd opening given before.outside after.outside before.spawner after.spawner doors is
+    → OpenedEnds address workers opening before after doors is
+ends_opened address workers opening before after given doors is opens (served history ds ended worn operator over) =
+    served_opened ds ended worn (record { history = history; operator = operator; given = given; opened = opens; served = over })
+ends_opened address workers opening before after given doors is opens (not_started left rose) = not_started_opened left rose
+ends_opened address workers opening before after given doors is opens out_of_memory = out_of_memory_opened
+
+pub served_beside : (address : List ℕ) (workers : ℕ) (session : Session) (works : List WorkView) (given doors : List DoorView) (is : Status)
+    (o p : Outside) (n m : NetworkView) (r q : ℕ) → OpensDoors n m address workers given → n.faults ≤ m.faults → AreWorks session.installer.pair given works
+    → ServesBeside session works o p r q doors is
+    → ServesOpened address workers (history_of session.installer.list) (world o n r) (world p m q) doors is
+served_beside address workers session works given doors is o p n m r q opens later are h = record {
+  later = record { outside = h.later; network = later; spawner = h.starting };
+  ends = ends_opened address workers (history_of session.installer.list) (world o n r) (world p m q) given doors is opens (h.ends given are);
+}
+
+module _ {D : Type 0} (seen : D → DoorView) where
+  -- nothing was served: the network failed, or memory ran out
+  pub given_up : (address : List ℕ) (workers : ℕ) (opening : List ReleaseData) (o : Outside) (n m : NetworkView) (r : ℕ) (doors : List D) (is end : Status)
+      → is ≡ end → doors ≡ [] → n.faults ≤ m.faults → OpenedEnds address workers opening (world o n r) (world o m r) [] end
+      → ServesOpened address workers opening (world o n r) (world o m r) (map seen doors) is
+  given_up address workers opening o n m r doors is end e none later ends =
+      subst (λ ds. ServesOpened address workers opening (world o n r) (world o m r) (map seen ds) is) (sym none)
+      (subst (λ s. ServesOpened address workers opening (world o n r) (world o m r) [] s) (sym e) (record {
+        later = record { outside = outside_refl o; network = later; spawner = omega arith };
+        ends = ends;
+      }))
+
+  -- ---- a whole run
+
+  -- a run that serves no door
+  pub ran_alone : (asked other : Option Asked) (before after : Outside) (n : NetworkView) (r : ℕ) (doors : List D) (is end : Status) → is ≡ end → doors ≡ []
+      → asked ≡ other → EndsLater asked before after end → RunEndsLater other (world before n r) (world after n r) (map seen doors) is
+  ran_alone asked other before after n r doors is end e none same h =
+      subst (λ ds. RunEndsLater other (world before n r) (world after n r) (map seen ds) is) (sym none)
+      (subst (λ s. RunEndsLater other (world before n r) (world after n r) [] s) (sym e)
+      (subst (λ a. RunEndsLater a (world before n r) (world after n r) [] end) same (record {
+        ends = alone end h.ends refl refl;
+        later = record { outside = h.later; network = omega arith; spawner = omega arith };
+      })))
+
+-- ---- from the start of a run
+
+ends_by : (s t : StoreView) (i : SourceView) (o : SinkView) (now : Outside) (asked ignored : List Line) (ended : TalkEnd)
+    → EndsBy (outside t i o) now asked ignored ended → EndsBy (outside s i o) now asked ignored ended
+ends_by s t i o now asked ignored end.Quit h = h
+ends_by s t i o now asked ignored end.InputEnded h = h
+ends_by s t i o now asked ignored end.NotRead h = h
+ends_by s t i o now asked ignored end.NotWritten h = h
+
+rose_by_earlier : (n a b c : ℕ) → RoseBy n b c → a ≤ b → RoseBy n a c
+rose_by_earlier n a b c h k = omega (arith, h, k)
+
+operated_from : (opening whole : List ReleaseData) (s t : StoreView) (i : SourceView) (o : SinkView) (now : Outside) (ended : TalkEnd) → LaterStore s t
+    → AnswersOperator opening whole (outside t i o) now ended → AnswersOperator opening whole (outside s i o) now ended
+operated_from opening whole s t i o now ended store h = record {
+  read = h.read;
+  asked = h.asked;
+  ignored = h.ignored;
+  told = h.told;
+  last = h.last;
+  reads = h.reads;
+  talks = subst (λ (files : Option (List File)). Talks files whole (begun opening) h.asked h.told h.last) store.kept h.talks;
+  published = h.published;
+  unread = rose_by_earlier h.last.unread s.faults t.faults now.store.faults h.unread store.later;
+  written = h.written;
+  ends = ends_by s t i o now h.asked h.ignored ended h.ends;
+}
+
+opened_from : (address : List ℕ) (workers : ℕ) (opening : List ReleaseData) (s t : StoreView) (i : SourceView) (o : SinkView) (n : NetworkView) (r : ℕ)
+    (after : World) (doors : List DoorView) (is : Status) → LaterStore s t
+    → OpenedEnds address workers opening (world (outside t i o) n r) after doors is
+    → OpenedEnds address workers opening (world (outside s i o) n r) after doors is
+opened_from address workers opening s t i o n r after doors is store (served_opened ds ended worn h) =
+    served_opened ds ended worn (record {
+      history = h.history;
+      operator = operated_from opening h.history s t i o after.outside ended store h.operator;
+      given = h.given;
+      opened = h.opened;
+      served = h.served;
+    })
+opened_from address workers opening s t i o n r after doors is store (no_network left rose) = no_network left rose
+opened_from address workers opening s t i o n r after doors is store (not_started_opened left rose) = not_started_opened left rose
+opened_from address workers opening s t i o n r after doors is store out_of_memory_opened = out_of_memory_opened
+
+-- the doors of an address were served, once the folders had given their releases
+pub ran_doors : (address : List ℕ) (workers : ℕ) (dirs : List (List ℕ)) (list : List (Catalogue (List ℕ))) (s t : StoreView) (i : SourceView) (o : SinkView)
+    (n : NetworkView) (r : ℕ) (after : World) (doors : List DoorView) (is : Status) → InstallsAll dirs s t (Ok list)
+    → ServesOpened address workers (history_of list) (world (outside t i o) n r) after doors is
+    → RunEndsLater (Some (serve address workers dirs)) (world (outside s i o) n r) after doors is
+ran_doors address workers dirs list s t i o n r after doors is all h = record {
+  ends = opened address workers dirs (history_of list) doors is refl all.came
+      (opened_from address workers (history_of list) s t i o n r after doors is all.later h.ends);
+  later = record {
+    outside = record {
+      store = store_trans s t after.outside.store all.later h.later.outside.store;
+      input = h.later.outside.input;
+      output = h.later.outside.output;
+    };
+    network = h.later.network;
+    spawner = h.later.spawner;
+  };
+}
+
+-- a command that is another
+pub runs_as : (asked other : Option Asked) (before after : World) (doors : List DoorView) (is : Status) → asked ≡ other
+    → RunEndsLater asked before after doors is → RunEndsLater other before after doors is
+runs_as asked other before after doors is same h = subst (λ a. RunEndsLater a before after doors is) same h

@@ -1,0 +1,224 @@
+-- What doors that were served beside a talk come to, over the history of the run.
+use Rattle.std.proofs.Common.{◌≡◌, ℕ, ◌≤◌, List, [], ◌∷◌, ◌++◌, length, map, take, drop, Bool, true, false, ◌||◌, All, Option, None, Some, IfSome, inl, inr, refl, sym, subst, ap, ◌∙◌, arith}
+use Rattle.std.specs.List.{list_any}
+use Rattle.std.specs.Global.{Vec}
+use Rattle.std.proofs.lemmas.List.{length-map}
+use Rattle.std.proofs.lemmas.Simd.{map-map}
+use Rattle.std.proofs.lemmas.List.Elements.{All-cons, All-head, All-nil, All-tail, All-weaker}
+use Rattle.std.proofs.lemmas.Bool.{true≢false}
+use mathlib.Core.List.{IsPrefix}
+use Rattle.td_base.specs.Cause.{Rose, RoseBy}
+use Rattle.td_base.specs.DoorViews.{DoorContent, DoorView, NetworkContent, NetworkView}
+use Rattle.td_base.specs.Doors.{IsNewDoor, OpenTold, Opens}
+use Rattle.td_base.specs.declared.network.Made.TheVariants as made
+use Rattle.td_base.specs.declared.report.Role.TheVariants as role
+use Rattle.catalogue.specs.Releases.{ReleaseData}
+use Rattle.catalogue.specs.declared.holding.Catalogue.{Catalogue}
+use Rattle.connection.specs.DoorWorks.{DoesDoor, NoneGiven, ServesTold, Stops, WorkView, at_end, at_flag, by_faults}
+use Rattle.connection.specs.declared.door_work.DoorDone.{DoorDone}
+use Rattle.desk_pool.specs.Flag.{Sight}
+use Rattle.desk_pool.specs.Pool.{DoesEach}
+use Rattle.installer.specs.Installing.{history_of}
+use Rattle.logbook.specs.Pages.{Book}
+use Rattle.publication.specs.Views.{DeskView}
+use Rattle.publication.proofs.Beginnings.{prefix_self}
+use Rattle.td_top.specs.Consoles.{ConsoleView, Halted, Ran}
+use Rattle.td_top.specs.Outside.{Outside}
+use Rattle.td_top.specs.Server.{ConnsTold, IsDone, LeavesStreams, OpensDoors, OpenedTold, ServesDoor, ServesDoors, no_door, one_more}
+use Rattle.td_top.specs.Serving.{Concludes, LearntAll}
+use Rattle.td_top.specs.Statuses.{status_for}
+use Rattle.td_top.specs.Talking.{AnswersOperator, ComesTo, LaterScene, Scene, Talked}
+use Rattle.td_top.specs.Works.{AreWorks, Learnt, WorksEnd, not_started, out_of_memory, served}
+use Rattle.td_top.specs.declared.session.Session.{Session}
+use Rattle.td_top.specs.declared.status.Status.{Status}
+use Rattle.td_top.specs.declared.status.Status.TheVariants as status
+use Rattle.td_top.specs.declared.talking.TalkEnd.{TalkEnd}
+use Rattle.td_top.proofs.TalkLemmas.{history_longer}
+
+-- ---- the talk
+
+-- over the history that was published, of which the console's desk has seen no more
+pub operated : (before now : Scene) (ended : TalkEnd) → IsPrefix now.session.desk.seen now.session.installer.list → Talked before now ended
+    → AnswersOperator (history_of before.session.installer.list) (history_of now.session.installer.list) before.outside now.outside ended
+operated before now ended seen t =
+    let whole : List ReleaseData = history_of now.session.installer.list in
+    let talk = t.over.talks whole (record {
+      published = prefix_self whole;
+      seen = history_longer now.session.desk.seen now.session.installer.list seen;
+    }) in
+    record {
+      read = t.read;
+      asked = t.asked;
+      ignored = t.ignored;
+      told = t.told;
+      last = talk.0;
+      reads = t.reads;
+      talks = talk.2;
+      published = talk.1.published;
+      unread = talk.1.unread;
+      written = t.written;
+      ends = t.ends;
+    }
+
+-- ---- doors
+
+told_over : (list : List (Catalogue (List ℕ))) (before now : Option DoorContent) (desk desk' : DeskView (Catalogue (List ℕ))) → IsPrefix desk'.seen list
+    → ServesTold role.Primary before now desk desk' → ConnsTold (history_of list) before now
+told_over list (Some before) (Some now) desk desk' seen h = record {
+  inputs = h.inputs;
+  finished = h.finished;
+  given = h.given;
+  coming = h.coming;
+  finished_is = h.finished_is;
+  served = h.served (history_of list) (history_longer desk'.seen list seen);
+  rising = h.rising;
+}
+told_over list (Some before) None desk desk' seen h = absurd h
+told_over list None (Some now) desk desk' seen h = absurd h
+told_over list None None desk desk' seen h = tt
+
+done_by : (before now : DoorView) (raised worn : Bool) → Stops before now raised worn → worn ≡ false → IsDone now
+done_by before now raised worn (at_end last none is) e = inl (last, none)
+done_by before now raised worn (at_flag last up is) e = inr last
+done_by before now raised worn (by_faults last rose is) e = absurd (true≢false (sym is ∙ e))
+
+worn_by : (before now : DoorView) (raised worn : Bool) → Stops before now raised worn → worn ≡ true → RoseBy 16 before.faults now.faults
+worn_by before now raised worn (at_end last none is) e = absurd (true≢false (sym e ∙ is))
+worn_by before now raised worn (at_flag last up is) e = absurd (true≢false (sym e ∙ is))
+worn_by before now raised worn (by_faults last rose is) e = rose
+
+door_served : (list : List (Catalogue (List ℕ))) (before now : DoorView) (desk desk' : DeskView (Catalogue (List ℕ))) (sign sign' : Sight) (worn : Bool)
+    → IsPrefix desk'.seen list → DoesDoor role.Primary before now desk desk' sign sign' worn → ServesDoor (history_of list) before now worn
+door_served list before now desk desk' sign sign' worn seen h = record {
+  told = told_over list before.content now.content desk desk' seen h.serves;
+  done = done_by before now sign'.raised worn h.stops;
+  failed = worn_by before now sign'.raised worn h.stops;
+}
+
+-- ---- no doors
+
+module _ {D : Type 0} (seen : D → DoorView) where
+  pub without_memory : (opening : List ReleaseData) (given : List DoorView) (before now : Outside) (r r' : ℕ) (doors : List D) (is : Status)
+      → is ≡ status.NoMemory → doors ≡ [] → WorksEnd opening given before now r r' (map seen doors) is
+  without_memory opening given before now r r' doors is e none =
+      subst (λ ds. WorksEnd opening given before now r r' (map seen ds) is) (sym none)
+      (subst (λ s. WorksEnd opening given before now r r' [] s) (sym e) out_of_memory)
+
+  pub unstarted : (opening : List ReleaseData) (given : List DoorView) (before now : Outside) (r r' : ℕ) (doors : List D) (is : Status)
+      → is ≡ status.NotStarted → doors ≡ [] → LeavesStreams before now → Rose r r' → WorksEnd opening given before now r r' (map seen doors) is
+  unstarted opening given before now r r' doors is e none left rose =
+      subst (λ ds. WorksEnd opening given before now r r' (map seen ds) is) (sym none)
+      (subst (λ s. WorksEnd opening given before now r r' [] s) (sym e) (not_started left rose))
+
+-- ---- doors that were served
+
+module _ {D C : Type 0} (seen : D → DoorView) where
+  -- what a work promises of its result
+  abbrev pub Does : WorkView → DoorDone D C → Type 0
+  Does w d = DoesDoor w.role w.door (seen d.door) w.desk d.desk w.stop d.sign d.worn
+
+  one_served : (list : List (Catalogue (List ℕ))) (pair : Book) (given : DoorView) (w : WorkView) (d : DoorDone D C)
+      → (w.role ≡ role.Primary) × (w.door ≡ given) × (w.desk.pair ≡ pair) → IsPrefix d.desk.seen list → Does w d
+      → ServesDoor (history_of list) given (seen d.door) d.worn
+  one_served list pair given w d is held does =
+      door_served list given (seen d.door) w.desk d.desk w.stop d.sign d.worn held
+      (subst (λ b. DoesDoor role.Primary b (seen d.door) w.desk d.desk w.stop d.sign d.worn) is.1
+      (subst (λ r. DoesDoor r w.door (seen d.door) w.desk d.desk w.stop d.sign d.worn) is.0 does))
+
+  pub all_served : (list : List (Catalogue (List ℕ))) (pair : Book) (given : List DoorView) (works : List WorkView) (dones : List (DoorDone D C))
+      → AreWorks pair given works → All (λ d. IsPrefix d.desk.seen list) dones → DoesEach Does works dones
+      → ServesDoors (history_of list) given (map seen (map (λ d. d.door) dones)) (list_any (λ d. d.worn) dones)
+  all_served list pair [] [] [] are held does = no_door
+  all_served list pair [] (w ∷ ws) dones are held does = absurd are
+  all_served list pair (g ∷ gs) [] dones are held does = absurd are
+  all_served list pair [] [] (d ∷ ds) are held does = absurd does
+  all_served list pair (g ∷ gs) (w ∷ ws) [] are held does = absurd does
+  all_served list pair (g ∷ gs) (w ∷ ws) (d ∷ ds) are held does =
+      one_more g (seen d.door) gs (map seen (map (λ d. d.door) ds)) d.worn (list_any (λ d. d.worn) ds)
+      (one_served list pair g w d are.0 (All-head (λ d. IsPrefix d.desk.seen list) d ds held) does.0)
+      (all_served list pair gs ws ds are.1 (All-tail (λ d. IsPrefix d.desk.seen list) d ds held) does.1)
+
+  -- the desks of the workers are of their pair
+  pub same_pairs : (pair : Book) (given : List DoorView) (works : List WorkView) (dones : List (DoorDone D C))
+      → AreWorks pair given works → DoesEach Does works dones → All (λ d. d.desk.pair ≡ pair) dones
+  same_pairs pair [] [] [] are does = All-nil (λ d. d.desk.pair ≡ pair)
+  same_pairs pair [] (w ∷ ws) dones are does = absurd are
+  same_pairs pair (g ∷ gs) [] dones are does = absurd are
+  same_pairs pair [] [] (d ∷ ds) are does = absurd does
+  same_pairs pair (g ∷ gs) (w ∷ ws) [] are does = absurd does
+  same_pairs pair (g ∷ gs) (w ∷ ws) (d ∷ ds) are does =
+      All-cons (λ d. d.desk.pair ≡ pair) d ds (does.0.desk_goes_on.pair ∙ are.0.2) (same_pairs pair gs ws ds are.1 does.1)
+
+  -- ---- the end
+
+  pub concluded : (before now : Scene) (ended : TalkEnd) (works : List WorkView) (dones : List (DoorDone D C)) (doors : List D) (is : Status)
+      (given : List DoorView) (r r' : ℕ) → AreWorks before.session.installer.pair given works → DoesEach Does works dones
+      → Talked before now ended → LearntAll now.session dones ended doors is
+      → WorksEnd (history_of before.session.installer.list) given before.outside now.outside r r' (map seen doors) is
+  concluded before now ended works dones doors is given r r' are does talked learnt =
+      let list = now.session.installer.list in
+      let over : ServesDoors (history_of list) given (map seen doors) (list_any (λ d. d.worn) dones) =
+      subst (λ ds. ServesDoors (history_of list) given (map seen ds) (list_any (λ d. d.worn) dones)) (sym learnt.workers.doors_are)
+      (all_served list before.session.installer.pair given works dones are learnt.workers.seen does) in
+      subst (λ e. WorksEnd (history_of before.session.installer.list) given before.outside now.outside r r' (map seen doors) e) (sym learnt.ending)
+      (served (history_of list) (map seen doors) ended (list_any (λ d. d.worn) dones) (operated before now ended learnt.seen talked) over)
+
+  pub comes_concluded : (before now : Scene) (ended : TalkEnd) (works : List WorkView) (dones : List (DoorDone D C)) (doors : List D) (is : Status)
+      (given : List DoorView) (r r' : ℕ) → AreWorks before.session.installer.pair given works → DoesEach Does works dones
+      → ComesTo before now (Some ended) → Concludes now.session dones ended doors is
+      → WorksEnd (history_of before.session.installer.list) given before.outside now.outside r r' (map seen doors) is
+  comes_concluded before now ended works dones doors is given r r' are does talked (inl learnt) =
+      concluded before now ended works dones doors is given r r' are does talked learnt
+  comes_concluded before now ended works dones doors is given r r' are does talked (inr none) =
+      without_memory seen (history_of before.session.installer.list) given before.outside now.outside r r' doors is none.0 none.1
+
+-- all desks learnt the end of a list, which is what a session had published
+pub concludes : {D C : Type 0} (session : Session) (list : List (Catalogue (List ℕ))) (dones : List (DoorDone D C)) (ended : TalkEnd) (doors : List D)
+    (worn : Bool) (is : Status) → list ≡ session.installer.list → IsPrefix session.desk.seen list → Learnt list dones doors worn → is ≡ status_for ended worn
+    → Concludes session dones ended doors is
+concludes session list dones ended doors worn is same seen learnt e =
+    inl (record {
+      seen = subst (λ l. IsPrefix session.desk.seen l) same seen;
+      workers = subst (λ l. Learnt l dones doors (list_any (λ d. d.worn) dones)) same
+          (subst (λ w. Learnt list dones doors w) learnt.worn_is learnt);
+      ending = e ∙ ap (λ w. status_for ended w) learnt.worn_is;
+    })
+
+-- the talk beside the works, and what it was lent
+pub came : (before mid now : ConsoleView) → Ran before mid → Halted mid now → (ComesTo before.scene now.scene now.end) × (now.lent ≡ before.lent)
+came before mid now ran halted =
+    (subst (λ v. ComesTo before.scene v.scene v.end) (sym halted) ran.talk, ap (λ v. v.lent) halted ∙ ran.lent)
+
+-- any calls were made meanwhile
+pub comes_later : (before now : Scene) (ended : Option TalkEnd) → ComesTo before now ended → LaterScene before now
+comes_later before now (Some e) h = h.over.later
+comes_later before now None h = h
+
+-- ---- the network
+
+module _ {D : Type 0} (seen : D → DoorView) where
+  opened_told : (before now : Option NetworkContent) (address : List ℕ) (n : ℕ) (doors : Vec D) → length (map seen doors.items) ≡ n
+      → OpenTold seen before now address n (made.Given doors) → OpenedTold before now address (map seen doors.items)
+  opened_told (Some before) (Some now) address n doors many h = rw many (h.0, h.1, map-map (λ d. d.content) seen doors.items ∙ h.2)
+  opened_told (Some before) None address n doors many h = absurd h
+  opened_told None (Some now) address n doors many h = absurd h
+  opened_told None None address n doors many h = tt
+
+  all_new : (doors : List D) → All (λ d. IsNewDoor (seen d)) doors → All IsNewDoor (map seen doors)
+  all_new [] h = All-nil IsNewDoor
+  all_new (d ∷ ds) h =
+      All-cons IsNewDoor (seen d) (map seen ds) (All-head (λ e. IsNewDoor (seen e)) d ds h) (all_new ds (All-tail (λ e. IsNewDoor (seen e)) d ds h))
+
+  pub opens_doors : (before now : NetworkView) (address : List ℕ) (n : ℕ) (doors : Vec D) → Opens seen before now address n (made.Given doors)
+      → OpensDoors before now address n (map seen doors.items)
+  opens_doors before now address n doors h =
+      let many : length (map seen doors.items) ≡ n = length-map doors.items seen ∙ h.fits.0 in
+      record {
+        many = many;
+        new = all_new doors.items h.fits.1;
+        told = opened_told before.content now.content address n doors many h.told;
+      }
+
+  -- a new door has given no connection
+  pub none_given : (doors : List D) → All (λ d. IsNewDoor (seen d)) doors → All (λ d. NoneGiven (seen d)) doors
+  none_given doors h = All-weaker (λ d. IsNewDoor (seen d)) (λ d. NoneGiven (seen d)) (λ d new. new.content) doors h

@@ -1,0 +1,308 @@
+-- How a talk with an operator goes on by a turn, and ends.
+use Rattle.std.proofs.Common.{◌≡◌, ◌≢◌, ℕ, ◌≤◌, List, [], ◌∷◌, ◌++◌, length, map, flat_map, Option, None, Some, inl, inr, refl, sym, subst, ap, ◌∙◌, append_assoc, append-nil, arith}
+use Rattle.std.specs.Io.KnownBytes.{Consumes, IsAtEnd}
+use Rattle.std.specs.List.{AllByRecursion}
+use Rattle.std.proofs.KnownBytes.{Consumes-nil, Consumes-trans}
+use Rattle.std.proofs.lemmas.List.{map-append}
+use Rattle.std.proofs.lemmas.List.Concat.{flat_map-append}
+use mathlib.Core.List.{IsPrefix}
+use Rattle.td_base.specs.Cause.{SourceFailed}
+use Rattle.td_base.specs.Later.{LaterSink, LaterSource, LaterStore}
+use Rattle.td_base.specs.Transfer.{WritesAll}
+use Rattle.td_base.specs.Views.{SinkView, SourceView, StoreView}
+use Rattle.td_base.specs.declared.transfer.Written.{Written}
+use Rattle.td_base.specs.declared.transfer.Written.TheVariants as written
+use Rattle.td_base.proofs.LaterLemmas.{sink_refl, sink_trans, source_refl, source_then_failed, source_trans, store_refl, store_trans, writes_all_later}
+use Rattle.catalogue.specs.Holdings.{release_held}
+use Rattle.catalogue.specs.Releases.{ReleaseData}
+use Rattle.catalogue.specs.declared.holding.Catalogue.{Catalogue}
+use Rattle.console.specs.Lines.{lines_of}
+use Rattle.console.specs.Replies.{reply_text}
+use Rattle.console.specs.Steps.{Gives}
+use Rattle.console.specs.declared.line.Line.{Line}
+use Rattle.console.specs.declared.line.Line.TheVariants as line
+use Rattle.console.specs.declared.said.Said.{Said}
+use Rattle.console.specs.declared.said.Said.TheVariants as said
+use Rattle.installer.specs.Installing.{history_of}
+use Rattle.publication.proofs.Beginnings.{prefix_trans}
+use Rattle.td_top.specs.Outside.{Later, Outside, outside}
+use Rattle.td_top.specs.Sessions.{AnswersLine, BeginsWhole, LaterSession, StandsAt}
+use Rattle.td_top.specs.Talk.{GoesOn, Talk, Talks, begun, last_token, more, none}
+use Rattle.td_top.specs.Talking.{ComesTo, EndsBy, IsAt, LaterScene, Scene, Talked, TalksOver, how_written, scene, talk_text}
+use Rattle.td_top.specs.Turns.{Feeds, FeedsTalk, HasNone, IsNext, Reaches, SaysBye, SaysText}
+use Rattle.td_top.specs.declared.talking.Turn.{Turn}
+use Rattle.td_top.specs.declared.talking.Turn.TheVariants as turn
+use Rattle.td_top.specs.declared.session.Session.{Session}
+use Rattle.td_top.specs.declared.talking.TalkEnd.{TalkEnd}
+use Rattle.td_top.specs.declared.talking.TalkEnd.TheVariants as end
+use Rattle.td_top.proofs.Checked.{cut_more, written_more, written_nothing}
+use Rattle.td_top.proofs.LineLemmas.{history_size, session_refl, session_trans}
+
+-- ---- histories
+
+pub history_longer : (xs ys : List (Catalogue (List ℕ))) → IsPrefix xs ys → IsPrefix (history_of xs) (history_of ys)
+history_longer xs ys p = (history_of p.0, sym (map-append (release_held (λ f. f)) xs p.0) ∙ ap history_of p.1)
+
+begins_before : (a b : Session) (whole : List ReleaseData) → LaterSession a b → BeginsWhole b whole → BeginsWhole a whole
+begins_before a b whole later begins = record {
+  published = prefix_trans (history_of a.installer.list) (history_of b.installer.list) whole
+      (history_longer a.installer.list b.installer.list later.published) begins.published;
+  seen = prefix_trans (history_of a.desk.seen) (history_of b.desk.seen) whole (history_longer a.desk.seen b.desk.seen later.seen) begins.seen;
+}
+
+-- ---- lines
+
+-- all lines of what was fed are those asked and those of what is held
+lines_held : (all held : List ℕ) (given : List Line) → Gives all given held → lines_of all ≡ given ++ lines_of held
+lines_held all held given g = ap lines_of (sym (append-nil all)) ∙ (g [] ∙ ap (λ (l : List ℕ). given ++ lines_of l) (append-nil held))
+
+gives_more : (all held read : List ℕ) (given : List Line) → Gives all given held → Gives (all ++ read) given (held ++ read)
+gives_more all held read given g = λ rest.
+    ap lines_of (append_assoc all read rest) ∙ (g (read ++ rest) ∙ ap (λ (l : List ℕ). given ++ lines_of l) (sym (append_assoc held read rest)))
+
+pub ready_text : (a b : List ℕ) → a ≡ b → reply_text (said.Ready a) ≡ reply_text (said.Ready b)
+ready_text a b e = ap (λ (t : List ℕ). reply_text (said.Ready t)) e
+
+pub gives_none : Gives [] [] []
+gives_none = λ more. refl
+
+all_more : {A : Type 0} (P : A → Type 0) (xs : List A) (x : A) → AllByRecursion P xs → P x → AllByRecursion P (xs ++ x ∷ [])
+all_more P [] x h p = (p, tt)
+all_more P (y ∷ ys) x h p = (h.0, all_more P ys x h.1 p)
+
+-- ---- texts
+
+text_more : (H : List ReleaseData) (told : List Said) (a : Said) → talk_text H told ++ reply_text a ≡ talk_text H (told ++ a ∷ [])
+text_more H told a =
+    append_assoc (reply_text (said.Ready (last_token H))) (flat_map reply_text told) (reply_text a)
+    ∙ ap (λ (l : List ℕ). reply_text (said.Ready (last_token H)) ++ l)
+    (ap (λ (l : List ℕ). flat_map reply_text told ++ l) (sym (append-nil (reply_text a))) ∙ sym (flat_map-append reply_text told (a ∷ [])))
+
+first_text : (H : List ReleaseData) → reply_text (said.Ready (last_token H)) ≡ talk_text H []
+first_text H = sym (append-nil (reply_text (said.Ready (last_token H))))
+
+as_text : (a b : SinkView) (one two : List ℕ) (how : Written) → one ≡ two → WritesAll a b one how → WritesAll a b two how
+as_text a b one two how e h = subst (λ (t : List ℕ). WritesAll a b t how) e h
+
+-- ---- the beginning
+
+nothing_asked : (s : StoreView) (i : SourceView) (o p : SinkView) (x : Session) → length x.installer.list ≤ length x.desk.seen → LaterSink o p
+    → TalksOver (scene (outside s i o) x) (scene (outside s i p) x) [] []
+nothing_asked s i o p x knows sink = record {
+  later = record { outside = record { store = store_refl s; input = source_refl i; output = sink }; session = session_refl x };
+  talks = λ whole begins. (
+    begun (history_of x.installer.list),
+    record {
+      store = store_refl s;
+      published = refl;
+      least = omega (arith, history_size x.installer.list, knows);
+      unread = omega arith;
+    },
+    none (begun (history_of x.installer.list)),
+  );
+}
+
+pub starts : (s : StoreView) (i : SourceView) (o p : SinkView) (x : Session) (text : List ℕ) → length x.installer.list ≤ length x.desk.seen
+    → text ≡ reply_text (said.Ready (last_token (history_of x.installer.list))) → WritesAll o p text written.Whole
+    → Gives [] [] [] → IsAt (scene (outside s i o) x) (scene (outside s i p) x) []
+starts s i o p x text knows is h gives = record {
+  read = [];
+  asked = [];
+  told = [];
+  consumed = Consumes-nil i.left;
+  gives = gives;
+  goes_on = tt;
+  over = nothing_asked s i o p x knows (writes_all_later o p text written.Whole h);
+  written = as_text o p text (talk_text (history_of x.installer.list) []) written.Whole (is ∙ first_text (history_of x.installer.list)) h;
+}
+
+pub cut_at_once : (s : StoreView) (i : SourceView) (o p : SinkView) (x : Session) (text : List ℕ) → length x.installer.list ≤ length x.desk.seen
+    → text ≡ reply_text (said.Ready (last_token (history_of x.installer.list))) → WritesAll o p text written.Cut
+    → Gives [] [] [] → ComesTo (scene (outside s i o) x) (scene (outside s i p) x) (Some end.NotWritten)
+cut_at_once s i o p x text knows is h gives = record {
+  read = [];
+  asked = [];
+  ignored = lines_of [];
+  told = [];
+  reads = (Consumes-nil i.left, refl);
+  over = nothing_asked s i o p x knows (writes_all_later o p text written.Cut h);
+  written = as_text o p text (talk_text (history_of x.installer.list) []) written.Cut (is ∙ first_text (history_of x.installer.list)) h;
+  ends = tt;
+}
+
+-- ---- a piece of the input
+
+later_input : (start : Scene) (s : StoreView) (i j : SourceView) (o : SinkView) (x : Session) → LaterScene start (scene (outside s i o) x) → LaterSource i j
+    → LaterScene start (scene (outside s j o) x)
+later_input start s i j o x later input = record {
+  outside = record {
+    store = later.outside.store;
+    input = source_trans start.outside.input i j later.outside.input input;
+    output = later.outside.output;
+  };
+  session = later.session;
+}
+
+over_input : (start : Scene) (s : StoreView) (i j : SourceView) (o : SinkView) (x : Session) (asked : List Line) (told : List Said) → LaterSource i j
+    → TalksOver start (scene (outside s i o) x) asked told → TalksOver start (scene (outside s j o) x) asked told
+over_input start s i j o x asked told input over = record { later = later_input start s i j o x over.later input; talks = over.talks }
+
+fed : (start : Scene) (s : StoreView) (i j : SourceView) (o : SinkView) (x : Session) (held held' new : List ℕ)
+    → IsAt start (scene (outside s i o) x) held → HasNone held held' → LaterSource i j → Feeds i j held' new
+    → IsAt start (scene (outside s j o) x) new
+fed start s i j o x held held' new at whole input f = record {
+  read = at.read ++ f.read;
+  asked = at.asked;
+  told = at.told;
+  consumed = Consumes-trans start.outside.input.left i.left j.left at.read f.read at.consumed f.consumed;
+  gives = subst (λ (l : List ℕ). Gives (at.read ++ f.read) at.asked l) (sym f.joined)
+      (gives_more at.read held' f.read at.asked (whole at.read at.asked at.gives).0);
+  goes_on = at.goes_on;
+  over = over_input start s i j o x at.asked at.told input at.over;
+  written = at.written;
+}
+
+consumed_on : (a b c : Option (List ℕ)) (bs : List ℕ) → Consumes a b bs → Consumes b c [] → Consumes a c bs
+consumed_on a b c bs h k = subst (λ (l : List ℕ). Consumes a c l) (append-nil bs) (Consumes-trans a b c bs [] h k)
+
+input_done : (start : Scene) (s : StoreView) (i j : SourceView) (o : SinkView) (x : Session) (held held' : List ℕ)
+    → IsAt start (scene (outside s i o) x) held → HasNone held held' → LaterSource i j → Consumes i.left j.left [] → IsAtEnd j.left
+    → ComesTo start (scene (outside s j o) x) (Some end.InputEnded)
+input_done start s i j o x held held' at whole input consumed ended = record {
+  read = at.read;
+  asked = at.asked;
+  ignored = [];
+  told = at.told;
+  reads = (consumed_on start.outside.input.left i.left j.left at.read at.consumed consumed, (whole at.read at.asked at.gives).1 ∙ sym (append-nil at.asked));
+  over = over_input start s i j o x at.asked at.told input at.over;
+  written = at.written;
+  ends = (refl, ended);
+}
+
+input_failed : (start : Scene) (s : StoreView) (i j : SourceView) (o : SinkView) (x : Session) (held held' : List ℕ)
+    → IsAt start (scene (outside s i o) x) held → HasNone held held' → LaterSource i j → Consumes i.left j.left [] → SourceFailed i j
+    → ComesTo start (scene (outside s j o) x) (Some end.NotRead)
+input_failed start s i j o x held held' at whole input consumed failed = record {
+  read = at.read;
+  asked = at.asked;
+  ignored = [];
+  told = at.told;
+  reads = (consumed_on start.outside.input.left i.left j.left at.read at.consumed consumed, (whole at.read at.asked at.gives).1 ∙ sym (append-nil at.asked));
+  over = over_input start s i j o x at.asked at.told input at.over;
+  written = at.written;
+  ends = (refl, source_then_failed start.outside.input i j at.over.later.outside.input failed);
+}
+
+-- a turn that reads
+pub read_turn : (start : Scene) (s : StoreView) (i j : SourceView) (o : SinkView) (x : Session) (held held' new : List ℕ) (r : Turn)
+    → IsAt start (scene (outside s i o) x) held → HasNone held held' → LaterSource i j → FeedsTalk i j held' new r
+    → Reaches start (scene (outside s j o) x) new r
+read_turn start s i j o x held held' new turn.On at whole input f = fed start s i j o x held held' new at whole input f
+read_turn start s i j o x held held' new (turn.End end.InputEnded) at whole input f = input_done start s i j o x held held' at whole input f.0 f.1
+read_turn start s i j o x held held' new (turn.End end.NotRead) at whole input f = input_failed start s i j o x held held' at whole input f.0 f.1
+read_turn start s i j o x held held' new (turn.End end.Quit) at whole input f = absurd f
+read_turn start s i j o x held held' new (turn.End end.NotWritten) at whole input f = absurd f
+read_turn start s i j o x held held' new turn.NoMemory at whole input f = later_input start s i j o x at.over.later input
+
+-- ---- a line
+
+over_more : (start : Scene) (s t : StoreView) (i : SourceView) (o p : SinkView) (x y : Session) (asked : List Line) (told : List Said) (next : Line) (a : Said)
+    → AllByRecursion GoesOn asked → LaterSink o p → TalksOver start (scene (outside s i o) x) asked told → AnswersLine s t x y next a
+    → TalksOver start (scene (outside t i p) y) (asked ++ next ∷ []) (told ++ a ∷ [])
+over_more start s t i o p x y asked told next a goes sink over answers = record {
+  later = record {
+    outside = record {
+      store = store_trans start.outside.store s t over.later.outside.store answers.store;
+      input = over.later.outside.input;
+      output = sink_trans start.outside.output o p over.later.outside.output sink;
+    };
+    session = session_trans start.session x y over.later.session answers.later;
+  };
+  talks = λ whole begins.
+      let before = over.talks whole (begins_before x y whole answers.later begins) in
+      let after = answers.answers whole start.outside.store before.0 begins before.1 in (
+        after.0,
+        after.1,
+        more (begun (history_of start.session.installer.list)) before.0 after.0 asked told next a before.2 goes after.2,
+      );
+}
+
+cut_by : (start : Scene) (s t : StoreView) (i : SourceView) (o p : SinkView) (x y : Session) (held new : List ℕ) (next : Line) (a : Said)
+    → IsAt start (scene (outside s i o) x) held → IsNext held new next → AnswersLine s t x y next a → WritesAll o p (reply_text a) written.Cut
+    → ComesTo start (scene (outside t i p) y) (Some end.NotWritten)
+cut_by start s t i o p x y held new next a at is answers h = record {
+  read = at.read;
+  asked = at.asked ++ next ∷ [];
+  ignored = lines_of new;
+  told = at.told ++ a ∷ [];
+  reads = (at.consumed, lines_held at.read new (at.asked ++ next ∷ []) (is at.read at.asked at.gives));
+  over = over_more start s t i o p x y at.asked at.told next a at.goes_on (writes_all_later o p (reply_text a) written.Cut h) at.over answers;
+  written = as_text start.outside.output p (talk_text (history_of start.session.installer.list) at.told ++ reply_text a)
+      (talk_text (history_of start.session.installer.list) (at.told ++ a ∷ [])) written.Cut
+      (text_more (history_of start.session.installer.list) at.told a)
+      (cut_more start.outside.output o p (talk_text (history_of start.session.installer.list) at.told) (reply_text a) at.written h);
+  ends = tt;
+}
+
+said_whole : (start : Scene) (o p : SinkView) (told : List Said) (a : Said)
+    → WritesAll start.outside.output o (talk_text (history_of start.session.installer.list) told) written.Whole → WritesAll o p (reply_text a) written.Whole
+    → WritesAll start.outside.output p (talk_text (history_of start.session.installer.list) (told ++ a ∷ [])) written.Whole
+said_whole start o p told a g h =
+    as_text start.outside.output p (talk_text (history_of start.session.installer.list) told ++ reply_text a)
+    (talk_text (history_of start.session.installer.list) (told ++ a ∷ [])) written.Whole (text_more (history_of start.session.installer.list) told a)
+    (written_more start.outside.output o p (talk_text (history_of start.session.installer.list) told) (reply_text a) g h)
+
+answered : (start : Scene) (s t : StoreView) (i : SourceView) (o p : SinkView) (x y : Session) (held new : List ℕ) (next : Line) (a : Said)
+    → GoesOn next → IsAt start (scene (outside s i o) x) held → IsNext held new next → AnswersLine s t x y next a
+    → WritesAll o p (reply_text a) written.Whole → IsAt start (scene (outside t i p) y) new
+answered start s t i o p x y held new next a goes at is answers h = record {
+  read = at.read;
+  asked = at.asked ++ next ∷ [];
+  told = at.told ++ a ∷ [];
+  consumed = at.consumed;
+  gives = is at.read at.asked at.gives;
+  goes_on = all_more GoesOn at.asked next at.goes_on goes;
+  over = over_more start s t i o p x y at.asked at.told next a at.goes_on (writes_all_later o p (reply_text a) written.Whole h) at.over answers;
+  written = said_whole start o p at.told a at.written h;
+}
+
+said_turn : (start : Scene) (s t : StoreView) (i : SourceView) (o p : SinkView) (x y : Session) (held new : List ℕ) (next : Line) (a : Said) (r : Turn)
+    → GoesOn next → IsAt start (scene (outside s i o) x) held → IsNext held new next → AnswersLine s t x y next a → SaysText o p (reply_text a) r
+    → Reaches start (scene (outside t i p) y) new r
+said_turn start s t i o p x y held new next a turn.On goes at is answers h = answered start s t i o p x y held new next a goes at is answers h
+said_turn start s t i o p x y held new next a (turn.End end.NotWritten) goes at is answers h = cut_by start s t i o p x y held new next a at is answers h
+said_turn start s t i o p x y held new next a (turn.End end.Quit) goes at is answers h = absurd h
+said_turn start s t i o p x y held new next a (turn.End end.InputEnded) goes at is answers h = absurd h
+said_turn start s t i o p x y held new next a (turn.End end.NotRead) goes at is answers h = absurd h
+said_turn start s t i o p x y held new next a turn.NoMemory goes at is answers h = absurd h
+
+-- by the text that was written
+pub line_turn : (start : Scene) (s t : StoreView) (i : SourceView) (o p : SinkView) (x y : Session) (held new text : List ℕ) (next : Line) (r : Turn)
+    → GoesOn next → IsAt start (scene (outside s i o) x) held → IsNext held new next
+    → (b : Said) × (AnswersLine s t x y next b) × (text ≡ reply_text b) → SaysText o p text r
+    → Reaches start (scene (outside t i p) y) new r
+line_turn start s t i o p x y held new text next r goes at is told h =
+    said_turn start s t i o p x y held new next told.0 r goes at is told.1 (subst (λ (l : List ℕ). SaysText o p l r) told.2 h)
+
+-- the last line
+quit_by : (start : Scene) (s : StoreView) (i : SourceView) (o p : SinkView) (x : Session) (held new : List ℕ)
+    → IsAt start (scene (outside s i o) x) held → IsNext held new line.Quit → AnswersLine s s x x line.Quit said.Bye
+    → WritesAll o p (reply_text said.Bye) written.Whole → ComesTo start (scene (outside s i p) x) (Some end.Quit)
+quit_by start s i o p x held new at is answers h = record {
+  read = at.read;
+  asked = at.asked ++ line.Quit ∷ [];
+  ignored = lines_of new;
+  told = at.told ++ said.Bye ∷ [];
+  reads = (at.consumed, lines_held at.read new (at.asked ++ line.Quit ∷ []) (is at.read at.asked at.gives));
+  over = over_more start s s i o p x x at.asked at.told line.Quit said.Bye at.goes_on (writes_all_later o p (reply_text said.Bye) written.Whole h) at.over answers;
+  written = said_whole start o p at.told said.Bye at.written h;
+  ends = (at.asked, refl);
+}
+
+pub quit_turn : (start : Scene) (s : StoreView) (i : SourceView) (o p : SinkView) (x : Session) (held new : List ℕ) (ended : TalkEnd)
+    → IsAt start (scene (outside s i o) x) held → IsNext held new line.Quit → AnswersLine s s x x line.Quit said.Bye
+    → SaysBye o p ended → Reaches start (scene (outside s i p) x) new (turn.End ended)
+quit_turn start s i o p x held new end.Quit at is answers h = quit_by start s i o p x held new at is answers h
+quit_turn start s i o p x held new end.NotWritten at is answers h = cut_by start s s i o p x x held new line.Quit said.Bye at is answers h
+quit_turn start s i o p x held new end.InputEnded at is answers h = absurd h
+quit_turn start s i o p x held new end.NotRead at is answers h = absurd h

@@ -1,0 +1,81 @@
+-- Works that are made one after the other, and workers that learn one after the other.
+use Rattle.std.proofs.Common.{◌≡◌, ℕ, ◌+◌, List, [], ◌∷◌, ◌++◌, length, map, Bool, true, false, ◌||◌, All, Option, Some, None, IfSome, refl, sym, subst, ap, ◌∙◌, arith, append_assoc, append-nil}
+use Rattle.std.specs.List.{list_any}
+use Rattle.std.specs.Option.{option_to_list}
+use Rattle.std.proofs.lemmas.List.{map-append, length-append}
+use Rattle.std.proofs.lemmas.List.Elements.{All-pop}
+use Rattle.std.proofs.lemmas.List.Folds.{list_any-append}
+use mathlib.Core.List.{IsPrefix}
+use Rattle.td_base.specs.DoorViews.{DoorView}
+use Rattle.td_base.specs.declared.report.Role.TheVariants as role
+use Rattle.catalogue.specs.declared.holding.Catalogue.{Catalogue}
+use Rattle.connection.specs.DoorWorks.{WorkView}
+use Rattle.connection.specs.declared.door_work.DoorDone.{DoorDone}
+use Rattle.logbook.specs.Pages.{Book}
+use Rattle.publication.specs.Views.{DeskView}
+use Rattle.td_top.specs.Works.{AreWorks, HasWorks, Learnt}
+
+-- what was taken off a list, with one more, and what is left of it
+pub takes_more : {T : Type 0} (done left : List T) (t : T) (rest all : List T) → done ++ left ≡ all → left ≡ t ∷ rest → done ++ t ∷ [] ++ rest ≡ all
+takes_more done left t rest all whole next = append_assoc done (t ∷ []) rest ∙ ap (λ ts. done ++ ts) (sym next) ∙ whole
+
+pub took_all : {T : Type 0} (done left all : List T) → done ++ left ≡ all → left ≡ [] → done ≡ all
+took_all done left all whole none = sym (append-nil done) ∙ (ap (λ ts. done ++ ts) (sym none) ∙ whole)
+
+-- one fewer is left on each of two lists
+pub still_as_many : {A B : Type 0} (xs xs' : List A) (x : A) (ys ys' : List B) (r : Option B) (y : B) → length xs ≡ length ys → xs ≡ x ∷ xs'
+    → ys ≡ ys' ++ option_to_list r → r ≡ Some y → length xs' ≡ length ys'
+still_as_many xs xs' x ys ys' r y many one other some =
+    let popped : ys ≡ ys' ++ y ∷ [] = other ∙ ap (λ o. ys' ++ option_to_list o) some in
+    omega (arith, many, ap length one, ap length popped, length-append ys' (y ∷ []))
+
+-- ---- works
+
+abbrev pub IsWork : Book → DoorView → WorkView → Type 0
+IsWork pair door w = (w.role ≡ role.Primary) × (w.door ≡ door) × (w.desk.pair ≡ pair)
+
+works_after : (pair : Book) (doors : List DoorView) (works : List WorkView) (door : DoorView) (w : WorkView) → AreWorks pair doors works
+    → IsWork pair door w → AreWorks pair (doors ++ door ∷ []) (works ++ w ∷ [])
+works_after pair [] [] door w h is = (is, tt)
+works_after pair [] (v ∷ vs) door w h is = absurd h
+works_after pair (d ∷ ds) [] door w h is = absurd h
+works_after pair (d ∷ ds) (v ∷ vs) door w h is = (h.0, works_after pair ds vs door w h.1 is)
+
+pub works_more : {D : Type 0} (seen : D → DoorView) (pair : Book) (doors : List D) (works works' : List WorkView) (door : D) (w : WorkView)
+    → AreWorks pair (map seen doors) works → works' ≡ works ++ w ∷ [] → IsWork pair (seen door) w → AreWorks pair (map seen (doors ++ door ∷ [])) works'
+works_more seen pair doors works works' door w h e is =
+    subst (λ ds. AreWorks pair ds works') (sym (map-append seen doors (door ∷ [])))
+    (subst (λ ws. AreWorks pair (map seen doors ++ seen door ∷ []) ws) (sym e) (works_after pair (map seen doors) works (seen door) w h is))
+
+-- a work of a desk that was one of a pair's
+pub is_work : (pair : Book) (door : DoorView) (w v : WorkView) (all left : List (DeskView (Catalogue (List ℕ)))) (r : Option (DeskView (Catalogue (List ℕ))))
+    (desk : DeskView (Catalogue (List ℕ))) → w ≡ v → v.role ≡ role.Primary → v.door ≡ door → v.desk ≡ desk → all ≡ left ++ option_to_list r → r ≡ Some desk
+    → All (λ d. d.pair ≡ pair) all → IsWork pair door w
+is_work pair door w v all left r desk e role_is door_is desk_is popped some h =
+    let held : IfSome r (λ d. d.pair ≡ pair) = (All-pop (λ d. d.pair ≡ pair) all left r popped h).1 in
+    let of_pair : desk.pair ≡ pair = subst (λ o. IfSome o (λ d. d.pair ≡ pair)) some held in
+    (ap (λ u. u.role) e ∙ role_is, ap (λ u. u.door) e ∙ door_is, ap (λ u. u.desk.pair) e ∙ (ap (λ d. d.pair) desk_is ∙ of_pair))
+
+pub has_works : (pair : Book) (doors : List DoorView) (works : List WorkView) → AreWorks pair doors works → HasWorks pair works
+has_works pair doors works are = (doors, are)
+
+-- ---- workers that learn
+
+or_false : (b : Bool) → (b || false) ≡ b
+or_false true = refl
+or_false false = refl
+
+pub any_more : {A : Type 0} (p : A → Bool) (xs : List A) (x : A) (b c : Bool) → b ≡ list_any p xs → c ≡ (b || p x) → c ≡ list_any p (xs ++ x ∷ [])
+any_more p xs x b c all one =
+    one ∙ (ap (λ a. a || p x) all ∙ (ap (λ a. list_any p xs || a) (sym (or_false (p x))) ∙ sym (list_any-append p xs (x ∷ []))))
+
+pub doors_more : {D C : Type 0} (dones : List (DoorDone D C)) (done : DoorDone D C) (doors doors' : List D) → doors ≡ map (λ d. d.door) dones
+    → doors' ≡ doors ++ done.door ∷ [] → doors' ≡ map (λ d. d.door) (dones ++ done ∷ [])
+doors_more dones done doors doors' all one =
+    one ∙ (ap (λ ds. ds ++ done.door ∷ []) all ∙ sym (map-append (λ d. d.door) dones (done ∷ [])))
+
+pub learnt_all : {D C : Type 0} (list : List (Catalogue (List ℕ))) (yielded left dones : List (DoorDone D C)) (doors : List D) (worn : Bool)
+    → yielded ++ left ≡ dones → left ≡ [] → doors ≡ map (λ d. d.door) yielded → worn ≡ list_any (λ d. d.worn) yielded
+    → All (λ d. IsPrefix d.desk.seen list) yielded → Learnt list dones doors worn
+learnt_all list yielded left dones doors worn whole none are any seen =
+    subst (λ ds. Learnt list ds doors worn) (took_all yielded left dones whole none) (record { doors_are = are; worn_is = any; seen = seen })

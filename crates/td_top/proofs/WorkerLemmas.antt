@@ -1,0 +1,52 @@
+-- How many workers a word asks for.
+use Rattle.std.proofs.Common.{◌≡◌, ◌≢◌, ℕ, zero, suc, ◌+◌, ◌^◌, ◌<◌, ◌≤◌, List, [], ◌∷◌, Bool, true, false, Option, None, Some, refl, sym, ap, ◌∙◌, arith, cond}
+use Rattle.std.specs.Prelude.{decimal}
+use Rattle.std.specs.List.{find, range_with_len}
+use Rattle.std.specs.Str.{bytes_eq}
+use Rattle.std.proofs.lemmas.Bool.{true≢false}
+use Rattle.std.proofs.lemmas.Fmt.{decimal_injective}
+use Rattle.std.proofs.lemmas.Slice.Eq.{bytes_eq-Decides}
+use Rattle.td_top.specs.Grammar.{workers_in}
+
+abbrev writes : List ℕ → ℕ → Bool
+writes word n = bytes_eq (decimal n) word
+
+-- the first of some numbers is the one that the word writes, or the others have it
+first_or : (word : List ℕ) (k a : ℕ) (rest : Option ℕ) (b : Bool) → writes word a ≡ b → word ≡ decimal k → a < 2 ^ 64 → k < 2 ^ 64
+    → (a ≢ k → rest ≡ Some k) → cond b (Some a) rest ≡ Some k
+first_or word k a rest true e is less fits others = ap Some (decimal_injective a k less fits ((bytes_eq-Decides (decimal a) word).0 e ∙ is))
+first_or word k a rest false e is less fits others = others (λ same. true≢false (sym ((bytes_eq-Decides (decimal a) word).1 (ap decimal same ∙ sym is)) ∙ e))
+
+found : (word : List ℕ) (k a n : ℕ) → word ≡ decimal k → a ≤ k → k < a + n → a + n < 2 ^ 64 → find (writes word) (range_with_len a n) ≡ Some k
+found word k a zero is least less fits = absurd (omega (arith, least, less))
+found word k a (suc n) is least less fits =
+    first_or word k a (find (writes word) (range_with_len (a + 1) n)) (writes word a) refl is (omega (arith, fits)) (omega (arith, less, fits))
+    (λ other. found word k (a + 1) n is (omega (arith, least, other)) (omega (arith, less)) (omega (arith, fits)))
+
+-- none of them is
+none_or : (word : List ℕ) (a : ℕ) (rest : Option ℕ) (b : Bool) → writes word a ≡ b → word ≢ decimal a → rest ≡ None → cond b (Some a) rest ≡ None
+none_or word a rest true e not others = absurd (not (sym ((bytes_eq-Decides (decimal a) word).0 e)))
+none_or word a rest false e not others = others
+
+missed : (word : List ℕ) (a n : ℕ) → ((m : ℕ) → a ≤ m → m < a + n → word ≢ decimal m) → find (writes word) (range_with_len a n) ≡ None
+missed word a zero not = refl
+missed word a (suc n) not =
+    none_or word a (find (writes word) (range_with_len (a + 1) n)) (writes word a) refl (not a (omega arith) (omega arith))
+    (missed word (a + 1) n (λ m least less. not m (omega (arith, least)) (omega (arith, less))))
+
+-- a number from 1 to the most
+pub some_workers : (word : List ℕ) (k : ℕ) → word ≡ decimal k → 1 ≤ k → k ≤ 64 → workers_in word ≡ Some k
+unfolding workers_in
+some_workers word k is least most = found word k 1 64 is least (omega (arith, most)) (omega arith)
+
+-- another number
+pub other_workers : (word : List ℕ) (k : ℕ) → k < 2 ^ 64 → word ≡ decimal k → (1 ≤ k → k ≤ 64 → ⊥) → workers_in word ≡ None
+unfolding workers_in
+other_workers word k fits is not =
+    missed word 1 64 (λ m least less same.
+    let one : k ≡ m = decimal_injective k m fits (omega (arith, less)) (sym is ∙ same) in not (omega (arith, least, one)) (omega (arith, less, one)))
+
+-- no number
+pub no_workers : (word : List ℕ) → ((n : ℕ) → n < 2 ^ 64 → word ≢ decimal n) → workers_in word ≡ None
+unfolding workers_in
+no_workers word not = missed word 1 64 (λ m least less. not m (omega (arith, less)))

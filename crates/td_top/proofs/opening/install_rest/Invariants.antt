@@ -1,0 +1,14 @@
+use Rattle.std.proofs.Common.{take}
+use Rattle.td_base.specs.Later.{LaterStore}
+use Rattle.installer.specs.Installing.{history_of}
+use Rattle.td_top.specs.Installed.{Extends}
+use Rattle.td_top.specs.Sessions.{LaterSession}
+use Rattle.td_top.proofs.opening.install_rest.Given as goal
+
+abbrev pub invariant-loop-folder : goal.invariant-loop-folder
+invariant-loop-folder g l = record {
+  later : LaterStore (g.S.Store.seen l.fn.store) (g.S.Store.seen l.store);
+  session : LaterSession l.fn.session l.session;
+  extends : Extends (g.S.Store.seen l.fn.store).files (take l.folder-index l.folders) (history_of l.fn.session.installer.list)
+      (history_of l.session.installer.list);
+}

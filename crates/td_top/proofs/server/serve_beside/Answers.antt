@@ -1,0 +1,50 @@
+use Rattle.std.proofs.Common.{rules, ap, sym, subst, ◌≡◌, Some}
+use Rattle.td_top.specs.Serving.{Concludes}
+use Rattle.td_top.specs.Works.{HasWorks}
+use Rattle.td_top.specs.Consoles.{console_view, lent}
+use Rattle.td_top.specs.Outside.{outside}
+use Rattle.td_top.proofs.BesideLemmas.{beside_done, beside_left, beside_starved, beside_unstarted, pairs_now}
+use Rattle.td_top.proofs.ServerLemmas.{came}
+use Rattle.td_top.proofs.server.serve_beside.Goals as goal
+
+pub conclude-requires : goal.conclude-requires
+conclude-requires g c =
+    let told = c.in-All.ensures.beside in
+    let names = (came _ _ _ told.1 told.2).1 in
+    let pairs = pairs_now g.D.Door.seen _ _ _ c.args.works.items c.in-All.dones.items told.1 told.2 (subst (λ s. HasWorks s.installer.pair c.args.works.items) (sym c.new-console.ensures.session_now) c.requires.works)
+    c.in-All.ensures.results in
+    λ k d less. search (pairs k d less, ap (λ l. l.session) names, rules)
+
+pub returns-in-Some : goal.returns-in-Some
+returns-in-Some g c =
+    let told = c.in-All.ensures.beside in
+    let names = (came _ _ _ told.1 told.2).1 in
+    let ended : c.run_beside-pool.new.beside.end.now ≡ Some c.in-Some.end = search (c.in-Some.is, ap (λ l. l.end) names, rules) in
+    let concluded : Concludes c.run_beside-pool.new.beside.session.now c.in-All.dones.items c.in-Some.end c.conclude.result.doors.items c.conclude.result.status =
+    search (c.conclude.ensures, ap (λ l. l.session) names, rules) in
+    let done = beside_done g.D.Door.seen _ _ _ c.in-Some.end c.args.works.items c.in-All.dones.items _ _ _ _ told.1 told.2 ended
+    c.run_beside-pool.ensures.later c.in-All.ensures.results concluded in
+    search (done, ap (λ l. l.store) names, ap (λ l. l.input) names, ap (λ l. l.output) names, ap (λ l. l.session) names, rules)
+
+pub returns-in-All : goal.returns-in-All
+returns-in-All g c =
+    let told = c.in-All.ensures.beside in
+    let names = (came _ _ _ told.1 told.2).1 in
+    let starved = beside_starved g.D.Door.seen _ _ _ c.args.works.items _ _ _ _ told.1 told.2 c.run_beside-pool.ensures.later c.give_up.ensures.status
+    c.give_up.ensures.doors in
+    search (starved, ap (λ l. l.store) names, ap (λ l. l.input) names, ap (λ l. l.output) names, ap (λ l. l.session) names, rules)
+
+pub returns-in-NotStarted : goal.returns-in-NotStarted
+returns-in-NotStarted g c =
+    let halted = c.in-NotStarted.ensures.beside in
+    let unstarted = beside_unstarted g.D.Door.seen _ _ c.args.works.items _ _ _ _ halted c.in-NotStarted.ensures.refusal c.run_beside-pool.ensures.later
+    c.give_up-in-NotStarted.ensures.status c.give_up-in-NotStarted.ensures.doors in
+    search (unstarted, ap (λ v. v.lent.store) halted, ap (λ v. v.lent.input) halted, ap (λ v. v.lent.output) halted, ap (λ v. v.lent.session) halted, rules)
+
+pub returns : goal.returns
+returns g c =
+    let same = ap (λ b. console_view (outside (g.S.Store.seen b.store.now) (g.C.Source.seen b.input.now) (g.K.Sink.seen b.output.now)) b.session.now b.end.now
+    (lent b.session.ghost_name b.end.ghost_name b.store.ghost_name b.input.ghost_name b.output.ghost_name)) c.in-NoMemory.ensures.beside in
+    let left = beside_left g.D.Door.seen _ _ c.args.works.items _ _ _ _ same c.run_beside-pool.ensures.later c.give_up-in-NoMemory.ensures.status
+    c.give_up-in-NoMemory.ensures.doors in
+    search (left, ap (λ v. v.lent.store) same, ap (λ v. v.lent.input) same, ap (λ v. v.lent.output) same, ap (λ v. v.lent.session) same, rules)

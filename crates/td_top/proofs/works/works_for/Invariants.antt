@@ -1,0 +1,15 @@
+use Rattle.std.proofs.Common.{◌≡◌, ◌++◌, length, map, All, false}
+use Rattle.connection.specs.DoorWorks.{NoneGiven}
+use Rattle.logbook.specs.Pages.{Book}
+use Rattle.td_top.specs.Works.{AreWorks}
+use Rattle.td_top.proofs.works.works_for.Given as goal
+
+abbrev pub invariant-loop-door : goal.invariant-loop-door
+invariant-loop-door g l = record {
+  whole : l.yielded ++ l.door-iterator.rest.items ≡ l.fn.doors.items;
+  many : length l.door-iterator.rest.items ≡ length l.left.items;
+  new : All (λ d. NoneGiven (g.D.Door.seen d)) l.door-iterator.rest.items;
+  desks : (pair : Book) → All (λ d. d.pair ≡ pair) l.fn.desks.items → All (λ d. d.pair ≡ pair) l.left.items;
+  works : (pair : Book) → All (λ d. d.pair ≡ pair) l.fn.desks.items → AreWorks pair (map g.D.Door.seen l.yielded) l.works.items;
+  down : l.flag.raised ≡ false;
+}

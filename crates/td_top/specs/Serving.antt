@@ -1,0 +1,45 @@
+-- What the calls below a server's run come to.
+use Rattle.std.specs.Prelude.{◌≡◌, ℕ, ◌≤◌, List, [], map, ◌⊎◌, true}
+use Rattle.std.specs.List.{list_any}
+use mathlib.Core.List.{IsPrefix}
+use Rattle.td_base.specs.DoorViews.{DoorView}
+use Rattle.catalogue.specs.Releases.{ReleaseData}
+use Rattle.connection.specs.DoorWorks.{WorkView}
+use Rattle.connection.specs.declared.door_work.DoorDone.{DoorDone}
+use Rattle.installer.specs.Installing.{history_of}
+use Rattle.td_top.specs.Outside.{Later, Outside}
+use Rattle.td_top.specs.Server.{OpenedEnds}
+use Rattle.td_top.specs.Statuses.{status_for}
+use Rattle.td_top.specs.Worlds.{LaterWorld, World}
+use Rattle.td_top.specs.Works.{AreWorks, Learnt, WorksEnd}
+use Rattle.td_top.specs.declared.session.Session.{Session}
+use Rattle.td_top.specs.declared.status.Status.{Status}
+use Rattle.td_top.specs.declared.status.Status.TheVariants as status
+use Rattle.td_top.specs.declared.talking.TalkEnd.{TalkEnd}
+
+-- every desk learnt all that was published, and the doors are those of the workers
+pub record LearntAll {D C : Type 0} (session : Session) (dones : List (DoorDone D C))
+    (end : TalkEnd) (doors : List D) (is : Status) : Type 0 where
+  pub seen : IsPrefix session.desk.seen session.installer.list
+  pub workers : Learnt session.installer.list dones doors (list_any (λ d. d.worn) dones)
+  pub ending : is ≡ status_for end (list_any (λ d. d.worn) dones)
+
+-- the end of a server's history, after the talk and the works: or memory ran out
+abbrev pub Concludes : {D C : Type 0} → Session → List (DoorDone D C) → TalkEnd → List D → Status
+    → Type 0
+Concludes session dones end doors is =
+    LearntAll session dones end doors is ⊎ ((is ≡ status.NoMemory) × (doors ≡ []))
+
+-- doors were served beside a talk over a session
+pub record ServesBeside (session : Session) (works : List WorkView) (before after : Outside)
+    (refusals refusals' : ℕ) (doors : List DoorView) (is : Status) : Type 0 where
+  pub later : Later before after
+  pub starting : refusals ≤ refusals'
+  pub ends : (given : List DoorView) → AreWorks session.installer.pair given works
+      → WorksEnd (history_of session.installer.list) given before after refusals refusals' doors is
+
+-- the doors of an address were served, after an opening
+pub record ServesOpened (address : List ℕ) (workers : ℕ) (opening : List ReleaseData)
+    (before after : World) (doors : List DoorView) (is : Status) : Type 0 where
+  pub later : LaterWorld before after
+  pub ends : OpenedEnds address workers opening before after doors is

@@ -1,0 +1,118 @@
+-- How a talk with an operator goes, over a store, an input and an output.
+use Rattle.std.specs.Prelude.{◌≡◌, ℕ, ◌≤◌, List, [], ◌∷◌, ◌++◌, flat_map, ⊤, Option, None, Some}
+use Rattle.std.specs.Io.KnownBytes.{Consumes, IsAtEnd}
+use Rattle.std.specs.List.{AllByRecursion}
+use Rattle.td_base.specs.Cause.{RoseBy, SourceFailed}
+use Rattle.td_base.specs.Files.{File}
+use Rattle.td_base.specs.Later.{LaterSource, LaterStore}
+use Rattle.td_base.specs.Transfer.{WritesAll}
+use Rattle.td_base.specs.Views.{SinkView, SourceView}
+use Rattle.td_base.specs.declared.transfer.Written.{Written}
+use Rattle.td_base.specs.declared.transfer.Written.TheVariants as written
+use Rattle.catalogue.specs.Releases.{ReleaseData}
+use Rattle.console.specs.Lines.{lines_of}
+use Rattle.console.specs.Replies.{reply_text}
+use Rattle.console.specs.Steps.{Gives}
+use Rattle.console.specs.declared.line.Line.{Line}
+use Rattle.console.specs.declared.line.Line.TheVariants as line
+use Rattle.console.specs.declared.said.Said.{Said}
+use Rattle.console.specs.declared.said.Said.TheVariants as said
+use Rattle.installer.specs.Installing.{history_of}
+use Rattle.td_top.specs.Outside.{Later, Outside}
+use Rattle.td_top.specs.Sessions.{BeginsWhole, LaterSession, StandsAt}
+use Rattle.td_top.specs.Talk.{GoesOn, Talk, Talks, begun, last_token}
+use Rattle.td_top.specs.declared.session.Session.{Session}
+use Rattle.td_top.specs.declared.talking.TalkEnd.{TalkEnd}
+use Rattle.td_top.specs.declared.talking.TalkEnd.TheVariants as end
+
+-- what a talk is over: the outside, and what the console publishes with and shows
+pub record Scene : Type 0 where
+  pub outside : Outside
+  pub session : Session
+
+abbrev pub scene : Outside → Session → Scene
+scene outside session = record { outside = outside; session = session }
+
+-- any calls were made
+pub record LaterScene (before now : Scene) : Type 0 where
+  pub outside : Later before.outside now.outside
+  pub session : LaterSession before.session now.session
+
+-- all that is said: that the server is ready, and what each line gets said
+abbrev pub talk_text : List ReleaseData → List Said → List ℕ
+talk_text opening told = reply_text (said.Ready (last_token opening)) ++ flat_map reply_text told
+
+-- a talk over a scene, by the lines that were asked and what was said of each
+pub record TalksOver (before now : Scene) (asked : List Line) (told : List Said) : Type 0 where
+  pub later : LaterScene before now
+  pub talks : (whole : List ReleaseData) → BeginsWhole now.session whole
+      → (t : Talk) × StandsAt before.outside.store now.outside.store now.session t
+      × Talks before.outside.store.files whole (begun (history_of before.session.installer.list))
+      asked told t
+
+-- the first of the lines in the bytes that were read
+abbrev pub Reads : SourceView → SourceView → List ℕ → List Line → List Line → Type 0
+Reads before now read asked ignored =
+    Consumes before.left now.left read × (lines_of read ≡ asked ++ ignored)
+
+-- why a talk ended: the last line asked for it; the input ended, or a read of it failed, after all
+-- its lines; or a write failed
+abbrev pub EndsBy : Outside → Outside → List Line → List Line → TalkEnd → Type 0
+EndsBy before now asked ignored end.Quit =
+    (first : List Line) × (asked ≡ first ++ line.Quit ∷ [])
+EndsBy before now asked ignored end.InputEnded = (ignored ≡ []) × IsAtEnd now.input.left
+EndsBy before now asked ignored end.NotRead =
+    (ignored ≡ []) × SourceFailed before.input now.input
+EndsBy before now asked ignored end.NotWritten = ⊤
+
+-- all that is said was written, unless the talk ended by a failed write, which cut it
+abbrev pub how_written : TalkEnd → Written
+how_written end.Quit = written.Whole
+how_written end.InputEnded = written.Whole
+how_written end.NotRead = written.Whole
+how_written end.NotWritten = written.Cut
+
+-- the lines that an operator wrote were answered, one after the other, up to an end
+pub record Talked (before now : Scene) (ended : TalkEnd) : Type 0 where
+  pub read : List ℕ
+  pub asked : List Line
+  pub ignored : List Line
+  pub told : List Said
+  pub reads : Reads before.outside.input now.outside.input read asked ignored
+  pub over : TalksOver before now asked told
+  pub written : WritesAll before.outside.output now.outside.output
+      (talk_text (history_of before.session.installer.list) told) (how_written ended)
+  pub ends : EndsBy before.outside now.outside asked ignored ended
+
+-- what a talk came to: an end, or memory ran out, and then nothing is said but what any calls do
+abbrev pub ComesTo : Scene → Scene → Option TalkEnd → Type 0
+ComesTo before now (Some ended) = Talked before now ended
+ComesTo before now None = LaterScene before now
+
+-- a talk so far, with the bytes that are held
+pub record IsAt (before now : Scene) (held : List ℕ) : Type 0 where
+  pub read : List ℕ
+  pub asked : List Line
+  pub told : List Said
+  pub consumed : Consumes before.outside.input.left now.outside.input.left read
+  pub gives : Gives read asked held
+  pub goes_on : AllByRecursion GoesOn asked
+  pub over : TalksOver before now asked told
+  pub written : WritesAll before.outside.output now.outside.output
+      (talk_text (history_of before.session.installer.list) told) written.Whole
+
+-- An operator's lines were answered, while the history of the run grew from its opening: the lines
+-- stand in the bytes that were read, in order and up to an end, and what they got said was written.
+pub record AnswersOperator (opening whole : List ReleaseData) (before now : Outside)
+    (ended : TalkEnd) : Type 0 where
+  pub read : List ℕ
+  pub asked : List Line
+  pub ignored : List Line
+  pub told : List Said
+  pub last : Talk
+  pub reads : Reads before.input now.input read asked ignored
+  pub talks : Talks before.store.files whole (begun opening) asked told last
+  pub published : last.published ≡ whole
+  pub unread : RoseBy last.unread before.store.faults now.store.faults
+  pub written : WritesAll before.output now.output (talk_text opening told) (how_written ended)
+  pub ends : EndsBy before now asked ignored ended

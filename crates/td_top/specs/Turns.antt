@@ -1,0 +1,106 @@
+-- One turn of a talk with an operator, by its parts.
+use Rattle.std.specs.Prelude.{◌≡◌, ℕ, ◌≤◌, List, [], ◌∷◌, ◌++◌, ◌⊎◌, ⊤, Option, None, Some}
+use Rattle.std.specs.Io.KnownBytes.{Consumes, IsAtEnd}
+use Rattle.td_base.specs.Cause.{SourceFailed}
+use Rattle.td_base.specs.Transfer.{WritesAll}
+use Rattle.td_base.specs.Views.{SinkView, SourceView}
+use Rattle.td_base.specs.declared.transfer.Written.TheVariants as written
+use Rattle.console.specs.Lines.{lines_of}
+use Rattle.console.specs.Replies.{reply_text}
+use Rattle.console.specs.Steps.{Gives}
+use Rattle.console.specs.declared.line.Line.{Line}
+use Rattle.console.specs.declared.line.Line.TheVariants as line
+use Rattle.console.specs.declared.said.Said.{Said}
+use Rattle.console.specs.declared.said.Said.TheVariants as said
+use Rattle.td_top.specs.Talking.{ComesTo, IsAt, Scene}
+use Rattle.td_top.specs.declared.talking.Reply.{Reply}
+use Rattle.td_top.specs.declared.talking.Reply.TheVariants as reply
+use Rattle.td_top.specs.declared.talking.TalkEnd.{TalkEnd}
+use Rattle.td_top.specs.declared.talking.TalkEnd.TheVariants as end
+use Rattle.td_top.specs.declared.talking.Turn.{Turn}
+use Rattle.td_top.specs.declared.talking.Turn.TheVariants as turn
+use Rattle.td_top.specs.declared.talking.Taken.{Taken}
+use Rattle.td_top.specs.declared.talking.Taken.TheVariants as taken
+
+-- whatever was asked so far, the next line was this
+abbrev pub IsNext : List ℕ → List ℕ → Line → Type 0
+IsNext held new next =
+    (all : List ℕ) (given : List Line) → Gives all given held → Gives all (given ++ next ∷ []) new
+
+-- all lines of what was fed were asked
+abbrev pub HasNone : List ℕ → List ℕ → Type 0
+HasNone held new =
+    (all : List ℕ) (given : List Line) → Gives all given held
+    → Gives all given new × (lines_of all ≡ given)
+
+-- what came of the next line of the bytes that are held
+abbrev pub TakesLine : List ℕ → List ℕ → Taken → Type 0
+TakesLine held new (taken.Line next) = IsNext held new next
+TakesLine held new taken.Unread = (dir : List ℕ) × IsNext held new (line.Install dir)
+TakesLine held new taken.None = HasNone held new
+
+-- one read of the input, of whose bytes these joined those held
+pub record Feeds (before now : SourceView) (held new : List ℕ) : Type 0 where
+  pub read : List ℕ
+  pub consumed : Consumes before.left now.left read
+  pub joined : new ≡ held ++ read
+
+-- what a read of the input came to
+abbrev pub FeedsTalk : SourceView → SourceView → List ℕ → List ℕ → Turn → Type 0
+FeedsTalk before now held new turn.On = Feeds before now held new
+FeedsTalk before now held new (turn.End end.InputEnded) =
+    Consumes before.left now.left [] × IsAtEnd now.left
+FeedsTalk before now held new (turn.End end.NotRead) =
+    Consumes before.left now.left [] × SourceFailed before now
+FeedsTalk before now held new (turn.End end.Quit) = ⊥
+FeedsTalk before now held new (turn.End end.NotWritten) = ⊥
+FeedsTalk before now held new turn.NoMemory = ⊤
+
+-- a reply as it is written
+abbrev pub text_of : Reply → List ℕ
+text_of (reply.Short text) = text
+text_of (reply.Long text) = text
+
+abbrev pub IsRefusal : Said → Type 0
+IsRefusal (said.Refused fault) = ⊤
+IsRefusal (said.Ready token) = ⊥
+IsRefusal (said.Installed token) = ⊥
+IsRefusal (said.Unchanged token) = ⊥
+IsRefusal said.NoMemory = ⊥
+IsRefusal (said.Serving token zones) = ⊥
+IsRefusal said.Bye = ⊥
+IsRefusal said.Unknown = ⊥
+
+-- the text of an answer, or, of a refusal, that there is no memory for it
+abbrev pub TellsAnswer : Said → List ℕ → Type 0
+TellsAnswer answer text =
+    (text ≡ reply_text answer) ⊎ (IsRefusal answer × (text ≡ reply_text said.NoMemory))
+
+-- a text was written, or a failed write cut it, which ends the talk
+abbrev pub SaysText : SinkView → SinkView → List ℕ → Turn → Type 0
+SaysText old new text turn.On = WritesAll old new text written.Whole
+SaysText old new text (turn.End end.NotWritten) = WritesAll old new text written.Cut
+SaysText old new text (turn.End end.Quit) = ⊥
+SaysText old new text (turn.End end.InputEnded) = ⊥
+SaysText old new text (turn.End end.NotRead) = ⊥
+SaysText old new text turn.NoMemory = ⊥
+
+-- the last reply was written, or a failed write cut it
+abbrev pub SaysBye : SinkView → SinkView → TalkEnd → Type 0
+SaysBye old new end.Quit = WritesAll old new (reply_text said.Bye) written.Whole
+SaysBye old new end.NotWritten = WritesAll old new (reply_text said.Bye) written.Cut
+SaysBye old new end.InputEnded = ⊥
+SaysBye old new end.NotRead = ⊥
+
+-- a talk goes on after a turn, or has come to its end
+abbrev pub Reaches : Scene → Scene → List ℕ → Turn → Type 0
+Reaches start now new turn.On = IsAt start now new
+Reaches start now new (turn.End ended) = ComesTo start now (Some ended)
+Reaches start now new turn.NoMemory = ComesTo start now None
+
+abbrev pub Turns : Scene → Scene → List ℕ → List ℕ → Turn → Type 0
+Turns before now held new done = (start : Scene) → IsAt start before held → Reaches start now new done
+
+-- a talk that holds no bytes goes on to its end
+abbrev pub GoesOn : Scene → Scene → Option TalkEnd → Type 0
+GoesOn before now ended = (start : Scene) → IsAt start before [] → ComesTo start now ended

@@ -1,0 +1,15 @@
+ghost use Rattle.std.specs.Prelude.{◌≡◌, ◌≤◌, length};
+
+use catalogue::Catalogue;
+use installer::Installer;
+use publication::Desk;
+use zone_meaning::Zone;
+
+/// What a console publishes with, and a desk of the same pair by which it shows what is served. The
+/// desk has seen all that was published.
+pub struct Session {
+    pub installer: Installer,
+    pub desk: Desk<Catalogue<Zone>>,
+    pub ghost paired: { desk.pair ≡ installer.pair },
+    pub ghost knows: { length installer.list ≤ length desk.seen },
+}

@@ -1,0 +1,228 @@
+ghost use Rattle.std.specs.Prelude.{◌≡◌};
+ghost use Rattle.td_base.specs.Later.{LaterSource};
+ghost use Rattle.td_top.specs.Outside.{outside};
+ghost use Rattle.td_top.specs.Talk.{is_quit};
+ghost use Rattle.td_top.specs.Talking.{ComesTo, scene};
+ghost use Rattle.td_top.specs.Turns.{FeedsTalk, IsRefusal, SaysBye, SaysText, TakesLine};
+ghost use Rattle.td_top.specs.Turns.{GoesOn, TellsAnswer, Turns, text_of};
+
+use crate::operator::{answer_line, newest};
+use crate::session::Session;
+use console::{Line, Lines, Said, ShortLine, reply, short};
+use std::alloc::Global;
+use std::sync::Wait;
+use td_base::{Bytes, NoMemory, ReadStep, Sink, Source, Store, Written, write_whole};
+
+/// How many bytes are asked of the input at a time.
+const PIECE: usize = 4_096;
+
+/// How a talk with an operator ended.
+#[derive(Clone, Copy, Debug, PartialEq, Eq)]
+pub enum TalkEnd {
+    /// The operator quit.
+    Quit,
+    /// The input ended.
+    InputEnded,
+    /// A read of the input failed.
+    NotRead,
+    /// A write to the output failed.
+    NotWritten,
+}
+
+/// What one turn of a talk came to.
+#[derive(Clone, Copy, Debug, PartialEq, Eq)]
+pub enum Turn {
+    /// The talk goes on.
+    On,
+    /// The talk ended.
+    End(TalkEnd),
+    /// There is no memory for what the operator wrote.
+    NoMemory,
+}
+
+/// What came of the next line.
+#[derive(Debug, Drop)]
+pub enum Taken {
+    /// A line.
+    Line(Line),
+    /// A line to install a folder, for whose name there was no memory.
+    Unread,
+    /// No line is held whole.
+    None,
+}
+
+/// A reply as it is written.
+#[derive(Debug, Drop)]
+pub enum Reply {
+    Short(ShortLine),
+    Long(Bytes),
+}
+
+impl Reply {
+    /// The bytes to write.
+    fn as_slice(&self) -> &[u8]
+        ensures { result.now ≡ text_of self.now }
+    {
+        match self {
+            Reply::Short(line) => line.as_slice(),
+            Reply::Long(line) => line.as_slice(),
+        }
+    }
+}
+
+/// Tells that the server is ready, and answers line by line until the operator quits, the input
+/// ends, or a read or a write fails. It gives no end where memory ran out.
+pub fn talk<R: Wait, S: Store, C: Source, K: Sink>(
+    rt: &R,
+    alloc: Global,
+    session: &mut Session,
+    store: &mut S,
+    input: &mut C,
+    output: &mut K,
+) -> Option<TalkEnd>
+    ensures { ComesTo
+        (scene (outside (S.seen store.old) (C.seen input.old) (K.seen output.old)) session.old)
+        (scene (outside (S.seen store.new) (C.seen input.new) (K.seen output.new)) session.new)
+        result }
+{
+    let ready = short(&Said::Ready(newest(&session.installer)));
+    match write_whole(output, ready.as_slice()) {
+        Written::Whole => answer_lines(rt, alloc, session, store, input, output),
+        Written::Cut => Some(TalkEnd::NotWritten),
+    }
+}
+
+/// Answers line by line up to the end of the talk.
+fn answer_lines<R: Wait, S: Store, C: Source, K: Sink>(
+    rt: &R,
+    alloc: Global,
+    session: &mut Session,
+    store: &mut S,
+    input: &mut C,
+    output: &mut K,
+) -> Option<TalkEnd>
+    ensures { GoesOn
+        (scene (outside (S.seen store.old) (C.seen input.old) (K.seen output.old)) session.old)
+        (scene (outside (S.seen store.new) (C.seen input.new) (K.seen output.new)) session.new)
+        result }
+{
+    let mut lines = Lines::new(alloc);
+    for _ in rt.forever() {
+        match take_turn(rt, alloc, session, store, input, output, &mut lines) {
+            Turn::On => {}
+            Turn::End(end) => return Some(end),
+            Turn::NoMemory => return None,
+        }
+    }
+    unreachable!()
+}
+
+/// Answers the next line, or reads a piece of the input where none is held whole.
+fn take_turn<R: Wait, S: Store, C: Source, K: Sink>(
+    rt: &R,
+    alloc: Global,
+    session: &mut Session,
+    store: &mut S,
+    input: &mut C,
+    output: &mut K,
+    lines: &mut Lines,
+) -> Turn
+    ensures { Turns
+        (scene (outside (S.seen store.old) (C.seen input.old) (K.seen output.old)) session.old)
+        (scene (outside (S.seen store.new) (C.seen input.new) (K.seen output.new)) session.new)
+        lines.old lines.new result }
+{
+    match take_line(lines) {
+        Taken::None => feed(lines, input),
+        Taken::Unread => say(output, short(&Said::NoMemory).as_slice()),
+        Taken::Line(line) => {
+            if is_quit(&line) {
+                return Turn::End(quit(output));
+            }
+            let said = answer_line(rt, alloc, session, store, &line);
+            say(output, reply_for(alloc, &said).as_slice())
+        }
+    }
+}
+
+/// Whether a line asks that the talk end.
+fn is_quit(line: &Line) -> bool
+    ensures { result ≡ is_quit line.now }
+{
+    match line {
+        Line::Quit => true,
+        Line::Install(_) | Line::Sync | Line::Status | Line::Strange => false,
+    }
+}
+
+/// Takes the next line off the bytes that are held.
+fn take_line(lines: &mut Lines) -> Taken
+    ensures { TakesLine lines.old lines.new result }
+{
+    match lines.next() {
+        Ok(Some(line)) => Taken::Line(line),
+        Ok(None) => Taken::None,
+        Err(NoMemory) => {
+            lines.pass_over();
+            Taken::Unread
+        }
+    }
+}
+
+/// Reads a piece of the input, and holds it.
+fn feed<C: Source>(lines: &mut Lines, input: &mut C) -> Turn
+    ensures told { FeedsTalk (C.seen input.old) (C.seen input.new) lines.old lines.new result }
+    ensures later { LaterSource (C.seen input.old) (C.seen input.new) }
+{
+    let mut room = [0; PIECE];
+    match input.read(&mut room) {
+        ReadStep::Got(count) => match lines.feed(&room[..count]) {
+            Ok(()) => Turn::On,
+            Err(NoMemory) => Turn::NoMemory,
+        },
+        ReadStep::End => Turn::End(TalkEnd::InputEnded),
+        ReadStep::Failed => Turn::End(TalkEnd::NotRead),
+    }
+}
+
+/// The reply for what is said. A refusal takes memory; where there is none, that is said.
+fn reply_for(alloc: Global, said: &Said) -> Reply
+    ensures { TellsAnswer said.now (text_of result) }
+{
+    match said {
+        Said::Refused(_) => refusal_for(alloc, said),
+        _ => Reply::Short(short(said)),
+    }
+}
+
+/// The reply for a refusal.
+fn refusal_for(alloc: Global, said: &Said) -> Reply
+    requires { IsRefusal said.now }
+    ensures { TellsAnswer said.now (text_of result) }
+{
+    let mut line = Bytes::new(alloc);
+    match reply(&mut line, said) {
+        Ok(()) => Reply::Long(line),
+        Err(NoMemory) => Reply::Short(short(&Said::NoMemory)),
+    }
+}
+
+/// Writes a reply.
+fn say<K: Sink>(output: &mut K, text: &[u8]) -> Turn
+    ensures { SaysText (K.seen output.old) (K.seen output.new) text.now result }
+{
+    match write_whole(output, text) {
+        Written::Whole => Turn::On,
+        Written::Cut => Turn::End(TalkEnd::NotWritten),
+    }
+}
+
+/// Writes the last reply.
+fn quit<K: Sink>(output: &mut K) -> TalkEnd
+    ensures { SaysBye (K.seen output.old) (K.seen output.new) result }
+{
+    match write_whole(output, short(&Said::Bye).as_slice()) {
+        Written::Whole => TalkEnd::Quit,
+        Written::Cut => TalkEnd::NotWritten,
+    }
+}

@@ -1,0 +1,68 @@
+ghost use Rattle.std.specs.Prelude.{◌≡◌, length, map, All, IfOk, false, ◌||◌};
+ghost use Rattle.connection.specs.DoorWorks.{NoneGiven};
+ghost use Rattle.logbook.specs.Pages.{Book};
+ghost use Rattle.td_top.specs.Works.{AreWorks, Learnt};
+
+use catalogue::Catalogue;
+use connection::{DoorDone, DoorWork};
+use desk_pool::StopFlag;
+use publication::{Desk, Ended};
+use std::alloc::Global;
+use td_base::{Door, NoMemory, Role};
+use zone_meaning::Zone;
+
+/// The works that serve doors, each by a desk of its own and with a sign of the flag.
+pub fn works_for<D: Door + Drop>(
+    alloc: Global,
+    doors: Vec<D>,
+    desks: Vec<Desk<Catalogue<Zone>>>,
+) -> Result<(Vec<DoorWork<D>>, StopFlag), NoMemory>
+    requires many { length doors.items ≡ length desks.items }
+    requires new { All (λ d. NoneGiven (D.seen d)) doors.items }
+    ensures works { IfOk result (λ r. (pair : Book) → All (λ d. d.pair ≡ pair) desks.items
+        → AreWorks pair (map D.seen doors.items) r.0.items) }
+    ensures flag { IfOk result (λ r. r.1.raised ≡ false) }
+{
+    let mut flag = StopFlag::new(alloc)?;
+    let mut left = desks;
+    let mut works = Vec::new(alloc);
+    for door in doors {
+        let desk = left.pop().unwrap();
+        let sign = flag.share()?;
+        works.push(DoorWork::new(alloc, Role::Primary, door, desk, sign))?;
+    }
+    Ok((works, flag))
+}
+
+/// Lets the desks of workers learn all that was published, and gives their doors, and whether one
+/// of them is worn.
+pub fn learn_all<D: Drop + Door>(
+    alloc: Global,
+    ended: &mut Ended<Catalogue<Zone>>,
+    dones: Vec<DoorDone<D>>,
+) -> Result<(Vec<D>, bool), NoMemory>
+    requires { All (λ d. d.desk.pair ≡ ended.old.pair) dones.items }
+    ensures learnt { IfOk result (λ r. Learnt ended.old.list dones.items r.0.items r.1) }
+{
+    let mut doors = Vec::new(alloc);
+    let mut worn = false;
+    for done in dones {
+        let DoorDone {
+            door,
+            mut desk,
+            sign: _,
+            worn: one,
+        } = done;
+        desk.learn(ended.receipt()?);
+        doors.push(door)?;
+        worn = is_either(worn, one);
+    }
+    Ok((doors, worn))
+}
+
+/// Whether one of the two holds.
+fn is_either(one: bool, other: bool) -> bool
+    ensures { result ≡ (one || other) }
+{
+    one || other
+}
