@@ -1,6 +1,11 @@
 use std::alloc::{AllocError, Global};
 use std::sync::Wait;
-use td_base::{Bytes, Faulty, Items, MemorySink, MemorySource, MemoryStore, NoMemory};
+use std::thread::Threads;
+use td_base::{
+    Bytes, Door, Faulty, Items, MemoryDoor, MemoryNetwork, MemorySink, MemorySource, MemorySpawner,
+    MemoryStore, Network, NoMemory, Sink, Source, Spawner, Store,
+};
+use td_top::Outcome;
 
 /// A file of the store.
 #[derive(Drop)]
@@ -78,7 +83,7 @@ impl Case {
     }
 
     /// Runs it over the files.
-    pub fn run<R: Wait>(
+    pub fn run<R: Threads + Wait + Copy + Send + 'static>(
         &self,
         rt: &R,
         alloc: Global,
@@ -100,7 +105,19 @@ impl Case {
         let output = MemorySink::in_pieces(alloc, self.room, pieces)?;
         let mut output = Faulty::new(output, failing);
         let words = self.words.as_slice();
-        let status = td_top::run(rt, alloc, words, &mut store, &mut input, &mut output);
+        let mut network: MemoryNetwork<MemoryDoor> = MemoryNetwork::new(alloc);
+        let mut spawner = MemorySpawner::new();
+        let outcome = top_call(
+            rt,
+            alloc,
+            words,
+            &mut store,
+            &mut input,
+            &mut output,
+            &mut network,
+            &mut spawner,
+        );
+        let status = outcome.status;
         Ok(Ending {
             status,
             output: Vec::from_slice(alloc, output.inner().taken())?,
@@ -136,4 +153,28 @@ fn piece_sizes(
         }
     }
     Ok(sizes)
+}
+
+/// The top call. What it promises is not needed here, and is much at objects that tell all.
+fn top_call<R, S, C, K, N, W>(
+    rt: &R,
+    alloc: Global,
+    words: &[Bytes],
+    store: &mut S,
+    input: &mut C,
+    output: &mut K,
+    net: &mut N,
+    spawner: &mut W,
+) -> Outcome<N::Door>
+where
+    R: Threads + Wait + Copy + Send + 'static,
+    S: Store,
+    C: Source,
+    K: Sink,
+    N: Network,
+    N::Door: Send + Drop + 'static,
+    <N::Door as Door>::Conn: Send + 'static,
+    W: Spawner,
+{
+    td_top::run(rt, alloc, words, store, input, output, net, spawner)
 }

@@ -2,6 +2,7 @@ use crate::case::{Case, Ending, File, Trial};
 use crate::texts::{Texts, digit, written};
 use std::alloc::{AllocError, Global};
 use std::sync::Wait;
+use std::thread::Threads;
 use td_base::{Bytes, NoMemory, read_decimal};
 
 /// A table that is read line by line.
@@ -38,7 +39,11 @@ impl Script {
     }
 
     /// Does what a line says, and gives what is to be told of it, if anything.
-    pub fn read_line<R: Wait>(&mut self, rt: &R, line: &str) -> Result<String, AllocError> {
+    pub fn read_line<R: Threads + Wait + Copy + Send + 'static>(
+        &mut self,
+        rt: &R,
+        line: &str,
+    ) -> Result<String, AllocError> {
         let (word, rest) = line.split_once(' ').unwrap_or((line, ""));
         match word {
             "" | "#" => Ok(String::new(self.alloc)),
@@ -134,7 +139,11 @@ impl Script {
 
     /// `run`, or `run cut`: once for each size of the first read; or `run unwritten`: once for each
     /// write that fails.
-    fn run_case<R: Wait>(&mut self, rt: &R, how: &str) -> Result<String, AllocError> {
+    fn run_case<R: Threads + Wait + Copy + Send + 'static>(
+        &mut self,
+        rt: &R,
+        how: &str,
+    ) -> Result<String, AllocError> {
         let Some(case) = &self.case else {
             return strange(self.alloc, "run");
         };
