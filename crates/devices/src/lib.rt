@@ -1,10 +1,9 @@
-//! The real objects of the outside, each over one of the traits of `td_base`, and a pair of doors in
-//! memory for tests of two threads. [`RealSource`] and [`RealSink`] are streams, [`RealStore`] the
-//! files of the system, [`RealNetwork`], [`RealDoor`] and [`RealConn`] a TCP listener with its
+//! The real objects of the outside, each over one of the traits of `td_base`, and a pair of doors
+//! in memory for tests of two threads. [`RealSource`] and [`RealSink`] are streams, [`RealStore`]
+//! the files of the system, [`RealNetwork`], [`RealDoor`] and [`RealConn`] a TCP listener with its
 //! connections, [`RealSpawner`] threads. They tell what the system tells, which is nothing beyond
-//! the count of what failed (`specs/Opened.antt`,
-//! `specs/RealDoors.antt`). [`gate_pair`] makes the two
-//! doors (`specs/Gates.antt`).
+//! the count of what failed (`specs/Opened.antt`, `specs/RealDoors.antt`). [`gate_pair`] makes the
+//! two doors (`specs/Gates.antt`).
 #![tactic(auto)]
 
 mod gate_conn;

@@ -10,8 +10,8 @@ use std::time::Duration;
 /// waits, and gives up where one does.
 pub const READ_WAIT_SECONDS: u32 = 10;
 
-/// For how many seconds a write waits for room.
-pub const WRITE_WAIT_SECONDS: u64 = 10;
+/// For how many seconds a write waits for room while its peer takes nothing.
+pub const WRITE_WAIT_SECONDS: u32 = 10;
 
 /// How often a stream is read once more before it is closed.
 pub const LINGER_TURNS: u32 = 10;
@@ -37,9 +37,10 @@ pub struct Link {
 impl Link {
     /// The stream, with its times of waiting set.
     pub fn new(stream: TcpStream, listening: Listening) -> io::Result<Link> {
+        let second = Duration::from_secs(1);
         stream.set_nodelay(true)?;
-        stream.set_read_timeout(Some(Duration::from_secs(1)))?;
-        stream.set_write_timeout(Some(Duration::from_secs(WRITE_WAIT_SECONDS)))?;
+        stream.set_read_timeout(Some(second))?;
+        stream.set_write_timeout(Some(second))?;
         Ok(Link {
             stream,
             listening,
@@ -84,8 +85,22 @@ impl Link {
         Err(Error::from(ErrorKind::Interrupted))
     }
 
-    /// Writes, again where a signal came.
+    /// Waits for room, a second at a time, and writes. What was taken before such a second ended is
+    /// told at once, so a peer is given up after ten of them in which it took nothing at all.
     pub fn send(&mut self, piece: &[u8]) -> io::Result<usize>
+        ensures { WritesAtMost result piece.now }
+    {
+        for _ in 0..WRITE_WAIT_SECONDS {
+            match self.send_once(piece) {
+                Err(error) if error.kind() == ErrorKind::WouldBlock => {}
+                written => return written,
+            }
+        }
+        Err(Error::from(ErrorKind::TimedOut))
+    }
+
+    /// Writes, again where a signal came.
+    fn send_once(&mut self, piece: &[u8]) -> io::Result<usize>
         ensures { WritesAtMost result piece.now }
     {
         for _ in 0..MOST_CALLS {
@@ -99,31 +114,37 @@ impl Link {
 
     /// Closes the stream so that what was written reaches the peer, also where it is still sending.
     /// Gives the connection that was accepted meanwhile.
-    pub fn close(self) -> Option<TcpStream> {
-        let Link {
-            stream,
-            follower,
-            ..
-        } = self;
-        linger(stream);
+    pub fn close(mut self) -> Option<TcpStream> {
+        if self.end_sending().is_ok() {
+            self.linger();
+        }
+        let Link { follower, .. } = self;
         follower
     }
-}
 
-/// Ends the sending side and reads on for a short while. A socket that is closed with unread bytes
-/// resets its connection, and the peer may lose what it was sent last.
-fn linger(mut stream: TcpStream) {
-    let wait = Duration::from_millis(LINGER_WAIT_MILLIS);
-    if stream.shutdown(Shutdown::Write).is_err() || stream.set_read_timeout(Some(wait)).is_err() {
-        return;
+    /// Ends the sending side. Each further read waits for a moment only.
+    fn end_sending(&self) -> io::Result<()> {
+        self.stream.shutdown(Shutdown::Write)?;
+        let moment = Duration::from_millis(LINGER_WAIT_MILLIS);
+        self.stream.set_read_timeout(Some(moment))
     }
-    let mut room = [0; LINGER_BYTES];
-    for _ in 0..LINGER_TURNS {
-        match stream.read(&mut room) {
-            Ok(0) => break,
-            Ok(_) => {}
-            Err(error) if error.kind() == ErrorKind::WouldBlock => {}
-            Err(_) => break,
+
+    /// Reads on for a short while, less where nothing comes and another connection waits. A socket
+    /// that is closed with unread bytes resets its connection, and the peer may lose what it was
+    /// sent last.
+    fn linger(&mut self) {
+        let mut room = [0; LINGER_BYTES];
+        for _ in 0..LINGER_TURNS {
+            match self.stream.read(&mut room) {
+                Ok(0) => break,
+                Ok(_) => {}
+                Err(error) if error.kind() == ErrorKind::WouldBlock => {
+                    if self.another_waits() {
+                        break;
+                    }
+                }
+                Err(_) => break,
+            }
         }
     }
 }
