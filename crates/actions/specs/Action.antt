@@ -1,4 +1,5 @@
--- What a request is answered, over a history (RFC 7808, section 5): one case an action, over the last release.
+-- What a request is answered, over a history (RFC 7808, section 5): one case an action, over the
+-- last release.
 use Rattle.std.specs.Prelude.{List}
 use Rattle.td_base.specs.declared.report.Role.{Role}
 use Rattle.catalogue.specs.Releases.{ReleaseData}

@@ -1,5 +1,5 @@
--- The bounds that a request gives a range of time (RFC 7808, sections 5.3 and 5.4), each given once, as the text of a
--- moment.
+-- The bounds that a request gives a range of time (RFC 7808, sections 5.3 and 5.4), each given
+-- once, as the text of a moment.
 use Rattle.std.specs.Prelude.{ℤ, Bool, ◌&&◌, int_le, int_lt, Option, Some, None, if◌then◌else◌}
 use Rattle.td_civil.specs.Reading.{moment_in}
 use Rattle.td_civil.specs.declared.moment_type.TheConstants.{LO, HI}

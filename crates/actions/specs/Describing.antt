@@ -1,5 +1,5 @@
--- The action `capabilities` (RFC 7808, section 5.1), and the redirect of the well-known address (RFC
--- 7808, section 4.2.1.3).
+-- The action `capabilities` (RFC 7808, section 5.1), and the redirect of the well-known address
+-- (RFC 7808, section 4.2.1.3).
 use Rattle.std.specs.Prelude.{List, [], Option, Some, None, true}
 use Rattle.std.specs.Option.{is_some}
 use Rattle.td_base.specs.declared.report.Role.{Role}

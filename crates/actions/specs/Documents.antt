@@ -9,7 +9,8 @@ use Rattle.json_forms.specs.declared.problem_type.Problem.TheVariants as problem
 
 -- a JSON document
 abbrev pub with_document : List ℕ → Answer
-with_document body = record { status = 200; kind = Some kind.Json; tag = None; moved = false; body = body }
+with_document body =
+    record { status = 200; kind = Some kind.Json; tag = None; moved = false; body = body }
 
 -- a refusal, told by its problem document (RFC 7807)
 abbrev pub with_problem : Problem → Answer

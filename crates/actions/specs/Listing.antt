@@ -1,5 +1,6 @@
 -- The action `list` (RFC 7808, section 5.2).
-use Rattle.std.specs.Prelude.{ℕ, List, [], ◌∷◌, length, map, filter, Bool, true, if◌then◌else◌, Option, Some, None}
+use Rattle.std.specs.Prelude.{ℕ, List, [], ◌∷◌, length, map, filter, Bool, true, if◌then◌else◌}
+use Rattle.std.specs.Prelude.{Option, Some, None}
 use Rattle.catalogue.specs.Histories.{EntryData, meta, token_of}
 use Rattle.catalogue.specs.Lookups.{delta, place_of}
 use Rattle.catalogue.specs.Releases.{ReleaseData}

@@ -1,5 +1,6 @@
 ghost use Rattle.std.specs.Prelude.{◌≡◌, IfOk};
-ghost use Rattle.actions.specs.Documents.{with_data, with_document, with_problem, unchanged, unknown_action};
+ghost use Rattle.actions.specs.Documents.{with_data, with_document, with_problem, unchanged};
+ghost use Rattle.actions.specs.Documents.{unknown_action};
 
 use http_answer::{Answer, Kind};
 use json_forms::{Problem, problem_text};

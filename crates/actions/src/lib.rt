@@ -1,6 +1,7 @@
-//! What a request is answered: the actions of a time zone data distribution service (RFC 7808, section 5) over a
-//! catalogue. The main call is [`answer`]; what it gives is `action` of `specs/Action.antt`, for each history that the
-//! catalogue stands for. Each action has a file of its own, here and in `specs/`.
+//! What a request is answered: the actions of a time zone data distribution service (RFC 7808,
+//! section 5) over a catalogue. The main call is [`answer`]; what it gives is `action` of
+//! `specs/Action.antt`, for each history that the catalogue stands for. Each action has a file of
+//! its own, here and in `specs/`.
 #![tactic(auto)]
 
 mod answering;

@@ -115,7 +115,8 @@ fn put_chosen<C: Choice>(
     choice: &C,
 ) -> Result<(), NoMemory>
     requires { IsPlainEntry (entry_data (λ z. z) entry.now) }
-    ensures { (before token : List ℕ) (zones : List ListZone) → IsListBegun before token zones list.old
+    ensures { (before token : List ℕ) (zones : List ListZone)
+        → IsListBegun before token zones list.old
         → OnOk result (IsListBegun before token
         (zones ++ listed_if (C.shows choice.now) (entry_data (λ z. z) entry.now)) list.new) }
 {

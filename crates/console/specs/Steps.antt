@@ -1,5 +1,6 @@
 -- What one call gives of the bytes that are held, and what that is of all the bytes fed.
-use Rattle.std.specs.Prelude.{◌≡◌, ℕ, ◌+◌, ◌<◌, ◌≤◌, List, [], ◌∷◌, ◌++◌, length, take, false, IsTrue, Option, Some, None, ⊤}
+use Rattle.std.specs.Prelude.{◌≡◌, ℕ, ◌+◌, ◌<◌, ◌≤◌, List, [], ◌∷◌, ◌++◌, length, take, false}
+use Rattle.std.specs.Prelude.{IsTrue, Option, Some, None, ⊤}
 use Rattle.std.specs.List.{before_first, after_first}
 use Rattle.console.specs.Lines.{most_bytes, is_feed, has_feed, line_of, lines_of, IsInstall}
 use Rattle.console.specs.declared.line.Line.{Line}

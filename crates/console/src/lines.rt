@@ -1,7 +1,9 @@
-ghost use Rattle.std.specs.Prelude.{◌≡◌, ℕ, List, [], ◌∷◌, ◌+◌, ◌<◌, ◌≤◌, ◌++◌, drop, length, take, IfSome, IfOk, OnOk, OnErr, IsTrue, Some};
+ghost use Rattle.std.specs.Prelude.{◌≡◌, ℕ, List, [], ◌∷◌, ◌+◌, ◌<◌, ◌≤◌, ◌++◌, drop, length, take};
+ghost use Rattle.std.specs.Prelude.{IfSome, IfOk, OnOk, OnErr, IsTrue, Some};
 ghost use Rattle.std.specs.List.{position};
 ghost use Rattle.console.specs.Lines.{has_feed, is_feed, line_of, IsInstall};
-ghost use Rattle.console.specs.Steps.{Continues, Gives, HasInstall, LeavesFewer, LeavesFew, Steps, first_line};
+ghost use Rattle.console.specs.Steps.{Continues, Gives, HasInstall, LeavesFewer, LeavesFew, Steps};
+ghost use Rattle.console.specs.Steps.{first_line};
 ghost use Rattle.console.specs.declared.line.Line.{Line};
 
 use crate::Line;

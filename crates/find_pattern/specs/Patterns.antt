@@ -1,6 +1,7 @@
 -- Reading a pattern. A star at the start lets any text come before, and one at the end any text
 -- after; `\*` and `\\` stand for a star and a backslash.
-use Rattle.std.specs.Prelude.{ℕ, ◌+◌, List, [], ◌∷◌, Bool, true, false, ◌||◌, ◌==◌, if◌then◌else◌, Result, Ok, Err}
+use Rattle.std.specs.Prelude.{ℕ, ◌+◌, List, [], ◌∷◌, Bool, true, false, ◌||◌, ◌==◌, if◌then◌else◌}
+use Rattle.std.specs.Prelude.{Result, Ok, Err}
 use Rattle.find_pattern.specs.declared.pattern_type.Pattern.{Pattern}
 use Rattle.find_pattern.specs.declared.pattern_fault.BadPattern.{BadPattern}
 use Rattle.find_pattern.specs.declared.pattern_fault.BadPattern.TheVariants as bad

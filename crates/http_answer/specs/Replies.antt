@@ -1,6 +1,8 @@
 -- The replies of HTTP/1.1, line by line (RFC 9112, section 4; RFC 9110, sections 8, 10.2, 12.5.5
 -- and 15).
-use Rattle.std.specs.Prelude.{ℕ, List, [], ◌∷◌, ◌++◌, length, Bool, true, false, ◌||◌, ◌==◌, if◌then◌else◌, Option, Some, None, unwrap_or, codes, decimal, flat_map, ◌≡◌, ◌⊎◌}
+use Rattle.std.specs.Prelude.{ℕ, List, [], ◌∷◌, ◌++◌, length, Bool, true, false, ◌||◌, ◌==◌}
+use Rattle.std.specs.Prelude.{if◌then◌else◌, Option, Some, None, unwrap_or, codes, decimal}
+use Rattle.std.specs.Prelude.{flat_map, ◌≡◌, ◌⊎◌}
 use Rattle.http.specs.StatusCode.{code_digits, reason_phrase}
 use Rattle.http_answer.specs.declared.answer.Answer.{Answer}
 use Rattle.http_answer.specs.declared.answer.Kind.{Kind}

@@ -1,6 +1,7 @@
 ghost use Rattle.std.specs.Prelude.{◌≡◌, ◌++◌, OnOk};
 ghost use Rattle.http_answer.specs.Parts.{Keeps, line_of, text_of};
-ghost use Rattle.http_answer.specs.Replies.{IsAnswerStatus, ended, length_lines, status_line, tag_lines, type_lines, unless_unchanged};
+ghost use Rattle.http_answer.specs.Replies.{IsAnswerStatus, ended, length_lines, status_line};
+ghost use Rattle.http_answer.specs.Replies.{tag_lines, type_lines, unless_unchanged};
 
 use crate::Answer;
 use crate::lines::type_line;

@@ -1,7 +1,9 @@
 -- Where a request head ends, on the whole list (RFC 9112, sections 2.1 and 2.2).
 -- A line is a run of bytes up to and with a line feed. It is empty if it is a line feed alone, or a
 -- carriage return and a line feed.
-use Rattle.std.specs.Prelude.{ℕ, ◌+◌, List, [], ◌∷◌, ◌++◌, take, length, Bool, true, false, not, ◌&&◌, ◌||◌, ◌==◌, nat_le, if◌then◌else◌, Option, Some, None, option_and_then}
+use Rattle.std.specs.Prelude.{ℕ, ◌+◌, List, [], ◌∷◌, ◌++◌, take, length, Bool, true, false, not}
+use Rattle.std.specs.Prelude.{◌&&◌, ◌||◌, ◌==◌, nat_le, if◌then◌else◌, Option, Some, None}
+use Rattle.std.specs.Prelude.{option_and_then}
 
 -- how many bytes a head may have
 abbrev pub most_bytes : ℕ

@@ -1,5 +1,6 @@
 -- How far a list was searched for the end of its first head.
-use Rattle.std.specs.Prelude.{Option, None, ◌≡◌, ℕ, ◌≤◌, List, [], ◌∷◌, ◌++◌, length, take, Bool, true, false, not, ◌&&◌, ◌||◌, ◌+◌, if◌then◌else◌, ◌==◌, Some}
+use Rattle.std.specs.Prelude.{Option, None, ◌≡◌, ℕ, ◌≤◌, List, [], ◌∷◌, ◌++◌, length, take, Bool}
+use Rattle.std.specs.Prelude.{true, false, not, ◌&&◌, ◌||◌, ◌+◌, if◌then◌else◌, ◌==◌, Some}
 use Rattle.http_request.specs.declared.scan.Line.{Line}
 use Rattle.http_request.specs.declared.scan.Line.TheVariants as line
 use Rattle.http_request.specs.declared.scan.Scan.{Scan}

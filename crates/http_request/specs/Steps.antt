@@ -1,5 +1,6 @@
 -- One step: what stands at the beginning of a list of bytes, and what is answered.
-use Rattle.std.specs.Prelude.{◌≡◌, ℕ, ◌≤◌, List, length, take, drop, true, false, Option, Some, None}
+use Rattle.std.specs.Prelude.{◌≡◌, ℕ, ◌≤◌, List, length, take, drop, true, false, Option, Some}
+use Rattle.std.specs.Prelude.{None}
 use Rattle.httparse.specs.Grammar.{RequestHead, ReadsRequest, print_request}
 use Rattle.http_request.specs.Ends.{window, is_full, most_feeds}
 use Rattle.http_request.specs.Judging.{refusal_of, asked_by}

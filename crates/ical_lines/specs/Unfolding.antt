@@ -1,5 +1,7 @@
 -- Reading content lines (RFC 5545, section 3.1).
-use Rattle.std.specs.Prelude.{ℕ, ◌+◌, ◌-◌, List, [], ◌∷◌, ◌++◌, length, take, drop, map, Bool, false, not, ◌||◌, ◌&&◌, ◌==◌, if◌then◌else◌, Option, Some, None, Result, Ok, Err, bytes_eq}
+use Rattle.std.specs.Prelude.{ℕ, ◌+◌, ◌-◌, List, [], ◌∷◌, ◌++◌, length, take, drop, map, Bool}
+use Rattle.std.specs.Prelude.{false, not, ◌||◌, ◌&&◌, ◌==◌, if◌then◌else◌, Option, Some, None}
+use Rattle.std.specs.Prelude.{Result, Ok, Err, bytes_eq}
 use Rattle.std.specs.List.{list_all, onto_first}
 use Rattle.ical_lines.specs.declared.line_fault.BadLine.{BadLine}
 use Rattle.ical_lines.specs.declared.line_fault.BadLine.TheVariants as bad

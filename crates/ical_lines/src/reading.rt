@@ -1,5 +1,7 @@
 //! Content lines, read.
-ghost use Rattle.std.specs.Prelude.{◌≡◌, ◌≢◌, ◌<◌, ◌≤◌, [], ◌++◌, ◌∷◌, ℕ, List, Ok, Err, IfOk, IfErr, IsTrue, length, if◌then◌else◌, Some, None, option_copied};
+ghost use Rattle.std.specs.Prelude.{◌≡◌, ◌≢◌, ◌<◌, ◌≤◌, [], ◌++◌, ◌∷◌, ℕ, List, Ok, Err, IfOk};
+ghost use Rattle.std.specs.Prelude.{IfErr, IsTrue, length, if◌then◌else◌, Some, None};
+ghost use Rattle.std.specs.Prelude.{option_copied};
 ghost use Rattle.ical_lines.specs.Unfolding as spec;
 ghost use Rattle.ical_lines.specs.LineLengths.{line_len, joined_with};
 

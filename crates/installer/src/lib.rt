@@ -3,8 +3,8 @@
 //! [`Installer::open`] publishes the release of a first folder for so many desks, and
 //! [`Installer::install`] that of one more. A release is published exactly where the folder gives
 //! it after the history so far, and where memory serves; every refusal leaves the history as it
-//! was. What an install says is `Installs` of specs/Installing.antt. [`first_in`] and [`next_in`] make the
-//! catalogues without publishing them.
+//! was. What an install says is `Installs` of specs/Installing.antt. [`first_in`] and [`next_in`]
+//! make the catalogues without publishing them.
 #![tactic(auto)]
 
 mod growing;

@@ -1,6 +1,7 @@
 -- What the service can do (RFC 7808, section 6.1) as JSON.
 use Rattle.std.specs.Prelude.{ℕ, List, [], ◌∷◌, ◌++◌, Bool, true, false, codes}
-use Rattle.serde_json.specs.Data.{Data, boolean, number, unsigned, string, array, object, no_members, member}
+use Rattle.serde_json.specs.Data.{Data, boolean, number, unsigned, string, array, object}
+use Rattle.serde_json.specs.Data.{no_members, member}
 use Rattle.serde_json.specs.View.{items_of}
 use Rattle.serde_json.specs.Written.{compact_text}
 use Rattle.td_base.specs.declared.report.Role.{Role}

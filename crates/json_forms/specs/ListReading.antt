@@ -1,5 +1,8 @@
--- A list of time zones as it is read (RFC 7808, section 6.2): what is judged of it, and what is taken.
-use Rattle.std.specs.Prelude.{◌≡◌, ℕ, ◌+◌, pos, List, [], ◌∷◌, codes, Bool, true, false, ◌&&◌, nat_le, length, if◌then◌else◌, Option, None, Some, is_some, unwrap_or, option_and_then}
+-- A list of time zones as it is read (RFC 7808, section 6.2): what is judged of it, and what is
+-- taken.
+use Rattle.std.specs.Prelude.{◌≡◌, ℕ, ◌+◌, pos, List, [], ◌∷◌, codes, Bool, true, false, ◌&&◌}
+use Rattle.std.specs.Prelude.{nat_le, length, if◌then◌else◌, Option, None, Some, is_some, unwrap_or}
+use Rattle.std.specs.Prelude.{option_and_then}
 use Rattle.std.specs.List.{list_all}
 use Rattle.std.specs.Option.{option_map_or}
 use Rattle.serde_json.specs.Data.{Data, Items, no_items, item}

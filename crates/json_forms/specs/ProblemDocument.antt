@@ -5,7 +5,11 @@ use Rattle.serde_json.specs.Data.{Data, number, unsigned, string, object, no_mem
 use Rattle.serde_json.specs.Find.{get, as_str}
 use Rattle.serde_json.specs.Written.{compact_text}
 use Rattle.json_forms.specs.declared.problem_type.Problem.{Problem}
-use Rattle.json_forms.specs.declared.problem_type.Problem.TheVariants.{InvalidAction, InvalidChangedsince, TzidNotFound, InvalidFormat, InvalidStart, InvalidEnd, InvalidPattern}
+use Rattle.json_forms.specs.declared.problem_type.Problem.TheVariants.{InvalidAction}
+use Rattle.json_forms.specs.declared.problem_type.Problem.TheVariants.{InvalidChangedsince}
+use Rattle.json_forms.specs.declared.problem_type.Problem.TheVariants.{TzidNotFound, InvalidFormat}
+use Rattle.json_forms.specs.declared.problem_type.Problem.TheVariants.{InvalidStart, InvalidEnd}
+use Rattle.json_forms.specs.declared.problem_type.Problem.TheVariants.{InvalidPattern}
 use Rattle.json_forms.specs.JsonTexts.{json_in}
 
 -- the status of the reply

@@ -1,4 +1,5 @@
-ghost use Rattle.std.specs.Prelude.{◌≡◌, [], ◌∷◌, ◌++◌, codes, map, string_bytes, IfOk, OnOk, OnErr};
+ghost use Rattle.std.specs.Prelude.{◌≡◌, [], ◌∷◌, ◌++◌, codes, map, string_bytes, IfOk, OnOk};
+ghost use Rattle.std.specs.Prelude.{OnErr};
 ghost use Rattle.serde_json.specs.Data.{array};
 ghost use Rattle.serde_json.specs.View.{view, items_of};
 ghost use Rattle.td_base.specs.Names.{IsPlain};
@@ -10,8 +11,8 @@ use serde_json::{Value, json};
 use std::alloc::Global;
 use td_base::{Bytes, NoMemory, Role};
 
-/// Appends what the service can do as JSON (RFC 7808, section 6.1): its actions, the formats of its data, and where
-/// the data comes from, the publisher or the server that it follows.
+/// Appends what the service can do as JSON (RFC 7808, section 6.1): its actions, the formats of its
+/// data, and where the data comes from, the publisher or the server that it follows.
 #[tactic(auto, using(crate::proofs::CapabilitiesReads::capabilities_have_no_float), unfolding(crate::specs::CapabilitiesDocument::capabilities_document))]
 pub fn capabilities_text(
     alloc: Global,

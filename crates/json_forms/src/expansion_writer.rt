@@ -15,8 +15,9 @@ use std::marker::Model;
 use td_base::{Bytes, NoMemory};
 use td_civil::{Moment, Observance};
 
-/// The observances of a time zone in a range of time that are being written as JSON (RFC 7808, sections 5.4 and
-/// 6.3), one after another. After `NoMemory` it is no longer the beginning of such a document.
+/// The observances of a time zone in a range of time that are being written as JSON (RFC 7808,
+/// sections 5.4 and 6.3), one after another. After `NoMemory` it is no longer the beginning of such
+/// a document.
 #[derive(Drop)]
 pub struct ExpansionWriter {
     out: Writer,
@@ -56,8 +57,8 @@ impl ExpansionWriter {
         Ok(())
     }
 
-    /// Ends the document with the zone's name as it was asked for and the start of the range. The bytes, and after
-    /// them the document.
+    /// Ends the document with the zone's name as it was asked for and the start of the range. The
+    /// bytes, and after them the document.
     pub fn end(self, tzid: &[u8], from: Moment) -> Result<Bytes, NoMemory>
         requires tzid { IsPlain tzid.now }
         requires from { IsWithinBounds from.seconds }
@@ -75,8 +76,8 @@ impl ExpansionWriter {
     }
 }
 
-/// Appends the observances of a time zone from one moment to another as JSON (RFC 7808, section 6.3), under the
-/// zone's name as it was asked for.
+/// Appends the observances of a time zone from one moment to another as JSON (RFC 7808, section
+/// 6.3), under the zone's name as it was asked for.
 pub fn expand_text(
     alloc: Global,
     out: &mut Bytes,

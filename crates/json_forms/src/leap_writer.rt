@@ -5,7 +5,8 @@ ghost use Rattle.serde_json.specs.Data.{array};
 ghost use Rattle.serde_json.specs.View.{items_of};
 ghost use Rattle.td_base.specs.Names.{IsPlain};
 ghost use Rattle.td_civil.specs.Bounds.{IsWithinBounds};
-ghost use Rattle.json_forms.specs.LeapDocument.{start_of, date_of, step_data, leap_data, leap_document, IsDatedStep, IsPlainTable};
+ghost use Rattle.json_forms.specs.LeapDocument.{start_of, date_of, step_data, leap_data};
+ghost use Rattle.json_forms.specs.LeapDocument.{leap_document, IsDatedStep, IsPlainTable};
 ghost use Rattle.json_forms.specs.TreeTokens.{tree_tokens};
 
 use crate::tree_writer::{put_integer, put_member};
@@ -15,8 +16,8 @@ use std::alloc::Global;
 use td_base::{Bytes, NoMemory};
 use td_civil::{Moment, utc_text};
 
-/// Appends the table of leap seconds as JSON (RFC 7808, section 6.4), with the publisher and the version of the
-/// release that it is of.
+/// Appends the table of leap seconds as JSON (RFC 7808, section 6.4), with the publisher and the
+/// version of the release that it is of.
 pub fn leap_text(
     alloc: Global,
     out: &mut Bytes,

@@ -1,10 +1,11 @@
 //! The JSON documents of the service (RFC 7808, section 6, and RFC 7807), with exact texts.
 //!
-//! Each document is defined in `specs/` as a tree of `serde_json`'s data, and its text is the compact text of that
-//! tree: the list of time zones is `list_document`, the observances of one `expansion_document`, what the service can
-//! do `capabilities_document`, the table of leap seconds `leap_document`, and why a request is refused
-//! `problem_document`. Those that grow with the data are written token by token, and `ListWriter` and
-//! `ExpansionWriter` take one item at a time; the others are built as a `Value` and printed.
+//! Each document is defined in `specs/` as a tree of `serde_json`'s data, and its text is the
+//! compact text of that tree: the list of time zones is `list_document`, the observances of one
+//! `expansion_document`, what the service can do `capabilities_document`, the table of leap seconds
+//! `leap_document`, and why a request is refused `problem_document`. Those that grow with the data
+//! are written token by token, and `ListWriter` and `ExpansionWriter` take one item at a time; the
+//! others are built as a `Value` and printed.
 #![tactic(auto)]
 
 mod capabilities_writer;

@@ -7,8 +7,8 @@ use td_base::NoMemory;
 pub enum BadList {
     /// There is no memory for the list.
     NoMemory,
-    /// The entry of this number, counted from 1, is none; or, at 0, the document itself is no list, or has more
-    /// zones or names than a release may have.
+    /// The entry of this number, counted from 1, is none; or, at 0, the document itself is no list,
+    /// or has more zones or names than a release may have.
     BadList(usize),
 }
 

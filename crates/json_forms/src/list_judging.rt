@@ -38,7 +38,8 @@ fn is_list(list: &Value) -> bool
 
 /// Whether the entries are an array within the limits of a release.
 fn has_entries(list: &Value) -> bool
-    ensures { result ≡ reading.entries_pass (reading.array_member (codes "timezones") (view list.now)) }
+    ensures { result
+        ≡ reading.entries_pass (reading.array_member (codes "timezones") (view list.now)) }
 {
     match array_member(list, "timezones") {
         Some(entries) => are_within_limits(entries),

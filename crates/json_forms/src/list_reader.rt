@@ -15,8 +15,8 @@ use std::alloc::Global;
 use td_base::{Bytes, Items, NoMemory};
 use td_civil::{Moment, moment_of};
 
-/// The list of time zones that a body is (RFC 7808, section 6.2). Members of other names are ignored, and of a member
-/// given twice the last one counts.
+/// The list of time zones that a body is (RFC 7808, section 6.2). Members of other names are
+/// ignored, and of a member given twice the last one counts.
 pub fn read_list(alloc: Global, bytes: &[u8]) -> Result<ListDoc, BadList>
     ensures found { IfOk result (λ list. reading.IsListText bytes.now list) }
     ensures bad { IfErr result
@@ -97,7 +97,8 @@ fn moment_in(text: &str) -> Moment
 
 fn aliases_of(alloc: Global, entry: &Value) -> Result<Items<Bytes>, NoMemory>
     ensures { IfOk result (λ texts. texts
-        ≡ reading.texts_of (unwrap_or (reading.array_member (codes "aliases") (view entry.now)) no_items)) }
+        ≡ reading.texts_of
+        (unwrap_or (reading.array_member (codes "aliases") (view entry.now)) no_items)) }
 {
     match array_member(entry, "aliases") {
         Some(aliases) => texts_of(alloc, aliases),

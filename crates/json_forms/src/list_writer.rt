@@ -16,8 +16,8 @@ use std::alloc::Global;
 use std::marker::Model;
 use td_base::{Bytes, NoMemory};
 
-/// A list of time zones that is being written as JSON (RFC 7808, sections 5.2 and 6.2), zone by zone. After
-/// `NoMemory` it is no longer the beginning of a list.
+/// A list of time zones that is being written as JSON (RFC 7808, sections 5.2 and 6.2), zone by
+/// zone. After `NoMemory` it is no longer the beginning of a list.
 #[derive(Drop)]
 pub struct ListWriter {
     out: Writer,
@@ -69,8 +69,8 @@ impl ListWriter {
     }
 }
 
-/// Appends the list of the zones as JSON, with the synchronization token of the list (RFC 7808, sections 5.2 and
-/// 6.2).
+/// Appends the list of the zones as JSON, with the synchronization token of the list (RFC 7808,
+/// sections 5.2 and 6.2).
 pub fn list_text(
     alloc: Global,
     out: &mut Bytes,

@@ -1,6 +1,7 @@
 ghost use Rattle.std.specs.Prelude.{◌≡◌, IfOk, find, option_and_then};
 ghost use Rattle.serde_json.specs.View.{view};
-ghost use Rattle.json_forms.specs.ProblemDocument.{has_type, type_member, problem_named, problem_in};
+ghost use Rattle.json_forms.specs.ProblemDocument.{has_type, type_member, problem_named};
+ghost use Rattle.json_forms.specs.ProblemDocument.{problem_in};
 
 use crate::Problem;
 use crate::json_reader::read_value;
@@ -19,8 +20,8 @@ const PROBLEMS: &[Problem] = &[
     Problem::InvalidPattern,
 ];
 
-/// The problem that a body tells of (RFC 7807, section 3.1). None where the bytes are no JSON object, or its member
-/// `type` is none of the types of [`Problem`].
+/// The problem that a body tells of (RFC 7807, section 3.1). None where the bytes are no JSON
+/// object, or its member `type` is none of the types of [`Problem`].
 pub fn read_problem(alloc: Global, bytes: &[u8]) -> Result<Option<Problem>, NoMemory>
     ensures { IfOk result (λ found. found ≡ problem_in bytes.now) }
 {

@@ -1,7 +1,9 @@
-//! Documents are written token by token. Each function appends the tokens of one tree, or of one member of an object.
+//! Documents are written token by token. Each function appends the tokens of one tree, or of one
+//! member of an object.
 ghost use Rattle.std.specs.Prelude.{◌≡◌, ◌++◌, [], ◌∷◌, OnOk};
 ghost use Rattle.std.specs.List.{AllByRecursion};
-ghost use Rattle.json.specs.Token.{key as key_token, string as string_token, number as number_token};
+ghost use Rattle.json.specs.Token.{key as key_token, string as string_token};
+ghost use Rattle.json.specs.Token.{number as number_token};
 ghost use Rattle.serde_json.specs.Find.{of_integer};
 ghost use Rattle.serde_json.specs.Written.{number_text};
 ghost use Rattle.td_base.specs.Names.{IsPlain};

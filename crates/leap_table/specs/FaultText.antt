@@ -1,4 +1,5 @@
--- How the fault of a table of leap seconds is printed: number, name and value, with a space between them.
+-- How the fault of a table of leap seconds is printed: number, name and value, with a space between
+-- them.
 use Rattle.std.specs.Prelude.{ℕ, List, ◌++◌, codes, decimal}
 use Rattle.leap_table.specs.declared.leap_fault.LeapFault.{LeapFault}
 use Rattle.leap_table.specs.declared.leap_fault.LeapFault.TheVariants as fault

@@ -1,5 +1,6 @@
 //! Single leap lines, each beside the one before it.
-ghost use Rattle.std.specs.Prelude.{◌≡◌, ◌<◌, ◌≤◌, [], ◌∷◌, ◌+ℤ◌, ◌-ℤ◌, ◌≤ℤ◌, ◌<ℤ◌, int_rem, pos, false, true, length, IfOk, IfErr, OnOk, option_to_list};
+ghost use Rattle.std.specs.Prelude.{◌≡◌, ◌<◌, ◌≤◌, [], ◌∷◌, ◌+ℤ◌, ◌-ℤ◌, ◌≤ℤ◌, ◌<ℤ◌, int_rem, pos};
+ghost use Rattle.std.specs.Prelude.{false, true, length, IfOk, IfErr, OnOk, option_to_list};
 ghost use Rattle.std.specs.Int.{int_div_euclid};
 ghost use Rattle.std.specs.Ordering.{int_eq};
 ghost use Rattle.leap_table.specs.Faults.{of_cause};
@@ -43,7 +44,8 @@ fn is_expiry(lines: &[LeapLine], number: usize) -> bool
     number > 0 && number + 1 == lines.len() && lines[number].correction == before.correction
 }
 
-/// Whether a line is later than the one before, and before the end of the moments that have a meaning.
+/// Whether a line is later than the one before, and before the end of the moments that have a
+/// meaning.
 #[tactic(auto, unfolding(tzif_reader::specs::LeapSteps::is_in_time))]
 fn is_in_time(lines: &[LeapLine], number: usize) -> bool
     requires { number < length lines.now }

@@ -1,6 +1,6 @@
-//! Tables of leap seconds, read from the leap lines of zone files (RFC 9636, section 3.2) for the leap seconds of a
-//! release (RFC 7808, section 6.4). [`from_file`] is the main call; which lines are a table, and which steps it has, is
-//! `specs/LeapSteps.antt` of `tzif_reader`.
+//! Tables of leap seconds, read from the leap lines of zone files (RFC 9636, section 3.2) for the
+//! leap seconds of a release (RFC 7808, section 6.4). [`from_file`] is the main call; which lines
+//! are a table, and which steps it has, is `specs/LeapSteps.antt` of `tzif_reader`.
 #![tactic(auto)]
 
 mod laws;

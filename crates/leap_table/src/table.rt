@@ -1,9 +1,11 @@
 //! The table of a file's leap lines.
-ghost use Rattle.std.specs.Prelude.{◌≡◌, ◌≢◌, ◌<◌, ◌≤◌, ◌++◌, false, true, length, IfOk, IfErr, OnOk};
+ghost use Rattle.std.specs.Prelude.{◌≡◌, ◌≢◌, ◌<◌, ◌≤◌, ◌++◌, false, true, length, IfOk, IfErr};
+ghost use Rattle.std.specs.Prelude.{OnOk};
 ghost use Rattle.td_base.specs.FirstFault.{Judges};
 ghost use Rattle.leap_table.specs.Faults.{of_cause, table_fault};
 ghost use Rattle.leap_table.specs.Steps.{HasRisen, pairs_of};
-ghost use Rattle.tzif_reader.specs.LeapSteps.{cause_of, is_no_line, leap_steps, line_before, step_of};
+ghost use Rattle.tzif_reader.specs.LeapSteps.{cause_of, is_no_line, leap_steps, line_before};
+ghost use Rattle.tzif_reader.specs.LeapSteps.{step_of};
 ghost use Rattle.tzif_reader.specs.declared.zone_file.TheConstants.{MOST_BYTES};
 
 use crate::LeapFault;
@@ -13,8 +15,9 @@ use std::alloc::Global;
 use td_base::{Bytes, Items};
 use tzif_reader::{LeapLine, ZoneFile};
 
-/// The table of leap seconds of a zone file, with the bytes of that file and the date up to which the table is known to
-/// hold. A file that was read has no more leap lines than bytes may be in it (`leap_lines_fit` of `tzif_reader`).
+/// The table of leap seconds of a zone file, with the bytes of that file and the date up to which
+/// the table is known to hold. A file that was read has no more leap lines than bytes may be in it
+/// (`leap_lines_fit` of `tzif_reader`).
 pub fn from_file(
     alloc: Global,
     file: &ZoneFile,

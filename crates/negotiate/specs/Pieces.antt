@@ -1,5 +1,6 @@
 -- The pieces of a list in a field (RFC 9110, section 5.6).
-use Rattle.std.specs.Prelude.{ℕ, List, [], ◌∷◌, reverse, Bool, ◌||◌, ◌==◌, if◌then◌else◌, Option, Some, None}
+use Rattle.std.specs.Prelude.{ℕ, List, [], ◌∷◌, reverse, Bool, ◌||◌, ◌==◌, if◌then◌else◌, Option}
+use Rattle.std.specs.Prelude.{Some, None}
 use Rattle.std.specs.List.{slice_split}
 
 abbrev pub is_blank : ℕ → Bool

@@ -1,6 +1,8 @@
--- Which footers yearly rules of a calendar can say (RFC 5545, section 3.3.10): those whose dates are the same in every
--- year, after their times have moved them. The years 2001 and 2004 stand for years without and with 29 February.
-use Rattle.std.specs.Prelude.{◌≡◌, ℕ, Bool, true, false, not, ◌&&◌, ◌||◌, ◌==◌, ℤ, pos, ◌+ℤ◌, ◌-ℤ◌, int_le, Option, None, Some, ⊤}
+-- Which footers yearly rules of a calendar can say (RFC 5545, section 3.3.10): those whose dates
+-- are the same in every year, after their times have moved them. The years 2001 and 2004 stand for
+-- years without and with 29 February.
+use Rattle.std.specs.Prelude.{◌≡◌, ℕ, Bool, true, false, not, ◌&&◌, ◌||◌, ◌==◌, ℤ, pos, ◌+ℤ◌, ◌-ℤ◌}
+use Rattle.std.specs.Prelude.{int_le, Option, None, Some, ⊤}
 use Rattle.std.specs.Ordering.{int_eq}
 use Rattle.std.specs.Int.{int_div_euclid}
 use Rattle.posix_footer.specs.declared.rule_types.DayForm.{DayForm}
@@ -10,13 +12,14 @@ use Rattle.posix_footer.specs.declared.rule_types.DstRule.{DstRule}
 use Rattle.posix_footer.specs.declared.rule_types.Footer.{Footer}
 use Rattle.posix_footer.specs.Onset.{first_place, more_places}
 
--- the whole days by which a time moves its date: a time below 0 moves it back, one from 24 hours on forward
+-- the whole days by which a time moves its date: a time below 0 moves it back, one from 24 hours on
+-- forward
 abbrev pub moved_by : ℤ → ℤ
 moved_by time = int_div_euclid time (pos 86400)
 
--- A row of days has the same dates in every year if it lies in January and February before the 29th, at one place
--- from the year's start, or in March to December, at one place from its end. `common` and `leap` are the places of
--- its first day in a year without and with 29 February
+-- A row of days has the same dates in every year if it lies in January and February before the
+-- 29th, at one place from the year's start, or in March to December, at one place from its end.
+-- `common` and `leap` are the places of its first day in a year without and with 29 February
 unfoldable pub keeps_early : ℤ → ℤ → ℕ → Bool
 keeps_early common leap further =
     int_eq leap common && int_le (pos 0) common && int_le (common +ℤ pos further) (pos 58)
@@ -72,8 +75,9 @@ are_apart a b = comes_before a b || comes_before b a
 unfoldable pub is_carried_rule : DstRule → Bool
 is_carried_rule rule = is_steady rule.start && is_steady rule.end && are_apart rule.start rule.end
 
--- Daylight saving time all year: from 1 January, 00:00:00, by standard time, to the end of 31 December by the same
--- clocks, whose time the clocks of daylight saving time show as 24:00:00 and the difference of the offsets
+-- Daylight saving time all year: from 1 January, 00:00:00, by standard time, to the end of 31
+-- December by the same clocks, whose time the clocks of daylight saving time show as 24:00:00 and
+-- the difference of the offsets
 abbrev pub is_year_start : DayForm → Bool
 is_year_start (day.Julian n) = n == 1
 is_year_start (day.YearDay n) = n == 0

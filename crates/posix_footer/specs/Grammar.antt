@@ -1,17 +1,20 @@
--- TZ strings: `std offset`, or `std offset dst [offset] , date [/time] , date [/time]`
--- (POSIX, section 8.3; RFC 9636, section 3.3.2).
--- A text is read from the left. Its first fault is named, with its place: that of the item which is faulty or missing.
-use Rattle.std.specs.Prelude.{ℕ, ◌-◌, List, length, drop, true, false, ◌==◌, if◌then◌else◌, ℤ, pos, None, Some, Result, Ok, Err, ok_or}
+-- TZ strings: `std offset`, or `std offset dst [offset] , date [/time] , date [/time]` (POSIX,
+-- section 8.3; RFC 9636, section 3.3.2). A text is read from the left. Its first fault is named,
+-- with its place: that of the item which is faulty or missing.
+use Rattle.std.specs.Prelude.{ℕ, ◌-◌, List, length, drop, true, false, ◌==◌, if◌then◌else◌, ℤ, pos}
+use Rattle.std.specs.Prelude.{None, Some, Result, Ok, Err, ok_or}
 use Rattle.td_civil.specs.declared.local_time.Local.{Local}
 use Rattle.posix_footer.specs.declared.rule_types.Date.{Date}
 use Rattle.posix_footer.specs.declared.rule_types.DstRule.{DstRule}
 use Rattle.posix_footer.specs.declared.rule_types.Footer.{Footer}
 use Rattle.posix_footer.specs.declared.footer_fault.FooterFault.{FooterFault}
 use Rattle.posix_footer.specs.declared.footer_fault.FooterFault.TheVariants as fault
-use Rattle.posix_footer.specs.Items.{begins, behind, name_at, offset_at, daylight_offset_at, day_at, time_at}
+use Rattle.posix_footer.specs.Items.{begins, behind, name_at, offset_at, daylight_offset_at, day_at}
+use Rattle.posix_footer.specs.Items.{time_at}
 
 infixl 10 ◌>>=◌
-abbrev pub ◌>>=◌ : {A B : Type 0} → Result A FooterFault → (A → Result B FooterFault) → Result B FooterFault
+abbrev pub ◌>>=◌ : {A B : Type 0} → Result A FooterFault → (A → Result B FooterFault)
+    → Result B FooterFault
 (Ok x) >>= f = f x
 (Err e) >>= f = Err e
 
@@ -48,7 +51,9 @@ daylight_at size std rest = do
 -- the text of the dates, behind the `,` that stands before them
 unfoldable pub dates_behind : ℕ → List ℕ → Result (List ℕ) FooterFault
 dates_behind size rest =
-    if length rest == 0 then Err fault.NoRule else ok_or (behind 44 rest) (fault.Rest (place size rest))
+    if length rest == 0
+    then Err fault.NoRule
+    else ok_or (behind 44 rest) (fault.Rest (place size rest))
 
 -- two dates with `,` between them, and nothing behind them
 unfoldable pub rule_at : ℕ → Local → List ℕ → Result DstRule FooterFault

@@ -1,7 +1,9 @@
--- The items of a TZ string (POSIX, section 8.3; the hours of a time are those of RFC 9636, section 3.3.2).
--- An item stands at the front of a text, and is a value and the text behind it. A run of letters or of digits is taken
--- whole, so that one which is too long is no item.
-use Rattle.std.specs.Prelude.{ℕ, ◌+◌, ◌-◌, ◌*◌, ◌^◌, List, [], ◌∷◌, length, take, drop, Bool, false, ◌&&◌, ◌||◌, ◌==◌, nat_le, nat_lt, if◌then◌else◌, ℤ, pos, neg_ℤ, ◌+ℤ◌, int_lt, unsigned_abs, Option, None, Some}
+-- The items of a TZ string (POSIX, section 8.3; the hours of a time are those of RFC 9636, section
+-- 3.3.2). An item stands at the front of a text, and is a value and the text behind it. A run of
+-- letters or of digits is taken whole, so that one which is too long is no item.
+use Rattle.std.specs.Prelude.{ℕ, ◌+◌, ◌-◌, ◌*◌, ◌^◌, List, [], ◌∷◌, length, take, drop, Bool, false}
+use Rattle.std.specs.Prelude.{◌&&◌, ◌||◌, ◌==◌, nat_le, nat_lt, if◌then◌else◌, ℤ, pos, neg_ℤ, ◌+ℤ◌}
+use Rattle.std.specs.Prelude.{int_lt, unsigned_abs, Option, None, Some}
 use Rattle.std.specs.List.{prefix_len}
 use Rattle.std.specs.Char.{is_ascii_alphabetic, is_ascii_alphanumeric, is_ascii_digit}
 use Rattle.posix_footer.specs.declared.rule_types.DayForm.{DayForm}
@@ -32,7 +34,9 @@ behind byte text = if begins byte text then Some (drop 1 text) else None
 unfoldable pub run_at : (ℕ → Bool) → ℕ → ℕ → List ℕ → Option (List ℕ × List ℕ)
 run_at kind fewest most text =
     let count = prefix_len kind text in
-    if nat_le fewest count && nat_le count most then Some (take count text, drop count text) else None
+    if nat_le fewest count && nat_le count most
+    then Some (take count text, drop count text)
+    else None
 
 -- 3 to 32 bytes between `<` and `>`, behind the `<`
 unfoldable pub quoted_at : List ℕ → Option (List ℕ × List ℕ)
@@ -43,7 +47,8 @@ quoted_at text = do
 
 -- a name: quoted, or 3 to 32 letters
 unfoldable pub name_at : List ℕ → Option (List ℕ × List ℕ)
-name_at text = if begins 60 text then quoted_at (drop 1 text) else run_at is_ascii_alphabetic 3 32 text
+name_at text =
+    if begins 60 text then quoted_at (drop 1 text) else run_at is_ascii_alphabetic 3 32 text
 
 -- the number that digits write
 abbrev pub number_of_digits : List ℕ → ℕ
@@ -86,7 +91,8 @@ offset_at text = do
 
 -- an hour ahead of standard time, with nothing written, if that is less than a day
 unfoldable pub ahead_at : ℤ → List ℕ → Option (ℤ × List ℕ)
-ahead_at std text = if int_lt (std +ℤ pos 3600) (pos 86400) then Some (std +ℤ pos 3600, text) else None
+ahead_at std text =
+    if int_lt (std +ℤ pos 3600) (pos 86400) then Some (std +ℤ pos 3600, text) else None
 
 -- what an offset begins with
 abbrev pub begins_offset : ℕ → Bool

@@ -11,7 +11,8 @@ use Rattle.posix_footer.specs.declared.rule_types.Footer.{Footer}
 abbrev pub IsLawfulDay : DayForm → Type 0
 IsLawfulDay (day.Julian n) = (1 ≤ n) × (n ≤ 365)
 IsLawfulDay (day.YearDay n) = n ≤ 365
-IsLawfulDay (day.Week month week weekday) = (1 ≤ month) × (month ≤ 12) × (1 ≤ week) × (week ≤ 5) × (weekday ≤ 6)
+IsLawfulDay (day.Week month week weekday) =
+    (1 ≤ month) × (month ≤ 12) × (1 ≤ week) × (week ≤ 5) × (weekday ≤ 6)
 
 -- such a day, and a time of less than a week and an hour to either side
 pub record IsLawfulDate (d : Date) : Type 0 where

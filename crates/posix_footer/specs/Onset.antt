@@ -1,6 +1,8 @@
 -- The moment at which a change of a year comes, from its day and its time.
-use Rattle.std.specs.Prelude.{◌≡◌, ◌≤◌, ℕ, zero, suc, ◌+◌, ◌-◌, ◌*◌, ◌%◌, min, ◌==◌, ◌&&◌, nat_le, if◌then◌else◌, ℤ, pos, ◌+ℤ◌, ◌-ℤ◌, ◌*ℤ◌}
-use Rattle.jiff_core.specs.Calendar.{is_leap_year, days_in_month, days_of_months, days_from_civil, weekday_number}
+use Rattle.std.specs.Prelude.{◌≡◌, ◌≤◌, ℕ, zero, suc, ◌+◌, ◌-◌, ◌*◌, ◌%◌, min, ◌==◌, ◌&&◌, nat_le}
+use Rattle.std.specs.Prelude.{if◌then◌else◌, ℤ, pos, ◌+ℤ◌, ◌-ℤ◌, ◌*ℤ◌}
+use Rattle.jiff_core.specs.Calendar.{is_leap_year, days_in_month, days_of_months, days_from_civil}
+use Rattle.jiff_core.specs.Calendar.{weekday_number}
 use Rattle.posix_footer.specs.declared.rule_types.DayForm.{DayForm}
 use Rattle.posix_footer.specs.declared.rule_types.DayForm.TheVariants as day
 use Rattle.posix_footer.specs.declared.rule_types.Edge.{Edge}
@@ -19,8 +21,9 @@ last_weekday year month weekday (suc n) =
     if weekday_from_sunday (days_from_civil year month (suc n)) == weekday then suc n
     else last_weekday year month weekday n
 
--- the day of the month of `Mm.w.d`. Each seven days from the first of the month on have the weekday once, so that
--- its last day within the first w such weeks is the wth, and within five, which reach past any month's end, the last
+-- the day of the month of `Mm.w.d`. Each seven days from the first of the month on have the weekday
+-- once, so that its last day within the first w such weeks is the wth, and within five, which reach
+-- past any month's end, the last
 abbrev pub month_day : ℤ → ℕ → ℕ → ℕ → ℕ
 month_day year month week weekday =
     last_weekday year month weekday (min (7 * week) (days_in_month year month))
@@ -59,7 +62,8 @@ pub record IsNamed (form : DayForm) (year : ℤ) : Type 0 where
 abbrev pub moment_on : Date → ℤ → ℤ → ℤ
 moment_on date offset year = ((day_number date.day year *ℤ pos 86400) +ℤ date.time) -ℤ offset
 
--- the moment at which daylight saving time begins in a year, by standard time, or ends, by daylight saving time
+-- the moment at which daylight saving time begins in a year, by standard time, or ends, by daylight
+-- saving time
 abbrev pub onset_of : DstRule → ℤ → ℤ → Edge → ℤ
 onset_of rule std year edge.Start = moment_on rule.start std year
 onset_of rule std year edge.End = moment_on rule.end rule.dst.offset year

@@ -1,5 +1,8 @@
--- Which text spells which footer (POSIX, section 8.3; RFC 9636, section 3.3.2). A text is its pieces one behind another.
-use Rattle.std.specs.Prelude.{◌≡◌, ℕ, ◌+◌, ◌*◌, ◌<◌, ◌≤◌, ◌⊎◌, List, [], ◌∷◌, ◌++◌, length, Bool, true, false, ℤ, pos, neg_ℤ, ◌+ℤ◌, ◌<ℤ◌, unsigned_abs, Option, None, Some}
+-- Which text spells which footer (POSIX, section 8.3; RFC 9636, section 3.3.2). A text is its
+-- pieces one behind another.
+use Rattle.std.specs.Prelude.{◌≡◌, ℕ, ◌+◌, ◌*◌, ◌<◌, ◌≤◌, ◌⊎◌, List, [], ◌∷◌, ◌++◌, length, Bool}
+use Rattle.std.specs.Prelude.{true, false, ℤ, pos, neg_ℤ, ◌+ℤ◌, ◌<ℤ◌, unsigned_abs, Option, None}
+use Rattle.std.specs.Prelude.{Some}
 use Rattle.std.specs.List.{list_all}
 use Rattle.std.specs.Char.{is_ascii_alphabetic, is_ascii_digit}
 use Rattle.td_civil.specs.declared.local_time.Local.{Local}
@@ -62,7 +65,8 @@ pub record IsMinutesAndSeconds (text : List ℕ) (seconds : ℕ) : Type 0 where
   pub value : seconds ≡ 60 * minute + second
 
 abbrev pub IsBehindHours : List ℕ → ℕ → Type 0
-IsBehindHours text seconds = IsEmpty text seconds ⊎ IsMinutes text seconds ⊎ IsMinutesAndSeconds text seconds
+IsBehindHours text seconds =
+    IsEmpty text seconds ⊎ IsMinutes text seconds ⊎ IsMinutesAndSeconds text seconds
 
 pub record IsClock (digits greatest : ℕ) (text : List ℕ) (seconds : ℕ) : Type 0 where
   pub hour : ℕ
@@ -94,7 +98,8 @@ pub record IsSigned (digits greatest : ℕ) (text : List ℕ) (z : ℤ) : Type 0
   pub clock : IsClock digits greatest clock_text seconds
   pub signed : HasSign sign seconds z
 
--- hours up to 24, but less than a day in all: what is written is west of UTC, and what is kept is east
+-- hours up to 24, but less than a day in all: what is written is west of UTC, and what is kept is
+-- east
 pub record IsOffset (text : List ℕ) (offset : ℤ) : Type 0 where
   pub west : ℤ
   pub signed : IsSigned 2 24 text west

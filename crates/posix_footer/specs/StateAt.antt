@@ -1,5 +1,6 @@
 -- The state of local time that a footer gives at a moment.
-use Rattle.std.specs.Prelude.{◌≡◌, ◌≢◌, ℕ, zero, suc, ◌+◌, List, [], ◌∷◌, ◌&&◌, not, Bool, if◌then◌else◌, ℤ, pos, int_le, int_lt, ◌≤ℤ◌, Option, None, Some}
+use Rattle.std.specs.Prelude.{◌≡◌, ◌≢◌, ℕ, zero, suc, ◌+◌, List, [], ◌∷◌, ◌&&◌, not, Bool}
+use Rattle.std.specs.Prelude.{if◌then◌else◌, ℤ, pos, int_le, int_lt, ◌≤ℤ◌, Option, None, Some}
 use Rattle.std.specs.List.{list_any}
 use Rattle.jiff_core.specs.Calendar.{IsBetween}
 use Rattle.td_civil.specs.declared.local_time.Local.{Local}
@@ -21,13 +22,15 @@ years = first_years 8202
 -- whether daylight saving time has ended by t, after it held at an earlier moment
 unfoldable pub has_ended : DstRule → ℤ → ℤ → ℤ → Bool
 has_ended rule std since t =
-    list_any (λ year. int_lt since (onset_of rule std year edge.End) && int_le (onset_of rule std year edge.End) t) years
+    list_any (λ year. int_lt since (onset_of rule std year edge.End)
+    && int_le (onset_of rule std year edge.End) t) years
 
 -- whether daylight saving time holds at t: it has begun in some year, and has not ended since.
 -- Where a start and an end fall on one moment, the start counts
 unfoldable pub is_daylight : DstRule → ℤ → ℤ → Bool
 is_daylight rule std t =
-    list_any (λ year. int_le (onset_of rule std year edge.Start) t && not (has_ended rule std (onset_of rule std year edge.Start) t)) years
+    list_any (λ year. int_le (onset_of rule std year edge.Start) t
+    && not (has_ended rule std (onset_of rule std year edge.Start) t)) years
 
 -- the state at t of a standard state and perhaps a rule
 abbrev pub state_by : Local → Option DstRule → ℤ → Local
@@ -44,16 +47,20 @@ pub record IsLatest (rule : DstRule) (std : ℤ) (at : Edge) (t m : ℤ) : Type 
   pub year_in : IsBetween (pos 1798) (pos 9999) year
   pub onset_is : m ≡ onset_of rule std year at
   pub begun : m ≤ℤ t
-  pub greatest : (other : ℤ) → IsBetween (pos 1798) (pos 9999) other → onset_of rule std other at ≤ℤ t → onset_of rule std other at ≤ℤ m
+  pub greatest : (other : ℤ) → IsBetween (pos 1798) (pos 9999) other
+      → onset_of rule std other at ≤ℤ t → onset_of rule std other at ≤ℤ m
 
--- the last change by t is of this edge: none of those by t comes after it, and where it is an end, no start falls
--- on its moment
+-- the last change by t is of this edge: none of those by t comes after it, and where it is an end,
+-- no start falls on its moment
 pub record IsLastChange (rule : DstRule) (std t : ℤ) (change : Edge) : Type 0 where
   pub year : ℤ
   pub year_in : IsBetween (pos 1798) (pos 9999) year
   pub begun : onset_of rule std year change ≤ℤ t
-  pub last : (other : ℤ) (at : Edge) → IsBetween (pos 1798) (pos 9999) other → onset_of rule std other at ≤ℤ t → onset_of rule std other at ≤ℤ onset_of rule std year change
-  pub start_counts : change ≡ edge.End → (other : ℤ) → IsBetween (pos 1798) (pos 9999) other → onset_of rule std other edge.Start ≢ onset_of rule std year change
+  pub last : (other : ℤ) (at : Edge) → IsBetween (pos 1798) (pos 9999) other
+      → onset_of rule std other at ≤ℤ t
+      → onset_of rule std other at ≤ℤ onset_of rule std year change
+  pub start_counts : change ≡ edge.End → (other : ℤ) → IsBetween (pos 1798) (pos 9999) other
+      → onset_of rule std other edge.Start ≢ onset_of rule std year change
 
 -- the state that follows a change
 abbrev pub state_after : Local → DstRule → Edge → Local

@@ -4,7 +4,8 @@ use Rattle.std.specs.Char.{is_ascii_alphabetic, is_ascii_digit}
 use Rattle.posix_footer.specs.Items.{is_quotable, begins_offset}
 use Rattle.posix_footer.specs.declared.footer_fault.FooterFault.{FooterFault}
 use Rattle.posix_footer.specs.declared.parser.Kind.{Kind}
-use Rattle.posix_footer.specs.declared.parser.Kind.TheVariants.{Letter, Digit, Quotable, OffsetStart}
+use Rattle.posix_footer.specs.declared.parser.Kind.TheVariants.{Letter, Digit, Quotable}
+use Rattle.posix_footer.specs.declared.parser.Kind.TheVariants.{OffsetStart}
 
 -- the bytes of a kind
 abbrev pub test_of : Kind → ℕ → Bool
@@ -27,7 +28,8 @@ abbrev pub Skips : Option Unit → List ℕ → Option (List ℕ) → Type 0
 Skips None left item = item ≡ None
 Skips (Some done) left item = item ≡ Some left
 
-abbrev pub TakesOrFails : {A : Type 0} → Result A FooterFault → List ℕ → Result (A × List ℕ) FooterFault → Type 0
+abbrev pub TakesOrFails : {A : Type 0} → Result A FooterFault → List ℕ
+    → Result (A × List ℕ) FooterFault → Type 0
 TakesOrFails (Err fault) left item = item ≡ Err fault
 TakesOrFails (Ok x) left item = item ≡ Ok (x, left)
 

@@ -1,13 +1,15 @@
 use std::error::Error;
 use std::fmt;
 
-/// Why a text is no TZ string: its first fault from the left. A fault carries the place, in bytes from the front, at
-/// which the item that is faulty or missing begins (POSIX, section 8.3; RFC 9636, section 3.3.2).
+/// Why a text is no TZ string: its first fault from the left. A fault carries the place, in bytes
+/// from the front, at which the item that is faulty or missing begins (POSIX, section 8.3; RFC
+/// 9636, section 3.3.2).
 #[derive(Clone, Copy, Debug, PartialEq, Eq)]
 pub enum FooterFault {
     /// Neither 3 to 32 letters, nor 3 to 32 letters, digits, `+` and `-` between `<` and `>`.
     Name(usize),
-    /// No offset of less than 24 hours, or none is written and an hour ahead of standard time is no such offset.
+    /// No offset of less than 24 hours, or none is written and an hour ahead of standard time is no
+    /// such offset.
     Offset(usize),
     /// The text ends behind the state in daylight saving time.
     NoRule,

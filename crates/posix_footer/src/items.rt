@@ -1,7 +1,12 @@
-//! The items of a TZ string: names, offsets, times and days. An answer of None leaves the reader anywhere.
-ghost use Rattle.std.specs.Prelude.{◌≡◌, ℕ, ◌+◌, ◌-◌, ◌*◌, ◌<◌, ◌≤◌, length, drop, if◌then◌else◌, IfSome};
+//! The items of a TZ string: names, offsets, times and days. An answer of None leaves the reader
+//! anywhere.
+ghost use Rattle.std.specs.Prelude.{◌≡◌, ℕ, ◌+◌, ◌-◌, ◌*◌, ◌<◌, ◌≤◌, length, drop, if◌then◌else◌};
+ghost use Rattle.std.specs.Prelude.{IfSome};
 ghost use Rattle.jiff_core.specs.Calendar.{IsWithin};
-ghost use Rattle.posix_footer.specs.Items.{begins, begins_as, is_sign, behind, number_of_digits, quoted_at, name_at, number_at, part_at, clock_at, signed_at, offset_at, ahead_at, daylight_offset_at, time_at, week_at, julian_at, year_day_at, day_at};
+ghost use Rattle.posix_footer.specs.Items.{begins, begins_as, is_sign, behind, number_of_digits};
+ghost use Rattle.posix_footer.specs.Items.{quoted_at, name_at, number_at, part_at, clock_at};
+ghost use Rattle.posix_footer.specs.Items.{signed_at, offset_at, ahead_at, daylight_offset_at};
+ghost use Rattle.posix_footer.specs.Items.{time_at, week_at, julian_at, year_day_at, day_at};
 ghost use Rattle.posix_footer.specs.Takes.{Takes, TakesAs};
 ghost use Rattle.posix_footer.specs.Lawful.{IsLawfulDay, IsLawfulOffset};
 
@@ -27,7 +32,8 @@ impl<'a> Parser<'a> {
     fn quoted(&mut self) -> Option<&'a [u8]>
         ensures size { self.new.size ≡ self.old.size }
         ensures length { IfSome result (λ name. length name.now ≤ 32) }
-        ensures value { TakesAs (λ name. name.now) result self.new.left.now (quoted_at self.old.left.now) }
+        ensures value { TakesAs (λ name. name.now) result self.new.left.now
+            (quoted_at self.old.left.now) }
     {
         let name = self.run(Kind::Quotable, 3, 32)?;
         self.skip(b'>')?;
@@ -38,7 +44,8 @@ impl<'a> Parser<'a> {
     fn name_text(&mut self) -> Option<&'a [u8]>
         ensures size { self.new.size ≡ self.old.size }
         ensures length { IfSome result (λ name. length name.now ≤ 32) }
-        ensures value { TakesAs (λ name. name.now) result self.new.left.now (name_at self.old.left.now) }
+        ensures value { TakesAs (λ name. name.now) result self.new.left.now
+            (name_at self.old.left.now) }
     {
         if self.eat(b'<') {
             self.quoted()
@@ -64,7 +71,8 @@ impl<'a> Parser<'a> {
         requires { most ≤ 3 }
         ensures size { self.new.size ≡ self.old.size }
         ensures range { IfSome result (λ number. (low ≤ number) × (number ≤ high)) }
-        ensures value { Takes result self.new.left.now (number_at fewest most low high self.old.left.now) }
+        ensures value { Takes result self.new.left.now
+            (number_at fewest most low high self.old.left.now) }
     {
         let digits = self.run(Kind::Digit, fewest, most)?;
         let number = value_of(digits);
@@ -89,13 +97,15 @@ impl<'a> Parser<'a> {
         }
     }
 
-    /// Hours of so many digits, and perhaps minutes, and perhaps seconds: how many seconds they are.
+    /// Hours of so many digits, and perhaps minutes, and perhaps seconds: how many seconds they
+    /// are.
     #[tactic(auto, unfolding(crate::specs::Items::clock_at))]
     fn clock(&mut self, digits: usize, greatest: u16) -> Option<u32>
         requires { digits ≤ 3 }
         ensures size { self.new.size ≡ self.old.size }
         ensures range { IfSome result (λ seconds. seconds < 3600 * (greatest + 1)) }
-        ensures value { Takes result self.new.left.now (clock_at digits greatest self.old.left.now) }
+        ensures value { Takes result self.new.left.now
+            (clock_at digits greatest self.old.left.now) }
     {
         let hours = self.number(1, digits, 0, greatest)?;
         let minutes = self.part()?;
@@ -107,7 +117,10 @@ impl<'a> Parser<'a> {
     fn sign(&mut self) -> bool
         ensures size { self.new.size ≡ self.old.size }
         ensures answer { result ≡ begins 45 self.old.left.now }
-        ensures left { self.new.left.now ≡ (if begins_as is_sign self.old.left.now then drop 1 self.old.left.now else self.old.left.now) }
+        ensures left { self.new.left.now
+            ≡ (if begins_as is_sign self.old.left.now
+            then drop 1 self.old.left.now
+            else self.old.left.now) }
     {
         let negative = self.eat(b'-');
         if !negative {
@@ -123,7 +136,8 @@ impl<'a> Parser<'a> {
         requires greatest { greatest ≤ 167 }
         ensures size { self.new.size ≡ self.old.size }
         ensures range { IfSome result (λ seconds. IsWithin 604799 seconds) }
-        ensures value { Takes result self.new.left.now (signed_at digits greatest self.old.left.now) }
+        ensures value { Takes result self.new.left.now
+            (signed_at digits greatest self.old.left.now) }
     {
         let negative = self.sign();
         let seconds = self.clock(digits, greatest)? as i32;

@@ -1,5 +1,6 @@
 //! Laws of TZ strings and their onsets, each the contract of a function that does nothing.
-ghost use Rattle.std.specs.Prelude.{◌≡◌, ◌≤◌, ◌<◌, ◌+◌, ◌*◌, ◌≤ℤ◌, ◌<ℤ◌, ◌+ℤ◌, ℕ, List, ℤ, pos, min, Ok, Option};
+ghost use Rattle.std.specs.Prelude.{◌≡◌, ◌≤◌, ◌<◌, ◌+◌, ◌*◌, ◌≤ℤ◌, ◌<ℤ◌, ◌+ℤ◌, ℕ, List, ℤ, pos};
+ghost use Rattle.std.specs.Prelude.{min, Ok, Option};
 ghost use Rattle.jiff_core.specs.Calendar.{IsYear, days_from_civil, days_in_month};
 ghost use Rattle.td_civil.specs.Calendar.{IsInYear};
 ghost use Rattle.posix_footer.specs.declared.rule_types.DayForm.{DayForm};
@@ -25,8 +26,8 @@ pub fn onsets_rise()
         → onset_of rule std year edge <ℤ onset_of rule std later edge }
 {}
 
-/// The onsets of a year that is two or more before a moment's have come by then, and those of one that is two or more
-/// after it have not.
+/// The onsets of a year that is two or more before a moment's have come by then, and those of one
+/// that is two or more after it have not.
 pub fn far_years_are_quiet()
     ensures before { (rule : DstRule) (std year other t : ℤ) (edge : Edge) → IsLawfulRule std rule
         → IsYear year → IsYear other → IsInYear year t → (other +ℤ pos 2) ≤ℤ year

@@ -1,5 +1,5 @@
-//! POSIX TZ strings, with the rule hours from -167 to 167 that version 3 of TZif allows (RFC 9636, section 3.3.2),
-//! and the state of local time that they give.
+//! POSIX TZ strings, with the rule hours from -167 to 167 that version 3 of TZif allows (RFC 9636,
+//! section 3.3.2), and the state of local time that they give.
 #![tactic(auto)]
 
 mod footer_fault;

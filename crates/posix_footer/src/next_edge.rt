@@ -10,8 +10,9 @@ use crate::state_at::utc_year;
 use crate::{DstRule, Edge, Footer};
 use td_civil::Moment;
 
-/// The first onset after a moment, of either edge and of the years up to 9999, if there is one: the state that the
-/// footer gives stays until then. It need not change then, since daylight saving time may begin while it holds.
+/// The first onset after a moment, of either edge and of the years up to 9999, if there is one: the
+/// state that the footer gives stays until then. It need not change then, since daylight saving
+/// time may begin while it holds.
 pub fn next_onset(footer: &Footer, t: Moment) -> Option<Moment>
     requires lawful { IsLawful footer.now }
     requires meaning { HasMeaning t.seconds }
@@ -45,8 +46,8 @@ fn earlier(one: Option<Moment>, two: Option<Moment>) -> Option<Moment>
     }
 }
 
-/// The first onset of an edge after a moment of the year. The onset of two years before the moment's is never after
-/// it, and that of two years after it always is.
+/// The first onset of an edge after a moment of the year. The onset of two years before the
+/// moment's is never after it, and that of two years after it always is.
 fn next_of_edge(rule: &DstRule, std: i32, year: i32, edge: Edge, t: Moment) -> Option<Moment>
     requires lawful { IsLawfulRule std rule.now }
     requires year_in { IsBetween (pos 1800) (pos 9998) year }

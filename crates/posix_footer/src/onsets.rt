@@ -3,17 +3,19 @@ ghost use Rattle.std.specs.Prelude.{◌≡◌, ◌≤◌, ◌<◌, pos, negsuc, 
 ghost use Rattle.jiff_core.specs.Calendar.{IsBetween, IsEpochDay, days_from_civil};
 ghost use Rattle.jiff_core.specs.Date.{IsYmd};
 ghost use Rattle.jiff_core.specs.Weekday.{sunday_zero};
-ghost use Rattle.posix_footer.specs.Lawful.{IsLawfulDay, IsLawfulDate, IsLawfulOffset, IsLawfulRule};
+ghost use Rattle.posix_footer.specs.Lawful.{IsLawfulDay, IsLawfulDate, IsLawfulOffset};
+ghost use Rattle.posix_footer.specs.Lawful.{IsLawfulRule};
 ghost use Rattle.posix_footer.specs.Onset as spec;
 
 use crate::{Date, DayForm, DstRule, Edge};
 use jiff::civil::{self, Weekday};
 use td_civil::Moment;
 
-/// The moment at which daylight saving time begins or ends in a year from 1798 to 9999 (POSIX, section 8.3). It begins
-/// when clocks of standard time show the start's day and time, and ends when those of daylight saving time show the
-/// end's. `std` is the offset of standard time, in seconds east of UTC. A day and time at the edge of the year may fall
-/// in the year before or after it in UTC.
+/// The moment at which daylight saving time begins or ends in a year from 1798 to 9999 (POSIX,
+/// section 8.3). It begins when clocks of standard time show the start's day and time, and ends
+/// when those of daylight saving time show the end's. `std` is the offset of standard time, in
+/// seconds east of UTC. A day and time at the edge of the year may fall in the year before or after
+/// it in UTC.
 pub fn onset(rule: &DstRule, std: i32, year: i32, edge: Edge) -> Moment
     requires lawful { IsLawfulRule std rule.now }
     requires year_in { IsBetween (pos 1798) (pos 9999) year }

@@ -64,7 +64,8 @@ impl<'a> Parser<'a> {
     pub(crate) fn eat(&mut self, byte: u8) -> bool
         ensures answer { result ≡ begins byte self.old.left.now }
         ensures size { self.new.size ≡ self.old.size }
-        ensures left { self.new.left.now ≡ (if result then drop 1 self.old.left.now else self.old.left.now) }
+        ensures left { self.new.left.now
+            ≡ (if result then drop 1 self.old.left.now else self.old.left.now) }
     {
         match self.left {
             [first, rest @ ..] if *first == byte => {
@@ -99,7 +100,8 @@ impl<'a> Parser<'a> {
     pub(crate) fn run(&mut self, kind: Kind, fewest: usize, most: usize) -> Option<&'a [u8]>
         ensures size { self.new.size ≡ self.old.size }
         ensures length { IfSome result (λ run. length run.now ≤ most) }
-        ensures value { TakesAs (λ run. run.now) result self.new.left.now (run_at (test_of kind) fewest most self.old.left.now) }
+        ensures value { TakesAs (λ run. run.now) result self.new.left.now
+            (run_at (test_of kind) fewest most self.old.left.now) }
     {
         let count = count_of(kind, self.left);
         if count < fewest || most < count {

@@ -1,6 +1,7 @@
 //! A whole TZ string, read from the left (POSIX, section 8.3; RFC 9636, section 3.3.2).
 ghost use Rattle.std.specs.Prelude.{◌≡◌, true, false, IfOk, pos};
-ghost use Rattle.posix_footer.specs.Grammar.{footer_in, footer_at, rule_in, rule_at, dates_behind, daylight_at, standard_at, date_at, time_behind};
+ghost use Rattle.posix_footer.specs.Grammar.{footer_in, footer_at, rule_in, rule_at, dates_behind};
+ghost use Rattle.posix_footer.specs.Grammar.{daylight_at, standard_at, date_at, time_behind};
 ghost use Rattle.posix_footer.specs.Lawful.{IsLawful, IsLawfulDate, IsLawfulOffset, IsLawfulRule};
 ghost use Rattle.posix_footer.specs.Spelling.{Spells};
 ghost use Rattle.posix_footer.specs.declared.rule_types.Footer.{Footer};
@@ -12,7 +13,8 @@ use crate::parser::Parser;
 use crate::rule_types::{Date, DstRule, Footer};
 use td_civil::Local;
 
-/// The footer that the whole text spells, or the text's first fault from the left. It takes no memory.
+/// The footer that the whole text spells, or the text's first fault from the left. It takes no
+/// memory.
 pub fn read(text: &[u8]) -> Result<Footer, FooterFault>
     // The footer, or the fault and its place.
     ensures exact { result ≡ footer_in text.now }
@@ -61,7 +63,8 @@ impl<'a> Parser<'a> {
         ensures size { self.new.size ≡ self.old.size }
         ensures standard { IfOk result (λ std. std.dst ≡ false) }
         ensures offset { IfOk result (λ std. IsLawfulOffset std.offset) }
-        ensures exact { TakesOrFails result self.new.left.now (standard_at self.old.size self.old.left.now) }
+        ensures exact { TakesOrFails result self.new.left.now
+            (standard_at self.old.size self.old.left.now) }
     {
         let missing = FooterFault::Name(self.place());
         let name = self.name().ok_or(missing)?;
@@ -80,7 +83,8 @@ impl<'a> Parser<'a> {
         ensures size { self.new.size ≡ self.old.size }
         ensures daylight { IfOk result (λ dst. dst.dst ≡ true) }
         ensures offset { IfOk result (λ dst. IsLawfulOffset dst.offset) }
-        ensures exact { TakesOrFails result self.new.left.now (daylight_at self.old.size std self.old.left.now) }
+        ensures exact { TakesOrFails result self.new.left.now
+            (daylight_at self.old.size std self.old.left.now) }
     {
         let missing = FooterFault::Name(self.place());
         let name = self.name().ok_or(missing)?;
@@ -97,7 +101,8 @@ impl<'a> Parser<'a> {
     #[tactic(auto, unfolding(crate::specs::Grammar::dates_behind))]
     fn begin_dates(&mut self) -> Result<(), FooterFault>
         ensures size { self.new.size ≡ self.old.size }
-        ensures exact { SkipsOrFails result self.new.left.now (dates_behind self.old.size self.old.left.now) }
+        ensures exact { SkipsOrFails result self.new.left.now
+            (dates_behind self.old.size self.old.left.now) }
     {
         if self.is_at_end() {
             return Err(FooterFault::NoRule);
@@ -129,7 +134,8 @@ impl<'a> Parser<'a> {
     fn date(&mut self) -> Result<Date, FooterFault>
         ensures size { self.new.size ≡ self.old.size }
         ensures lawful { IfOk result IsLawfulDate }
-        ensures exact { TakesOrFails result self.new.left.now (date_at self.old.size self.old.left.now) }
+        ensures exact { TakesOrFails result self.new.left.now
+            (date_at self.old.size self.old.left.now) }
     {
         let missing = FooterFault::Date(self.place());
         let day = self.day().ok_or(missing)?;
@@ -142,7 +148,8 @@ impl<'a> Parser<'a> {
     fn time_of_day(&mut self) -> Result<i32, FooterFault>
         ensures size { self.new.size ≡ self.old.size }
         ensures range { IfOk result (λ time. IsWithin 604799 time) }
-        ensures exact { TakesOrFails result self.new.left.now (time_behind self.old.size self.old.left.now) }
+        ensures exact { TakesOrFails result self.new.left.now
+            (time_behind self.old.size self.old.left.now) }
     {
         if !self.eat(b'/') {
             return Ok(7200);

@@ -9,9 +9,9 @@ use crate::onsets::onset;
 use crate::{DstRule, Edge, Footer};
 use td_civil::{Local, Moment, year_of};
 
-/// The state of local time that a footer gives at a moment: that which follows the last onset not after it, whatever
-/// the year of that onset. Where a start and an end fall on one moment, the start counts. Without a rule standard time
-/// always holds.
+/// The state of local time that a footer gives at a moment: that which follows the last onset not
+/// after it, whatever the year of that onset. Where a start and an end fall on one moment, the
+/// start counts. Without a rule standard time always holds.
 pub fn at(footer: &Footer, t: Moment) -> Local
     requires lawful { IsLawful footer.now }
     requires meaning { HasMeaning t.seconds }
@@ -43,7 +43,8 @@ fn is_daylight(rule: &DstRule, std: i32, t: Moment) -> bool
     requires lawful { IsLawfulRule std rule.now }
     requires meaning { HasMeaning t.seconds }
     ensures value { result ≡ spec.is_daylight rule.now std t.seconds }
-    ensures change { spec.IsLastChange rule.now std t.seconds (if result then Edge.Start else Edge.End) }
+    ensures change { spec.IsLastChange rule.now std t.seconds
+        (if result then Edge.Start else Edge.End) }
 {
     let year = utc_year(t);
     let started = latest(rule, std, year, Edge::Start, t);
@@ -51,9 +52,10 @@ fn is_daylight(rule: &DstRule, std: i32, t: Moment) -> bool
     ended <= started
 }
 
-/// The latest onset of an edge that is not after a moment of the year. The time and the offset move an onset by
-/// less than eight days, and a day form names at most the first day after its year. So the onset of two years
-/// before the moment's is never after it, and that of two years after it always is.
+/// The latest onset of an edge that is not after a moment of the year. The time and the offset move
+/// an onset by less than eight days, and a day form names at most the first day after its year. So
+/// the onset of two years before the moment's is never after it, and that of two years after it
+/// always is.
 fn latest(rule: &DstRule, std: i32, year: i32, edge: Edge, t: Moment) -> i64
     requires lawful { IsLawfulRule std rule.now }
     requires year_in { IsBetween (pos 1800) (pos 9998) year }

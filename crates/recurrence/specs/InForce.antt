@@ -16,7 +16,8 @@ abbrev pub NotAfter : ℤ → Option Moment → Type 0
 NotAfter m None = ⊤
 NotAfter m (Some until) = m ≤ℤ until.seconds
 
--- a moment at which the rule falls, from the part's start to its end, by clocks of the offset before it
+-- a moment at which the rule falls, from the part's start to its end, by clocks of the offset
+-- before it
 pub record IsRuleOnset (rule : Rule) (p : Part) (m : ℤ) : Type 0 where
   pub day : ℤ
   pub falls : Falls rule.form day
@@ -32,7 +33,8 @@ IsOnsetBy (Some rule) p m = IsRuleOnset rule p m
 abbrev pub IsOnset : Part → ℤ → Type 0
 IsOnset p m = IsOnsetBy p.rule p m
 
--- of all parts, this one has the greatest onset that is not after t, and no other one has that onset
+-- of all parts, this one has the greatest onset that is not after t, and no other one has that
+-- onset
 pub record IsInForce (In : Part → Type 0) (t : ℤ) (p : Part) : Type 0 where
   pub there : In p
   pub onset : ℤ

@@ -42,8 +42,8 @@ pub record AreRulesOf (std : ℤ) (rule : DstRule) (start end : Rule) : Type 0 w
   pub end_valid : IsValid end
   pub each_year : (y : ℤ) → IsYear y → KeepsOnsets rule std start end y
 
--- The states and rules say what a footer says: one state at each moment that has a meaning, or the two states of the
--- footer with a rule for each change
+-- The states and rules say what a footer says: one state at each moment that has a meaning, or the
+-- two states of the footer with a rule for each change
 abbrev pub Says : Footer → Carried → Type 0
 Says footer (carried.Constant state) = (t : ℤ) → HasMeaning t → state_of footer t ≡ state
 Says footer (carried.Pair std dst start end) =

@@ -1,5 +1,6 @@
 -- The yearly rule of a date of a footer, and what a footer says of each year.
-use Rattle.std.specs.Prelude.{ℕ, ◌+◌, ◌==◌, nat_le, if◌then◌else◌, ℤ, pos, negsuc, ◌+ℤ◌, ◌-ℤ◌, unsigned_abs, Option, None, Some, Result, Ok, Err}
+use Rattle.std.specs.Prelude.{ℕ, ◌+◌, ◌==◌, nat_le, if◌then◌else◌, ℤ, pos, negsuc, ◌+ℤ◌, ◌-ℤ◌}
+use Rattle.std.specs.Prelude.{unsigned_abs, Option, None, Some, Result, Ok, Err}
 use Rattle.std.specs.Ordering.{int_eq}
 use Rattle.std.specs.Int.{int_rem_euclid}
 use Rattle.td_civil.specs.Calendar.{Civil, date_of}
@@ -22,7 +23,8 @@ use Rattle.recurrence.specs.declared.rule_types.Carried.TheVariants as carried
 abbrev pub second_of : ℤ → ℕ
 second_of time = unsigned_abs (int_rem_euclid time (pos 86400))
 
--- the date at a place of a year of 365 days, by counting: 1 January 2001 is 730851 days after 1 January of the year 0
+-- the date at a place of a year of 365 days, by counting: 1 January 2001 is 730851 days after 1
+-- January of the year 0
 unfoldable pub common_date : ℕ → Civil
 common_date place = date_of (730851 + place)
 
@@ -30,8 +32,9 @@ common_date place = date_of (730851 + place)
 abbrev pub turned : ℕ → ℤ → ℕ
 turned weekday k = unsigned_abs (int_rem_euclid (pos weekday +ℤ k) (pos 7))
 
--- a weekday among seven days in a row, which begin at a place of a year of 365 days: days of one month, or else days
--- that count from the year's start up to February and from its end from March on
+-- a weekday among seven days in a row, which begin at a place of a year of 365 days: days of one
+-- month, or else days that count from the year's start up to February and from its end from March
+-- on
 abbrev pub row_form : ℕ → ℕ → Form
 row_form place weekday =
     if (common_date place).month == (common_date (place + 6)).month

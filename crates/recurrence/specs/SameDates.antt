@@ -22,7 +22,8 @@ pub record IsInside (month date : ℕ) : Type 0 where
   pub first : month ≡ 1 → 3 ≤ date
   pub last : month ≡ 12 → date ≤ 29
 
--- the days that a date can name have one month and day in every year, before its time moves them and after it
+-- the days that a date can name have one month and day in every year, before its time moves them
+-- and after it
 pub record HasSameDates (d : Date) : Type 0 where
   pub not_by_number : is_by_number d.day ≡ false
   pub before : (i : ℕ) → i ≤ more_places d.day → IsOneDate d.day (pos 0) i

@@ -25,22 +25,22 @@ pub fn falls_once()
         → IsOfYear y a → IsOfYear y b → Falls form a → Falls form b → a ≡ b }
 {}
 
-/// The test of a date says that its days have one month and day in every year, before its time moves them and
-/// after it, and that they are moved to days from 3 January to 29 December.
+/// The test of a date says that its days have one month and day in every year, before its time
+/// moves them and after it, and that they are moved to days from 3 January to 29 December.
 pub fn steady_dates_are()
     ensures { (d : Date) → IsLawfulDate d → (is_steady d ≡ true) ↔ HasSameDates d }
 {}
 
-/// The test of two dates says that in every year the days of one end and those of the other begin three days later
-/// or more.
+/// The test of two dates says that in every year the days of one end and those of the other begin
+/// three days later or more.
 pub fn apart_in_each_year()
     ensures { (a b : Date) → IsLawfulDate a → IsLawfulDate b
         → is_steady a ≡ true → is_steady b ≡ true
         → (are_apart a b ≡ true) ↔ ((y : ℤ) → IsYear y → AreApart a b y) }
 {}
 
-/// The rules of the dates of a footer's rule that is carried fall, in each year, on one day, and on that day at the
-/// moment of the change.
+/// The rules of the dates of a footer's rule that is carried fall, in each year, on one day, and on
+/// that day at the moment of the change.
 pub fn keeps_onsets()
     ensures { (rule : DstRule) (std : ℤ) → IsLawfulRule std rule → is_carried_rule rule ≡ true
         → AreRulesOf std rule (rule_of rule.start) (rule_of rule.end) }

@@ -1,8 +1,10 @@
-//! Yearly rules of calendars (RFC 5545, section 3.3.10), and the footers of zone files carried to them.
+//! Yearly rules of calendars (RFC 5545, section 3.3.10), and the footers of zone files carried to
+//! them.
 //!
-//! `carry` gives what a footer says of each year, wherever yearly rules can say it (`specs/Carried.antt` of
-//! `posix_footer`); by `specs/Occurs.antt` its rules fall on the footer's changes in every year. `occurrence` is the
-//! day on which a rule falls in a year. `Range` and `Part` are those of a VTIMEZONE.
+//! `carry` gives what a footer says of each year, wherever yearly rules can say it
+//! (`specs/Carried.antt` of `posix_footer`); by `specs/Occurs.antt` its rules fall on the footer's
+//! changes in every year. `occurrence` is the day on which a rule falls in a year. `Range` and
+//! `Part` are those of a VTIMEZONE.
 #![tactic(auto)]
 
 mod all_year;

@@ -16,8 +16,8 @@ pub enum Form {
     NthDay { month: u8, nth: i8, weekday: u8 },
     /// The weekday among the seven days of the month that begin with the first.
     MonthDays { month: u8, first: u8, weekday: u8 },
-    /// The weekday among the seven days of the year that begin with the first, which counts from 1 at the year's
-    /// start, or from -1 at its end, on the way back.
+    /// The weekday among the seven days of the year that begin with the first, which counts from 1
+    /// at the year's start, or from -1 at its end, on the way back.
     YearDays { first: i16, weekday: u8 },
     /// One date.
     FixedDate { month: u8, day: u8 },
@@ -39,7 +39,8 @@ pub enum Carried {
     },
 }
 
-/// No yearly rules say what the footer says: its dates move with leap years or with the turn of the year.
+/// No yearly rules say what the footer says: its dates move with leap years or with the turn of the
+/// year.
 #[derive(Clone, Copy, Debug, PartialEq, Eq, Error)]
 #[error("rule beyond")]
 pub struct RuleBeyond;

@@ -55,7 +55,8 @@ fn is_late(date: Date) -> bool
         && last <= 362
 }
 
-/// Whether a row of days has the same dates in every year, from its first place in a common and in a leap year.
+/// Whether a row of days has the same dates in every year, from its first place in a common and in
+/// a leap year.
 #[tactic(auto, unfolding(posix_footer::specs::Carried::keeps_early))]
 fn keeps_early(common: i32, leap: i32, further: u16) -> bool
     requires common { IsBetween (neg_ℤ (pos 7)) (pos 372) common }

@@ -1,5 +1,5 @@
-//! What is carried of known footers and of those one day from being beyond. Expected values are those of a program that
-//! lists the dates of each year from 1801 to 2209.
+//! What is carried of known footers and of those one day from being beyond. Expected values are
+//! those of a program that lists the dates of each year from 1801 to 2209.
 use crate::Form;
 
 /// A TZ string, and the form and second of each of its rules.
@@ -120,7 +120,8 @@ pub const KNOWN: [PairRow; 8] = [
     ),
 ];
 
-/// Dates one day from being beyond: at the turn of the year, at the end of February, and three days apart.
+/// Dates one day from being beyond: at the turn of the year, at the end of February, and three days
+/// apart.
 pub const AT_THE_EDGE: [PairRow; 16] = [
     (
         b"AAA0BBB,J3,J100",

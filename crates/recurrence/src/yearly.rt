@@ -8,8 +8,8 @@ ghost use Rattle.recurrence.specs.Row as row;
 use crate::{Form, Rule};
 use jiff::civil;
 
-/// The day number of the rule's one day in the year, counted from 1970-01-01, and the second of that day by the clocks
-/// in force before it. It takes no memory.
+/// The day number of the rule's one day in the year, counted from 1970-01-01, and the second of
+/// that day by the clocks in force before it. It takes no memory.
 pub fn occurrence(rule: &Rule, year: i32) -> (i64, u32)
     requires valid { IsValid rule.now }
     requires year_in { IsBetween (pos 1800) (pos 9999) year }

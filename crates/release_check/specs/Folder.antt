@@ -73,14 +73,15 @@ release_with m contents leaps = record {
   leaps = leaps;
 }
 
--- the release of the files that a manifest names, the table of leap seconds last, or the first fault
+-- the release of the files that a manifest names, the table of leap seconds last, or the first
+-- fault
 abbrev pub files_in : List File → List ℕ → Manifest → Result ReleaseData CheckFault
 files_in files dir m =
     contents_in files dir 0 m.zones >>= λ cs. table_in files dir m.leaps >>= λ leaps.
     Ok (release_with m cs leaps)
 
--- the release of a manifest and the files of its directory after what stands before it, or the first
--- fault
+-- the release of a manifest and the files of its directory after what stands before it, or the
+-- first fault
 unfoldable pub release_in : List File → List ℕ → Before → Manifest → Result ReleaseData CheckFault
 release_in files dir before m = unless (manifest_fault before m) (files_in files dir m)
 
@@ -88,8 +89,8 @@ release_in files dir before m = unless (manifest_fault before m) (files_in files
 abbrev pub examined_in : List File → List ℕ → Before → Manifest → Result ReleaseData CheckFault
 examined_in files dir before m = unless (form_fault m) (release_in files dir before m)
 
--- what a directory gives after what stands before it: a fault where the manifest is absent or refused,
--- and else what the manifest and the files that it names give
+-- what a directory gives after what stands before it: a fault where the manifest is absent or
+-- refused, and else what the manifest and the files that it names give
 pub data FolderGives (files : List File) (dir : List ℕ) (before : Before)
     : Result ReleaseData CheckFault → Type 0 where
   absent : file_at files (manifest_path dir) ≡ None

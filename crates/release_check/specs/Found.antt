@@ -1,5 +1,6 @@
 -- What looking into a folder answers. Out of memory and a failed read are tied to no file.
-use Rattle.std.specs.Prelude.{◌≡◌, ◌≢◌, ⊤, ℕ, Option, List, [], ◌∷◌, take, map, None, Some, Result, Ok, Err, IfSome, IsErrOf}
+use Rattle.std.specs.Prelude.{◌≡◌, ◌≢◌, ⊤, ℕ, Option, List, [], ◌∷◌, take, map, None, Some, Result}
+use Rattle.std.specs.Prelude.{Ok, Err, IfSome, IsErrOf}
 use Rattle.std.specs.Option.{option_map}
 use Rattle.td_base.specs.Cause.{StoreFailed}
 use Rattle.td_base.specs.Files.{File, file_at}
@@ -16,7 +17,8 @@ use Rattle.release_manifest.specs.declared.manifest_type.ManifestZone.{ManifestZ
 use Rattle.release_manifest.specs.declared.manifest_type.ManifestLeaps.{ManifestLeaps}
 use Rattle.zone_meaning.specs.Sound.{IsSoundFile}
 use Rattle.release_check.specs.Before.{Before}
-use Rattle.release_check.specs.Folder.{FolderGives, content_in, contents_in, examined_in, release_in, table_in}
+use Rattle.release_check.specs.Folder.{FolderGives, content_in, contents_in, examined_in}
+use Rattle.release_check.specs.Folder.{release_in, table_in}
 use Rattle.release_check.specs.Paths.{manifest_path}
 use Rattle.release_check.specs.declared.check_fault.CheckFault.{CheckFault}
 use Rattle.release_check.specs.declared.check_fault.CheckFault.TheVariants as fault

@@ -1,6 +1,7 @@
--- What is wrong with a release as its manifest tells it, before any file that it names is read: by itself, and
--- against the history before it (`HistoryFaults`).
-use Rattle.std.specs.Prelude.{ℕ, ◌+◌, List, [], ◌∷◌, ◌++◌, length, nat_lt, if◌then◌else◌, Option, None, Some, Bool, true, not, IsTrue}
+-- What is wrong with a release as its manifest tells it, before any file that it names is read: by
+-- itself, and against the history before it (`HistoryFaults`).
+use Rattle.std.specs.Prelude.{ℕ, ◌+◌, List, [], ◌∷◌, ◌++◌, length, nat_lt, if◌then◌else◌, Option}
+use Rattle.std.specs.Prelude.{None, Some, Bool, true, not, IsTrue}
 use Rattle.std.specs.List.{list_all, list_any}
 use Rattle.std.specs.Str.{bytes_eq}
 use Rattle.td_base.specs.FirstFault.{◌or_else◌, when}

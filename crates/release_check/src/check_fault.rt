@@ -61,9 +61,10 @@ impl fmt::Display for LeapFileFault {
     }
 }
 
-/// Why a folder gives no release. Zones are numbered from 0 in the manifest's order. The faults stand in the order
-/// in which they are looked for, but for Absent and ReadFault, which come at the file that was to be read. Those from
-/// Tzif to RuleBeyond are looked for zone by zone, and the file of leap seconds comes last.
+/// Why a folder gives no release. Zones are numbered from 0 in the manifest's order. The faults
+/// stand in the order in which they are looked for, but for Absent and ReadFault, which come at the
+/// file that was to be read. Those from Tzif to RuleBeyond are looked for zone by zone, and the
+/// file of leap seconds comes last.
 #[derive(Debug, Drop)]
 pub enum CheckFault {
     NoMemory,
@@ -75,7 +76,8 @@ pub enum CheckFault {
     StampBack(Moment, Moment),
     /// A zone's identifier or one of its aliases is no identifier.
     Identifier(usize),
-    /// The first name, in the manifest's order with each identifier before its aliases, that stood before.
+    /// The first name, in the manifest's order with each identifier before its aliases, that stood
+    /// before.
     Duplicate(Bytes),
     /// The least name of the last release that is none of this one's.
     Drops(Bytes),
@@ -91,9 +93,11 @@ pub enum CheckFault {
     LeapsInZone(usize),
     /// The TZ string of a zone's file is refused.
     FooterText(usize, FooterFault),
-    /// The TZ string of a zone's file does not give, at the last transition, the state that this transition begins.
+    /// The TZ string of a zone's file does not give, at the last transition, the state that this
+    /// transition begins.
     FooterDisagrees(usize),
-    /// A name of a zone's types or of its TZ string is empty, or has a byte other than a letter, a digit, `+` or `-`.
+    /// A name of a zone's types or of its TZ string is empty, or has a byte other than a letter, a
+    /// digit, `+` or `-`.
     NameBeyond(usize),
     /// No yearly rules of a calendar say what the TZ string of a zone's file says.
     RuleBeyond(usize),
@@ -111,8 +115,8 @@ impl From<NoMemory> for CheckFault {
     }
 }
 
-/// Its number, its name and its values. A name or a path that is not UTF-8 is left out; [`CheckFault::put`] writes
-/// its bytes as they are.
+/// Its number, its name and its values. A name or a path that is not UTF-8 is left out;
+/// [`CheckFault::put`] writes its bytes as they are.
 impl fmt::Display for CheckFault {
     ghost use Rattle.std.specs.Prelude.{Some};
     ghost use Rattle.release_check.specs.FaultText.{shown_text};
@@ -160,7 +164,8 @@ impl Error for CheckFault {}
 impl CheckFault {
     ghost use Rattle.release_check.specs.FaultText.{fault_text};
 
-    /// Appends the fault as it is printed: its number, its name and its values, with a space between them.
+    /// Appends the fault as it is printed: its number, its name and its values, with a space
+    /// between them.
     pub fn put(&self, alloc: Global, out: &mut Bytes) -> Result<(), NoMemory>
         ensures { OnOk result (out.new ≡ out.old ++ fault_text self.now) }
     {

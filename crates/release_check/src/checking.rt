@@ -3,8 +3,10 @@ ghost use Rattle.catalogue.specs.Releases.{release_data};
 ghost use Rattle.catalogue.specs.Histories.{Fits};
 ghost use Rattle.release_manifest.specs.Reading.{IsManifestText};
 ghost use Rattle.zone_meaning.specs.Sound.{IsSound};
-ghost use Rattle.release_check.specs.Before.{Before as Earlier, ForEachBefore, Follows, before_held, before_of};
-ghost use Rattle.release_check.specs.Found.{Finds, IsExaminedIn, IsManifestIn, IsOfManifest, IsReleaseIn};
+ghost use Rattle.release_check.specs.Before.{Before as Earlier, ForEachBefore, Follows};
+ghost use Rattle.release_check.specs.Before.{before_held, before_of};
+ghost use Rattle.release_check.specs.Found.{Finds, IsExaminedIn, IsManifestIn, IsOfManifest};
+ghost use Rattle.release_check.specs.Found.{IsReleaseIn};
 ghost use Rattle.release_check.specs.Judged.{of_manifest, RefusesText};
 ghost use Rattle.release_check.specs.ManifestFaults.{IsFormed};
 
@@ -23,10 +25,10 @@ use zone_meaning::Zone;
 /// One byte more than a manifest may have, so that a longer one is seen to be longer.
 const MANIFEST_ROOM: u64 = 1_048_577;
 
-/// The release of a folder of the store, or the folder's first fault: an absent manifest, one that is refused, what the
-/// manifest says by itself and against the history that a catalogue stands for, then zone by zone what their files say,
-/// and the file of leap seconds last. Without a catalogue the release is the first. An empty `dir` stands for the
-/// store's own top.
+/// The release of a folder of the store, or the folder's first fault: an absent manifest, one that
+/// is refused, what the manifest says by itself and against the history that a catalogue stands
+/// for, then zone by zone what their files say, and the file of leap seconds last. Without a
+/// catalogue the release is the first. An empty `dir` stands for the store's own top.
 pub fn check<S: Store>(
     alloc: Global,
     dir: &[u8],
@@ -47,8 +49,8 @@ pub fn check<S: Store>(
     release_in(alloc, dir, store, last)
 }
 
-/// The release of a manifest that is at hand, over the files of a folder of the store, or the first fault: a text of
-/// the manifest that has not its form, and then those that `check` tells.
+/// The release of a manifest that is at hand, over the files of a folder of the store, or the first
+/// fault: a text of the manifest that has not its form, and then those that `check` tells.
 pub fn examine<S: Store>(
     alloc: Global,
     manifest: &Manifest,

@@ -9,8 +9,8 @@ use std::alloc::Global;
 use std::collections::BTreeSet;
 use td_base::{Bytes, NoMemory};
 
-/// Looks for the first name that stood before, and gives all names. They are kept in order, so that a name is compared
-/// with few of them.
+/// Looks for the first name that stood before, and gives all names. They are kept in order, so that
+/// a name is compared with few of them.
 pub fn judge_duplicates<'a>(
     alloc: Global,
     names: &[&'a [u8]],

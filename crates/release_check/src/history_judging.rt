@@ -4,7 +4,8 @@ ghost use Rattle.std.specs.List.{list_any};
 ghost use Rattle.std.specs.Str.{bytes_eq};
 ghost use Rattle.catalogue.specs.Holdings.{names_held};
 ghost use Rattle.release_check.specs.Before.{before_held};
-ghost use Rattle.release_check.specs.HistoryFaults.{drop_fault, first_missing, place_fault, stamp_fault};
+ghost use Rattle.release_check.specs.HistoryFaults.{drop_fault, first_missing, place_fault};
+ghost use Rattle.release_check.specs.HistoryFaults.{stamp_fault};
 ghost use Rattle.release_check.specs.Judged.{JudgesUnread};
 
 use crate::check_fault::CheckFault;
@@ -32,7 +33,8 @@ pub fn judge_stamp(stamp: Moment, last: Option<&Catalogue<Zone>>) -> Result<(), 
     }
 }
 
-/// Looks for the least name of the last release that is none of the new ones, which are kept in order.
+/// Looks for the least name of the last release that is none of the new ones, which are kept in
+/// order.
 pub fn judge_drops<'a>(
     alloc: Global,
     new: &BTreeSet<&'a [u8]>,

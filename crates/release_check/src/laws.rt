@@ -10,7 +10,8 @@ ghost use Rattle.release_check.specs.declared.check_fault.CheckFault.{CheckFault
 
 use release_manifest::one_reading;
 
-/// A folder gives a release or a first fault, and one of them alone, after whatever stands before it.
+/// A folder gives a release or a first fault, and one of them alone, after whatever stands before
+/// it.
 pub fn one_folder()
     ensures some { (files : List File) (dir : List ℕ) (before : Before)
         → (r : Result ReleaseData CheckFault) × FolderGives files dir before r }

@@ -1,6 +1,7 @@
-//! Judges the folder of a release against the history before it: reads its manifest and the files that the manifest
-//! names, and gives the release, or the first fault of the folder. [`check`] is the main call; what a folder gives is
-//! `FolderGives` in `specs/Folder.antt`. [`examine`] judges a manifest that is at hand.
+//! Judges the folder of a release against the history before it: reads its manifest and the files
+//! that the manifest names, and gives the release, or the first fault of the folder. [`check`] is
+//! the main call; what a folder gives is `FolderGives` in `specs/Folder.antt`. [`examine`] judges a
+//! manifest that is at hand.
 #![tactic(auto)]
 
 mod check_fault;

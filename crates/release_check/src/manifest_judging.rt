@@ -2,7 +2,8 @@ ghost use Rattle.std.specs.Prelude.{◌≡◌, ◌∷◌, ◌++◌, [], map, opt
 ghost use Rattle.std.specs.List.{list_all};
 ghost use Rattle.td_base.specs.Names.{is_identifier};
 ghost use Rattle.release_check.specs.Before.{before_held};
-ghost use Rattle.release_check.specs.ManifestFaults.{names_in, limit_fault, identifier_fault, manifest_fault};
+ghost use Rattle.release_check.specs.ManifestFaults.{names_in, limit_fault, identifier_fault};
+ghost use Rattle.release_check.specs.ManifestFaults.{manifest_fault};
 ghost use Rattle.release_check.specs.Judged.{JudgesUnread};
 
 use crate::check_fault::{CheckFault, Limited};
@@ -14,8 +15,8 @@ use std::alloc::Global;
 use td_base::{Bytes, NoMemory, is_identifier};
 use zone_meaning::Zone;
 
-/// Looks for the first fault of what a manifest says, by itself and against the history that a catalogue stands for,
-/// before any file that it names is read.
+/// Looks for the first fault of what a manifest says, by itself and against the history that a
+/// catalogue stands for, before any file that it names is read.
 pub fn judge<'a>(
     alloc: Global,
     manifest: &'a Manifest,

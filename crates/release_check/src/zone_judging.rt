@@ -12,8 +12,8 @@ use crate::zone_names::has_printable_names;
 use recurrence::carry;
 use zone_meaning::{Zone, footer, footer_agrees};
 
-/// Looks for the first fault of what a zone means: its footer does not go on from its last transition, a name cannot
-/// be printed, or no yearly rules say what its footer says.
+/// Looks for the first fault of what a zone means: its footer does not go on from its last
+/// transition, a name cannot be printed, or no yearly rules say what its footer says.
 #[tactic(auto, unfolding(crate::specs::ZoneFaults::meaning_fault))]
 pub fn judge_zone(number: usize, zone: &Zone) -> Result<(), CheckFault>
     ensures { JudgesUnread (meaning_fault number zone.now) result }

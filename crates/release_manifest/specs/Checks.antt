@@ -1,5 +1,6 @@
 -- What is checked of a manifest, in the order in which its members are judged, and the first fault.
-use Rattle.std.specs.Prelude.{ℕ, ◌+◌, List, [], ◌∷◌, ◌++◌, codes, Bool, false, ◌&&◌, if◌then◌else◌, Option, None, Some, is_some, unwrap_or, option_and_then}
+use Rattle.std.specs.Prelude.{ℕ, ◌+◌, List, [], ◌∷◌, ◌++◌, codes, Bool, false, ◌&&◌, if◌then◌else◌}
+use Rattle.std.specs.Prelude.{Option, None, Some, is_some, unwrap_or, option_and_then}
 use Rattle.std.specs.Option.{option_map_or}
 use Rattle.serde_json.specs.Data.{Data, Items, no_items, item}
 use Rattle.serde_json.specs.Find.{get, as_str, as_array, as_object}
@@ -53,7 +54,8 @@ unfoldable pub alias_checks : ℕ → Option Data → List Check
 alias_checks zone None = []
 alias_checks zone (Some d) =
     record { fault = fault.Field (path.Aliases zone); passes = is_some (as_array d) }
-    ∷ each_checks (λ n alias. text_checks (path.Alias zone n) (Some alias)) 0 (unwrap_or (as_array d) no_items)
+    ∷ each_checks (λ n alias. text_checks (path.Alias zone n) (Some alias)) 0
+    (unwrap_or (as_array d) no_items)
 
 -- a zone
 unfoldable pub zone_checks : ℕ → Data → List Check

@@ -1,5 +1,6 @@
 -- The manifest that a JSON value is.
-use Rattle.std.specs.Prelude.{◌≡◌, ℕ, List, [], ◌∷◌, codes, Bool, true, Option, None, Some, option_and_then, ⊤}
+use Rattle.std.specs.Prelude.{◌≡◌, ℕ, List, [], ◌∷◌, codes, Bool, true, Option, None, Some}
+use Rattle.std.specs.Prelude.{option_and_then, ⊤}
 use Rattle.serde_json.specs.Data.{Data, Items, no_items, item}
 use Rattle.serde_json.specs.Find.{get, as_str, as_array}
 use Rattle.td_base.specs.Names.{is_label, is_file_name}

@@ -1,5 +1,6 @@
 -- The manifest of a text, and the fault of one that has none.
-use Rattle.std.specs.Prelude.{◌≡◌, ℕ, ◌≤◌, List, length, nat_le, if◌then◌else◌, Option, None, Some, Result, Ok, Err, ◌≢◌}
+use Rattle.std.specs.Prelude.{◌≡◌, ℕ, ◌≤◌, List, length, nat_le, if◌then◌else◌, Option, None, Some}
+use Rattle.std.specs.Prelude.{Result, Ok, Err, ◌≢◌}
 use Rattle.std.specs.Str.{is_utf8}
 use Rattle.serde_json.specs.Data.{Data}
 use Rattle.serde_json.specs.Read.{read as read_text}
@@ -31,8 +32,8 @@ pub record IsManifestText (text : List ℕ) (m : Manifest) : Type 0 where
   pub reads : value_in text ≡ Some value
   pub is : IsManifest value m
 
--- What a function judged of checks: where it gave a value each passes, and a fault is that of the first that does
--- not, unless memory ran out.
+-- What a function judged of checks: where it gave a value each passes, and a fault is that of the
+-- first that does not, unless memory ran out.
 abbrev pub Judges : {T : Type 0} → Result T ManifestFault → List Check → Type 0
 Judges (Ok x) checks = first_failing checks ≡ None
 Judges (Err e) checks = e ≢ fault.NoMemory → first_failing checks ≡ Some e

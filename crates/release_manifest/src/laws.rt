@@ -14,7 +14,10 @@ pub fn one_meaning()
 
 /// A text is a manifest exactly where it has no fault, and is one alone.
 pub fn one_reading()
-    ensures found { (text : List ℕ) → manifest_text_fault text ≡ None → (m : Manifest) × IsManifestText text m }
-    ensures sound { (text : List ℕ) (m : Manifest) → IsManifestText text m → manifest_text_fault text ≡ None }
-    ensures one { (text : List ℕ) (m n : Manifest) → IsManifestText text m → IsManifestText text n → m ≡ n }
+    ensures found { (text : List ℕ) → manifest_text_fault text ≡ None
+        → (m : Manifest) × IsManifestText text m }
+    ensures sound { (text : List ℕ) (m : Manifest) → IsManifestText text m
+        → manifest_text_fault text ≡ None }
+    ensures one { (text : List ℕ) (m n : Manifest) → IsManifestText text m → IsManifestText text n
+        → m ≡ n }
 {}

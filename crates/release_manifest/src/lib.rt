@@ -1,6 +1,6 @@
-//! The manifest of a release: the JSON object that names its publisher, version, stamp, zone files and leap
-//! second file. The main call is [`read`]: what it gives is the manifest of the text as `Meaning.antt` and
-//! `Reading.antt` say, and what it refuses has the first fault of `Checks.antt`.
+//! The manifest of a release: the JSON object that names its publisher, version, stamp, zone files
+//! and leap second file. The main call is [`read`]: what it gives is the manifest of the text as
+//! `Meaning.antt` and `Reading.antt` say, and what it refuses has the first fault of `Checks.antt`.
 #![tactic(auto)]
 
 mod laws;

@@ -1,10 +1,12 @@
 ghost use Rattle.std.specs.Prelude.{◌≡◌, List, ℕ, Some, None, IfOk, MatchResult, codes};
 ghost use Rattle.serde_json.specs.Find.{get};
 ghost use Rattle.serde_json.specs.View.{view};
-ghost use Rattle.td_base.specs.Names.{is_label as has_label_form, is_file_name as has_file_name_form};
+ghost use Rattle.td_base.specs.Names.{is_label as has_label_form};
+ghost use Rattle.td_base.specs.Names.{is_file_name as has_file_name_form};
 ghost use Rattle.td_civil.specs.Reading.{is_date_text};
 ghost use Rattle.release_manifest.specs.declared.manifest_fault.Path.TheVariants as path;
-ghost use Rattle.release_manifest.specs.Checks.{text_of, object_checks, text_checks, form_checks, is_stamp_text};
+ghost use Rattle.release_manifest.specs.Checks.{text_of, object_checks, text_checks, form_checks};
+ghost use Rattle.release_manifest.specs.Checks.{is_stamp_text};
 ghost use Rattle.release_manifest.specs.Meaning.{IsForm, IsStampOf};
 ghost use Rattle.release_manifest.specs.Reading.{Judges};
 
@@ -66,7 +68,8 @@ pub(crate) fn read_label(
     path: Path,
 ) -> Result<Bytes, ManifestFault>
     ensures is { IfOk result (λ b. IsForm has_label_form (get name.now (view object.now)) b) }
-    ensures judged { Judges result (form_checks has_label_form path (get name.now (view object.now))) }
+    ensures judged { Judges result
+        (form_checks has_label_form path (get name.now (view object.now))) }
 {
     let text = text_member(object, name, path)?.as_bytes();
     if !is_label(text) {
@@ -82,8 +85,10 @@ pub(crate) fn read_file_name(
     object: &Value,
     path: Path,
 ) -> Result<Bytes, ManifestFault>
-    ensures is { IfOk result (λ b. IsForm has_file_name_form (get (codes "file") (view object.now)) b) }
-    ensures judged { Judges result (form_checks has_file_name_form path (get (codes "file") (view object.now))) }
+    ensures is { IfOk result
+        (λ b. IsForm has_file_name_form (get (codes "file") (view object.now)) b) }
+    ensures judged { Judges result
+        (form_checks has_file_name_form path (get (codes "file") (view object.now))) }
 {
     let text = text_member(object, "file", path)?.as_bytes();
     if !is_file_name(text) {
@@ -96,7 +101,8 @@ pub(crate) fn read_file_name(
 #[tactic(auto, unfolding(crate::specs::Checks::form_checks, crate::specs::Checks::is_stamp_text))]
 pub(crate) fn read_stamp(object: &Value) -> Result<Moment, ManifestFault>
     ensures is { IfOk result (λ m. IsStampOf (get (codes "stamp") (view object.now)) m) }
-    ensures judged { Judges result (form_checks is_stamp_text path.Stamp (get (codes "stamp") (view object.now))) }
+    ensures judged { Judges result
+        (form_checks is_stamp_text path.Stamp (get (codes "stamp") (view object.now))) }
 {
     let text = text_member(object, "stamp", Path::Stamp)?;
     match moment_of(text.as_bytes()) {
@@ -108,8 +114,10 @@ pub(crate) fn read_stamp(object: &Value) -> Result<Moment, ManifestFault>
 /// The date from which the leap seconds are out of date.
 #[tactic(auto, unfolding(crate::specs::Checks::form_checks))]
 pub(crate) fn read_expiry(alloc: Global, object: &Value) -> Result<Bytes, ManifestFault>
-    ensures is { IfOk result (λ b. IsForm is_date_text (get (codes "expires") (view object.now)) b) }
-    ensures judged { Judges result (form_checks is_date_text path.Expires (get (codes "expires") (view object.now))) }
+    ensures is { IfOk result
+        (λ b. IsForm is_date_text (get (codes "expires") (view object.now)) b) }
+    ensures judged { Judges result
+        (form_checks is_date_text path.Expires (get (codes "expires") (view object.now))) }
 {
     let text = text_member(object, "expires", Path::Expires)?.as_bytes();
     if !is_date(text) {

@@ -6,7 +6,8 @@ ghost use Rattle.release_manifest.specs.declared.manifest_fault.ManifestFault.{M
 ghost use Rattle.release_manifest.specs.declared.manifest_type.Manifest.{Manifest};
 ghost use Rattle.release_manifest.specs.Checks.{leap_checks, manifest_checks};
 ghost use Rattle.release_manifest.specs.Meaning.{AreLeaps, IsLeaps, IsManifest};
-ghost use Rattle.release_manifest.specs.Reading.{IsManifestText, Judges, ReadsValue, manifest_text_fault};
+ghost use Rattle.release_manifest.specs.Reading.{IsManifestText, Judges, ReadsValue};
+ghost use Rattle.release_manifest.specs.Reading.{manifest_text_fault};
 
 use crate::members::{check_object, read_expiry, read_file_name, read_label, read_stamp};
 use crate::zone_members::read_zones;
@@ -14,10 +15,11 @@ use crate::{MOST_BYTES, Manifest, ManifestFault, ManifestLeaps, Path};
 use serde_json::{Error, Value};
 use std::alloc::Global;
 
-/// Reads the manifest that a text is. [`ManifestFault::Long`] comes for a longer text than [`MOST_BYTES`], else
-/// `Syntax` for one that is no JSON (RFC 8259) in UTF-8, and else the first fault of a member, members in the order
-/// publisher, version, stamp, zones and leap seconds, and of a zone tzid, file and aliases. A member given twice is
-/// no fault: the last one counts. Members of other names are ignored.
+/// Reads the manifest that a text is. [`ManifestFault::Long`] comes for a longer text than
+/// [`MOST_BYTES`], else `Syntax` for one that is no JSON (RFC 8259) in UTF-8, and else the first
+/// fault of a member, members in the order publisher, version, stamp, zones and leap seconds, and
+/// of a zone tzid, file and aliases. A member given twice is no fault: the last one counts. Members
+/// of other names are ignored.
 pub fn read(alloc: Global, bytes: &[u8]) -> Result<Manifest, ManifestFault>
     // What is read is the manifest that the text says.
     ensures found { IfOk result (λ m. IsManifestText bytes.now m) }
@@ -81,7 +83,8 @@ fn read_manifest(alloc: Global, value: &Value) -> Result<Manifest, ManifestFault
 /// The leap seconds, of which there are none where the member is left out.
 #[tactic(auto, unfolding(crate::specs::Checks::leap_checks))]
 fn read_leaps(alloc: Global, manifest: &Value) -> Result<Option<ManifestLeaps>, ManifestFault>
-    ensures is { IfOk result (λ leaps. AreLeaps (get (codes "leapseconds") (view manifest.now)) leaps) }
+    ensures is { IfOk result
+        (λ leaps. AreLeaps (get (codes "leapseconds") (view manifest.now)) leaps) }
     ensures judged { Judges result (leap_checks (get (codes "leapseconds") (view manifest.now))) }
 {
     match manifest.get("leapseconds") {

@@ -2,7 +2,8 @@ ghost use Rattle.std.specs.Prelude.{◌≡◌, Some, IfOk, codes};
 ghost use Rattle.serde_json.specs.Find.{get};
 ghost use Rattle.serde_json.specs.View.{view, items_view};
 ghost use Rattle.release_manifest.specs.declared.manifest_fault.Path.TheVariants as path;
-ghost use Rattle.release_manifest.specs.Checks.{text_checks, alias_checks, zone_checks, zones_checks, each_checks};
+ghost use Rattle.release_manifest.specs.Checks.{text_checks, alias_checks, zone_checks};
+ghost use Rattle.release_manifest.specs.Checks.{zones_checks, each_checks};
 ghost use Rattle.release_manifest.specs.Meaning.{AllAre, IsText, AreAliases, IsZone, AreZonesOf};
 ghost use Rattle.release_manifest.specs.Reading.{Judges};
 
@@ -78,7 +79,8 @@ fn read_each_alias(
     zone: usize,
 ) -> Result<Items<Bytes>, ManifestFault>
     ensures is { IfOk result (λ texts. AllAre IsText (items_view list.now) texts) }
-    ensures judged { Judges result (each_checks (λ n alias. text_checks (path.Alias zone n) (Some alias)) 0 (items_view list.now)) }
+    ensures judged { Judges result (each_checks
+        (λ n alias. text_checks (path.Alias zone n) (Some alias)) 0 (items_view list.now)) }
 {
     let mut aliases = Items::new(alloc);
     for (number, value) in list.iter().enumerate() {

@@ -1,5 +1,6 @@
 -- How a mirror keeps what it holds: words of its inner functions.
-use Rattle.std.specs.Prelude.{ℕ, List, [], ◌∷◌, map, Bool, Option, None, Some, int_le, if◌then◌else◌}
+use Rattle.std.specs.Prelude.{ℕ, List, [], ◌∷◌, map, Bool, Option, None, Some, int_le}
+use Rattle.std.specs.Prelude.{if◌then◌else◌}
 use Rattle.std.specs.List.{list_any}
 use Rattle.std.specs.Ordering.{nat_cmp}
 use Rattle.std.specs.declared.cmp.Ordering.{Ordering}

@@ -1,5 +1,6 @@
 -- The release that a mirror serves, as a manifest and a store of its files.
-use Rattle.std.specs.Prelude.{ℕ, List, map, codes, Bool, Option, None, Some, option_map, find, int_le, ◌≡◌}
+use Rattle.std.specs.Prelude.{ℕ, List, map, codes, Bool, Option, None, Some, option_map, find}
+use Rattle.std.specs.Prelude.{int_le, ◌≡◌}
 use Rattle.std.specs.List.{list_all}
 use Rattle.td_base.specs.Files.{File, file_at}
 use Rattle.td_civil.specs.declared.moment_type.TheConstants.{LO}

@@ -1,5 +1,6 @@
 -- What a primary tells of its releases (RFC 7808, sections 5.2 and 5.3).
-use Rattle.std.specs.Prelude.{ℕ, ◌<◌, ◌+◌, ◌≤◌, List, length, take, map, Option, None, Some, option_map, ◌≡◌, ◌≢◌, ◌⊎◌}
+use Rattle.std.specs.Prelude.{ℕ, ◌<◌, ◌+◌, ◌≤◌, List, length, take, map, Option, None, Some}
+use Rattle.std.specs.Prelude.{option_map, ◌≡◌, ◌≢◌, ◌⊎◌}
 use Rattle.td_base.specs.declared.report.Ask.{Ask}
 use Rattle.td_base.specs.declared.report.Ask.TheVariants as ask
 use Rattle.catalogue.specs.Histories.{IsHistory, meta, token_of}
@@ -76,7 +77,8 @@ pub record Serves (sound : ReleaseData → Type 0) (hears : List ReleaseData →
 
 -- the token is that of a place that there was by then, and from then on it is refused only once the
 -- place is none of the last ones whose tokens are known for certain
-pub record IsTokenOf (P : Service) (H : List ReleaseData) (since : ℕ) (token : List ℕ) : Type 0 where
+pub record IsTokenOf (P : Service) (H : List ReleaseData) (since : ℕ) (token : List ℕ)
+    : Type 0 where
   pub place : ℕ
   pub is_place : IsPlace H place
   pub by_then : place ≤ since

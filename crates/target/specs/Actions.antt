@@ -1,5 +1,6 @@
 -- The action that a target asks for (RFC 7808, section 5).
-use Rattle.std.specs.Prelude.{ℕ, List, [], ◌∷◌, length, Bool, not, ◌&&◌, ◌==◌, if◌then◌else◌, Option, Some, None, codes, bytes_eq}
+use Rattle.std.specs.Prelude.{ℕ, List, [], ◌∷◌, length, Bool, not, ◌&&◌, ◌==◌, if◌then◌else◌}
+use Rattle.std.specs.Prelude.{Option, Some, None, codes, bytes_eq}
 use Rattle.target.specs.Paths.{path_of, query_of, raw_segments, decode_segments}
 use Rattle.target.specs.Parameters.{parameter}
 use Rattle.target.specs.declared.asked_types.Param.{Param}

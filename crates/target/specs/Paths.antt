@@ -1,5 +1,6 @@
 -- The path and the query of a request target (RFC 9112, section 3.2; RFC 3986, section 3).
-use Rattle.std.specs.Prelude.{ℕ, List, [], ◌∷◌, drop, Bool, ◌==◌, ◌||◌, if◌then◌else◌, Option, Some, None, option_map, option_and_then, codes}
+use Rattle.std.specs.Prelude.{ℕ, List, [], ◌∷◌, drop, Bool, ◌==◌, ◌||◌, if◌then◌else◌, Option, Some}
+use Rattle.std.specs.Prelude.{None, option_map, option_and_then, codes}
 use Rattle.std.specs.List.{slice_split, position_or_len, before_first, after_first}
 use Rattle.std.specs.Str.{is_utf8}
 use Rattle.percent_encoding.specs.Percent.{percent_decode}

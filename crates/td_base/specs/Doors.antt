@@ -1,5 +1,5 @@
--- What one call does to a door, and to a network. Of content that an object does not tell nothing is
--- said.
+-- What one call does to a door, and to a network. Of content that an object does not tell nothing
+-- is said.
 use Rattle.std.specs.Prelude.{◌≡◌, ℕ, ◌+◌, ◌≤◌, List, [], ◌∷◌, ◌++◌, length, map, take, drop, All}
 use Rattle.std.specs.Prelude.{⊤, Option, None, Some, IfSome}
 use Rattle.std.specs.Global.{Vec}

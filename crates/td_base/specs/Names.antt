@@ -1,6 +1,7 @@
 -- The texts that name things in a release: identifiers of time zones, files, publishers and
 -- versions.
-use Rattle.std.specs.Prelude.{ℕ, List, [], ◌∷◌, length, Bool, IsTrue, false, not, ◌&&◌, ◌||◌, ◌==◌, nat_le}
+use Rattle.std.specs.Prelude.{ℕ, List, [], ◌∷◌, length, Bool, IsTrue, false, not, ◌&&◌, ◌||◌, ◌==◌}
+use Rattle.std.specs.Prelude.{nat_le}
 use Rattle.std.specs.Prelude.{if◌then◌else◌}
 use Rattle.std.specs.List.{list_all, list_any}
 use Rattle.std.specs.Str.{bytes_eq}

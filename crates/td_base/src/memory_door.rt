@@ -1,6 +1,7 @@
 ghost use Rattle.std.specs.Prelude.{◌≡◌, ◌-◌, ◌<◌, [], ◌∷◌, ◌++◌, length, None, IfOk, OnOk, OnErr};
 ghost use Rattle.td_base.specs.Doors.{Accepts, Finishes, HasOut};
-ghost use Rattle.td_base.specs.MemoryDoors.{IsFresh, accepted_at, after_accept, door_conn, inputs_of};
+ghost use Rattle.td_base.specs.MemoryDoors.{IsFresh, accepted_at, after_accept, door_conn};
+ghost use Rattle.td_base.specs.MemoryDoors.{inputs_of};
 ghost use Rattle.td_base.specs.MemoryDoors.{memory_door};
 
 use crate::{Accepted, Bytes, Door, DoorAnswer, FaultyConn, MemoryConn, NoMemory, Report};

@@ -4,8 +4,8 @@ ghost use Rattle.td_base.specs.Memory.{one_more};
 
 use crate::{Begin, Spawner};
 
-/// What starts a work by keeping it, and does it when it is joined. It never fails to begin one, and
-/// counts the works that it is told were refused.
+/// What starts a work by keeping it, and does it when it is joined. It never fails to begin one,
+/// and counts the works that it is told were refused.
 #[derive(Clone, Copy, Debug, Drop)]
 pub struct MemorySpawner {
     refused: u64,

@@ -21,8 +21,8 @@ pub enum Begin {
     Refused,
 }
 
-/// What starts works and joins them. It says how a work is begun, and tells nothing but how often it
-/// failed.
+/// What starts works and joins them. It says how a work is begun, and tells nothing but how often
+/// it failed.
 pub trait Spawner {
     ghost faults: { Self → ℕ };
 

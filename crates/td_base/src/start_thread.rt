@@ -11,7 +11,8 @@ use std::thread::{Builder, Threads};
 
 /// Starts a thread that does the work, or hands the work back where the system makes none or there
 /// is no memory for the word by which the closure learns of that. The closure comes back from the
-/// system, and gives the work that it holds only if it is called, so the word says what it is to do.
+/// system, and gives the work that it holds only if it is called, so the word says what it is to
+/// do.
 pub fn start_thread<W: Work + Send + Drop + 'static, R: Threads + Wait + Copy + Send + 'static>(
     rt: &R,
     alloc: Global,

@@ -1,5 +1,7 @@
--- The date and the time of day of a moment, by counting off whole years, whole months and whole days.
-use Rattle.std.specs.Prelude.{ℕ, zero, suc, ◌+◌, ◌-◌, ◌*◌, ◌/◌, ◌%◌, nat_lt, if◌then◌else◌, ℤ, pos, unsigned_abs, ◌+ℤ◌, ◌*ℤ◌, ◌≤ℤ◌, ◌<ℤ◌}
+-- The date and the time of day of a moment, by counting off whole years, whole months and whole
+-- days.
+use Rattle.std.specs.Prelude.{ℕ, zero, suc, ◌+◌, ◌-◌, ◌*◌, ◌/◌, ◌%◌, nat_lt, if◌then◌else◌, ℤ, pos}
+use Rattle.std.specs.Prelude.{unsigned_abs, ◌+ℤ◌, ◌*ℤ◌, ◌≤ℤ◌, ◌<ℤ◌}
 use Rattle.std.specs.Int.{IsInRange}
 use Rattle.jiff_core.specs.Calendar.{days_in_year, days_in_month, days_from_civil, IsBetween}
 use Rattle.td_civil.specs.Stamp.{Stamp}
@@ -14,7 +16,8 @@ pub record Civil : Type 0 where
 unfoldable pub month_after : ℕ → ℕ → ℕ → ℕ → Civil
 month_after zero year month days = record { year = year; month = month; day = days + 1 }
 month_after (suc more) year month days =
-    if nat_lt days (days_in_month (pos year) month) then record { year = year; month = month; day = days + 1 }
+    if nat_lt days (days_in_month (pos year) month)
+    then record { year = year; month = month; day = days + 1 }
     else month_after more year (month + 1) (days - days_in_month (pos year) month)
 
 -- the date so many days after 1 January of the year, counting off at most `more` whole years

@@ -1,5 +1,7 @@
--- Texts of moments and dates, read: the fields stand at fixed places, and the text is that of the fields.
-use Rattle.std.specs.Prelude.{◌≡◌, ℕ, ◌≤◌, ◌+◌, ◌-◌, ◌*◌, List, slice_index, Bool, ◌&&◌, nat_le, nat_lt, if◌then◌else◌, ℤ, pos, Option, Some, None, ◌++◌, ◌∷◌}
+-- Texts of moments and dates, read: the fields stand at fixed places, and the text is that of the
+-- fields.
+use Rattle.std.specs.Prelude.{◌≡◌, ℕ, ◌≤◌, ◌+◌, ◌-◌, ◌*◌, List, slice_index, Bool, ◌&&◌, nat_le}
+use Rattle.std.specs.Prelude.{nat_lt, if◌then◌else◌, ℤ, pos, Option, Some, None, ◌++◌, ◌∷◌}
 use Rattle.std.specs.Str.{bytes_eq}
 use Rattle.jiff_core.specs.Calendar.{days_in_month}
 use Rattle.td_civil.specs.Stamp.{Stamp, moment_at, spelling, two_digits, four_digits}

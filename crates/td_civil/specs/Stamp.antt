@@ -1,5 +1,7 @@
--- The text of a moment (RFC 3339): a date of the proleptic Gregorian calendar, a time of day and `Z`.
-use Rattle.std.specs.Prelude.{◌≡◌, ℕ, ◌+◌, ◌*◌, ◌/◌, ◌%◌, ◌<◌, ◌≤◌, List, [], ◌∷◌, ◌++◌, ℤ, pos, ◌+ℤ◌, ◌*ℤ◌}
+-- The text of a moment (RFC 3339): a date of the proleptic Gregorian calendar, a time of day and
+-- `Z`.
+use Rattle.std.specs.Prelude.{◌≡◌, ℕ, ◌+◌, ◌*◌, ◌/◌, ◌%◌, ◌<◌, ◌≤◌, List, [], ◌∷◌, ◌++◌, ℤ, pos}
+use Rattle.std.specs.Prelude.{◌+ℤ◌, ◌*ℤ◌}
 use Rattle.jiff_core.specs.Calendar.{days_from_civil, days_in_month}
 
 -- the fields of a moment's text
@@ -31,7 +33,8 @@ four_digits n = (48 + n / 1000 % 10) ∷ (48 + n / 100 % 10) ∷ (48 + n / 10 % 
 abbrev pub spelling : Stamp → List ℕ
 spelling s =
     four_digits s.year ++ (45 ∷ two_digits s.month) ++ (45 ∷ two_digits s.day)
-    ++ (84 ∷ two_digits s.hour) ++ (58 ∷ two_digits s.minute) ++ (58 ∷ two_digits s.second) ++ (90 ∷ [])
+    ++ (84 ∷ two_digits s.hour) ++ (58 ∷ two_digits s.minute) ++ (58 ∷ two_digits s.second)
+    ++ (90 ∷ [])
 
 -- YYYYMMDDTHHMMSS
 abbrev pub basic_spelling : Stamp → List ℕ

@@ -16,7 +16,8 @@ pub fn year_of(m: Moment) -> i32
     Fields::at(m.seconds).year as i32
 }
 
-/// The day number of a date of the years 1798 to 9999, counted from 1970-01-01, if there is such a date.
+/// The day number of a date of the years 1798 to 9999, counted from 1970-01-01, if there is such a
+/// date.
 pub fn day_of(year: i32, month: u8, day: u8) -> Option<i64>
     ensures found { IsSome result ↔ HasDay year month day }
     ensures value { IfSome result (λ n. n ≡ days_from_civil year month day) }

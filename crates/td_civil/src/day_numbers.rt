@@ -16,10 +16,13 @@ pub(crate) fn date_after(days: u32) -> Date
     Date::from_days_since_min(days + 3_652_059)
 }
 
-/// The day number of a date of the years 0 to 9999, counted from 1970-01-01, if there is such a date.
+/// The day number of a date of the years 0 to 9999, counted from 1970-01-01, if there is such a
+/// date.
 pub(crate) fn day_number(year: u32, month: u32, day: u32) -> Option<i64>
     ensures value { result
-        ≡ (if reading.is_date year month day then Some (days_from_civil (pos year) month day) else None) }
+        ≡ (if reading.is_date year month day
+        then Some (days_from_civil (pos year) month day)
+        else None) }
     ensures bound { IfSome result IsEpochDay }
 {
     if year > 9999 || month > 12 || day > 31 {

@@ -1,5 +1,7 @@
-//! Laws of years, states and the texts of moments, each the contract of a function that does nothing.
-ghost use Rattle.std.specs.Prelude.{◌≡◌, ◌↔◌, ◌+ℤ◌, ◌*ℤ◌, ◌≤ℤ◌, ◌<ℤ◌, ℕ, List, ℤ, pos, Some, true, codes};
+//! Laws of years, states and the texts of moments, each the contract of a function that does
+//! nothing.
+ghost use Rattle.std.specs.Prelude.{◌≡◌, ◌↔◌, ◌+ℤ◌, ◌*ℤ◌, ◌≤ℤ◌, ◌<ℤ◌, ℕ, List, ℤ, pos, Some, true};
+ghost use Rattle.std.specs.Prelude.{codes};
 ghost use Rattle.jiff_core.specs.Calendar.{IsYear, days_from_civil};
 ghost use Rattle.td_civil.specs.Bounds.{HasText};
 ghost use Rattle.td_civil.specs.Calendar.{IsInYear};

@@ -10,7 +10,8 @@ use crate::Moment;
 use crate::fields::Fields;
 use thiserror::Error;
 
-/// The text is not `YYYY-MM-DDTHH:MM:SSZ` of an existing date and time of day (RFC 3339, section 5.6).
+/// The text is not `YYYY-MM-DDTHH:MM:SSZ` of an existing date and time of day (RFC 3339, section
+/// 5.6).
 #[derive(Clone, Copy, Debug, PartialEq, Eq, Error)]
 #[error("bad moment")]
 pub struct BadMoment;
@@ -36,8 +37,8 @@ pub fn utc_text(m: Moment) -> [u8; 20]
     Fields::at(m.seconds).spelling()
 }
 
-/// The local time `YYYYMMDDTHHMMSS` of a moment (RFC 5545, section 3.3.5), as clocks show it that are
-/// so many seconds east of UTC, less than a day.
+/// The local time `YYYYMMDDTHHMMSS` of a moment (RFC 5545, section 3.3.5), as clocks show it that
+/// are so many seconds east of UTC, less than a day.
 pub fn local_stamp(m: Moment, offset: i32) -> [u8; 15]
     requires moment { IsWithinBounds m.seconds }
     requires offset { IsWithin 86_399 offset }

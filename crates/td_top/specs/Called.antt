@@ -28,9 +28,9 @@ folders_of (check dirs) = None
 folders_of (at path m) = None
 
 -- What the words call for, where the store tells its files; where it does not, for some releases or
--- for some file. What `check` prints comes line by line, and is told in `Checks`. The state is a function of a file's bytes: `one_zone_file` of tzif_reader ties
--- what a file has to its layout, and the clause `rules` of zone_meaning's `at` ties the state to
--- the rules of RFC 9636.
+-- for some file. What `check` prints comes line by line, and is told in `Checks`. The state is a
+-- function of a file's bytes: `one_zone_file` of tzif_reader ties what a file has to its layout,
+-- and the clause `rules` of zone_meaning's `at` ties the state to the rules of RFC 9636.
 pub data CallsFor (files : Option (List File)) : Option Asked → Called → Type 0 where
   usage : CallsFor files None (print status.Usage usage_line)
   releases : (dirs : List (List ℕ)) (H : List ReleaseData) → FoldersGive files dirs H

@@ -14,7 +14,8 @@ use Rattle.td_top.specs.declared.status.Status.{Status}
 use Rattle.td_top.specs.declared.status.Status.TheVariants as status
 
 -- how checking folders ends, by what became of the store and the output
-pub data Checks (dirs : List (List ℕ)) (s t : StoreView) (old new : SinkView) : Status → Type 0 where
+pub data Checks (dirs : List (List ℕ)) (s t : StoreView) (old new : SinkView) : Status
+    → Type 0 where
   -- each folder gave a release
   all : (H : List ReleaseData) → FoldersGive s.files dirs H
       → WritesAll old new (ok_lines H) written.Whole → Checks dirs s t old new status.Done

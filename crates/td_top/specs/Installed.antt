@@ -39,7 +39,8 @@ pub record InstallsRest (dirs : List (List ℕ)) (s t : StoreView)
   pub came : RestCame s.files dirs (history_of old) (history_of now) result
 
 -- the catalogues that were published, where the folders were installed
-abbrev pub published_in : Result Opened InstallFault → Result (List (Catalogue (List ℕ))) InstallFault
+abbrev pub published_in : Result Opened InstallFault
+    → Result (List (Catalogue (List ℕ))) InstallFault
 published_in (Ok opened) = Ok opened.session.installer.list
 published_in (Err e) = Err e
 

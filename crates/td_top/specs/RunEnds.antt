@@ -10,7 +10,8 @@ use Rattle.td_top.specs.Worlds.{LaterWorld, World}
 use Rattle.td_top.specs.declared.status.Status.{Status}
 
 -- how a run ends, with the doors that were served and a status
-pub data RunEnds (asked : Option Asked) (before after : World) : List DoorView → Status → Type 0 where
+pub data RunEnds (asked : Option Asked) (before after : World) : List DoorView → Status
+    → Type 0 where
   -- without doors; the network and the spawner are left alone
   alone : (end : Status) → Ends asked before.outside after.outside end
       → after.network ≡ before.network → after.spawner ≡ before.spawner

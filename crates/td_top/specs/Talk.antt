@@ -1,6 +1,7 @@
--- What an operator's lines get said, one after the other, while a history grows by the releases that
--- they install.
-use Rattle.std.specs.Prelude.{◌≡◌, ◌≢◌, ℕ, ◌+◌, ◌≤◌, List, [], ◌∷◌, ◌++◌, length, ⊤, Bool, true, false, Option, Ok, Err}
+-- What an operator's lines get said, one after the other, while a history grows by the releases
+-- that they install.
+use Rattle.std.specs.Prelude.{◌≡◌, ◌≢◌, ℕ, ◌+◌, ◌≤◌, List, [], ◌∷◌, ◌++◌, length, ⊤, Bool, true}
+use Rattle.std.specs.Prelude.{false, Option, Ok, Err}
 use Rattle.std.specs.List.{AllByRecursion}
 use mathlib.Core.List.{IsPrefix}
 use Rattle.td_base.specs.Files.{File}

@@ -99,7 +99,8 @@ Reaches start now new (turn.End ended) = ComesTo start now (Some ended)
 Reaches start now new turn.NoMemory = ComesTo start now None
 
 abbrev pub Turns : Scene → Scene → List ℕ → List ℕ → Turn → Type 0
-Turns before now held new done = (start : Scene) → IsAt start before held → Reaches start now new done
+Turns before now held new done =
+    (start : Scene) → IsAt start before held → Reaches start now new done
 
 -- a talk that holds no bytes goes on to its end
 abbrev pub GoesOn : Scene → Scene → Option TalkEnd → Type 0

@@ -8,8 +8,9 @@ use std::alloc::Global;
 use std::fmt::Display;
 use td_base::{Bytes, NoMemory, Sink, Written, write_whole};
 
-/// Writes a text that ends a run with this status. Where a write fails the status is [`Status::NotWritten`] in place of
-/// [`Status::Done`], and a line that says why nothing was done keeps its own.
+/// Writes a text that ends a run with this status. Where a write fails the status is
+/// [`Status::NotWritten`] in place of [`Status::Done`], and a line that says why nothing was done
+/// keeps its own.
 pub fn print<K: Sink>(output: &mut K, status: Status, text: &[u8]) -> Status
     requires { CanPrint status }
     ensures { Printed status text.now (K.seen output.old) (K.seen output.new) result }

@@ -24,14 +24,15 @@ use td_base::{Bytes, Door, Network, Sink, Source, Spawner, Store};
 /// The line that is printed for words that are no command.
 const USAGE: &[u8] = b"usage: tzdistd answer|serve|mirror|check|at|load\n";
 
-/// Does what the words of a command line ask for, over a store of files, an input and an output, and, to serve
-/// connections, over a network and a spawner of workers. It gives the status with which the process ends, and the
-/// doors that were served.
+/// Does what the words of a command line ask for, over a store of files, an input and an output,
+/// and, to serve connections, over a network and a spawner of workers. It gives the status with
+/// which the process ends, and the doors that were served.
 ///
-/// `answer DIR..` installs the releases of folders, in their order, and serves the input and the output, as one
-/// connection, over the last. `serve ADDRESS WORKERS DIR..` serves the connections of an address by so many workers,
-/// while an operator talks over the input and the output. `check DIR..` checks folders as one history, with a line for
-/// each. `at FILE MOMENT` prints the state of a zone file at a moment.
+/// `answer DIR..` installs the releases of folders, in their order, and serves the input and the
+/// output, as one connection, over the last. `serve ADDRESS WORKERS DIR..` serves the connections
+/// of an address by so many workers, while an operator talks over the input and the output. `check
+/// DIR..` checks folders as one history, with a line for each. `at FILE MOMENT` prints the state of
+/// a zone file at a moment.
 pub fn run<R, S, C, K, N, W>(
     rt: &R,
     alloc: Global,
@@ -51,16 +52,18 @@ where
     N::Door: Send + Drop + 'static,
     <N::Door as Door>::Conn: Send + 'static,
     W: Spawner,
-    // The status stands for one of the ends, and each is tied to what the words call for and to what became of all
-    // that is outside. Memory may run out at any time.
-    ensures ends { (status : Status) × (result.status ≡ number_of status) × RunEnds (command_of words.now)
+    // The status stands for one of the ends, and each is tied to what the words call for and to
+    // what became of all that is outside. Memory may run out at any time.
+    ensures ends { (status : Status) × (result.status ≡ number_of status)
+        × RunEnds (command_of words.now)
         (world (outside (S.seen store.old) (C.seen input.old) (K.seen output.old))
         (N.seen net.old) (W.faults spawner.old))
         (world (outside (S.seen store.new) (C.seen input.new) (K.seen output.new))
         (N.seen net.new) (W.faults spawner.new))
         (map N.Door.seen result.doors.items) status }
 
-    // No file changed, the input was only read, the output only written, and no count of faults fell.
+    // No file changed, the input was only read, the output only written, and no count of faults
+    // fell.
     ensures later { LaterWorld
         (world (outside (S.seen store.old) (C.seen input.old) (K.seen output.old))
         (N.seen net.old) (W.faults spawner.old))

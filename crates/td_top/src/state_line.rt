@@ -67,8 +67,8 @@ fn line_at(alloc: Global, bytes: Bytes, moment: Moment) -> Result<Bytes, ZoneFau
     Ok(line)
 }
 
-/// The line for a state of local time: its offset in seconds east of UTC, whether daylight saving time holds, and
-/// its name.
+/// The line for a state of local time: its offset in seconds east of UTC, whether daylight saving
+/// time holds, and its name.
 fn state_line(alloc: Global, state: &Local) -> Result<Bytes, NoMemory>
     ensures { IfOk result (λ line. line ≡ state_line state.now) }
 {

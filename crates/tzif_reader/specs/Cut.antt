@@ -1,6 +1,7 @@
--- A file cut into its parts at the places that the counts of its headers give. Each definition has a value for every
--- list of bytes, and the meaning that its name says where the list has no fault.
-use Rattle.std.specs.Prelude.{ℕ, ◌+◌, ◌*◌, List, [], ◌∷◌, take, drop, map, ℤ, ◌==◌, if◌then◌else◌, slice_index, Option, Some, None}
+-- A file cut into its parts at the places that the counts of its headers give. Each definition has
+-- a value for every list of bytes, and the meaning that its name says where the list has no fault.
+use Rattle.std.specs.Prelude.{ℕ, ◌+◌, ◌*◌, List, [], ◌∷◌, take, drop, map, ℤ, ◌==◌, if◌then◌else◌}
+use Rattle.std.specs.Prelude.{slice_index, Option, Some, None}
 use Rattle.std.specs.Option.{option_map, unwrap_or}
 use Rattle.std.specs.List.{range_with_len}
 use Rattle.std.specs.Int.{w32, w64, from_be_bytes, cast_signed}
@@ -67,8 +68,12 @@ parts_in c block = record {
   types = piece (8 * c.timecnt + c.timecnt) (6 * c.typecnt) block;
   designations = piece (8 * c.timecnt + c.timecnt + 6 * c.typecnt) c.charcnt block;
   leaps = piece (8 * c.timecnt + c.timecnt + 6 * c.typecnt + c.charcnt) (12 * c.leapcnt) block;
-  standard = piece (8 * c.timecnt + c.timecnt + 6 * c.typecnt + c.charcnt + 12 * c.leapcnt) c.isstdcnt block;
-  ut = piece (8 * c.timecnt + c.timecnt + 6 * c.typecnt + c.charcnt + 12 * c.leapcnt + c.isstdcnt) c.isutcnt block;
+  standard = piece
+      (8 * c.timecnt + c.timecnt + 6 * c.typecnt + c.charcnt + 12 * c.leapcnt)
+      c.isstdcnt block;
+  ut = piece
+      (8 * c.timecnt + c.timecnt + 6 * c.typecnt + c.charcnt + 12 * c.leapcnt + c.isstdcnt)
+      c.isutcnt block;
 }
 
 -- transition i
@@ -121,7 +126,9 @@ abbrev pub footer_place : List ℕ → ℕ
 footer_place bytes = block_place bytes + second_block_size (counts_of bytes)
 
 unfoldable pub parts_of : List ℕ → Parts
-parts_of bytes = parts_in (counts_of bytes) (piece (block_place bytes) (second_block_size (counts_of bytes)) bytes)
+parts_of bytes =
+    parts_in (counts_of bytes)
+    (piece (block_place bytes) (second_block_size (counts_of bytes)) bytes)
 
 -- the text between the line feeds, where the file ends in it
 abbrev pub text_between : List ℕ → Option (List ℕ)

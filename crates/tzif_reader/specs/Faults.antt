@@ -1,16 +1,25 @@
 -- The first fault of a file, in the order in which faults are told.
-use Rattle.std.specs.Prelude.{ℕ, ◌+◌, ◌-◌, ◌*◌, ◌&&◌, ◌||◌, not, List, length, pos, negsuc, int_lt, int_le, Bool, true, nat_lt, nat_le, ◌==◌, slice_index, Option, Some, None}
+use Rattle.std.specs.Prelude.{ℕ, ◌+◌, ◌-◌, ◌*◌, ◌&&◌, ◌||◌, not, List, length, pos, negsuc, int_lt}
+use Rattle.std.specs.Prelude.{int_le, Bool, true, nat_lt, nat_le, ◌==◌, slice_index, Option, Some}
+use Rattle.std.specs.Prelude.{None}
 use Rattle.std.specs.Option.{option_map}
 use Rattle.std.specs.List.{starts_with}
 use Rattle.std.specs.Bool.{nat_eq}
 use Rattle.td_base.specs.FirstFault.{when, ◌or_else◌, least}
 use Rattle.td_civil.specs.declared.moment_type.TheConstants.{HI}
 use Rattle.tzif_reader.specs.declared.tzif_fault.TzifFault.{TzifFault}
-use Rattle.tzif_reader.specs.declared.tzif_fault.TzifFault.TheVariants.{Magic, Version, Short, Counts as BadCounts, Order, TypeNumber, Designation, Indicator, OffsetBeyond, TooLarge, TooLate, FooterFrame, Trailing}
+use Rattle.tzif_reader.specs.declared.tzif_fault.TzifFault.TheVariants.{Magic, Version, Short}
+use Rattle.tzif_reader.specs.declared.tzif_fault.TzifFault.TheVariants.{Counts as BadCounts, Order}
+use Rattle.tzif_reader.specs.declared.tzif_fault.TzifFault.TheVariants.{TypeNumber, Designation}
+use Rattle.tzif_reader.specs.declared.tzif_fault.TzifFault.TheVariants.{Indicator, OffsetBeyond}
+use Rattle.tzif_reader.specs.declared.tzif_fault.TzifFault.TheVariants.{TooLarge, TooLate}
+use Rattle.tzif_reader.specs.declared.tzif_fault.TzifFault.TheVariants.{FooterFrame, Trailing}
 use Rattle.tzif_reader.specs.declared.counts.Counts.{Counts}
 use Rattle.tzif_reader.specs.declared.zone_file.TheConstants.{MOST_BYTES, MOST_TRANSITIONS}
 use Rattle.tzif_reader.specs.Layout.{magic, first_block_size, second_block_size}
-use Rattle.tzif_reader.specs.Cut.{Parts, version_in, counts_in, long_at, offset_at, flag_at, name_at, piece, first_header, second_place, second_header, counts_of, block_place, parts_of, footer_place, footer_of}
+use Rattle.tzif_reader.specs.Cut.{Parts, version_in, counts_in, long_at, offset_at, flag_at}
+use Rattle.tzif_reader.specs.Cut.{name_at, piece, first_header, second_place, second_header}
+use Rattle.tzif_reader.specs.Cut.{counts_of, block_place, parts_of, footer_place, footer_of}
 
 -- ---- frame
 
@@ -28,7 +37,8 @@ stands_for_all count types = count == 0 || count == types
 
 unfoldable pub counts_fault : Counts → Option TzifFault
 counts_fault c =
-    when (c.typecnt == 0 || c.charcnt == 0 || not (stands_for_all c.isutcnt c.typecnt) || not (stands_for_all c.isstdcnt c.typecnt)) BadCounts
+    when (c.typecnt == 0 || c.charcnt == 0 || not (stands_for_all c.isutcnt c.typecnt)
+    || not (stands_for_all c.isstdcnt c.typecnt)) BadCounts
     or_else when (nat_lt MOST_TRANSITIONS c.timecnt) TooLarge
 
 -- what is wrong with the size, the headers and the room for the blocks
@@ -36,7 +46,8 @@ unfoldable pub frame_fault : List ℕ → Option TzifFault
 frame_fault bytes =
     when (nat_lt MOST_BYTES (length bytes)) TooLarge
     or_else header_fault 0 bytes
-    or_else when (not (nat_le 50 (version_in (first_header bytes)) && nat_le (version_in (first_header bytes)) 52)) Version
+    or_else when (not (nat_le 50 (version_in (first_header bytes))
+    && nat_le (version_in (first_header bytes)) 52)) Version
     or_else room_fault 44 (first_block_size (counts_in (first_header bytes))) bytes
     or_else header_fault (second_place bytes) bytes
     or_else when (not (version_in (second_header bytes) == version_in (first_header bytes))) Version
@@ -63,11 +74,14 @@ is_unnamed designations types i = is_no_name (name_at designations types i)
 
 -- a flag of type i is neither 0 nor 1; an indicator that is not there reads as 0
 abbrev pub is_unflagged : Parts → ℕ → Bool
-is_unflagged p i = nat_lt 1 (flag_at p.types i) || nat_lt 1 (slice_index p.standard i) || nat_lt 1 (slice_index p.ut i)
+is_unflagged p i =
+    nat_lt 1 (flag_at p.types i) || nat_lt 1 (slice_index p.standard i)
+    || nat_lt 1 (slice_index p.ut i)
 
 -- the offset of type i is a day or more
 abbrev pub is_beyond : List ℕ → ℕ → Bool
-is_beyond types i = int_lt (offset_at types i) (negsuc 86398) || int_lt (pos 86399) (offset_at types i)
+is_beyond types i =
+    int_lt (offset_at types i) (negsuc 86398) || int_lt (pos 86399) (offset_at types i)
 
 -- the last transition is at the end of the moments that have a meaning, or after it
 abbrev pub is_late : ℕ → List ℕ → Bool
@@ -87,7 +101,8 @@ contents_fault c p =
 -- no text stands between line feeds, or bytes follow from a place on
 abbrev pub ending_fault : ℕ → ℕ → Option (List ℕ) → Option TzifFault
 ending_fault size place None = Some FooterFrame
-ending_fault size place (Some text) = when (nat_lt (place + length text + 2) size) (Trailing (place + length text + 2))
+ending_fault size place (Some text) =
+    when (nat_lt (place + length text + 2) size) (Trailing (place + length text + 2))
 
 unfoldable pub footer_fault : List ℕ → Option TzifFault
 footer_fault bytes = ending_fault (length bytes) (footer_place bytes) (footer_of bytes)

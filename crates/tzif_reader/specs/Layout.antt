@@ -1,6 +1,9 @@
--- The layout of a TZif file (RFC 9636, section 3) of version 2 to 4, as this service takes it: the whole file is its
--- parts, one after another. Numbers are big-endian, and signed ones are in two's complement.
-use Rattle.std.specs.Prelude.{◌≡◌, ◌≢◌, ℕ, suc, ◌+◌, ◌-◌, ◌*◌, ◌<◌, ◌≤◌, ◌⊎◌, List, [], ◌∷◌, ◌++◌, length, All, slice_index_or, slice_get, IfSome, ℤ, pos, negsuc, ◌<ℤ◌, ◌≤ℤ◌}
+-- The layout of a TZif file (RFC 9636, section 3) of version 2 to 4, as this service takes it: the
+-- whole file is its parts, one after another. Numbers are big-endian, and signed ones are in two's
+-- complement.
+use Rattle.std.specs.Prelude.{◌≡◌, ◌≢◌, ℕ, suc, ◌+◌, ◌-◌, ◌*◌, ◌<◌, ◌≤◌, ◌⊎◌, List, [], ◌∷◌, ◌++◌}
+use Rattle.std.specs.Prelude.{length, All, slice_index_or, slice_get, IfSome, ℤ, pos, negsuc, ◌<ℤ◌}
+use Rattle.std.specs.Prelude.{◌≤ℤ◌}
 use Rattle.std.specs.Int.{Width, w32, w64, from_be_bytes, cast_signed, from_bool}
 use Rattle.td_civil.specs.declared.moment_type.Moment.{Moment}
 use Rattle.td_civil.specs.declared.moment_type.TheConstants.{HI}
@@ -13,7 +16,9 @@ use Rattle.tzif_reader.specs.declared.zone_file.TheConstants.{MOST_BYTES, MOST_T
 -- The text is these items, one after another, each a piece of so many bytes.
 abbrev pub AreJoined : {A : Type 0} → ℕ → (List ℕ → A → Type 0) → List ℕ → List A → Type 0
 AreJoined size Is text [] = text ≡ []
-AreJoined size Is text (x ∷ xs) = (piece : List ℕ) × (rest : List ℕ) × (text ≡ piece ++ rest) × (length piece ≡ size) × Is piece x × AreJoined size Is rest xs
+AreJoined size Is text (x ∷ xs) =
+    (piece : List ℕ) × (rest : List ℕ) × (text ≡ piece ++ rest) × (length piece ≡ size) × Is piece x
+    × AreJoined size Is rest xs
 
 abbrev pub IsUnsigned : Width → List ℕ → ℕ → Type 0
 IsUnsigned w piece n = n ≡ from_be_bytes w piece
@@ -47,17 +52,19 @@ IsVersion v = (50 ≤ v) × (v ≤ 52)
 
 -- how long a block is whose times have 4 bytes, and one whose times have 8
 abbrev pub first_block_size : Counts → ℕ
-first_block_size c = 4 * c.timecnt + c.timecnt + 6 * c.typecnt + c.charcnt + 8 * c.leapcnt + c.isstdcnt + c.isutcnt
+first_block_size c =
+    4 * c.timecnt + c.timecnt + 6 * c.typecnt + c.charcnt + 8 * c.leapcnt + c.isstdcnt + c.isutcnt
 
 abbrev pub second_block_size : Counts → ℕ
-second_block_size c = 8 * c.timecnt + c.timecnt + 6 * c.typecnt + c.charcnt + 12 * c.leapcnt + c.isstdcnt + c.isutcnt
+second_block_size c =
+    8 * c.timecnt + c.timecnt + 6 * c.typecnt + c.charcnt + 12 * c.leapcnt + c.isstdcnt + c.isutcnt
 
 -- 8 bytes of seconds
 abbrev pub IsMoment : List ℕ → Moment → Type 0
 IsMoment piece m = IsSigned w64 piece m.seconds
 
--- A type record: 4 bytes of offset, a flag for daylight saving time, and where its name begins in the designations.
--- The name is what stands there up to a NUL.
+-- A type record: 4 bytes of offset, a flag for daylight saving time, and where its name begins in
+-- the designations. The name is what stands there up to a NUL.
 pub record IsKind (designations piece : List ℕ) (kind : Local) : Type 0 where
   pub offset : List ℕ
   pub index : ℕ
@@ -84,10 +91,12 @@ pub record IsLeapLine (piece : List ℕ) (line : LeapLine) : Type 0 where
 
 -- each moment is above the one before it
 abbrev pub AreRising : List Moment → Type 0
-AreRising moments = (i : ℕ) (d : Moment) → suc i < length moments → (slice_index_or moments i d).seconds <ℤ (slice_index_or moments (suc i) d).seconds
+AreRising moments =
+    (i : ℕ) (d : Moment) → suc i < length moments
+    → (slice_index_or moments i d).seconds <ℤ (slice_index_or moments (suc i) d).seconds
 
--- A block of version 2 or later, with the zone that it tells of: transition times, transition types, type records,
--- designations, leap lines, standard/wall indicators and UT/local indicators.
+-- A block of version 2 or later, with the zone that it tells of: transition times, transition
+-- types, type records, designations, leap lines, standard/wall indicators and UT/local indicators.
 pub record IsBlock (text : List ℕ) (counts : Counts) (z : ZoneFile) : Type 0 where
   pub times : List ℕ
   pub types : List ℕ
@@ -95,7 +104,8 @@ pub record IsBlock (text : List ℕ) (counts : Counts) (z : ZoneFile) : Type 0 w
   pub leaps : List ℕ
   pub standard : List ℕ
   pub ut : List ℕ
-  pub whole : text ≡ times ++ (z.numbers ++ (types ++ (designations ++ (leaps ++ (standard ++ ut)))))
+  pub whole : text
+      ≡ times ++ (z.numbers ++ (types ++ (designations ++ (leaps ++ (standard ++ ut)))))
   pub moments_are : AreJoined 8 IsMoment times z.moments
   pub kinds_are : AreJoined 6 (IsKind designations) types z.kinds
   pub leaps_are : AreJoined 12 IsLeapLine leaps z.leaps
@@ -112,7 +122,8 @@ pub record IsBlock (text : List ℕ) (counts : Counts) (z : ZoneFile) : Type 0 w
   pub ut_flags : All (λ byte. byte ≤ 1) ut
   pub ends : IfSome (slice_get z.moments (length z.moments - 1)) (λ m. m.seconds <ℤ HI)
 
--- what the counts of a block may be: there is a type and a designation, and indicators stand for all types or none
+-- what the counts of a block may be: there is a type and a designation, and indicators stand for
+-- all types or none
 pub record AreCounts (c : Counts) : Type 0 where
   pub types : 0 < c.typecnt
   pub designations : 0 < c.charcnt
@@ -122,8 +133,8 @@ pub record AreCounts (c : Counts) : Type 0 where
 
 -- ---- the file (section 3)
 
--- A header, a block of which nothing but its size is asked, a header of the same version, a block, and the footer
--- between two line feeds (section 3.3).
+-- A header, a block of which nothing but its size is asked, a header of the same version, a block,
+-- and the footer between two line feeds (section 3.3).
 pub record IsZoneFile (bytes : List ℕ) (z : ZoneFile) : Type 0 where
   pub first_header : List ℕ
   pub first_block : List ℕ
@@ -132,7 +143,9 @@ pub record IsZoneFile (bytes : List ℕ) (z : ZoneFile) : Type 0 where
   pub version : ℕ
   pub first_counts : Counts
   pub counts : Counts
-  pub whole : bytes ≡ first_header ++ (first_block ++ (second_header ++ (second_block ++ (10 ∷ (z.footer ++ (10 ∷ []))))))
+  pub whole : bytes
+      ≡ first_header
+      ++ (first_block ++ (second_header ++ (second_block ++ (10 ∷ (z.footer ++ (10 ∷ []))))))
   pub size : length bytes ≤ MOST_BYTES
   pub first_header_is : IsHeader first_header version first_counts
   pub version_is : IsVersion version

@@ -1,4 +1,5 @@
--- What the leap lines of a zone file say of the days of UTC: from which day on TAI - UTC has which value.
+-- What the leap lines of a zone file say of the days of UTC: from which day on TAI - UTC has which
+-- value.
 use Rattle.std.specs.Prelude.{ℕ, ◌+◌, ◌-◌, ℤ, pos, ◌+ℤ◌, ◌-ℤ◌, int_lt, int_rem, Bool}
 use Rattle.std.specs.Prelude.{not, ◌&&◌, ◌||◌, ◌==◌, nat_lt, if◌then◌else◌, List, [], ◌∷◌, length}
 use Rattle.std.specs.Prelude.{slice_index_or, Option}

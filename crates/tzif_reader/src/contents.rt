@@ -1,10 +1,12 @@
 //! What the fields of a block may hold.
 
-ghost use Rattle.std.specs.Prelude.{◌≡◌, ◌*◌, ◌+◌, ◌<◌, ◌≤◌, length, OnOk, IfErr, None, Some, nat_lt, slice_index};
+ghost use Rattle.std.specs.Prelude.{◌≡◌, ◌*◌, ◌+◌, ◌<◌, ◌≤◌, length, OnOk, IfErr, None, Some};
+ghost use Rattle.std.specs.Prelude.{nat_lt, slice_index};
 ghost use Rattle.std.specs.Option.{option_copied};
 ghost use Rattle.tzif_reader.specs.Cut.{name_at};
 ghost use Rattle.td_base.specs.FirstFault.{least};
-ghost use Rattle.tzif_reader.specs.Faults.{is_unordered, is_unknown, is_unnamed, is_unflagged, is_beyond, is_late, contents_fault};
+ghost use Rattle.tzif_reader.specs.Faults.{is_unordered, is_unknown, is_unnamed, is_unflagged};
+ghost use Rattle.tzif_reader.specs.Faults.{is_beyond, is_late, contents_fault};
 ghost use Rattle.tzif_reader.specs.Views.{parts_view, AreSized};
 
 use crate::TzifFault;

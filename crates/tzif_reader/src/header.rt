@@ -19,7 +19,8 @@ pub struct Header {
 /// The place after so many bytes, where the file has them.
 pub fn room(bytes: &[u8], place: usize, size: u64) -> Result<usize, TzifFault>
     requires { place ≤ length bytes.now }
-    ensures ok { IfOk result (λ end. (end ≡ place + size) × (end ≤ length bytes.now) × (room_fault place size bytes.now ≡ None)) }
+    ensures ok { IfOk result (λ end. (end ≡ place + size) × (end ≤ length bytes.now)
+        × (room_fault place size bytes.now ≡ None)) }
     ensures err { IfErr result (λ e. room_fault place size bytes.now ≡ Some e) }
 {
     if ((bytes.len() - place) as u64) < size {

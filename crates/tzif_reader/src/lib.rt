@@ -1,5 +1,6 @@
-//! Zone files in the TZif format (RFC 9636), versions 2 to 4, read from their bytes. The main call is [`read`]: what it
-//! gives is laid out in the bytes as `Layout.antt` says, and what it refuses has the first fault of `Faults.antt`.
+//! Zone files in the TZif format (RFC 9636), versions 2 to 4, read from their bytes. The main call
+//! is [`read`]: what it gives is laid out in the bytes as `Layout.antt` says, and what it refuses
+//! has the first fault of `Faults.antt`.
 #![tactic(auto)]
 
 mod block;

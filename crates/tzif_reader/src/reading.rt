@@ -51,10 +51,11 @@ fn zone_or_fault(alloc: Global, bytes: &[u8]) -> Result<ZoneFile, TzifFault>
     Ok(zone)
 }
 
-/// Reads a whole zone file of at most [`MOST_BYTES`](crate::MOST_BYTES) bytes (RFC 9636, section 3). It wants a version from 2 to 4; of the first
-/// block, whose times have 4 bytes, it looks at the size alone. An error is [`TzifFault::NoMemory`] or the first fault: of the
-/// size, of the headers and the room for the blocks as they come, of the second block, kind after kind in the order of
-/// `TzifFault`'s numbers with `TooLate` as the last, and of the footer.
+/// Reads a whole zone file of at most [`MOST_BYTES`](crate::MOST_BYTES) bytes (RFC 9636, section
+/// 3). It wants a version from 2 to 4; of the first block, whose times have 4 bytes, it looks at
+/// the size alone. An error is [`TzifFault::NoMemory`] or the first fault: of the size, of the
+/// headers and the room for the blocks as they come, of the second block, kind after kind in the
+/// order of `TzifFault`'s numbers with `TooLate` as the last, and of the footer.
 #[tactic(auto, using(crate::proofs::Whole::is_found))]
 pub fn read(alloc: Global, bytes: &[u8]) -> Result<ZoneFile, TzifFault>
     // What is read is laid out so.

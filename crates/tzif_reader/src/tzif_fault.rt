@@ -5,8 +5,9 @@ use std::error::Error;
 use std::fmt;
 use td_base::NoMemory;
 
-/// Why a list of bytes is not a zone file: its first fault, of which the least index is told. Places and lengths are
-/// counted in bytes from the beginning of the file. It prints as its number, its name and its value.
+/// Why a list of bytes is not a zone file: its first fault, of which the least index is told.
+/// Places and lengths are counted in bytes from the beginning of the file. It prints as its number,
+/// its name and its value.
 #[derive(Clone, Copy, Debug, PartialEq, Eq)]
 pub enum TzifFault {
     NoMemory,
@@ -28,7 +29,8 @@ pub enum TzifFault {
     Indicator(usize),
     /// This type's offset is below -86399 or above 86399 seconds.
     OffsetBeyond(usize),
-    /// The file has more than [`MOST_BYTES`](crate::MOST_BYTES) bytes or [`MOST_TRANSITIONS`](crate::MOST_TRANSITIONS) transitions.
+    /// The file has more than [`MOST_BYTES`](crate::MOST_BYTES) bytes or
+    /// [`MOST_TRANSITIONS`](crate::MOST_TRANSITIONS) transitions.
     TooLarge,
     /// The last transition is at or after 9999-01-01T00:00:00Z.
     TooLate,

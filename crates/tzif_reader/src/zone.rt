@@ -86,7 +86,8 @@ pub fn zone_from(
     footer: &[u8],
 ) -> Result<ZoneFile, NoMemory>
     requires sized { AreSized counts.now (parts_view block.now) }
-    requires named { least counts.now.typecnt (is_unnamed block.now.designations.now block.now.types.now) ≡ None }
+    requires named { least counts.now.typecnt
+        (is_unnamed block.now.designations.now block.now.types.now) ≡ None }
     ensures { IfOk result (λ z. z ≡ zone_from counts.now (parts_view block.now) footer.now) }
 {
     let moments = moments_of(alloc, block.times, counts.timecnt as usize)?;

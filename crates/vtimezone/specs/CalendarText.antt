@@ -1,6 +1,7 @@
--- The text of a calendar with one time zone (RFC 5545, sections 3.4 and 3.6.5; TZUNTIL and TZID-ALIAS-OF are those of
--- RFC 7808, section 7).
-use Rattle.std.specs.Prelude.{◌≡◌, true, not, ℕ, List, [], ◌∷◌, ◌++◌, codes, Bool, if◌then◌else◌, ℤ, Option, None, Some}
+-- The text of a calendar with one time zone (RFC 5545, sections 3.4 and 3.6.5; TZUNTIL and
+-- TZID-ALIAS-OF are those of RFC 7808, section 7).
+use Rattle.std.specs.Prelude.{◌≡◌, true, not, ℕ, List, [], ◌∷◌, ◌++◌, codes, Bool, if◌then◌else◌, ℤ}
+use Rattle.std.specs.Prelude.{Option, None, Some}
 use Rattle.std.specs.List.{flat_map, list_all}
 use Rattle.std.specs.Option.{IfSome}
 use Rattle.jiff_core.specs.Calendar.{IsWithin}

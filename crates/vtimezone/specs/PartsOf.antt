@@ -1,6 +1,8 @@
--- The parts of a VTIMEZONE (RFC 5545, section 3.6.5): one for each change before a year, and from that year on the
--- rules of a footer.
-use Rattle.std.specs.Prelude.{◌≤ℤ◌, ◌<ℤ◌, ℕ, zero, suc, List, [], ◌∷◌, ◌++◌, map, if◌then◌else◌, ℤ, pos, ◌+ℤ◌, ◌-ℤ◌, ◌*ℤ◌, int_lt, unsigned_abs, Option, None, Some, option_map, ⊤}
+-- The parts of a VTIMEZONE (RFC 5545, section 3.6.5): one for each change before a year, and from
+-- that year on the rules of a footer.
+use Rattle.std.specs.Prelude.{◌≤ℤ◌, ◌<ℤ◌, ℕ, zero, suc, List, [], ◌∷◌, ◌++◌, map, if◌then◌else◌, ℤ}
+use Rattle.std.specs.Prelude.{pos, ◌+ℤ◌, ◌-ℤ◌, ◌*ℤ◌, int_lt, unsigned_abs, Option, None, Some}
+use Rattle.std.specs.Prelude.{option_map, ⊤}
 use Rattle.jiff_core.specs.Calendar.{days_from_civil}
 use Rattle.td_civil.specs.Bounds.{HasMeaning, IsWithinBounds}
 use Rattle.td_civil.specs.declared.moment_type.TheConstants.{HI}
@@ -67,7 +69,8 @@ abbrev pub part_until : Local → DstRule → ℤ → Edge → Option Moment →
 part_until std rule y0 at None = []
 part_until std rule y0 at (Some last) = rule_part std rule y0 at (Some last) ∷ []
 
--- with an end it goes up to its last onset before the end, of the years up to 9998, and is left out where it has none
+-- with an end it goes up to its last onset before the end, of the years up to 9998, and is left out
+-- where it has none
 abbrev pub rule_part_if : Local → DstRule → ℤ → Option ℤ → Edge → List Part
 rule_part_if std rule y0 None at = rule_part std rule y0 at None ∷ []
 rule_part_if std rule y0 (Some b) at =
@@ -80,7 +83,8 @@ rule_parts std rule y0 b =
     then rule_part_if std rule y0 b edge.Start ++ rule_part_if std rule y0 b edge.End
     else rule_part_if std rule y0 b edge.End ++ rule_part_if std rule y0 b edge.Start
 
--- the rules of a footer from a year on, where the state changes each year and the year has a meaning
+-- the rules of a footer from a year on, where the state changes each year and the year has a
+-- meaning
 abbrev pub rules_if_any : Local → Option DstRule → ℤ → Option ℤ → List Part
 rules_if_any std None y0 b = []
 rules_if_any std (Some rule) y0 b =
@@ -91,7 +95,8 @@ abbrev pub rules_of : Option Footer → ℤ → Option ℤ → List Part
 rules_of None y0 b = []
 rules_of (Some footer) y0 b = rules_if_any footer.std footer.dst y0 b
 
--- where the single parts end: at the turn of a year, or at the end of the range where that comes first
+-- where the single parts end: at the turn of a year, or at the end of the range where that comes
+-- first
 abbrev pub end_of : ℤ → Option ℤ → ℤ
 end_of turn None = turn
 end_of turn (Some b) = if int_lt b turn then b else turn
@@ -101,7 +106,8 @@ unfoldable pub parts_from : (ℤ → Local) → Option Footer → ℤ → Option
 parts_from state footer a b y0 =
     map single_of (observed state a (end_of (begin_of y0) b)) ++ rules_of footer y0 b
 
--- the end of a range, if there is one, comes after its start, and not after the moments that have a meaning
+-- the end of a range, if there is one, comes after its start, and not after the moments that have a
+-- meaning
 abbrev pub IsEndOf : ℤ → Option ℤ → Type 0
 IsEndOf a None = ⊤
 IsEndOf a (Some b) = (a <ℤ b) × (b ≤ℤ HI)

@@ -1,8 +1,9 @@
--- The parts that the text of a calendar spells, read from it (RFC 5545, sections 3.1, 3.4, 3.6.5 and
--- 3.8.3). The text is lines, each a name, a colon and a value. The lines of its time zone hold groups
--- from BEGIN to END, and the values of a group's lines give its part. Names stand in capitals and
--- have no parameters.
-use Rattle.std.specs.Prelude.{ℕ, ◌+◌, ◌*◌, List, [], ◌∷◌, ◌++◌, codes, Bool, true, false, ◌&&◌, ◌||◌, if◌then◌else◌, ℤ, ◌-ℤ◌, Option, None, Some}
+-- The parts that the text of a calendar spells, read from it (RFC 5545, sections 3.1, 3.4, 3.6.5
+-- and 3.8.3). The text is lines, each a name, a colon and a value. The lines of its time zone hold
+-- groups from BEGIN to END, and the values of a group's lines give its part. Names stand in
+-- capitals and have no parameters.
+use Rattle.std.specs.Prelude.{ℕ, ◌+◌, ◌*◌, List, [], ◌∷◌, ◌++◌, codes, Bool, true, false, ◌&&◌}
+use Rattle.std.specs.Prelude.{◌||◌, if◌then◌else◌, ℤ, ◌-ℤ◌, Option, None, Some}
 use Rattle.std.specs.List.{list_all}
 use Rattle.std.specs.Option.{option_map, option_and_then}
 use Rattle.std.specs.Result.{result_ok}
@@ -12,7 +13,8 @@ use Rattle.td_civil.specs.Stamp.{Stamp, moment_at}
 use Rattle.ical_lines.specs.Unfolding.{unfolded}
 use Rattle.recurrence.specs.declared.part_types.Part.{Part}
 use Rattle.recurrence.specs.declared.rule_types.Rule.{Rule}
-use Rattle.vtimezone.specs.Cutting.{Named, cut_first, put_before, all_read, values_of, one_read, one_if_any}
+use Rattle.vtimezone.specs.Cutting.{Named, cut_first, put_before, all_read, values_of, one_read}
+use Rattle.vtimezone.specs.Cutting.{one_if_any}
 use Rattle.vtimezone.specs.ReadRules.{Recur, recur_in}
 use Rattle.vtimezone.specs.ReadValues.{local_in, offset_in, text_in}
 

@@ -1,5 +1,7 @@
--- The values of content lines: offsets, moments and recurrence rules (RFC 5545, sections 3.3.5, 3.3.10 and 3.3.14).
-use Rattle.std.specs.Prelude.{ℕ, ◌/◌, ◌%◌, ◌==◌, List, [], ◌∷◌, ◌++◌, codes, if◌then◌else◌, ℤ, pos, ◌+ℤ◌, int_lt, unsigned_abs, Option, None, Some}
+-- The values of content lines: offsets, moments and recurrence rules (RFC 5545, sections 3.3.5,
+-- 3.3.10 and 3.3.14).
+use Rattle.std.specs.Prelude.{ℕ, ◌/◌, ◌%◌, ◌==◌, List, [], ◌∷◌, ◌++◌, codes, if◌then◌else◌, ℤ, pos}
+use Rattle.std.specs.Prelude.{◌+ℤ◌, int_lt, unsigned_abs, Option, None, Some}
 use Rattle.std.specs.Fmt.{signed_decimal}
 use Rattle.td_civil.specs.declared.moment_type.Moment.{Moment}
 use Rattle.td_civil.specs.Stamp.{two_digits}

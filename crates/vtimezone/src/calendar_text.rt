@@ -16,9 +16,9 @@ use recurrence::Rule;
 use td_base::{Bytes, NoMemory};
 use td_civil::{Moment, local_stamp};
 
-/// Appends the calendar of a time zone: an iCalendar object with one VTIMEZONE of these parts (RFC 5545, section
-/// 3.6.5). Where `tzid` is an alias, `alias_of` is the identifier of its zone. `until` is the end of the range, where
-/// it has one. It takes the memory of the text alone.
+/// Appends the calendar of a time zone: an iCalendar object with one VTIMEZONE of these parts (RFC
+/// 5545, section 3.6.5). Where `tzid` is an alias, `alias_of` is the identifier of its zone.
+/// `until` is the end of the range, where it has one. It takes the memory of the text alone.
 ///
 /// By `calendar_spells` this text, read from its lines on, gives the parts back; by
 /// `zone_calendar_spells` it does so for what `parts` gives.

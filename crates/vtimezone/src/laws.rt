@@ -18,7 +18,8 @@ ghost use Rattle.vtimezone.specs.Spellable.{IsSpellable};
 ghost use Rattle.vtimezone.specs.Spelled.{spelled};
 ghost use Rattle.vtimezone.specs.ZoneParts.{end_in, parts_of};
 
-/// At each moment of a range, the part in force has the offset, the flag and the name of the zone file's state.
+/// At each moment of a range, the part in force has the offset, the flag and the name of the zone
+/// file's state.
 pub fn parts_mean()
     ensures { (file : List ℕ) (range : Range) → zone_fault file ≡ None
         → IsCarriedIfAny (footer_meant (lists_of file).footer)
@@ -33,10 +34,12 @@ pub fn one_in_force()
         → IsInForce (Contains parts) t p → IsInForce (Contains parts) t q → p ≡ q }
 {}
 
-/// The text of a calendar is read as its lines (RFC 5545, section 3.1), where identifiers and names hold no line feed.
+/// The text of a calendar is read as its lines (RFC 5545, section 3.1), where identifiers and names
+/// hold no line feed.
 pub fn calendar_reads_back()
     ensures { (tzid : List ℕ) (alias_of : Option (List ℕ)) (parts : List Part)
-        (until : Option Moment) → IsLineText tzid → IfSome alias_of IsLineText → AllByRecursion IsReadable parts
+        (until : Option Moment) → IsLineText tzid → IfSome alias_of IsLineText
+        → AllByRecursion IsReadable parts
         → unfolded (calendar tzid alias_of parts until)
         ≡ Ok (calendar_lines tzid alias_of parts until) }
 {}

@@ -1,11 +1,12 @@
 //! Calendars of time zones: the VTIMEZONE of a zone for a range (RFC 5545, section 3.6.5).
 //!
-//! `parts` gives the parts of `specs/ZoneParts.antt`: one for each change up to the end of the last transition's year,
-//! and then the rules of the footer. Its contract is what they mean: at each moment of the range, the part in force
-//! (`specs/InForce.antt` of `recurrence`) has the offset, the flag and the name of the zone's state.
+//! `parts` gives the parts of `specs/ZoneParts.antt`: one for each change up to the end of the last
+//! transition's year, and then the rules of the footer. Its contract is what they mean: at each
+//! moment of the range, the part in force (`specs/InForce.antt` of `recurrence`) has the offset,
+//! the flag and the name of the zone's state.
 //!
-//! `write` appends the text of `specs/CalendarText.antt`, and that text, read as `specs/Spelled.antt` says, gives the
-//! parts back.
+//! `write` appends the text of `specs/CalendarText.antt`, and that text, read as
+//! `specs/Spelled.antt` says, gives the parts back.
 #![tactic(auto)]
 
 mod calendar_text;

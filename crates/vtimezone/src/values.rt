@@ -236,7 +236,8 @@ fn append_until(text: &mut Value, until: Option<Moment>)
     }
 }
 
-/// A recurrence rule of each year, up to a last moment where there is one (RFC 5545, section 3.3.10).
+/// A recurrence rule of each year, up to a last moment where there is one (RFC 5545, section
+/// 3.3.10).
 #[tactic(auto, unfolding(crate::specs::Values::rule_text))]
 pub(crate) fn rule_value(rule: &Rule, until: Option<Moment>) -> Value
     requires form { IsValidForm rule.now.form }

@@ -19,8 +19,9 @@ use td_base::{Items, NoMemory};
 use td_civil::{Moment, Observance, year_of};
 use zone_meaning::{Changes, Zone, footer, lists};
 
-/// The parts of a zone for a range (RFC 5545, section 3.6.5), in rising order of their first onsets: the first has its
-/// onset at the beginning of the range, and those with rules come after all others. They take the memory of the list.
+/// The parts of a zone for a range (RFC 5545, section 3.6.5), in rising order of their first
+/// onsets: the first has its onset at the beginning of the range, and those with rules come after
+/// all others. They take the memory of the list.
 pub fn parts(alloc: Global, zone: &Zone, range: Range) -> Result<Items<Part>, NoMemory>
     requires from { HasMeaning range.from.seconds }
     requires until { spec.IsEndOf range.from.seconds (zone_spec.end_in range) }
@@ -48,7 +49,8 @@ fn listed(alloc: Global, zone: &Zone, range: Range) -> Result<Items<Part>, NoMem
     Ok(parts)
 }
 
-/// The first year of the rules: the one after the year, in UTC, of the last transition or of the range's beginning.
+/// The first year of the rules: the one after the year, in UTC, of the last transition or of the
+/// range's beginning.
 fn rule_year(zone: &Zone, from: Moment) -> i32
     requires { HasMeaning from.seconds }
     ensures year { result ≡ zone_spec.rule_year zone.now from.seconds }

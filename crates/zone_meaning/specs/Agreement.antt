@@ -9,8 +9,8 @@ use Rattle.posix_footer.specs.declared.rule_types.Footer.{Footer}
 use Rattle.posix_footer.specs.StateAt.{state_of}
 use Rattle.zone_meaning.specs.State.{after, footer_meant}
 
--- at the last transition the footer gives the state that this transition begins: offset, flag and name. A transition
--- before the moments that have a meaning is not asked for it
+-- at the last transition the footer gives the state that this transition begins: offset, flag and
+-- name. A transition before the moments that have a meaning is not asked for it
 unfoldable pub goes_on : ZoneFile → Footer → Moment → Bool
 goes_on z footer last =
     int_lt last.seconds LO || same_local (state_of footer last.seconds) (after z (length z.moments))

@@ -24,4 +24,5 @@ footer_text_fault (b ∷ bs) = result_err (footer_in (b ∷ bs))
 -- the fault of a file, and else that of its footer
 unfoldable pub zone_fault : List ℕ → Option ZoneFault
 zone_fault bytes =
-    option_or (option_map Tzif (first_fault bytes)) (option_map Footer (footer_text_fault (lists_of bytes).footer))
+    option_or (option_map Tzif (first_fault bytes))
+    (option_map Footer (footer_text_fault (lists_of bytes).footer))

@@ -16,8 +16,8 @@ pub record IsReadFrom (file : List ℕ) (lists : ZoneFile) (footer : Option Foot
   pub footer_is : footer ≡ footer_meant lists.footer
   pub lawful : IfSome footer IsLawful
 
--- there is a type for each transition, and for the time before them, each offset is less than a day,
--- and the transitions rise
+-- there is a type for each transition, and for the time before them, each offset is less than a
+-- day, and the transitions rise
 pub record HasTypes (z : ZoneFile) : Type 0 where
   pub each : length z.numbers ≡ length z.moments
   pub known : All (λ number. number < length z.kinds) z.numbers

@@ -1,5 +1,6 @@
 -- Which zones have names alone that can be printed: letters, digits, `+` and `-`, at least one.
-use Rattle.std.specs.Prelude.{ℕ, List, [], ◌∷◌, ◌++◌, map, Bool, false, ◌||◌, ◌==◌, Option, None, Some}
+use Rattle.std.specs.Prelude.{ℕ, List, [], ◌∷◌, ◌++◌, map, Bool, false, ◌||◌, ◌==◌, Option, None}
+use Rattle.std.specs.Prelude.{Some}
 use Rattle.std.specs.List.{list_all}
 use Rattle.std.specs.Char.{is_ascii_alphanumeric}
 use Rattle.tzif_reader.specs.Cut.{lists_of}
@@ -29,4 +30,5 @@ footer_names (Some footer) = footer.std.name ∷ rule_names footer.dst
 unfoldable pub has_printable_names : List ℕ → Bool
 has_printable_names bytes =
     list_all is_printable_name
-    (map (λ kind. kind.name) (lists_of bytes).kinds ++ footer_names (footer_meant (lists_of bytes).footer))
+    (map (λ kind. kind.name) (lists_of bytes).kinds
+    ++ footer_names (footer_meant (lists_of bytes).footer))

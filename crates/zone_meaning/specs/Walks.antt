@@ -1,5 +1,6 @@
 -- How a walk over a zone's changes stands, and where it goes next.
-use Rattle.std.specs.Prelude.{◌≡◌, ℕ, suc, ◌+◌, ◌<◌, ◌≤◌, min, List, length, slice_index_or, ℤ, ◌≤ℤ◌, ◌<ℤ◌, Option, None, Some}
+use Rattle.std.specs.Prelude.{◌≡◌, ℕ, suc, ◌+◌, ◌<◌, ◌≤◌, min, List, length, slice_index_or, ℤ}
+use Rattle.std.specs.Prelude.{◌≤ℤ◌, ◌<ℤ◌, Option, None, Some}
 use Rattle.std.specs.Option.{IfSome}
 use Rattle.td_civil.specs.declared.moment_type.Moment.{Moment}
 use Rattle.td_civil.specs.declared.moment_type.TheConstants.{LO, HI}

@@ -17,8 +17,9 @@ use posix_footer::Footer;
 use td_civil::{HI, LO, Moment};
 use tzif_reader::ZoneFile;
 
-/// Whether the footer gives, at the last transition, the state that this transition begins (RFC 9636, section 3.3). A
-/// zone without a footer or without transitions passes, as does one whose last transition has no meaning.
+/// Whether the footer gives, at the last transition, the state that this transition begins (RFC
+/// 9636, section 3.3). A zone without a footer or without transitions passes, as does one whose
+/// last transition has no meaning.
 #[tactic(auto, unfolding(crate::specs::Agreement::footer_agrees))]
 pub fn footer_agrees(zone: &Zone) -> bool
     ensures { result ≡ spec.footer_agrees (cut.lists_of zone.now) }
@@ -45,7 +46,8 @@ fn last_goes_on(lists: &ZoneFile, footer: &Footer) -> bool
     goes_on(lists, footer, moments[moments.len() - 1])
 }
 
-/// Whether a footer gives at a moment the state that the last transition begins, where the moment has a meaning.
+/// Whether a footer gives at a moment the state that the last transition begins, where the moment
+/// has a meaning.
 #[tactic(auto, unfolding(crate::specs::Agreement::goes_on))]
 fn goes_on(lists: &ZoneFile, footer: &Footer, last: Moment) -> bool
     requires types { HasTypes lists.now }

@@ -1,4 +1,5 @@
-//! Zones: a zone file (RFC 9636) together with what it means, the state of local time at each moment.
+//! Zones: a zone file (RFC 9636) together with what it means, the state of local time at each
+//! moment.
 #![tactic(auto)]
 
 mod agreement;

@@ -13,8 +13,8 @@ use std::alloc::Global;
 use td_base::Bytes;
 use tzif_reader::ZoneFile;
 
-/// The zone of a file. Tzif comes where the bytes are no zone file, and Footer where they are one whose footer is
-/// neither empty nor a TZ string (RFC 9636, section 3.3).
+/// The zone of a file. Tzif comes where the bytes are no zone file, and Footer where they are one
+/// whose footer is neither empty nor a TZ string (RFC 9636, section 3.3).
 #[tactic(auto, using(crate::proofs::Refusals::file_refused_as))]
 pub fn zone_of(alloc: Global, file: Bytes) -> Result<Zone, ZoneFault>
     ensures ok { IfOk result (λ z. z ≡ file) }

@@ -46,7 +46,8 @@ fn count_of(len: usize) -> u32 {
     u32::try_from(len).unwrap_or(u32::MAX)
 }
 
-/// The header of a block without indicators, by its counts of leap lines, transitions, types and bytes of names.
+/// The header of a block without indicators, by its counts of leap lines, transitions, types and
+/// bytes of names.
 fn put_header(file: &mut Bytes, counts: &[u32; 4]) -> Result<(), NoMemory> {
     file.append(b"TZif2")?;
     file.append(&[0; 23])?;

@@ -43,7 +43,8 @@ impl<'a> Walk<'a> {
         }
     }
 
-    /// Goes on to a moment up to which the state stays, and gives the change if the state changes there.
+    /// Goes on to a moment up to which the state stays, and gives the change if the state changes
+    /// there.
     fn go_on(&mut self, stop: Moment) -> Option<Observance>
         requires sound { IsSound self.old }
         requires stop { StopsAt self.old stop.seconds }

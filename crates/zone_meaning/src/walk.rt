@@ -1,5 +1,5 @@
-//! A walk over the changes of a zone's state: from one moment at which it may change to the next. Those are the
-//! transitions that are still to come, and then the onsets of the footer.
+//! A walk over the changes of a zone's state: from one moment at which it may change to the next.
+//! Those are the transitions that are still to come, and then the onsets of the footer.
 ghost use Rattle.std.specs.Option.{IfSome};
 ghost use Rattle.td_civil.specs.Bounds.{HasMeaning};
 ghost use Rattle.posix_footer.specs.Lawful.{IsLawful};

@@ -11,8 +11,8 @@ use std::marker::Model;
 use td_base::Bytes;
 use tzif_reader::ZoneFile;
 
-/// A time zone: its file, with the lists and the footer that were read from it. Contracts see it as the bytes of
-/// the file.
+/// A time zone: its file, with the lists and the footer that were read from it. Contracts see it as
+/// the bytes of the file.
 #[derive(Debug, Drop)]
 pub struct Zone {
     pub(crate) file: Bytes,
