@@ -18,8 +18,8 @@ abbrev pub has_name : ReleaseData → List ℕ → Bool
 has_name r name = list_any (bytes_eq name) (names_of r.contents)
 
 -- the release may follow so many releases of which this is the last: its names are identifiers and
--- distinct, it is
--- not earlier than the last one and drops none of its names, and the limits are kept
+-- distinct, it is not earlier than the last one and drops none of its names, and the limits are
+-- kept
 pub record FitsAfter (before : Option ReleaseData) (count : ℕ) (r : ReleaseData) : Type 0 where
   pub identifiers : IsTrue (list_all is_identifier (names_of r.contents))
   pub distinct : IsDistinct bytes_eq (names_of r.contents)
@@ -58,8 +58,7 @@ abbrev pub has_content : ContentData → ReleaseData → Bool
 has_content c r = list_any (same_content c) r.contents
 
 -- the place of the last change of a content of the last release: the first of the last places, one
--- after
--- another, whose releases all have it
+-- after another, whose releases all have it
 unfoldable pub last_change : List ReleaseData → ContentData → ℕ
 last_change H c = length H - suffix_len (has_content c) H + 1
 

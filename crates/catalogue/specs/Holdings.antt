@@ -34,8 +34,7 @@ abbrev pub place_count : {Z : Type 0} → Catalogue Z → ℕ
 place_count c = c.count
 
 -- the catalogue stands for the history: it holds its last release, the digests and the last changes
--- of that
--- release's zones, the last chain value and all tokens
+-- of that release's zones, the last chain value and all tokens
 pub record StandsFor {Z : Type 0} (bytes : Z → List ℕ) (sound : ReleaseData → Type 0)
     (c : Catalogue Z) (H : List ReleaseData) : Type 0 where
   pub history : IsHistory sound H
@@ -53,3 +52,7 @@ ForEachHistory bytes sound c P = (H : List ReleaseData) → StandsFor bytes soun
 -- the catalogue stands for some history
 abbrev pub HasHistory : {Z : Type 0} → (Z → List ℕ) → (ReleaseData → Type 0) → Catalogue Z → Type 0
 HasHistory bytes sound c = (H : List ReleaseData) × StandsFor bytes sound c H
+
+-- the history of catalogues that were published: the release that each holds
+abbrev pub history_of : List (Catalogue (List ℕ)) → List ReleaseData
+history_of published = map (release_held (λ file. file)) published

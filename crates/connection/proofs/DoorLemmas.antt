@@ -20,7 +20,8 @@ use Rattle.connection.specs.DoorWorks.{ServedConn, ServedConns, ServesConns, one
 use Rattle.connection.specs.Entering.{GoesOn, HasCounted}
 use Rattle.connection.specs.Exchanges.{Exchanges}
 use Rattle.connection.specs.Served.{NeverFall, Served}
-use Rattle.connection.specs.Serving.{ServedOver, Serves, answer_at, history_of}
+use Rattle.connection.specs.Serving.{ServedOver, Serves, answer_at}
+use Rattle.catalogue.specs.Holdings.{history_of}
 use Rattle.connection.proofs.PlaceLemmas.{all_append, all_weaker, fall_append}
 use Rattle.connection.proofs.ServingLemmas.{history_length, history_longer}
 

@@ -3,7 +3,7 @@ use Rattle.std.proofs.Common.{◌≡◌, ℕ, ◌≤◌, List, [], ◌∷◌, �
 use Rattle.std.specs.Io.KnownBytes.{IsAtEnd}
 use mathlib.Core.List.{IsPrefix}
 use Rattle.actions.specs.Action.{action}
-use Rattle.catalogue.specs.Holdings.{StandsFor, release_held}
+use Rattle.catalogue.specs.Holdings.{StandsFor, release_held, history_of}
 use Rattle.catalogue.specs.Releases.{ReleaseData}
 use Rattle.catalogue.specs.declared.holding.Catalogue.{Catalogue}
 use Rattle.http_answer.specs.Replies.{fixed, reply}
@@ -23,7 +23,7 @@ use Rattle.connection.specs.Hearing.{Hears}
 use Rattle.connection.specs.Replies.{IsOpen, is_last, reply_at}
 use Rattle.connection.specs.Served.{ArePlaces, IsNeeded}
 use Rattle.connection.specs.Sending.{GivesUp, IsCutOff, IsSent, Refuses}
-use Rattle.connection.specs.Serving.{ForEachLonger, Serves, answer_at, history_of}
+use Rattle.connection.specs.Serving.{ForEachLonger, Serves, answer_at}
 use Rattle.connection.specs.declared.hearing.Heard.TheVariants as heard
 use Rattle.connection.proofs.Exchanging.{both, none}
 use Rattle.connection.proofs.ServedLemmas as served

@@ -14,7 +14,8 @@ use Rattle.td_base.specs.declared.report.End.TheVariants as end
 use Rattle.td_base.specs.declared.report.Role.{Role}
 use Rattle.connection.specs.Entering.{GoesOn}
 use Rattle.connection.specs.Served.{NeverFall, Served}
-use Rattle.connection.specs.Serving.{ForEachLonger, answer_at, history_of}
+use Rattle.connection.specs.Serving.{ForEachLonger, answer_at}
+use Rattle.catalogue.specs.Holdings.{history_of}
 
 -- what contracts see of the work of a worker: what its server is, its door, its desk and its sign
 pub record WorkView : Type 0 where

@@ -2,7 +2,7 @@
 use Rattle.std.specs.Prelude.{ℕ, List, length, map, take}
 use mathlib.Core.List.{IsPrefix}
 use Rattle.actions.specs.Action.{action}
-use Rattle.catalogue.specs.Holdings.{release_held}
+use Rattle.catalogue.specs.Holdings.{release_held, history_of}
 use Rattle.catalogue.specs.Releases.{ReleaseData}
 use Rattle.catalogue.specs.declared.holding.Catalogue.{Catalogue}
 use Rattle.http_answer.specs.declared.answer.Answer.{Answer}
@@ -14,10 +14,6 @@ use Rattle.td_base.specs.declared.report.Report.{Report}
 use Rattle.td_base.specs.declared.report.Role.{Role}
 use Rattle.connection.specs.Exchanges.{Exchanges}
 use Rattle.connection.specs.Served.{Served, Session}
-
--- the history of catalogues that were published: the release that each holds
-abbrev pub history_of : List (Catalogue (List ℕ)) → List ReleaseData
-history_of published = map (release_held (λ file. file)) published
 
 -- a fact of each history that begins with this one
 abbrev pub ForEachLonger : List ReleaseData → (List ReleaseData → Type 0) → Type 0

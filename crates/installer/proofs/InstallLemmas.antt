@@ -3,14 +3,14 @@ use Rattle.std.proofs.Common.{◌≡◌, ℕ, List, [], ◌∷◌, ◌++◌, Opt
 use Rattle.std.specs.List.{last_or}
 use Rattle.std.proofs.lemmas.List.{map-append}
 use Rattle.td_base.specs.Views.{StoreView}
-use Rattle.catalogue.specs.Holdings.{StandsFor, release_held}
+use Rattle.catalogue.specs.Holdings.{StandsFor, release_held, history_of}
 use Rattle.catalogue.specs.Releases.{ReleaseData, release_data}
 use Rattle.catalogue.specs.declared.holding.Catalogue.{Catalogue}
 use Rattle.catalogue.specs.declared.release.Release.{Release}
 use Rattle.zone_meaning.specs.Sound.{IsSound}
 use Rattle.release_check.specs.Before.{ForEachBefore, before_of}
 use Rattle.release_check.specs.Found.{Finds, IsReleaseIn}
-use Rattle.installer.specs.Installing.{GrowsBy, Installs, history_of}
+use Rattle.installer.specs.Installing.{GrowsBy, Installs}
 
 abbrev held : Catalogue (List ℕ) → ReleaseData
 held c = release_held (λ file. file) c

@@ -16,10 +16,6 @@ use Rattle.release_check.specs.Folder.{FolderGives}
 use Rattle.installer.specs.declared.install_fault.InstallFault.{InstallFault}
 use Rattle.installer.specs.declared.install_fault.InstallFault.TheVariants as fault
 
--- the history of catalogues that were published: the release that each holds
-abbrev pub history_of : List (Catalogue (List ℕ)) → List ReleaseData
-history_of published = map (release_held (λ file. file)) published
-
 -- a folder is refused: it gives this fault after the history. Out of memory and a failed read are
 -- tied to no file.
 abbrev pub Refuses : List File → List ℕ → List ReleaseData → InstallFault → Type 0

@@ -1,10 +1,10 @@
 ghost use Rattle.std.specs.Prelude.{◌≡◌, ◌<◌, [], length, All, None, Some, IfOk, OnErr, false};
 ghost use Rattle.std.specs.List.{last_or};
 ghost use mathlib.Core.List.{IsPrefix};
-ghost use Rattle.catalogue.specs.Holdings.{StandsFor};
+ghost use Rattle.catalogue.specs.Holdings.{StandsFor, history_of};
 ghost use Rattle.publication.specs.Views.{IsNewDesk};
 ghost use Rattle.zone_meaning.specs.Sound.{IsSound};
-ghost use Rattle.installer.specs.Installing.{GrowsBy, Installs, history_of};
+ghost use Rattle.installer.specs.Installing.{GrowsBy, Installs};
 
 use crate::growing::{first_in, next_in};
 use crate::install_fault::InstallFault;

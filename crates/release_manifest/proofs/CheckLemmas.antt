@@ -9,7 +9,7 @@ use Rattle.serde_json.specs.Find.{as_array}
 use Rattle.release_manifest.specs.declared.manifest_fault.Path.TheVariants as path
 use Rattle.release_manifest.specs.Checks.{Check, first_failing, each_checks, text_checks, alias_checks}
 use Rattle.release_manifest.specs.Meaning.{AllAre}
-use Rattle.release_manifest.specs.Reading.{Judges}
+use Rattle.release_manifest.specs.Reading.{JudgesChecks}
 use Rattle.release_manifest.specs.declared.manifest_fault.ManifestFault.{ManifestFault}
 use Rattle.release_manifest.specs.declared.manifest_fault.ManifestFault.TheVariants as fault
 
@@ -67,20 +67,20 @@ unfolding each_checks
 none_fails checks vs i end = rw (drop_all i vs end)
 
 -- a check that passes, before others
-pub judges_after : {T : Type 0} (r : Result T ManifestFault) (c : Check) (cs : List Check) → c.passes ≡ true → Judges r cs
-    → Judges r (c ∷ cs)
+pub judges_after : {T : Type 0} (r : Result T ManifestFault) (c : Check) (cs : List Check) → c.passes ≡ true → JudgesChecks r cs
+    → JudgesChecks r (c ∷ cs)
 judges_after (Ok x) c cs passes judged = rw passes judged
 judges_after (Err e) c cs passes judged = λ n. rw passes (judged n)
 
 -- the aliases where there is a list of them
 pub judges_aliases : {T : Type 0} (r : Result T ManifestFault) (zone : ℕ) (member : Option Data) (d : Data) (items : Items)
     → Some d ≡ member → Some items ≡ as_array d
-    → Judges r (each_checks (λ n alias. text_checks (path.Alias zone n) (Some alias)) 0 items) → Judges r (alias_checks zone member)
+    → JudgesChecks r (each_checks (λ n alias. text_checks (path.Alias zone n) (Some alias)) 0 items) → JudgesChecks r (alias_checks zone member)
 unfolding alias_checks
 judges_aliases r zone member d items there list judged = rw (← there) (rw (← list) (judges_after r _ _ refl judged))
 
 -- an error that is handed on
 pub judges_err : {T : Type 0} (r : Result T ManifestFault) (e : ManifestFault) (cs : List Check) → IsErrAnd r (λ y. y ≡ e)
-    → (e ≢ fault.NoMemory → first_failing cs ≡ Some e) → Judges r cs
+    → (e ≢ fault.NoMemory → first_failing cs ≡ Some e) → JudgesChecks r cs
 judges_err (Ok x) e cs handed fails = absurd handed
 judges_err (Err y) e cs handed fails = rw handed fails

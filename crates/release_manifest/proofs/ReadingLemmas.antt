@@ -5,7 +5,7 @@ use Rattle.std.proofs.lemmas.Option.{same_Some}
 use Rattle.serde_json.specs.Data.{Data}
 use Rattle.serde_json.specs.Read.{read as read_text}
 use Rattle.release_manifest.specs.Checks.{first_fault, manifest_checks}
-use Rattle.release_manifest.specs.Reading.{value_in, value_fault, manifest_text_fault, Judges, IsManifestText}
+use Rattle.release_manifest.specs.Reading.{value_in, value_fault, manifest_text_fault, JudgesChecks, IsManifestText}
 use Rattle.release_manifest.specs.Meaning.{IsManifest}
 use Rattle.release_manifest.specs.declared.manifest_type.Manifest.{Manifest}
 use Rattle.release_manifest.specs.declared.manifest_type.TheConstants.{MOST_BYTES}
@@ -54,7 +54,7 @@ syntax_fault text e fits refused n =
     no_value text fits parts.1 ∙ ap Some (sym parts.0)
 
 pub member_fault : {T : Type 0} (text : List ℕ) (d : Data) (r : Result T ManifestFault) → length text ≤ MOST_BYTES
-    → value_in text ≡ Some d → Judges r (manifest_checks d) → IfErr r (IsFaultOf text)
+    → value_in text ≡ Some d → JudgesChecks r (manifest_checks d) → IfErr r (IsFaultOf text)
 unfolding first_fault
 member_fault text d (Ok x) fits some judged = tt
 member_fault text d (Err e) fits some judged = λ n. of_value text d fits some ∙ judged n

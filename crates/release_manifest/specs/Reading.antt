@@ -34,9 +34,9 @@ pub record IsManifestText (text : List ℕ) (m : Manifest) : Type 0 where
 
 -- What a function judged of checks: where it gave a value each passes, and a fault is that of the
 -- first that does not, unless memory ran out.
-abbrev pub Judges : {T : Type 0} → Result T ManifestFault → List Check → Type 0
-Judges (Ok x) checks = first_failing checks ≡ None
-Judges (Err e) checks = e ≢ fault.NoMemory → first_failing checks ≡ Some e
+abbrev pub JudgesChecks : {T : Type 0} → Result T ManifestFault → List Check → Type 0
+JudgesChecks (Ok x) checks = first_failing checks ≡ None
+JudgesChecks (Err e) checks = e ≢ fault.NoMemory → first_failing checks ≡ Some e
 
 -- A text was read as its value, or there is none, unless memory ran out.
 abbrev pub ReadsValue : {T : Type 0} → (T → Data) → List ℕ → Result T ManifestFault → Type 0

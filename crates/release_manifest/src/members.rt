@@ -8,7 +8,7 @@ ghost use Rattle.release_manifest.specs.declared.manifest_fault.Path.TheVariants
 ghost use Rattle.release_manifest.specs.Checks.{text_of, object_checks, text_checks, form_checks};
 ghost use Rattle.release_manifest.specs.Checks.{is_stamp_text};
 ghost use Rattle.release_manifest.specs.Meaning.{IsForm, IsStampOf};
-ghost use Rattle.release_manifest.specs.Reading.{Judges};
+ghost use Rattle.release_manifest.specs.Reading.{JudgesChecks};
 
 use crate::{ManifestFault, Path};
 use serde_json::Value;
@@ -19,7 +19,7 @@ use td_civil::{HI, LO, Moment, is_date, moment_of};
 /// That the value is an object.
 #[tactic(auto, unfolding(crate::specs::Checks::object_checks))]
 pub(crate) fn check_object(value: &Value, path: Path) -> Result<(), ManifestFault>
-    ensures { Judges result (object_checks path (view value.now)) }
+    ensures { JudgesChecks result (object_checks path (view value.now)) }
 {
     if value.is_object() {
         Ok(())
@@ -53,7 +53,7 @@ pub(crate) fn read_text(
     path: Path,
 ) -> Result<Bytes, ManifestFault>
     ensures is { IfOk result (λ b. text_of (get name.now (view object.now)) ≡ Some b) }
-    ensures judged { Judges result (text_checks path (get name.now (view object.now))) }
+    ensures judged { JudgesChecks result (text_checks path (get name.now (view object.now))) }
 {
     let text = text_member(object, name, path)?;
     Ok(Bytes::from_slice(alloc, text.as_bytes())?)
@@ -68,7 +68,7 @@ pub(crate) fn read_label(
     path: Path,
 ) -> Result<Bytes, ManifestFault>
     ensures is { IfOk result (λ b. IsForm has_label_form (get name.now (view object.now)) b) }
-    ensures judged { Judges result
+    ensures judged { JudgesChecks result
         (form_checks has_label_form path (get name.now (view object.now))) }
 {
     let text = text_member(object, name, path)?.as_bytes();
@@ -87,7 +87,7 @@ pub(crate) fn read_file_name(
 ) -> Result<Bytes, ManifestFault>
     ensures is { IfOk result
         (λ b. IsForm has_file_name_form (get (codes "file") (view object.now)) b) }
-    ensures judged { Judges result
+    ensures judged { JudgesChecks result
         (form_checks has_file_name_form path (get (codes "file") (view object.now))) }
 {
     let text = text_member(object, "file", path)?.as_bytes();
@@ -101,7 +101,7 @@ pub(crate) fn read_file_name(
 #[tactic(auto, unfolding(crate::specs::Checks::form_checks, crate::specs::Checks::is_stamp_text))]
 pub(crate) fn read_stamp(object: &Value) -> Result<Moment, ManifestFault>
     ensures is { IfOk result (λ m. IsStampOf (get (codes "stamp") (view object.now)) m) }
-    ensures judged { Judges result
+    ensures judged { JudgesChecks result
         (form_checks is_stamp_text path.Stamp (get (codes "stamp") (view object.now))) }
 {
     let text = text_member(object, "stamp", Path::Stamp)?;
@@ -116,7 +116,7 @@ pub(crate) fn read_stamp(object: &Value) -> Result<Moment, ManifestFault>
 pub(crate) fn read_expiry(alloc: Global, object: &Value) -> Result<Bytes, ManifestFault>
     ensures is { IfOk result
         (λ b. IsForm is_date_text (get (codes "expires") (view object.now)) b) }
-    ensures judged { Judges result
+    ensures judged { JudgesChecks result
         (form_checks is_date_text path.Expires (get (codes "expires") (view object.now))) }
 {
     let text = text_member(object, "expires", Path::Expires)?.as_bytes();

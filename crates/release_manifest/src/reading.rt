@@ -6,7 +6,7 @@ ghost use Rattle.release_manifest.specs.declared.manifest_fault.ManifestFault.{M
 ghost use Rattle.release_manifest.specs.declared.manifest_type.Manifest.{Manifest};
 ghost use Rattle.release_manifest.specs.Checks.{leap_checks, manifest_checks};
 ghost use Rattle.release_manifest.specs.Meaning.{AreLeaps, IsLeaps, IsManifest};
-ghost use Rattle.release_manifest.specs.Reading.{IsManifestText, Judges, ReadsValue};
+ghost use Rattle.release_manifest.specs.Reading.{IsManifestText, JudgesChecks, ReadsValue};
 ghost use Rattle.release_manifest.specs.Reading.{manifest_text_fault};
 
 use crate::members::{check_object, read_expiry, read_file_name, read_label, read_stamp};
@@ -63,7 +63,7 @@ fn refusal(error: &Error) -> ManifestFault
 /// The manifest that a value is.
 fn read_manifest(alloc: Global, value: &Value) -> Result<Manifest, ManifestFault>
     ensures is { IfOk result (λ m. IsManifest (view value.now) m) }
-    ensures judged { Judges result (manifest_checks (view value.now)) }
+    ensures judged { JudgesChecks result (manifest_checks (view value.now)) }
 {
     check_object(value, Path::Whole)?;
     let publisher = read_label(alloc, value, "publisher", Path::Publisher)?;
@@ -85,7 +85,7 @@ fn read_manifest(alloc: Global, value: &Value) -> Result<Manifest, ManifestFault
 fn read_leaps(alloc: Global, manifest: &Value) -> Result<Option<ManifestLeaps>, ManifestFault>
     ensures is { IfOk result
         (λ leaps. AreLeaps (get (codes "leapseconds") (view manifest.now)) leaps) }
-    ensures judged { Judges result (leap_checks (get (codes "leapseconds") (view manifest.now))) }
+    ensures judged { JudgesChecks result (leap_checks (get (codes "leapseconds") (view manifest.now))) }
 {
     match manifest.get("leapseconds") {
         Some(member) => Ok(Some(read_leap_members(alloc, member)?)),
@@ -97,7 +97,7 @@ fn read_leaps(alloc: Global, manifest: &Value) -> Result<Option<ManifestLeaps>, 
 #[tactic(auto, unfolding(crate::specs::Checks::leap_checks))]
 fn read_leap_members(alloc: Global, leaps: &Value) -> Result<ManifestLeaps, ManifestFault>
     ensures is { IfOk result (λ l. IsLeaps (view leaps.now) l) }
-    ensures judged { Judges result (leap_checks (Some (view leaps.now))) }
+    ensures judged { JudgesChecks result (leap_checks (Some (view leaps.now))) }
 {
     check_object(leaps, Path::Leaps)?;
     let file = read_file_name(alloc, leaps, Path::LeapFile)?;

@@ -5,7 +5,7 @@ ghost use Rattle.release_manifest.specs.declared.manifest_fault.Path.TheVariants
 ghost use Rattle.release_manifest.specs.Checks.{text_checks, alias_checks, zone_checks};
 ghost use Rattle.release_manifest.specs.Checks.{zones_checks, each_checks};
 ghost use Rattle.release_manifest.specs.Meaning.{AllAre, IsText, AreAliases, IsZone, AreZonesOf};
-ghost use Rattle.release_manifest.specs.Reading.{Judges};
+ghost use Rattle.release_manifest.specs.Reading.{JudgesChecks};
 
 use crate::members::{check_object, read_file_name, read_text};
 use crate::{ManifestFault, ManifestZone, Path};
@@ -20,7 +20,7 @@ pub(crate) fn read_zones(
     manifest: &Value,
 ) -> Result<Items<ManifestZone>, ManifestFault>
     ensures is { IfOk result (λ zs. AreZonesOf (get (codes "zones") (view manifest.now)) zs) }
-    ensures judged { Judges result (zones_checks (get (codes "zones") (view manifest.now))) }
+    ensures judged { JudgesChecks result (zones_checks (get (codes "zones") (view manifest.now))) }
 {
     match manifest.get("zones").and_then(Value::as_array) {
         Some(list) => read_each_zone(alloc, list.as_slice()),
@@ -31,7 +31,7 @@ pub(crate) fn read_zones(
 /// The zones of the list.
 fn read_each_zone(alloc: Global, list: &[Value]) -> Result<Items<ManifestZone>, ManifestFault>
     ensures is { IfOk result (λ zs. AllAre IsZone (items_view list.now) zs) }
-    ensures judged { Judges result (each_checks zone_checks 0 (items_view list.now)) }
+    ensures judged { JudgesChecks result (each_checks zone_checks 0 (items_view list.now)) }
 {
     let mut zones = Items::new(alloc);
     for (number, value) in list.iter().enumerate() {
@@ -44,7 +44,7 @@ fn read_each_zone(alloc: Global, list: &[Value]) -> Result<Items<ManifestZone>, 
 #[tactic(auto, unfolding(crate::specs::Checks::zone_checks))]
 fn read_zone(alloc: Global, zone: &Value, number: usize) -> Result<ManifestZone, ManifestFault>
     ensures is { IfOk result (λ z. IsZone (view zone.now) z) }
-    ensures judged { Judges result (zone_checks number (view zone.now)) }
+    ensures judged { JudgesChecks result (zone_checks number (view zone.now)) }
 {
     check_object(zone, Path::Zone(number))?;
     let tzid = read_text(alloc, zone, "tzid", Path::Tzid(number))?;
@@ -61,7 +61,7 @@ fn read_zone(alloc: Global, zone: &Value, number: usize) -> Result<ManifestZone,
 #[tactic(auto, unfolding(crate::specs::Checks::alias_checks))]
 fn read_aliases(alloc: Global, zone: &Value, number: usize) -> Result<Items<Bytes>, ManifestFault>
     ensures is { IfOk result (λ texts. AreAliases (get (codes "aliases") (view zone.now)) texts) }
-    ensures judged { Judges result (alias_checks number (get (codes "aliases") (view zone.now))) }
+    ensures judged { JudgesChecks result (alias_checks number (get (codes "aliases") (view zone.now))) }
 {
     let Some(member) = zone.get("aliases") else {
         return Ok(Items::new(alloc));
@@ -79,7 +79,7 @@ fn read_each_alias(
     zone: usize,
 ) -> Result<Items<Bytes>, ManifestFault>
     ensures is { IfOk result (λ texts. AllAre IsText (items_view list.now) texts) }
-    ensures judged { Judges result (each_checks
+    ensures judged { JudgesChecks result (each_checks
         (λ n alias. text_checks (path.Alias zone n) (Some alias)) 0 (items_view list.now)) }
 {
     let mut aliases = Items::new(alloc);
@@ -93,7 +93,7 @@ fn read_each_alias(
 #[tactic(auto, unfolding(crate::specs::Checks::text_checks))]
 fn read_alias(alloc: Global, value: &Value, path: Path) -> Result<Bytes, ManifestFault>
     ensures is { IfOk result (λ text. IsText (view value.now) text) }
-    ensures judged { Judges result (text_checks path (Some (view value.now))) }
+    ensures judged { JudgesChecks result (text_checks path (Some (view value.now))) }
 {
     match value.as_str() {
         Some(text) => Ok(Bytes::from_slice(alloc, text.as_bytes())?),

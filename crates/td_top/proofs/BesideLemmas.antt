@@ -5,7 +5,7 @@ use Rattle.td_base.specs.DoorViews.{DoorView}
 use Rattle.connection.specs.DoorWorks.{WorkView}
 use Rattle.connection.specs.declared.door_work.DoorDone.{DoorDone}
 use Rattle.desk_pool.specs.Pool.{DoesEach}
-use Rattle.installer.specs.Installing.{history_of}
+use Rattle.catalogue.specs.Holdings.{history_of}
 use Rattle.td_top.specs.Consoles.{ConsoleView, Halted, Ran}
 use Rattle.td_top.specs.Outside.{Later, Outside}
 use Rattle.td_top.specs.Serving.{Concludes, ServesBeside}

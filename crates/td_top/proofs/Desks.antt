@@ -4,7 +4,7 @@ use Rattle.std.specs.List.{AllByRecursion}
 use Rattle.std.proofs.lemmas.List.{length-map}
 use Rattle.catalogue.specs.declared.holding.Catalogue.{Catalogue}
 use Rattle.connection.specs.Serving.{ServedOver, Serves}
-use Rattle.installer.specs.Installing.{history_of}
+use Rattle.catalogue.specs.Holdings.{history_of}
 use Rattle.publication.specs.Views.{DeskView}
 use Rattle.td_base.specs.Views.{ConnView}
 use Rattle.td_base.specs.declared.report.Report.{Report}

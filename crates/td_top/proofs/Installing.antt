@@ -9,7 +9,8 @@ use Rattle.td_base.specs.Views.{StoreView}
 use Rattle.td_base.proofs.LaterLemmas.{store_trans}
 use Rattle.catalogue.specs.Releases.{ReleaseData}
 use Rattle.catalogue.specs.declared.holding.Catalogue.{Catalogue}
-use Rattle.installer.specs.Installing.{GrowsBy, Installed, Installs, history_of}
+use Rattle.installer.specs.Installing.{GrowsBy, Installed, Installs}
+use Rattle.catalogue.specs.Holdings.{history_of}
 use Rattle.installer.specs.declared.install_fault.InstallFault.{InstallFault}
 use Rattle.installer.specs.declared.install_fault.InstallFault.TheVariants as install
 use Rattle.json_forms.proofs.ListSteps.{take_next}

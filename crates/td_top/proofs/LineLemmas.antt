@@ -10,7 +10,7 @@ use Rattle.td_base.specs.Views.{StoreView}
 use Rattle.td_base.proofs.LaterLemmas.{store_refl, store_trans}
 use Rattle.catalogue.specs.HeldZones.{held_content}
 use Rattle.catalogue.specs.Histories.{meta}
-use Rattle.catalogue.specs.Holdings.{release_held, zone_count}
+use Rattle.catalogue.specs.Holdings.{release_held, zone_count, history_of}
 use Rattle.catalogue.specs.Releases.{ReleaseData}
 use Rattle.catalogue.specs.declared.holding.Catalogue.{Catalogue}
 use Rattle.catalogue.proofs.LastRelease.{last_of}
@@ -19,7 +19,7 @@ use Rattle.console.specs.declared.line.Line.{Line}
 use Rattle.console.specs.declared.line.Line.TheVariants as line
 use Rattle.console.specs.declared.said.Said.{Said}
 use Rattle.console.specs.declared.said.Said.TheVariants as said
-use Rattle.installer.specs.Installing.{GrowsBy, Installs, history_of}
+use Rattle.installer.specs.Installing.{GrowsBy, Installs}
 use Rattle.installer.specs.declared.install_fault.InstallFault.{InstallFault}
 use Rattle.installer.specs.declared.install_fault.InstallFault.TheVariants as install
 use Rattle.publication.proofs.Beginnings.{prefix_length, prefix_self, prefix_trans}

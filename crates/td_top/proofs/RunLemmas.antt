@@ -11,7 +11,7 @@ use Rattle.catalogue.specs.declared.holding.Catalogue.{Catalogue}
 use Rattle.connection.specs.DoorWorks.{WorkView}
 use Rattle.console.specs.declared.line.Line.{Line}
 use Rattle.console.specs.declared.said.Said.{Said}
-use Rattle.installer.specs.Installing.{history_of}
+use Rattle.catalogue.specs.Holdings.{history_of}
 use Rattle.td_top.specs.Grammar.{Asked, serve}
 use Rattle.td_top.specs.Installed.{InstallsAll}
 use Rattle.td_top.specs.Outside.{Later, Outside, outside}

@@ -18,7 +18,7 @@ use Rattle.connection.specs.DoorWorks.{DoesDoor, NoneGiven, ServesTold, Stops, W
 use Rattle.connection.specs.declared.door_work.DoorDone.{DoorDone}
 use Rattle.desk_pool.specs.Flag.{Sight}
 use Rattle.desk_pool.specs.Pool.{DoesEach}
-use Rattle.installer.specs.Installing.{history_of}
+use Rattle.catalogue.specs.Holdings.{history_of}
 use Rattle.logbook.specs.Pages.{Book}
 use Rattle.publication.specs.Views.{DeskView}
 use Rattle.publication.proofs.Beginnings.{prefix_self}

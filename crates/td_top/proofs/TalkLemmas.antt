@@ -13,7 +13,7 @@ use Rattle.td_base.specs.Views.{SinkView, SourceView, StoreView}
 use Rattle.td_base.specs.declared.transfer.Written.{Written}
 use Rattle.td_base.specs.declared.transfer.Written.TheVariants as written
 use Rattle.td_base.proofs.LaterLemmas.{sink_refl, sink_trans, source_refl, source_then_failed, source_trans, store_refl, store_trans, writes_all_later}
-use Rattle.catalogue.specs.Holdings.{release_held}
+use Rattle.catalogue.specs.Holdings.{release_held, history_of}
 use Rattle.catalogue.specs.Releases.{ReleaseData}
 use Rattle.catalogue.specs.declared.holding.Catalogue.{Catalogue}
 use Rattle.console.specs.Lines.{lines_of}
@@ -23,7 +23,6 @@ use Rattle.console.specs.declared.line.Line.{Line}
 use Rattle.console.specs.declared.line.Line.TheVariants as line
 use Rattle.console.specs.declared.said.Said.{Said}
 use Rattle.console.specs.declared.said.Said.TheVariants as said
-use Rattle.installer.specs.Installing.{history_of}
 use Rattle.publication.proofs.Beginnings.{prefix_trans}
 use Rattle.td_top.specs.Outside.{Later, Outside, outside}
 use Rattle.td_top.specs.Sessions.{AnswersLine, BeginsWhole, LaterSession, StandsAt}

@@ -6,7 +6,7 @@ use Rattle.td_base.specs.DoorViews.{DoorView}
 use Rattle.catalogue.specs.Releases.{ReleaseData}
 use Rattle.connection.specs.DoorWorks.{WorkView}
 use Rattle.connection.specs.declared.door_work.DoorDone.{DoorDone}
-use Rattle.installer.specs.Installing.{history_of}
+use Rattle.catalogue.specs.Holdings.{history_of}
 use Rattle.td_top.specs.Outside.{Later, Outside}
 use Rattle.td_top.specs.Server.{OpenedEnds}
 use Rattle.td_top.specs.Statuses.{status_for}

@@ -9,7 +9,7 @@ use Rattle.catalogue.specs.Releases.{ReleaseData}
 use Rattle.console.specs.declared.line.Line.{Line}
 use Rattle.console.specs.declared.said.Said.{Said}
 use Rattle.console.specs.declared.said.Said.TheVariants as said
-use Rattle.installer.specs.Installing.{history_of}
+use Rattle.catalogue.specs.Holdings.{history_of}
 use Rattle.installer.specs.declared.install_fault.InstallFault.{InstallFault}
 use Rattle.installer.specs.declared.install_fault.InstallFault.TheVariants as install
 use Rattle.release_check.specs.FaultText.{fault_text}

@@ -1,5 +1,5 @@
 ghost use Rattle.std.specs.Prelude.{◌≡◌, ◌<◌, length, true, IfOk, Some};
-ghost use Rattle.installer.specs.Installing.{history_of};
+ghost use Rattle.catalogue.specs.Holdings.{history_of};
 ghost use Rattle.td_top.specs.Grammar.{answer};
 ghost use Rattle.td_top.specs.Outside.{outside};
 ghost use Rattle.td_top.specs.Tells.{EndsLater, ServesLast};

@@ -1,7 +1,8 @@
 ghost use Rattle.std.specs.Prelude.{◌≡◌, length, OnOk, OnErr};
 ghost use Rattle.catalogue.specs.Histories.{meta};
 ghost use Rattle.console.specs.declared.said.Said.TheVariants as said;
-ghost use Rattle.installer.specs.Installing.{GrowsBy, Installs, history_of};
+ghost use Rattle.installer.specs.Installing.{GrowsBy, Installs};
+ghost use Rattle.catalogue.specs.Holdings.{history_of};
 ghost use Rattle.zone_meaning.specs.ZoneHistories.{ForEachZoneHistory, HasZoneHistory};
 ghost use Rattle.td_base.specs.Views.{StoreView};
 ghost use Rattle.td_top.specs.Sessions.{AnswersLine, LaterSession, SaysRefused};

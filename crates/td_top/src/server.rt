@@ -1,6 +1,6 @@
 ghost use Rattle.std.specs.Prelude.{◌≡◌, ◌<◌, ◌≤◌, [], length, map, All, IfOk, OnOk, Some, false};
 ghost use mathlib.Core.List.{IsPrefix};
-ghost use Rattle.installer.specs.Installing.{history_of};
+ghost use Rattle.catalogue.specs.Holdings.{history_of};
 ghost use Rattle.td_top.specs.Grammar.{serve};
 ghost use Rattle.td_top.specs.Installed.{HasDesks};
 ghost use Rattle.td_top.specs.Outside.{outside};

@@ -1,5 +1,5 @@
 ghost use Rattle.std.specs.Prelude.{◌≡◌, true};
-ghost use Rattle.installer.specs.Installing.{history_of};
+ghost use Rattle.catalogue.specs.Holdings.{history_of};
 ghost use Rattle.td_top.specs.Tells.{ServesLater};
 
 use catalogue::Catalogue;

@@ -1,5 +1,4 @@
 use Rattle.std.proofs.Common.{inl, inr, refl, ap}
-use Rattle.installer.specs.Installing.{history_of}
 use Rattle.td_top.proofs.answering.serve_last.Goals as goal
 
 pub returns-in-Ok : goal.returns-in-Ok

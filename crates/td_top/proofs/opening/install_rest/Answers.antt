@@ -1,6 +1,6 @@
 use Rattle.std.proofs.Common.{rules, refl}
 use Rattle.td_base.proofs.LaterLemmas.{store_trans}
-use Rattle.installer.specs.Installing.{history_of}
+use Rattle.catalogue.specs.Holdings.{history_of}
 use Rattle.td_top.proofs.Installing.{rest_more, rest_refused}
 use Rattle.td_top.proofs.LineLemmas.{session_trans}
 use Rattle.td_top.proofs.opening.install_rest.Goals as goal

@@ -1,6 +1,6 @@
 use Rattle.std.proofs.Common.{take}
 use Rattle.td_base.specs.Later.{LaterStore}
-use Rattle.installer.specs.Installing.{history_of}
+use Rattle.catalogue.specs.Holdings.{history_of}
 use Rattle.td_top.specs.Installed.{Extends}
 use Rattle.td_top.specs.Sessions.{LaterSession}
 use Rattle.td_top.proofs.opening.install_rest.Given as goal

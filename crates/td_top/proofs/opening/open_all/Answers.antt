@@ -1,5 +1,5 @@
 use Rattle.std.proofs.Common.{rules, refl, drop}
-use Rattle.installer.specs.Installing.{history_of}
+use Rattle.catalogue.specs.Holdings.{history_of}
 use Rattle.td_top.proofs.Installing.{all_came, all_refused, all_stopped, headed, others_are, parts_desks}
 use Rattle.td_top.proofs.opening.open_all.Goals as goal
 

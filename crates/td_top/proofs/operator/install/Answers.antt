@@ -1,6 +1,6 @@
 use Rattle.std.proofs.Common.{ap, refl}
 use Rattle.console.specs.declared.said.Said.TheVariants as said
-use Rattle.installer.specs.Installing.{history_of}
+use Rattle.catalogue.specs.Holdings.{history_of}
 use Rattle.td_top.proofs.LineLemmas.{is_installed, is_refused}
 use Rattle.td_top.proofs.operator.install.Goals as goal
 

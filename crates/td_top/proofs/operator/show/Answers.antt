@@ -1,5 +1,5 @@
 use Rattle.std.proofs.Common.{refl}
-use Rattle.installer.specs.Installing.{history_of}
+use Rattle.catalogue.specs.Holdings.{history_of}
 use Rattle.publication.proofs.Beginnings.{prefix_self}
 use Rattle.td_top.proofs.LineLemmas.{is_shown}
 use Rattle.td_top.proofs.operator.show.Goals as goal

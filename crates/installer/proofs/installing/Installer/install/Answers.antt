@@ -1,5 +1,5 @@
 use Rattle.std.proofs.Common.{[], ◌∷◌, sym, ap, ◌∙◌}
-use Rattle.installer.specs.Installing.{history_of}
+use Rattle.catalogue.specs.Holdings.{history_of}
 use Rattle.installer.proofs.InstallLemmas.{grows, history_more, published_stands, seen_as}
 use Rattle.installer.proofs.installing.Installer.install.Goals as goal
 

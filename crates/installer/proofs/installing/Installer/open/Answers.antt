@@ -1,5 +1,5 @@
 use Rattle.std.proofs.Common.{[], ap}
-use Rattle.installer.specs.Installing.{history_of}
+use Rattle.catalogue.specs.Holdings.{history_of}
 use Rattle.installer.proofs.InstallLemmas.{grows}
 use Rattle.installer.proofs.installing.Installer.open.Goals as goal
 
