@@ -1,5 +1,5 @@
 -- What serving doors beside a talk comes to, by how the pool of workers ended.
-use Rattle.std.proofs.Common.{◌≡◌, ℕ, ◌≤◌, List, [], map, All, Option, None, Some, refl, sym, subst, ap, ◌∙◌}
+use Rattle.std.proofs.Common.{◌≡◌, ℕ, ◌≤◌, List, [], map, All, Some, refl, sym, subst}
 use Rattle.td_base.specs.Cause.{Rose}
 use Rattle.td_base.specs.DoorViews.{DoorView}
 use Rattle.connection.specs.DoorWorks.{WorkView}

@@ -4,12 +4,10 @@ use Rattle.std.proofs.KnownBytes.{Appends-nil, Appends-trans}
 use Rattle.std.specs.Io.KnownBytes.{Appends}
 use Rattle.std.proofs.lemmas.List.{take-append-drop}
 use Rattle.std.proofs.Math.Seq.{take-append-add}
-use Rattle.td_base.specs.Cause.{SinkFailed, StoreFailed}
 use Rattle.td_base.specs.Files.{File}
 use Rattle.td_base.specs.Later.{LaterStore, LaterSink}
-use Rattle.td_base.specs.Transfer.{Prints, WritesAll}
+use Rattle.td_base.specs.Transfer.{WritesAll}
 use Rattle.td_base.specs.Views.{SinkView, SourceView, StoreView}
-use Rattle.td_base.specs.declared.transfer.Written.{Written}
 use Rattle.td_base.specs.declared.transfer.Written.TheVariants as written
 use Rattle.td_base.proofs.LaterLemmas.{source_refl, sink_refl, sink_trans, store_refl, store_trans, writes_all_later, prints_later}
 use Rattle.catalogue.specs.Holdings.{StandsFor, release_held}
@@ -25,15 +23,15 @@ use Rattle.zone_meaning.specs.Sound.{IsSound}
 use Rattle.zone_meaning.specs.ZoneHistories.{HasZoneHistory}
 use Rattle.td_top.specs.Checks.{Checks, all, refused, cut, unread, out_of_memory}
 use Rattle.td_top.specs.Ends.{checked, Printed}
-use Rattle.td_top.specs.Folders.{Begins, FoldersGive, GivesAfter, Stops, none, more}
+use Rattle.td_top.specs.Folders.{Begins, FoldersGive, GivesAfter, none, more}
 use Rattle.td_top.specs.Grammar.{check}
 use Rattle.td_top.specs.Lines.{ok_line, ok_lines, ok_lines_after, refused_line}
 use Rattle.td_top.specs.Outside.{outside}
-use Rattle.td_top.specs.Steps.{ChecksNext, Comes, EndsAt, GoesOn, IsCheckedTo, IsCut, IsRefused, Stands, TellsRelease, grown}
-use Rattle.td_top.specs.Tells.{EndsLater, Refuses, RefusesFolder, RefusesInstall}
+use Rattle.td_top.specs.Steps.{ChecksNext, EndsAt, GoesOn, IsCheckedTo, Stands, TellsRelease, grown}
+use Rattle.td_top.specs.Tells.{EndsLater, Refuses, RefusesInstall}
 use Rattle.td_top.specs.declared.status.Status.{Status}
 use Rattle.td_top.specs.declared.status.Status.TheVariants as status
-use Rattle.td_top.proofs.Installing.{blames, gives, kept_gives, parted, stops_here, taken_more}
+use Rattle.td_top.proofs.Installing.{blames, kept_gives, parted, stops_here, taken_more}
 
 -- ---- lines
 

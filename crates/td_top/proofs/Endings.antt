@@ -1,5 +1,5 @@
 -- From what a call does to the end of a run.
-use Rattle.std.proofs.Common.{◌≡◌, ◌≢◌, ℕ, List, [], ◌∷◌, ◌++◌, Option, None, Some, IfSome, Ok, Err, inl, inr, refl, sym, subst}
+use Rattle.std.proofs.Common.{◌≡◌, ℕ, List, ◌++◌, Option, None, Some, IfSome, Ok, Err, inl, inr, refl, sym, subst}
 use Rattle.std.specs.Prelude.{ℤ, codes}
 use Rattle.td_base.specs.Cause.{StoreFailed}
 use Rattle.td_base.specs.Files.{File, file_at}
@@ -25,7 +25,7 @@ use Rattle.td_top.specs.Grammar.{Asked, answer, at}
 use Rattle.td_top.specs.Installed.{InstallsAll}
 use Rattle.td_top.specs.Lines.{refused_line}
 use Rattle.td_top.specs.Outside.{outside, Later}
-use Rattle.td_top.specs.Tells.{EndsLater, ServesLast, Tells, Refuses, RefusesFolder, RefusesInstall, Shows, ShowsBy}
+use Rattle.td_top.specs.Tells.{EndsLater, ServesLast, Tells, Refuses, RefusesInstall, Shows, ShowsBy}
 use Rattle.td_top.specs.declared.status.Status.{Status}
 use Rattle.td_top.specs.declared.status.Status.TheVariants as status
 use Rattle.td_top.proofs.ZonesShown.{IsOfPrefix, of_prefix}

@@ -1,5 +1,5 @@
 -- How a row of folders is installed, one after another.
-use Rattle.std.proofs.Common.{◌≡◌, ◌≢◌, ℕ, ◌+◌, ◌-◌, ◌<◌, List, [], ◌∷◌, ◌++◌, length, take, drop, get_or, true, false, All, Option, None, Some, IfSome, IsErrOf, Result, Ok, Err, refl, sym, subst, ap, ◌∙◌, append_assoc, append-nil, arith}
+use Rattle.std.proofs.Common.{◌≡◌, ◌≢◌, ℕ, ◌+◌, ◌-◌, ◌<◌, List, [], ◌∷◌, ◌++◌, length, take, drop, get_or, false, All, Option, None, Some, IfSome, IsErrOf, Result, Ok, Err, refl, sym, subst, ap, ◌∙◌, append_assoc, append-nil, arith}
 use Rattle.std.proofs.lemmas.List.{length-append, take-append-drop, take_all}
 use Rattle.std.specs.Option.{option_to_list}
 use Rattle.std.proofs.lemmas.List.Elements.{All-pop, All-weaker}
@@ -20,7 +20,7 @@ use Rattle.release_check.specs.Found.{Blames}
 use Rattle.release_check.specs.declared.check_fault.CheckFault.{CheckFault}
 use Rattle.release_check.specs.declared.check_fault.CheckFault.TheVariants as fault
 use Rattle.td_top.specs.Folders.{FoldersGive, GivesAfter, Stops, none, more}
-use Rattle.td_top.specs.Installed.{AllCame, Extends, InstallsAll, InstallsRest, Refused}
+use Rattle.td_top.specs.Installed.{Extends, InstallsAll, InstallsRest, Refused}
 
 -- ---- rows
 

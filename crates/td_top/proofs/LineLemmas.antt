@@ -1,8 +1,6 @@
 -- What one line of an operator makes of a talk.
-use Rattle.std.proofs.Common.{◌≡◌, ◌≢◌, ℕ, ◌+◌, ◌≤◌, List, [], ◌∷◌, ◌++◌, length, map, true, false, ◌⊎◌, inl, inr, Option, Ok, Err, refl, sym, subst, ap, ◌∙◌, append-nil, length-append, arith}
-use Rattle.std.specs.List.{AllByRecursion}
+use Rattle.std.proofs.Common.{◌≡◌, ◌≢◌, ℕ, ◌+◌, ◌≤◌, List, [], ◌∷◌, ◌++◌, length, ◌⊎◌, inl, inr, Option, Ok, Err, refl, sym, subst, ap, ◌∙◌, length-append, arith}
 use Rattle.std.proofs.lemmas.List.{length-map}
-use mathlib.Core.List.{IsPrefix}
 use Rattle.td_base.specs.Cause.{Rose, RoseBy}
 use Rattle.td_base.specs.Files.{File}
 use Rattle.td_base.specs.Later.{LaterStore}
@@ -29,7 +27,7 @@ use Rattle.release_check.specs.declared.check_fault.CheckFault.TheVariants as fa
 use Rattle.zone_meaning.specs.Sound.{IsSound}
 use Rattle.zone_meaning.specs.ZoneHistories.{HasZoneHistory}
 use Rattle.td_top.specs.Folders.{GivesAfter}
-use Rattle.td_top.specs.Sessions.{AnswersLine, BeginsWhole, LaterSession, SaysRefused, SaysWhy, StandsAt}
+use Rattle.td_top.specs.Sessions.{AnswersLine, LaterSession, SaysRefused, SaysWhy, StandsAt}
 use Rattle.td_top.specs.Talk.{Answers, IsUnknown, Talk, TakesMemory, installed, joined, last_token, no_memory, once_more, quit, refused, shown_to, status, unknown, unread}
 use Rattle.td_top.specs.Turns.{IsRefusal, TellsAnswer}
 use Rattle.td_top.specs.declared.session.Session.{Session}

@@ -1,5 +1,5 @@
 -- How a talk with an operator goes on by a turn, and ends.
-use Rattle.std.proofs.Common.{◌≡◌, ◌≢◌, ℕ, ◌≤◌, List, [], ◌∷◌, ◌++◌, length, map, flat_map, Option, None, Some, inl, inr, refl, sym, subst, ap, ◌∙◌, append_assoc, append-nil, arith}
+use Rattle.std.proofs.Common.{◌≡◌, ℕ, ◌≤◌, List, [], ◌∷◌, ◌++◌, length, flat_map, Option, Some, refl, sym, subst, ap, ◌∙◌, append_assoc, append-nil, arith}
 use Rattle.std.specs.Io.KnownBytes.{Consumes, IsAtEnd}
 use Rattle.std.specs.List.{AllByRecursion}
 use Rattle.std.proofs.KnownBytes.{Consumes-nil, Consumes-trans}
@@ -7,12 +7,12 @@ use Rattle.std.proofs.lemmas.List.{map-append}
 use Rattle.std.proofs.lemmas.List.Concat.{flat_map-append}
 use mathlib.Core.List.{IsPrefix}
 use Rattle.td_base.specs.Cause.{SourceFailed}
-use Rattle.td_base.specs.Later.{LaterSink, LaterSource, LaterStore}
+use Rattle.td_base.specs.Later.{LaterSink, LaterSource}
 use Rattle.td_base.specs.Transfer.{WritesAll}
 use Rattle.td_base.specs.Views.{SinkView, SourceView, StoreView}
 use Rattle.td_base.specs.declared.transfer.Written.{Written}
 use Rattle.td_base.specs.declared.transfer.Written.TheVariants as written
-use Rattle.td_base.proofs.LaterLemmas.{sink_refl, sink_trans, source_refl, source_then_failed, source_trans, store_refl, store_trans, writes_all_later}
+use Rattle.td_base.proofs.LaterLemmas.{sink_trans, source_refl, source_then_failed, source_trans, store_refl, store_trans, writes_all_later}
 use Rattle.catalogue.specs.Holdings.{release_held, history_of}
 use Rattle.catalogue.specs.Releases.{ReleaseData}
 use Rattle.catalogue.specs.declared.holding.Catalogue.{Catalogue}
@@ -24,17 +24,17 @@ use Rattle.console.specs.declared.line.Line.TheVariants as line
 use Rattle.console.specs.declared.said.Said.{Said}
 use Rattle.console.specs.declared.said.Said.TheVariants as said
 use Rattle.publication.proofs.Beginnings.{prefix_trans}
-use Rattle.td_top.specs.Outside.{Later, Outside, outside}
-use Rattle.td_top.specs.Sessions.{AnswersLine, BeginsWhole, LaterSession, StandsAt}
-use Rattle.td_top.specs.Talk.{GoesOn, Talk, Talks, begun, last_token, more, none}
-use Rattle.td_top.specs.Talking.{ComesTo, EndsBy, IsAt, LaterScene, Scene, Talked, TalksOver, how_written, scene, talk_text}
+use Rattle.td_top.specs.Outside.{outside}
+use Rattle.td_top.specs.Sessions.{AnswersLine, BeginsWhole, LaterSession}
+use Rattle.td_top.specs.Talk.{GoesOn, begun, last_token, more, none}
+use Rattle.td_top.specs.Talking.{ComesTo, IsAt, LaterScene, Scene, TalksOver, scene, talk_text}
 use Rattle.td_top.specs.Turns.{Feeds, FeedsTalk, HasNone, IsNext, Reaches, SaysBye, SaysText}
 use Rattle.td_top.specs.declared.talking.Turn.{Turn}
 use Rattle.td_top.specs.declared.talking.Turn.TheVariants as turn
 use Rattle.td_top.specs.declared.session.Session.{Session}
 use Rattle.td_top.specs.declared.talking.TalkEnd.{TalkEnd}
 use Rattle.td_top.specs.declared.talking.TalkEnd.TheVariants as end
-use Rattle.td_top.proofs.Checked.{cut_more, written_more, written_nothing}
+use Rattle.td_top.proofs.Checked.{cut_more, written_more}
 use Rattle.td_top.proofs.LineLemmas.{history_size, session_refl, session_trans}
 
 -- ---- histories

@@ -1,9 +1,9 @@
 -- Works that are made one after the other, and workers that learn one after the other.
-use Rattle.std.proofs.Common.{◌≡◌, ℕ, ◌+◌, List, [], ◌∷◌, ◌++◌, length, map, Bool, true, false, ◌||◌, All, Option, Some, None, IfSome, refl, sym, subst, ap, ◌∙◌, arith, append_assoc, append-nil}
+use Rattle.std.proofs.Common.{◌≡◌, ℕ, List, [], ◌∷◌, ◌++◌, length, map, Bool, true, false, ◌||◌, All, Option, Some, IfSome, refl, sym, subst, ap, ◌∙◌, arith, append_assoc, append-nil}
 use Rattle.std.specs.List.{list_any}
 use Rattle.std.specs.Option.{option_to_list}
 use Rattle.std.proofs.lemmas.List.{map-append, length-append}
-use Rattle.std.proofs.lemmas.List.Elements.{All-pop}
+use Rattle.std.proofs.lemmas.List.Elements.{All-pop, All-push}
 use Rattle.std.proofs.lemmas.List.Folds.{list_any-append}
 use mathlib.Core.List.{IsPrefix}
 use Rattle.td_base.specs.DoorViews.{DoorView}
@@ -12,6 +12,7 @@ use Rattle.catalogue.specs.declared.holding.Catalogue.{Catalogue}
 use Rattle.connection.specs.DoorWorks.{WorkView}
 use Rattle.connection.specs.declared.door_work.DoorDone.{DoorDone}
 use Rattle.logbook.specs.Pages.{Book}
+use Rattle.desk_pool.specs.Flag.{Sight}
 use Rattle.publication.specs.Views.{DeskView}
 use Rattle.td_top.specs.Works.{AreWorks, HasWorks, Learnt}
 
@@ -55,6 +56,13 @@ is_work pair door w v all left r desk e role_is door_is desk_is popped some h =
     let held : IfSome r (λ d. d.pair ≡ pair) = (All-pop (λ d. d.pair ≡ pair) all left r popped h).1 in
     let of_pair : desk.pair ≡ pair = subst (λ o. IfSome o (λ d. d.pair ≡ pair)) some held in
     (ap (λ u. u.role) e ∙ role_is, ap (λ u. u.door) e ∙ door_is, ap (λ u. u.desk.pair) e ∙ (ap (λ d. d.pair) desk_is ∙ of_pair))
+
+-- every work has the flag's sign, also with one more, as the flag stays
+pub signs_more : (flag flag' sign : Sight) (works works' : List WorkView) (w : WorkView) → All (λ v. v.stop ≡ flag) works → works' ≡ works ++ w ∷ []
+    → flag' ≡ flag → w.stop ≡ sign → sign ≡ flag → All (λ v. v.stop ≡ flag') works'
+signs_more flag flag' sign works works' w h more same is of =
+    subst (λ f. All (λ (v : WorkView). v.stop ≡ f) works') (sym same)
+    (subst (λ vs. All (λ (v : WorkView). v.stop ≡ flag) vs) (sym more) (All-push (λ v. v.stop ≡ flag) works w h (is ∙ of)))
 
 pub has_works : (pair : Book) (doors : List DoorView) (works : List WorkView) → AreWorks pair doors works → HasWorks pair works
 has_works pair doors works are = (doors, are)

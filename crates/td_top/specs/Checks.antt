@@ -1,6 +1,6 @@
 -- How folders are checked as one history: a line for each as it goes, up to the first that is
 -- refused.
-use Rattle.std.specs.Prelude.{ℕ, List, Option}
+use Rattle.std.specs.Prelude.{ℕ, List}
 use Rattle.td_base.specs.Cause.{StoreFailed}
 use Rattle.td_base.specs.Transfer.{Prints, WritesAll}
 use Rattle.td_base.specs.Views.{SinkView, StoreView}

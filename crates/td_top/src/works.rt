@@ -22,6 +22,7 @@ pub fn works_for<D: Door + Drop>(
     ensures works { IfOk result (λ r. (pair : Book) → All (λ d. d.pair ≡ pair) desks.items
         → AreWorks pair (map D.seen doors.items) r.0.items) }
     ensures flag { IfOk result (λ r. r.1.raised ≡ false) }
+    ensures signs { IfOk result (λ r. All (λ w. w.stop ≡ r.1) r.0.items) }
 {
     let mut flag = StopFlag::new(alloc)?;
     let mut left = desks;

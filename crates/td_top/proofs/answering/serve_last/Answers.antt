@@ -1,4 +1,4 @@
-use Rattle.std.proofs.Common.{inl, inr, refl, ap}
+use Rattle.std.proofs.Common.{inl, inr, refl}
 use Rattle.td_top.proofs.answering.serve_last.Goals as goal
 
 pub returns-in-Ok : goal.returns-in-Ok

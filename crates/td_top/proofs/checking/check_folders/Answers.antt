@@ -1,6 +1,5 @@
-use Rattle.std.proofs.Common.{refl}
 use Rattle.std.proofs.lemmas.List.{take_all}
-use Rattle.td_top.proofs.Checked.{checked_more, checked_none, ends_checked, ends_stopped, has_history}
+use Rattle.td_top.proofs.Checked.{checked_more, checked_none, ends_checked, ends_stopped}
 use Rattle.td_top.proofs.checking.check_folders.Goals as goal
 
 pub loop-folder-init : goal.loop-folder-init

@@ -1,6 +1,4 @@
-use Rattle.std.proofs.Common.{rules, ◌≡◌, true, ℕ, List, length, map, sym, ap, subst, refl}
-use Rattle.std.specs.List.{AllByRecursion}
-use Rattle.td_top.specs.Tells.{ServesLater}
+use Rattle.std.proofs.Common.{rules}
 use Rattle.td_top.proofs.Desks.{served_over, all_latest}
 use Rattle.td_top.proofs.serving.serve.Goals as goal
 

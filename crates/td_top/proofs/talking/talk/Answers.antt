@@ -1,4 +1,4 @@
-use Rattle.std.proofs.Common.{◌∙◌, ap, codes, ◌++◌}
+use Rattle.std.proofs.Common.{◌∙◌}
 use Rattle.td_top.proofs.TalkLemmas.{cut_at_once, gives_none, ready_text, starts}
 use Rattle.td_top.proofs.talking.talk.Goals as goal
 

@@ -1,7 +1,7 @@
 use Rattle.std.proofs.Common.{◌≡◌, refl, ap, ◌∙◌}
 use Rattle.std.proofs.lemmas.List.Elements.{All-pop, All-rest}
 use Rattle.connection.specs.DoorWorks.{NoneGiven}
-use Rattle.td_top.proofs.WorkLemmas.{is_work, still_as_many, takes_more, works_more}
+use Rattle.td_top.proofs.WorkLemmas.{is_work, signs_more, still_as_many, takes_more, works_more}
 use Rattle.td_top.proofs.works.works_for.Goals as goal
 
 pub loop-door-preserved : goal.loop-door-preserved
@@ -20,4 +20,6 @@ loop-door-preserved g c =
           (is_work pair (g.D.Door.seen c.in-Some.door) c.new-in-loop-door.result _ before.left.items c.pop.new.self.items c.pop.result c.unwrap-desk.result
           c.new-in-loop-door.ensures refl refl refl c.pop.ensures.items c.unwrap-desk.ensures (before.invariant.desks pair h));
       down = ap (λ f. f.raised) c.share.ensures.flag ∙ before.invariant.down;
+      signs = signs_more before.flag c.share.new.self c.in_ok-sign.sign before.works.items c.push.new.self.items c.new-in-loop-door.result before.invariant.signs
+          c.in_ok-push.ensures.items c.share.ensures.flag (ap (λ w. w.stop) c.new-in-loop-door.ensures) c.in_ok-sign.ensures.sign;
     }

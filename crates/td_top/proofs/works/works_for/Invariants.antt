@@ -12,4 +12,5 @@ invariant-loop-door g l = record {
   desks : (pair : Book) → All (λ d. d.pair ≡ pair) l.fn.desks.items → All (λ d. d.pair ≡ pair) l.left.items;
   works : (pair : Book) → All (λ d. d.pair ≡ pair) l.fn.desks.items → AreWorks pair (map g.D.Door.seen l.yielded) l.works.items;
   down : l.flag.raised ≡ false;
+  signs : All (λ w. w.stop ≡ l.flag) l.works.items;
 }
