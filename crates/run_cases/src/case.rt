@@ -1,18 +1,16 @@
+use crate::ending::{ConnEnd, DoorEnd, Ending};
+use crate::outside::{File, ROOM, Sizes, calls, network_of, piece_sizes, source_of, store_of};
+use crate::plan::NetworkPlan;
+use crate::trial::Trial;
+use crate::watched::{WatchedNetwork, WatchedSpawner};
 use std::alloc::{AllocError, Global};
 use std::sync::Wait;
 use std::thread::Threads;
 use td_base::{
-    Bytes, Door, Faulty, Items, MemoryDoor, MemoryNetwork, MemorySink, MemorySource, MemorySpawner,
-    MemoryStore, Network, NoMemory, Sink, Source, Spawner, Store,
+    Bytes, Door, Faulty, FaultyDoor, MemoryDoor, MemorySink, MemorySource, MemorySpawner, Network,
+    NoMemory, Sink, Source, Spawner, Store,
 };
 use td_top::Outcome;
-
-/// A file of the store.
-#[derive(Drop)]
-pub struct File {
-    pub path: Vec<u8>,
-    pub bytes: Vec<u8>,
-}
 
 /// A run, and how it is to end.
 #[derive(Drop)]
@@ -20,37 +18,18 @@ pub struct Case {
     pub title: String,
     pub words: Vec<Bytes>,
     pub input: Vec<u8>,
+    pub network: NetworkPlan,
     /// The numbers of the calls that fail, from 1, of each object.
     pub store_failing: Vec<u64>,
     pub input_failing: Vec<u64>,
     pub output_failing: Vec<u64>,
-    /// The most bytes of each read and of each write.
-    pub read_size: usize,
-    pub write_size: usize,
+    pub spawner_failing: Vec<u64>,
+    /// The most bytes of each call.
+    pub sizes: Sizes,
     /// How many bytes the output has room for.
     pub room: usize,
-    pub status: u8,
-    pub output: Vec<u8>,
+    pub ending: Ending,
 }
-
-/// What differs from one run of a case to another.
-#[derive(Clone, Copy)]
-pub struct Trial {
-    /// The most bytes of the first read.
-    pub first: usize,
-    /// The number of the write that fails, where each write takes one byte.
-    pub unwritten: Option<usize>,
-}
-
-/// How a run ended.
-#[derive(Drop)]
-pub struct Ending {
-    pub status: u8,
-    pub output: Vec<u8>,
-}
-
-/// Room for the longest output.
-const ROOM: usize = 400_000;
 
 impl Case {
     pub fn new(alloc: Global, title: &str) -> Result<Case, AllocError> {
@@ -58,26 +37,50 @@ impl Case {
             title: title.to_string(alloc)?,
             words: Vec::new(alloc),
             input: Vec::new(alloc),
+            network: NetworkPlan::new(alloc),
             store_failing: Vec::new(alloc),
             input_failing: Vec::new(alloc),
             output_failing: Vec::new(alloc),
-            read_size: ROOM,
-            write_size: ROOM,
+            spawner_failing: Vec::new(alloc),
+            sizes: Sizes {
+                read: ROOM,
+                write: ROOM,
+            },
             room: ROOM,
-            status: 0,
-            output: Vec::new(alloc),
+            ending: Ending::new(alloc),
         })
     }
 
-    /// Whether a run ended as it is to. Where a write failed, the output ends before it, and status
-    /// 4 stands in the place of 0.
+    /// Whether a run ended as it is to.
     pub fn is_met_by(&self, trial: Trial, ending: &Ending) -> bool {
-        let (status, output) = (ending.status, ending.output.as_slice());
-        match trial.unwritten {
-            None => status == self.status && output == self.output.as_slice(),
-            Some(write) => {
-                let kept = self.output.get(..write.saturating_sub(1)).unwrap_or(&[]);
-                output == kept && status == if self.status == 0 { 4 } else { self.status }
+        let wanted = &self.ending;
+        ending.status == self.wanted_status(trial)
+            && ending.output.as_slice() == self.wanted_output(trial)
+            && ending.asked == wanted.asked
+            && ending.begun == wanted.begun
+            && ending.doors == wanted.doors
+    }
+
+    /// The status of a run. Status 4 stands in the place of 0 where a write failed, and 3 where a
+    /// read of the input did.
+    fn wanted_status(&self, trial: Trial) -> u8 {
+        match trial {
+            Trial::Unwritten(_) if self.ending.status == 0 => 4,
+            Trial::Unread(_) => 3,
+            _ => self.ending.status,
+        }
+    }
+
+    /// The output of a run. It ends before a write that failed. Where not all of the input was
+    /// read, it has one line, and one more for each whole line that was.
+    fn wanted_output(&self, trial: Trial) -> &[u8] {
+        let whole = self.ending.output.as_slice();
+        match trial {
+            Trial::Plain | Trial::Cut(_) => whole,
+            Trial::Unwritten(number) => prefix(whole, number.saturating_sub(1)),
+            Trial::Unread(number) | Trial::Ended(number) => {
+                let read = prefix(self.input.as_slice(), number.saturating_sub(1));
+                first_lines(whole, count_lines(read).saturating_add(1))
             }
         }
     }
@@ -91,68 +94,117 @@ impl Case {
         trial: Trial,
     ) -> Result<Ending, NoMemory> {
         let mut store = Faulty::new(store_of(alloc, files)?, calls(alloc, &self.store_failing)?);
-        let pieces = piece_sizes(alloc, trial.first, self.read_size, self.input.len())?;
-        let input = Bytes::from_slice(alloc, self.input.as_slice())?;
-        let input = MemorySource::in_pieces(input, pieces);
-        let mut input = Faulty::new(input, calls(alloc, &self.input_failing)?);
-        let mut failing = calls(alloc, &self.output_failing)?;
-        let mut size = self.write_size;
-        if let Some(write) = trial.unwritten {
-            failing.push(write as u64)?;
-            size = 1;
-        }
-        let pieces = piece_sizes(alloc, size, size, self.output.len())?;
-        let output = MemorySink::in_pieces(alloc, self.room, pieces)?;
-        let mut output = Faulty::new(output, failing);
-        let words = self.words.as_slice();
-        let mut network: MemoryNetwork<MemoryDoor> = MemoryNetwork::new(alloc);
-        let mut spawner = MemorySpawner::new();
+        let mut input = self.source(alloc, trial)?;
+        let mut output = self.sink(alloc, trial)?;
+        let network = network_of(alloc, self.network.doors.as_slice(), self.sizes)?;
+        let network = Faulty::new(network, calls(alloc, &self.network.failing)?);
+        let mut network = WatchedNetwork::new(alloc, network);
+        let spawner = Faulty::new(MemorySpawner::new(), calls(alloc, &self.spawner_failing)?);
+        let mut spawner = WatchedSpawner::new(spawner);
         let outcome = top_call(
             rt,
             alloc,
-            words,
+            self.words.as_slice(),
             &mut store,
             &mut input,
             &mut output,
             &mut network,
             &mut spawner,
         );
-        let status = outcome.status;
+        let Outcome { status, doors } = outcome;
         Ok(Ending {
             status,
             output: Vec::from_slice(alloc, output.inner().taken())?,
+            asked: network.into_asked(),
+            begun: spawner.begun(),
+            doors: ends_of(alloc, doors.as_slice())?,
         })
     }
-}
 
-fn store_of(alloc: Global, files: &[File]) -> Result<MemoryStore, NoMemory> {
-    let mut store = MemoryStore::new(alloc);
-    for file in files {
-        let path = Bytes::from_slice(alloc, file.path.as_slice())?;
-        store.put(path, Bytes::from_slice(alloc, file.bytes.as_slice())?)?;
+    /// The input of a run.
+    fn source(&self, alloc: Global, trial: Trial) -> Result<Faulty<MemorySource>, NoMemory> {
+        let mut bytes = self.input.as_slice();
+        let mut failing = calls(alloc, &self.input_failing)?;
+        let (mut first, mut size) = (self.sizes.read, self.sizes.read);
+        match trial {
+            Trial::Plain | Trial::Unwritten(_) => {}
+            Trial::Cut(number) => first = number,
+            Trial::Unread(number) => {
+                failing.push(number as u64)?;
+                first = 1;
+                size = 1;
+            }
+            Trial::Ended(number) => bytes = prefix(bytes, number.saturating_sub(1)),
+        }
+        Ok(Faulty::new(source_of(alloc, bytes, first, size)?, failing))
     }
-    Ok(store)
+
+    /// The output of a run.
+    fn sink(&self, alloc: Global, trial: Trial) -> Result<Faulty<MemorySink>, NoMemory> {
+        let mut failing = calls(alloc, &self.output_failing)?;
+        let mut size = self.sizes.write;
+        if let Trial::Unwritten(number) = trial {
+            failing.push(number as u64)?;
+            size = 1;
+        }
+        let pieces = piece_sizes(alloc, size, size, self.ending.output.len())?;
+        let sink = MemorySink::in_pieces(alloc, self.room, pieces)?;
+        Ok(Faulty::new(sink, failing))
+    }
 }
 
-fn calls(alloc: Global, numbers: &Vec<u64>) -> Result<Items<u64>, NoMemory> {
-    Ok(Items::from(Vec::from_slice(alloc, numbers.as_slice())?))
+/// The first bytes, as many as there are of so many.
+fn prefix(bytes: &[u8], count: usize) -> &[u8] {
+    bytes.get(..count).unwrap_or(bytes)
 }
 
-/// The first size, and then as many others as there are bytes, where these are to be small.
-fn piece_sizes(
-    alloc: Global,
-    first: usize,
-    size: usize,
-    bytes: usize,
-) -> Result<Items<usize>, NoMemory> {
-    let mut sizes = Items::new(alloc);
-    sizes.push(first)?;
-    if size < bytes {
-        for _ in 0..bytes {
-            sizes.push(size)?;
+/// How many lines stand whole in the bytes.
+fn count_lines(bytes: &[u8]) -> usize {
+    let mut count: usize = 0;
+    for byte in bytes {
+        if *byte == b'\n' {
+            count = count.saturating_add(1);
         }
     }
-    Ok(sizes)
+    count
+}
+
+/// The first lines of the bytes, so many.
+fn first_lines(bytes: &[u8], lines: usize) -> &[u8] {
+    let mut left = lines;
+    for (at, byte) in bytes.iter().enumerate() {
+        if left == 0 {
+            return prefix(bytes, at);
+        }
+        if *byte == b'\n' {
+            left -= 1;
+        }
+    }
+    bytes
+}
+
+/// How the doors were handed back.
+fn ends_of(alloc: Global, doors: &[FaultyDoor<MemoryDoor>]) -> Result<Vec<DoorEnd>, NoMemory> {
+    let mut ends = Vec::new(alloc);
+    for door in doors {
+        ends.push(door_end(alloc, door.inner())?)?;
+    }
+    Ok(ends)
+}
+
+fn door_end(alloc: Global, door: &MemoryDoor) -> Result<DoorEnd, NoMemory> {
+    let mut served = Vec::new(alloc);
+    for conn in door.finished() {
+        served.push(ConnEnd {
+            end: Some(conn.report.end),
+            places: Vec::from_slice(alloc, conn.report.places.as_slice())?,
+            output: Vec::from_slice(alloc, conn.conn.inner().sink.taken())?,
+        })?;
+    }
+    Ok(DoorEnd {
+        coming: door.coming() as u64,
+        served,
+    })
 }
 
 /// The top call. What it promises is not needed here, and is much at objects that tell all.

@@ -3,8 +3,13 @@
 #![tactic(auto)]
 
 mod case;
+mod ending;
+mod outside;
+mod plan;
 mod script;
 mod texts;
+mod trial;
+mod watched;
 
 use script::Script;
 use std::io;

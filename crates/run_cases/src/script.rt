@@ -1,9 +1,12 @@
-use crate::case::{Case, Ending, File, Trial};
-use crate::texts::{Texts, digit, written};
+use crate::case::Case;
+use crate::ending::Ending;
+use crate::outside::File;
+use crate::texts::{Texts, digit, number};
+use crate::trial::Trial;
 use std::alloc::{AllocError, Global};
 use std::sync::Wait;
 use std::thread::Threads;
-use td_base::{Bytes, NoMemory, read_decimal};
+use td_base::{Bytes, NoMemory};
 
 /// A table that is read line by line.
 #[derive(Drop)]
@@ -124,21 +127,25 @@ impl Script {
             "word" => push_word(self.alloc, case, text.as_slice())?,
             "words" => push_words(self.alloc, case, rest)?,
             "input" => case.input.extend_from_slice(text.as_slice())?,
-            "output" => case.output.extend_from_slice(text.as_slice())?,
-            "status" => case.status = u8::try_from(number(rest)).unwrap_or(u8::MAX),
             "room" => case.room = number(rest) as usize,
-            "read" => case.read_size = number(rest) as usize,
-            "write" => case.write_size = number(rest) as usize,
+            "read" => case.sizes.read = number(rest) as usize,
+            "write" => case.sizes.write = number(rest) as usize,
             "fail-store" => case.store_failing.push(number(rest))?,
             "fail-input" => case.input_failing.push(number(rest))?,
             "fail-output" => case.output_failing.push(number(rest))?,
-            _ => return strange(self.alloc, word),
+            "fail-start" => case.spawner_failing.push(number(rest))?,
+            _ => {
+                let ends = case.ending.add(self.alloc, &self.texts, word, rest)?;
+                if !ends && !case.network.add(self.alloc, word, rest, text)? {
+                    return strange(self.alloc, word);
+                }
+            }
         }
         Ok(String::new(self.alloc))
     }
 
-    /// `run`, or `run cut`: once for each size of the first read; or `run unwritten`: once for each
-    /// write that fails.
+    /// `run`, or `run cut`, `run unwritten`, `run unread` or `run ended`: once for each byte of the
+    /// input or of the output.
     fn run_case<R: Threads + Wait + Copy + Send + 'static>(
         &mut self,
         rt: &R,
@@ -148,13 +155,13 @@ impl Script {
             return strange(self.alloc, "run");
         };
         let count = match how {
-            "cut" => case.input.len(),
-            "unwritten" => case.output.len(),
+            "cut" | "unread" | "ended" => case.input.len(),
+            "unwritten" => case.ending.output.len(),
             _ => 1,
         };
         let mut report = String::new(self.alloc);
         for number in 1..count.saturating_add(1) {
-            let trial = trial_of(case, how, number);
+            let trial = Trial::of(how, number);
             self.runs = self.runs.saturating_add(1);
             match case.run(rt, self.alloc, self.files.as_slice(), trial) {
                 Ok(ending) if case.is_met_by(trial, &ending) => {
@@ -166,22 +173,6 @@ impl Script {
         }
         Ok(report)
     }
-}
-
-/// The trial of a case with this number, from 1.
-fn trial_of(case: &Case, how: &str, number: usize) -> Trial {
-    let first = if how == "cut" { number } else { case.read_size };
-    let unwritten = if how == "unwritten" {
-        Some(number)
-    } else {
-        None
-    };
-    Trial { first, unwritten }
-}
-
-/// A word of the table as a number.
-fn number(text: &str) -> u64 {
-    read_decimal(text.as_bytes()).unwrap_or(0)
 }
 
 fn push_word(alloc: Global, case: &mut Case, word: &[u8]) -> Result<(), AllocError> {
@@ -206,7 +197,6 @@ fn strange(alloc: Global, word: &str) -> Result<String, AllocError> {
 
 /// What is told of a run that ended otherwise.
 fn told(alloc: Global, case: &Case, ending: &Ending) -> Result<String, AllocError> {
-    let output = written(alloc, ending.output.as_slice())?;
-    let (title, status) = (case.title.as_str(), ending.status);
-    format!(in alloc; "{title}: ended with {status} {output}")
+    let (title, ending) = (case.title.as_str(), ending.told(alloc)?);
+    format!(in alloc; "{title}: ended with {ending}")
 }

@@ -104,6 +104,11 @@ impl Texts {
     }
 }
 
+/// A word of the table as a number.
+pub fn number(text: &str) -> u64 {
+    read_decimal(text.as_bytes()).unwrap_or(0)
+}
+
 /// The value of a hex digit.
 pub fn digit(byte: u8) -> u8 {
     match byte {

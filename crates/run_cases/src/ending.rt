@@ -1,0 +1,174 @@
+use crate::texts::{Texts, number, written};
+use std::alloc::{AllocError, Global};
+use td_base::{End, read_decimal};
+
+/// How a run ends.
+#[derive(Drop, PartialEq)]
+pub struct Ending {
+    pub status: u8,
+    pub output: Vec<u8>,
+    /// What the network was asked for.
+    pub asked: Vec<Asked>,
+    /// How often the spawner was to begin a work.
+    pub begun: u64,
+    /// The doors that were handed back.
+    pub doors: Vec<DoorEnd>,
+}
+
+/// A call for so many doors at an address.
+#[derive(Drop, PartialEq)]
+pub struct Asked {
+    pub address: Vec<u8>,
+    pub doors: u64,
+}
+
+/// A door that was handed back.
+#[derive(Drop, PartialEq)]
+pub struct DoorEnd {
+    /// How many of its connections are still to come.
+    pub coming: u64,
+    pub served: Vec<ConnEnd>,
+}
+
+/// A connection that was handed back.
+#[derive(Drop, PartialEq)]
+pub struct ConnEnd {
+    pub end: Option<End>,
+    /// The places at which its requests were answered.
+    pub places: Vec<u32>,
+    /// What was written to it.
+    pub output: Vec<u8>,
+}
+
+impl Ending {
+    pub fn new(alloc: Global) -> Ending {
+        Ending {
+            status: 0,
+            output: Vec::new(alloc),
+            asked: Vec::new(alloc),
+            begun: 0,
+            doors: Vec::new(alloc),
+        }
+    }
+
+    /// Adds what a line of the table says, and tells whether it says something of an end.
+    pub fn add(
+        &mut self,
+        alloc: Global,
+        texts: &Texts,
+        word: &str,
+        rest: &str,
+    ) -> Result<bool, AllocError> {
+        let (first, second) = rest.split_once(' ').unwrap_or((rest, ""));
+        match word {
+            "status" => self.status = u8::try_from(number(rest)).unwrap_or(u8::MAX),
+            "output" => texts.append(rest.as_bytes(), &mut self.output)?,
+            "starts" => self.begun = number(rest),
+            "asks" => self.asked.push(Asked {
+                address: texts.meaning(first)?,
+                doors: number(second),
+            })?,
+            "back" => self.doors.push(DoorEnd {
+                coming: number(rest),
+                served: Vec::new(alloc),
+            })?,
+            "served" => match self.doors.last_mut() {
+                Some(door) => door
+                    .served
+                    .push(ConnEnd::read(alloc, texts, first, second)?)?,
+                None => return Ok(false),
+            },
+            _ => return Ok(false),
+        }
+        Ok(true)
+    }
+
+    /// The end as the table would say it.
+    pub fn told(&self, alloc: Global) -> Result<String, AllocError> {
+        let output = written(alloc, self.output.as_slice())?;
+        let status = self.status;
+        let mut text = format!(in alloc; "{status} {output}")?;
+        for asked in &self.asked {
+            let (address, doors) = (written(alloc, asked.address.as_slice())?, asked.doors);
+            text.push_str(format!(in alloc; ", asks {address} {doors}")?.as_str())?;
+        }
+        if self.begun > 0 {
+            let begun = self.begun;
+            text.push_str(format!(in alloc; ", starts {begun}")?.as_str())?;
+        }
+        for door in &self.doors {
+            door.tell(alloc, &mut text)?;
+        }
+        Ok(text)
+    }
+}
+
+impl DoorEnd {
+    fn tell(&self, alloc: Global, text: &mut String) -> Result<(), AllocError> {
+        let coming = self.coming;
+        text.push_str(format!(in alloc; ", back {coming}")?.as_str())?;
+        for served in &self.served {
+            served.tell(alloc, text)?;
+        }
+        Ok(())
+    }
+}
+
+impl ConnEnd {
+    /// `END PLACES TEXT`
+    fn read(alloc: Global, texts: &Texts, end: &str, rest: &str) -> Result<ConnEnd, AllocError> {
+        let (places, text) = rest.split_once(' ').unwrap_or((rest, ""));
+        Ok(ConnEnd {
+            end: end_of(end),
+            places: read_places(alloc, texts.meaning(places)?.as_slice())?,
+            output: texts.meaning(text)?,
+        })
+    }
+
+    fn tell(&self, alloc: Global, text: &mut String) -> Result<(), AllocError> {
+        let end = name_of(self.end);
+        let output = written(alloc, self.output.as_slice())?;
+        text.push_str(format!(in alloc; ", served {end} ")?.as_str())?;
+        if self.places.is_empty() {
+            text.push_str("-")?;
+        }
+        for (at, place) in self.places.iter().enumerate() {
+            let comma = if at == 0 { "" } else { "," };
+            text.push_str(format!(in alloc; "{comma}{place}")?.as_str())?;
+        }
+        text.push_str(format!(in alloc; " {output}")?.as_str())
+    }
+}
+
+/// The places between commas; a dash stands for none.
+fn read_places(alloc: Global, text: &[u8]) -> Result<Vec<u32>, AllocError> {
+    let mut places = Vec::new(alloc);
+    if text != b"-".as_slice() {
+        for place in text.split(|byte| *byte == b',') {
+            let place = read_decimal(place).unwrap_or(0);
+            places.push(u32::try_from(place).unwrap_or(0))?;
+        }
+    }
+    Ok(places)
+}
+
+/// The end of this name.
+fn end_of(name: &str) -> Option<End> {
+    match name {
+        "closed" => Some(End::Closed),
+        "read" => Some(End::ReadFault),
+        "write" => Some(End::WriteFault),
+        "memory" => Some(End::NoMemory),
+        _ => None,
+    }
+}
+
+fn name_of(end: Option<End>) -> &'static str {
+    match end {
+        Some(End::Closed) => "closed",
+        Some(End::ReadFault) => "read",
+        Some(End::WriteFault) => "write",
+        Some(End::NoMemory) => "memory",
+        None => "?",
+    }
+}

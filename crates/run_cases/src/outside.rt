@@ -1,0 +1,130 @@
+//! The objects in memory over which a case runs.
+ghost use Rattle.std.specs.Prelude.{◌≡◌, IfOk, []};
+ghost use Rattle.run_cases.specs.Doors.{IsNew, IsUnasked};
+ghost use Rattle.td_base.specs.MemoryDoors.{IsFresh};
+
+use crate::plan::{ConnPlan, DoorPlan, StepPlan};
+use std::alloc::Global;
+use td_base::{
+    Bytes, FaultyConn, FaultyDoor, Items, MemoryConn, MemoryDoor, MemoryNetwork, MemorySink,
+    MemorySource, MemoryStore, NoMemory,
+};
+
+/// A file of the store.
+#[derive(Drop)]
+pub struct File {
+    pub path: Vec<u8>,
+    pub bytes: Vec<u8>,
+}
+
+/// The most bytes of each call.
+#[derive(Clone, Copy)]
+pub struct Sizes {
+    pub read: usize,
+    pub write: usize,
+}
+
+/// Room for the longest output.
+pub const ROOM: usize = 400_000;
+
+/// For how many writes to a connection their size counts.
+const SMALL_WRITES: usize = 10_000;
+
+/// A store of the files.
+pub fn store_of(alloc: Global, files: &[File]) -> Result<MemoryStore, NoMemory> {
+    let mut store = MemoryStore::new(alloc);
+    for file in files {
+        let path = Bytes::from_slice(alloc, file.path.as_slice())?;
+        store.put(path, Bytes::from_slice(alloc, file.bytes.as_slice())?)?;
+    }
+    Ok(store)
+}
+
+/// A source of these bytes, whose first read gives so many.
+pub fn source_of(
+    alloc: Global,
+    bytes: &[u8],
+    first: usize,
+    size: usize,
+) -> Result<MemorySource, NoMemory>
+    ensures { IfOk result (λ source. source.given ≡ []) }
+{
+    let sizes = piece_sizes(alloc, first, size, bytes.len())?;
+    let bytes = Bytes::from_slice(alloc, bytes)?;
+    Ok(MemorySource::in_pieces(bytes, sizes))
+}
+
+/// A network of the doors.
+pub fn network_of(
+    alloc: Global,
+    plans: &[DoorPlan],
+    sizes: Sizes,
+) -> Result<MemoryNetwork<FaultyDoor<MemoryDoor>>, NoMemory> {
+    let mut network = MemoryNetwork::new(alloc);
+    for plan in plans {
+        network.push(door_of(alloc, plan, sizes)?)?;
+    }
+    Ok(network)
+}
+
+fn door_of(alloc: Global, plan: &DoorPlan, sizes: Sizes) -> Result<FaultyDoor<MemoryDoor>, NoMemory>
+    ensures { IfOk result IsNew }
+{
+    let mut door = MemoryDoor::new(alloc, plan.steps.len())?;
+    for step in plan.steps.as_slice() {
+        push_step(alloc, &mut door, step, sizes)?;
+    }
+    Ok(FaultyDoor::new(door, calls(alloc, &plan.failing)?))
+}
+
+/// Adds a step to a door that has room for it.
+fn push_step(
+    alloc: Global,
+    door: &mut MemoryDoor,
+    step: &StepPlan,
+    sizes: Sizes,
+) -> Result<(), NoMemory>
+    ensures { IsUnasked door.old → IsUnasked door.new }
+{
+    match step {
+        StepPlan::Conn(conn) if door.room() > 0 => door.push_conn(conn_of(alloc, conn, sizes)?),
+        StepPlan::Conn(_) => Ok(()),
+        StepPlan::Idle => door.push_idle(),
+    }
+}
+
+fn conn_of(alloc: Global, plan: &ConnPlan, sizes: Sizes) -> Result<FaultyConn<MemoryConn>, NoMemory>
+    ensures { IfOk result IsFresh }
+{
+    let source = source_of(alloc, plan.input.as_slice(), sizes.read, sizes.read)?;
+    let pieces = piece_sizes(alloc, sizes.write, sizes.write, SMALL_WRITES)?;
+    let sink = MemorySink::in_pieces(alloc, ROOM, pieces)?;
+    let conn = MemoryConn::new(source, sink);
+    Ok(FaultyConn::new(
+        conn,
+        calls(alloc, &plan.reads_failing)?,
+        calls(alloc, &plan.writes_failing)?,
+    ))
+}
+
+/// The numbers of the calls that are to fail.
+pub fn calls(alloc: Global, numbers: &Vec<u64>) -> Result<Items<u64>, NoMemory> {
+    Ok(Items::from(Vec::from_slice(alloc, numbers.as_slice())?))
+}
+
+/// The first size, and then as many others as there are bytes, where these are to be small.
+pub fn piece_sizes(
+    alloc: Global,
+    first: usize,
+    size: usize,
+    bytes: usize,
+) -> Result<Items<usize>, NoMemory> {
+    let mut sizes = Items::new(alloc);
+    sizes.push(first)?;
+    if size < bytes {
+        for _ in 0..bytes {
+            sizes.push(size)?;
+        }
+    }
+    Ok(sizes)
+}

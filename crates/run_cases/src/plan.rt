@@ -1,0 +1,119 @@
+use crate::texts::number;
+use std::alloc::{AllocError, Global};
+
+/// What the network of a case has and does.
+#[derive(Drop)]
+pub struct NetworkPlan {
+    pub doors: Vec<DoorPlan>,
+    /// The numbers of the calls that fail, from 1.
+    pub failing: Vec<u64>,
+}
+
+/// What a door answers, one step a call.
+#[derive(Drop)]
+pub struct DoorPlan {
+    pub steps: Vec<StepPlan>,
+    /// The numbers of the calls that fail, from 1, without taking a step.
+    pub failing: Vec<u64>,
+}
+
+#[derive(Drop)]
+pub enum StepPlan {
+    /// A connection.
+    Conn(ConnPlan),
+    /// That none waits.
+    Idle,
+}
+
+/// A connection of this input.
+#[derive(Drop)]
+pub struct ConnPlan {
+    pub input: Vec<u8>,
+    /// The numbers of the reads and of the writes that fail, from 1.
+    pub reads_failing: Vec<u64>,
+    pub writes_failing: Vec<u64>,
+}
+
+impl NetworkPlan {
+    /// A network without doors, of which no call fails.
+    pub fn new(alloc: Global) -> NetworkPlan {
+        NetworkPlan {
+            doors: Vec::new(alloc),
+            failing: Vec::new(alloc),
+        }
+    }
+
+    /// Adds what a line of the table says, and tells whether it says something of a network.
+    pub fn add(
+        &mut self,
+        alloc: Global,
+        word: &str,
+        rest: &str,
+        text: Vec<u8>,
+    ) -> Result<bool, AllocError> {
+        match word {
+            "door" => {
+                self.doors.push(DoorPlan {
+                    steps: Vec::new(alloc),
+                    failing: Vec::new(alloc),
+                })?;
+                Ok(true)
+            }
+            "fail-network" => {
+                self.failing.push(number(rest))?;
+                Ok(true)
+            }
+            _ => match self.doors.last_mut() {
+                Some(door) => door.add(alloc, word, rest, text),
+                None => Ok(false),
+            },
+        }
+    }
+}
+
+impl DoorPlan {
+    fn add(
+        &mut self,
+        alloc: Global,
+        word: &str,
+        rest: &str,
+        text: Vec<u8>,
+    ) -> Result<bool, AllocError> {
+        match word {
+            "conn" => {
+                self.steps.push(StepPlan::Conn(ConnPlan {
+                    input: text,
+                    reads_failing: Vec::new(alloc),
+                    writes_failing: Vec::new(alloc),
+                }))?;
+                Ok(true)
+            }
+            "idle" => {
+                self.steps.push(StepPlan::Idle)?;
+                Ok(true)
+            }
+            "fail-accept" => {
+                let (first, last) = rest.split_once(' ').unwrap_or((rest, rest));
+                for call in number(first)..number(last).saturating_add(1) {
+                    self.failing.push(call)?;
+                }
+                Ok(true)
+            }
+            _ => match self.steps.last_mut() {
+                Some(StepPlan::Conn(conn)) => conn.add(word, number(rest)),
+                Some(StepPlan::Idle) | None => Ok(false),
+            },
+        }
+    }
+}
+
+impl ConnPlan {
+    fn add(&mut self, word: &str, number: u64) -> Result<bool, AllocError> {
+        match word {
+            "fail-conn-read" => self.reads_failing.push(number)?,
+            "fail-conn-write" => self.writes_failing.push(number)?,
+            _ => return Ok(false),
+        }
+        Ok(true)
+    }
+}
