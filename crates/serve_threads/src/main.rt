@@ -1,0 +1,89 @@
+//! A run of `serve` whose workers are threads of the system. Its two doors are in memory, with one
+//! connection each, and the second request of either comes only once the first of the other was
+//! answered: on one thread, one after the other, they would not both be served. What the operator
+//! is told comes first, and then how each connection ended.
+#![tactic(auto)]
+
+use devices::{GateDoor, RealSink, RealSource, RealSpawner, RealStore, gate_pair};
+use std::alloc::Global;
+use std::io;
+use std::io::{Error, ErrorKind};
+use td_base::{Bytes, End, MemoryNetwork, NoMemory};
+
+/// For how many turns a read waits for the other connection.
+const TURNS: u32 = 1_000_000;
+
+fn main(rt: HostRuntime) -> io::Result<()> {
+    let mut network = gates(rt.alloc()).map_err(out_of_memory)?;
+    let words = words(rt.alloc()).map_err(out_of_memory)?;
+    let mut store = RealStore::new(&rt);
+    let mut input = RealSource::new(rt.stdin());
+    let mut output = RealSink::new(rt.stdout());
+    let mut spawner = RealSpawner::new();
+    let outcome = td_top::run(
+        &rt,
+        rt.alloc(),
+        words.as_slice(),
+        &mut store,
+        &mut input,
+        &mut output,
+        &mut network,
+        &mut spawner,
+    );
+    for door in &outcome.doors {
+        let (end, places, answers) = served(door);
+        println!(rt; "{end}, {places} places, {answers} answers")?;
+    }
+    println!(rt; "status {}", outcome.status)?;
+    Ok(())
+}
+
+fn out_of_memory(_: NoMemory) -> Error {
+    Error::from(ErrorKind::OutOfMemory)
+}
+
+/// The two doors, at any address.
+fn gates(alloc: Global) -> Result<MemoryNetwork<GateDoor>, NoMemory> {
+    let (left, right) = gate_pair(alloc, TURNS)?;
+    let mut network = MemoryNetwork::new(alloc);
+    network.push(left)?;
+    network.push(right)?;
+    Ok(network)
+}
+
+/// The words of the command line.
+fn words(alloc: Global) -> Result<Vec<Bytes>, NoMemory> {
+    let mut words = Vec::new(alloc);
+    for word in ["serve", "x", "2", "a"] {
+        words.push(Bytes::from_slice(alloc, word.as_bytes())?)?;
+    }
+    Ok(words)
+}
+
+/// How the connection of a door ended, how many of its requests have a place, and how many answers
+/// were written to it.
+fn served(door: &GateDoor) -> (&'static str, usize, usize) {
+    match door.served() {
+        Some((conn, report)) => (
+            name_of(report.end),
+            report.places.as_slice().len(),
+            answers_in(conn.taken()),
+        ),
+        None => ("not served", 0, 0),
+    }
+}
+
+fn name_of(end: End) -> &'static str {
+    match end {
+        End::Closed => "closed",
+        End::ReadFault => "read fault",
+        End::WriteFault => "write fault",
+        End::NoMemory => "out of memory",
+    }
+}
+
+/// How often the status line of an answer stands in what was written.
+fn answers_in(written: &[u8]) -> usize {
+    let line = b"HTTP/1.1 200 OK\r\n".as_slice();
+    written.windows(line.len()).filter(|at| *at == line).count()
+}
