@@ -41,7 +41,7 @@ BACK = "refused 3 StampBack 2025-03-22T00:00:00Z 2025-01-20T00:00:00Z"
 # write may wait; beside each the slack of a busy machine. A peer that reads nothing is still taken
 # from by its system for a while, whose buffers grow as they fill.
 ALONE, CROWDED, STALLED, GROWING, SLACK = 10, 1, 10, 10, 4
-WHOLE = 120
+WHOLE = 240
 
 
 def same(what, seen, wanted):
@@ -515,6 +515,8 @@ def main():
     signal.alarm(WHOLE)
     with ThreadPoolExecutor(3) as pool:
         faults = list(pool.map(lambda check: fault_of(check, program), CHECKS))
+    # the checks are one another's load, so what failed beside others is tried once more by itself
+    faults = [fault and fault_of(check, program) for check, fault in zip(CHECKS, faults)]
     failed = 0
     for check, fault in zip(CHECKS, faults):
         if fault is not None:
