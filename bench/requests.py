@@ -6,12 +6,15 @@
 Each action is asked for once, and then 1,000 times, on one stream that `answer` serves. The
 difference of the two, over 999, is what a further request costs: processor microseconds (user and
 system) and bytes. Beside it stands the time that the program takes to read, check and publish the
-release, which is the run without any request less one that prints the usage line. Figures are
-medians over several rounds, in each of which all runs come once. It needs Python's standard
-library alone, is run by hand on an idle machine, and is no part of the gate.
+release, which is the run without any request less one that prints the usage line. At last comes
+one head that arrives a byte at a time, short and long: what a byte costs is not to grow with the
+head. Figures are medians over several rounds, in each of which all runs come once. It needs
+Python's standard library alone, is run by hand on an idle machine, and is no part of the gate.
 """
 
 import argparse
+import array
+import fcntl
 import json
 import os
 import platform
@@ -19,11 +22,13 @@ import statistics
 import subprocess
 import sys
 import tempfile
+import termios
 import threading
 from urllib.parse import quote
 
 ROOT = os.path.dirname(os.path.dirname(os.path.abspath(__file__)))
 MANY = 1000
+SHORT, LONG = 4_000, 16_000
 YEAR = "start=2025-01-01T00:00:00Z&end=2026-01-01T00:00:00Z"
 
 
@@ -137,6 +142,35 @@ def measure(program, folder, rounds, requests):
     return once, many, empty, usage
 
 
+def byte_by_byte(program, folder, size):
+    """The processor seconds of a run whose only head has so many bytes and comes byte by byte."""
+    front = head("/tzdist/nothing", "Long: ")
+    stream = head("/tzdist/nothing", "Long: " + "x" * (size - len(front)))
+    source, sink = os.pipe()
+    child = subprocess.Popen(
+        [program, "answer", folder], stdin=source, stdout=subprocess.DEVNULL, stderr=subprocess.DEVNULL
+    )
+    unread = array.array("i", [1])
+    for at in range(size):
+        os.write(sink, stream[at : at + 1])
+        unread[0] = 1
+        while unread[0]:
+            fcntl.ioctl(source, termios.FIONREAD, unread)
+    os.close(sink)
+    os.close(source)
+    _, status, usage = os.wait4(child.pid, 0)
+    child.returncode = os.waitstatus_to_exitcode(status)
+    if child.returncode != 0:
+        sys.exit(f"a head byte by byte: ended with {child.returncode}")
+    return usage.ru_utime + usage.ru_stime
+
+
+def microseconds_a_byte(program, folder, size, rounds, empty):
+    """What a byte of such a head costs."""
+    seconds = statistics.median(byte_by_byte(program, folder, size) for _ in range(rounds))
+    return (seconds - empty) / size * 1e6
+
+
 def processor():
     """The name of the processor."""
     try:
@@ -192,6 +226,11 @@ def main():
     print()
     print(f"Reading, checking and publishing the release: {reading * 1e3:.1f} ms of processor time, "
           f"{memory:.0f} KiB of memory for {release_bytes(words.folder) / 1024:.0f} KiB of files.")
+    alone = median(empty, lambda r: r.seconds)
+    short, long = (
+        microseconds_a_byte(words.program, words.folder, size, words.rounds, alone) for size in (SHORT, LONG)
+    )
+    print(f"A head that comes byte by byte: {short:.2f} microseconds a byte of {SHORT}, {long:.2f} of {LONG}.")
 
 
 if __name__ == "__main__":
