@@ -18,9 +18,9 @@ use Rattle.zone_meaning.specs.Observed.{IsRange, first_at, observed}
 use Rattle.zone_meaning.specs.RangeLaws.{IsChangeBetween}
 use Rattle.zone_meaning.specs.Sound.{IsSoundFile}
 use Rattle.zone_meaning.specs.State.{zone_state}
-use Rattle.zone_meaning.proofs.Members.{member_first, member_later}
-use Rattle.zone_meaning.proofs.NameLemmas.{observance_name}
-use Rattle.zone_meaning.proofs.RangeLemmas.{are_observed, change_onset, first_onset}
+use Rattle.zone_meaning.proofs.lemmas.Members.{member_first, member_later}
+use Rattle.zone_meaning.proofs.lemmas.NameLemmas.{observance_name}
+use Rattle.zone_meaning.proofs.lemmas.RangeLemmas.{are_observed, change_onset, first_onset}
 
 -- what holds of each member holds of each item
 each_of : {X : Type 0} (P : X → Type 0) (xs : List X) → ((x : X) → Contains xs x → P x) → AllByRecursion P xs

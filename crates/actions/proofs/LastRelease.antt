@@ -3,11 +3,11 @@ use Rattle.std.proofs.Common.{◌≡◌, ℕ, List, Option, None, Some, IfSome, 
 use Rattle.std.specs.Option.{IsSomeAnd, is_some}
 use Rattle.td_base.specs.Names.{IsPlain}
 use Rattle.td_base.specs.declared.report.Role.{Role}
-use Rattle.td_base.proofs.PlainLemmas.{label_is_plain}
+use Rattle.td_base.proofs.lemmas.PlainLemmas.{label_is_plain}
 use Rattle.catalogue.specs.Histories.{IsHistory, last_release}
 use Rattle.catalogue.specs.Releases.{ReleaseData}
 use Rattle.catalogue.specs.declared.release.Leaps.{Leaps}
-use Rattle.catalogue.proofs.LastRelease.{last_of}
+use Rattle.catalogue.proofs.lemmas.LastRelease.{last_of}
 use Rattle.json_forms.specs.CapabilitiesDocument.{capabilities_document}
 use Rattle.json_forms.specs.LeapDocument.{leap_document}
 use Rattle.zone_meaning.specs.Sound.{IsSound, IsSoundLeaps}

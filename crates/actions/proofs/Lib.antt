@@ -1,5 +1,5 @@
 pub mod Passing
-pub mod Chosen
+pub mod lemmas
 pub mod Expansions
 pub mod LastRelease
 pub mod Named

@@ -9,7 +9,7 @@ use Rattle.catalogue.specs.Histories.{EntryData, IsHistory, entries_of, entry_of
 use Rattle.catalogue.specs.Lookups.{is_name_of, place_named}
 use Rattle.catalogue.specs.Plain.{IsPlainEntry}
 use Rattle.catalogue.specs.Releases.{ContentData, ReleaseData}
-use Rattle.catalogue.proofs.LastRelease.{last_of}
+use Rattle.catalogue.proofs.lemmas.LastRelease.{last_of}
 use Rattle.http_answer.specs.declared.answer.Answer.{Answer}
 use Rattle.json_forms.specs.declared.problem_type.Problem.TheVariants as problem
 use Rattle.target.specs.declared.asked_types.Param.{Param}

@@ -1,12 +1,6 @@
 pub mod Sorting
-pub mod Rising
+pub mod lemmas
 pub mod Lengths
 pub mod Standing
 pub mod AnyOrder
-pub mod PlainEntries
-pub mod NameIndex
 pub mod NamesHeld
-pub mod LastRelease
-pub mod Growing
-pub mod SameZones
-pub mod Tokens

@@ -8,7 +8,7 @@ use Rattle.catalogue.specs.Order.{is_before, put_by, rising_by}
 use Rattle.catalogue.specs.Releases.{ContentData}
 use Rattle.catalogue.specs.declared.holding.Catalogue.{Catalogue}
 use Rattle.catalogue.specs.declared.names.Name.{Name}
-use Rattle.catalogue.proofs.NameIndex.{joined_names, joined-names_of}
+use Rattle.catalogue.proofs.lemmas.NameIndex.{joined_names, joined-names_of}
 
 -- the texts of sorted items are the sorted texts
 texts_put : {X : Type 0} (text : X → List ℕ) (x : X) (xs : List X) → map text (put_by text x xs) ≡ put_by (λ t. t) (text x) (map text xs)

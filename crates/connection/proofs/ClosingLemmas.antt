@@ -6,7 +6,7 @@ use Rattle.http_answer.specs.declared.answer.Answer.{Answer}
 use Rattle.http_request.specs.Asks.{Asks, Bad, Gives, Rest}
 use Rattle.http_request.specs.Steps.{IsStep, Refused, Taken, Waiting}
 use Rattle.http_request.specs.declared.head.Head.{Head}
-use Rattle.http_request.proofs.StepLemmas.{one_step, refused≢taken, refused≢waiting, same_head, same_len, same_status, taken≢waiting}
+use Rattle.http_request.proofs.lemmas.StepLemmas.{one_step, refused≢taken, refused≢waiting, same_head, same_len, same_status, taken≢waiting}
 use Rattle.connection.proofs.ServedLemmas.{both_false}
 use Rattle.connection.specs.Replies.{is_last, replies}
 use Rattle.connection.specs.Served.{ByInput, ByRefusal, ByRequest, Finish, Finishes, IsClosed, Session, farewell}

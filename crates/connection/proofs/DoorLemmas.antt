@@ -7,7 +7,7 @@ use Rattle.std.proofs.lemmas.List.Concat.{flat_map-append}
 use Rattle.catalogue.specs.Releases.{ReleaseData}
 use Rattle.catalogue.specs.declared.holding.Catalogue.{Catalogue}
 use Rattle.publication.specs.Views.{DeskView}
-use Rattle.publication.proofs.Beginnings.{prefix_length, prefix_self, prefix_trans}
+use Rattle.td_base.proofs.lemmas.Beginnings.{prefix_length, prefix_self, prefix_trans}
 use Rattle.td_base.specs.Cause.{Rose}
 use Rattle.td_base.specs.DoorViews.{DoorContent, Finished}
 use Rattle.td_base.specs.Doors.{GivesNext, IsNewConn, IsUnfailed, handed_back}
@@ -23,7 +23,7 @@ use Rattle.connection.specs.Served.{NeverFall, Served}
 use Rattle.connection.specs.Serving.{ServedOver, Serves, answer_at}
 use Rattle.catalogue.specs.Holdings.{history_of}
 use Rattle.connection.proofs.PlaceLemmas.{all_append, all_weaker, fall_append}
-use Rattle.connection.proofs.ServingLemmas.{history_length, history_longer}
+use Rattle.catalogue.proofs.lemmas.HistoryLemmas.{history_length, history_longer}
 
 -- ---- lists of connections
 

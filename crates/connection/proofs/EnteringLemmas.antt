@@ -3,7 +3,7 @@ use Rattle.std.proofs.Common.{◌≡◌, ℕ, ◌+◌, ◌≤◌, List, [], ◌�
 use Rattle.std.specs.List.{AllByRecursion}
 use mathlib.Core.List.{IsPrefix}
 use Rattle.publication.specs.Views.{DeskView}
-use Rattle.publication.proofs.Beginnings.{prefix_self, prefix_trans, prefix_length}
+use Rattle.td_base.proofs.lemmas.Beginnings.{prefix_self, prefix_trans, prefix_length}
 use Rattle.td_base.specs.declared.report.End.{End}
 use Rattle.td_base.specs.declared.report.End.TheVariants as end
 use Rattle.connection.specs.Entering.{Enters, EntersAt, EntersEach, GoesOn, HasCounted}

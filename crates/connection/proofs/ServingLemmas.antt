@@ -3,14 +3,14 @@ use Rattle.std.proofs.Common.{◌≡◌, ℕ, ◌≤◌, List, [], ◌∷◌, �
 use Rattle.std.specs.Io.KnownBytes.{IsAtEnd}
 use mathlib.Core.List.{IsPrefix}
 use Rattle.actions.specs.Action.{action}
-use Rattle.catalogue.specs.Holdings.{StandsFor, release_held, history_of}
+use Rattle.catalogue.specs.Holdings.{StandsFor, history_of}
 use Rattle.catalogue.specs.Releases.{ReleaseData}
 use Rattle.catalogue.specs.declared.holding.Catalogue.{Catalogue}
 use Rattle.http_answer.specs.Replies.{fixed, reply}
 use Rattle.http_request.specs.Asks.{Asks, Gives, Rest}
 use Rattle.http_request.specs.declared.head.Head.{Head}
 use Rattle.publication.specs.Views.{DeskView}
-use Rattle.publication.proofs.Beginnings.{prefix_trans, prefix_length}
+use Rattle.td_base.proofs.lemmas.Beginnings.{prefix_trans, prefix_length}
 use Rattle.td_base.specs.Cause.{ConnReadFailed, ConnWriteFailed}
 use Rattle.td_base.specs.Views.{ConnView}
 use Rattle.td_base.specs.declared.report.End.{End}
@@ -28,7 +28,7 @@ use Rattle.connection.specs.declared.hearing.Heard.TheVariants as heard
 use Rattle.connection.proofs.Exchanging.{both, none}
 use Rattle.connection.proofs.ServedLemmas as served
 use Rattle.connection.proofs.ServedLemmas.{HasReplied}
-use Rattle.std.proofs.lemmas.List.{length-map, map-append}
+use Rattle.catalogue.proofs.lemmas.HistoryLemmas.{history_length, history_longer}
 
 -- a desk has served so far: what is held is what is left of the bytes that were read, after the requests that were
 -- replied to
@@ -59,12 +59,6 @@ starts desk role a = record {
 }
 
 -- ---- histories
-
-pub history_longer : (xs ys : List (Catalogue (List ℕ))) → IsPrefix xs ys → IsPrefix (history_of xs) (history_of ys)
-history_longer xs ys p = (history_of p.0, sym (map-append (release_held (λ f. f)) xs p.0) ∙ ap history_of p.1)
-
-pub history_length : (xs : List (Catalogue (List ℕ))) → length (history_of xs) ≡ length xs
-history_length xs = length-map xs (release_held (λ f. f))
 
 -- a longer history has no fewer places
 size : (desk : DeskView (Catalogue (List ℕ))) (H : List ReleaseData) → IsPrefix (history_of desk.seen) H → length desk.seen ≤ length H

@@ -6,5 +6,5 @@ pub mod LookLemmas
 pub mod MemberLemmas
 pub mod ReadLemmas
 pub mod ScanLemmas
-pub mod StepLemmas
+pub mod lemmas
 pub mod TakingLemmas

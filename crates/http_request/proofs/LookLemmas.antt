@@ -13,7 +13,7 @@ use Rattle.http_request.specs.declared.reading.Reading.{Reading}
 use Rattle.http_request.specs.declared.reading.Reading.TheVariants as reading
 use Rattle.http_request.proofs.EndLemmas.{feeds-take}
 use Rattle.http_request.proofs.ScanLemmas.{scan_open}
-use Rattle.http_request.proofs.StepLemmas.{end_within_list, window_of, no_end}
+use Rattle.http_request.proofs.lemmas.StepLemmas.{end_within_list, window_of, no_end}
 
 -- nothing ends in the bytes
 full_is : (bytes : List ℕ) (scan : Scan) → IsScanned bytes scan → scan.seen ≡ length bytes

@@ -13,7 +13,7 @@ use Rattle.http_request.specs.Taking.{HasForm, HasStatus, IsRefusal, LeavesFewer
 use Rattle.http_request.specs.declared.head.Head.{Head}
 use Rattle.http_request.specs.declared.head.Next.{Next}
 use Rattle.http_request.specs.declared.head.Next.TheVariants as next
-use Rattle.http_request.proofs.StepLemmas.{one_step, taken≢waiting, refused≢taken, refused≢waiting, same_status, same_head, taken_within, taken_some, verdict_waits}
+use Rattle.http_request.proofs.lemmas.StepLemmas.{one_step, taken≢waiting, refused≢taken, refused≢waiting, same_status, same_head, taken_within, taken_some, verdict_waits}
 
 -- where a refusal stands, nothing else is answered
 pub only_bad : (old : List ℕ) (n : Next) (new : List ℕ) (status : ℕ) → Steps old n new → IsStep old (Refused status) → n ≡ next.Bad status

@@ -1,3 +1,3 @@
 pub mod FoldLemmas
 pub mod LineLemmas
-pub mod LawLemmas
+pub mod lemmas

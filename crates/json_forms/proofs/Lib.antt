@@ -2,12 +2,7 @@ pub mod Begun
 pub mod CapabilitiesReads
 pub mod ExpansionReads
 pub mod Integers
-pub mod JsonLemmas
+pub mod lemmas
 pub mod LeapReads
-pub mod ListReads
-pub mod ListSteps
-pub mod PlainUtf8
-pub mod PlainStamps
-pub mod ProblemReads
 pub mod ReadBack
 pub mod TreeTokens

@@ -13,14 +13,14 @@ ghost use Rattle.json_forms.specs.ListDocument.{list_data, list_document};
 ghost use Rattle.json_forms.specs.ProblemDocument.{problem_data, problem_document, problem_in};
 
 /// The text of a list reads as the tree that it is the text of.
-#[tactic(auto, using(crate::proofs::ListReads::list_reads))]
+#[tactic(auto, using(crate::proofs::lemmas::ListReads::list_reads))]
 pub fn list_reads_back()
     ensures { (token : List ℕ) (zones : List ListZone)
         → read (list_document token zones) ≡ Some (list_data token zones) }
 {}
 
 /// The text of a problem reads as the tree that it is the text of, and tells of that problem.
-#[tactic(auto, using(crate::proofs::ProblemReads::problem_reads, crate::proofs::ProblemReads::problem_found))]
+#[tactic(auto, using(crate::proofs::lemmas::ProblemReads::problem_reads, crate::proofs::lemmas::ProblemReads::problem_found))]
 pub fn problem_reads_back()
     ensures tree { (problem : Problem)
         → read (problem_document problem) ≡ Some (problem_data problem) }

@@ -107,7 +107,7 @@ fn put_step(out: &mut Writer, step: LeapStep) -> Result<(), NoMemory>
 }
 
 /// Writes a member whose value is the date of a day that is counted from 1970-01-01.
-#[tactic(auto, using(crate::proofs::PlainStamps::date_is_plain))]
+#[tactic(auto, using(crate::proofs::lemmas::PlainStamps::date_is_plain))]
 fn put_date(out: &mut Writer, name: &str, day: i64) -> Result<(), NoMemory>
     requires { IsWithinBounds (start_of day) }
     ensures tokens { OnOk result

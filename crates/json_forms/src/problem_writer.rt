@@ -8,7 +8,7 @@ use std::alloc::Global;
 use td_base::{Bytes, NoMemory};
 
 /// Appends the problem as JSON (RFC 7807, section 3.1).
-#[tactic(auto, using(crate::proofs::ProblemReads::problem_has_no_float), unfolding(crate::specs::ProblemDocument::problem_document))]
+#[tactic(auto, using(crate::proofs::lemmas::ProblemReads::problem_has_no_float), unfolding(crate::specs::ProblemDocument::problem_document))]
 pub fn problem_text(alloc: Global, out: &mut Bytes, problem: Problem) -> Result<(), NoMemory>
     ensures ok { OnOk result (out.new ≡ out.old ++ problem_document problem) }
     ensures err { OnErr result (out.new ≡ out.old) }

@@ -39,7 +39,7 @@ pub(crate) fn put_member(out: &mut Writer, name: &str, text: &[u8]) -> Result<()
 }
 
 /// Writes a member whose value is the text of a moment.
-#[tactic(auto, using(crate::proofs::PlainStamps::stamp_is_plain))]
+#[tactic(auto, using(crate::proofs::lemmas::PlainStamps::stamp_is_plain))]
 pub(crate) fn put_moment(out: &mut Writer, name: &str, moment: Moment) -> Result<(), NoMemory>
     requires { IsWithinBounds moment.seconds }
     ensures tokens { OnOk result (out.new.tokens

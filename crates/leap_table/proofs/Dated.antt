@@ -6,11 +6,11 @@ use Rattle.std.proofs.lemmas.Bool.Decides.{nat_tests}
 use Rattle.std.proofs.lemmas.Int.{ints}
 use Rattle.td_base.specs.Names.{is_printable, IsPlain}
 use Rattle.td_base.specs.FirstFault.{least}
-use Rattle.td_base.proofs.FaultLemmas.{unmapped}
-use Rattle.td_base.proofs.LeastLemmas.{least_clear}
+use Rattle.td_base.proofs.lemmas.FaultLemmas.{unmapped}
+use Rattle.td_base.proofs.lemmas.LeastLemmas.{least_clear}
 use Rattle.td_civil.specs.Bounds.{IsWithinBounds}
 use Rattle.td_civil.specs.Reading.{is_date_text, date_spelling}
-use Rattle.td_civil.proofs.DateText.{judged_date}
+use Rattle.td_civil.proofs.lemmas.DateText.{judged_date}
 use Rattle.catalogue.specs.declared.release.LeapStep.{LeapStep}
 use Rattle.tzif_reader.specs.LeapSteps.{line_at, line_before, second_of, is_expiry, is_no_line, cause_of, step_of, leap_fault, leap_steps}
 use Rattle.tzif_reader.specs.declared.zone_file.LeapLine.{LeapLine}

@@ -2,7 +2,7 @@
 use Rattle.std.specs.Prelude.{find}
 use Rattle.std.specs.List.{range_with_len, flat_map}
 use Rattle.std.proofs.Common.{◌≡◌, ℕ, suc, ◌+◌, ◌-◌, ◌<◌, ◌≤◌, Bool, true, false, not, ◌&&◌, ◌||◌, List, [], ◌∷◌, ◌++◌, length, ℤ, pos, None, Some, refl, sym, ap, ◌∙◌, arith, append_assoc, append-nil}
-use Rattle.td_base.proofs.LeastLemmas.{least_step, least_found, least_none}
+use Rattle.td_base.proofs.lemmas.LeastLemmas.{least_step, least_found, least_none}
 use Rattle.td_base.specs.FirstFault.{least}
 use Rattle.catalogue.specs.declared.release.LeapStep.{LeapStep}
 use Rattle.tzif_reader.specs.LeapSteps.{line_before, is_step, is_expiry, is_midnight, is_no_line, cause_of, step_of, leap_fault, leap_steps}

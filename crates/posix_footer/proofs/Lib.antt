@@ -1,12 +1,7 @@
 pub mod Again
 pub mod AgainWhole
-pub mod ChangeLemmas
+pub mod lemmas
 pub mod DaylightLemmas
 pub mod Found
 pub mod FoundWhole
-pub mod Lawfulness
-pub mod NextLemmas
-pub mod OnsetLemmas
 pub mod Runs
-pub mod StateLemmas
-pub mod YearLemmas

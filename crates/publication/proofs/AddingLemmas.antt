@@ -8,7 +8,8 @@ use prog.Atomic.{either}
 use Rattle.logbook.specs.Pages.{Cell, cell, keeps, no_nib, step, Moves, Goes}
 use Rattle.publication.specs.Histories.{Stand, Sealed, values, ended_in}
 use Rattle.publication.specs.HistoryRule.{HistoryHolds, Adds}
-use Rattle.publication.proofs.Beginnings.{prefix_whole, stand_snoc, values_more, values_marked, sealed_more}
+use Rattle.td_base.proofs.lemmas.Beginnings.{prefix_whole}
+use Rattle.publication.proofs.Beginnings.{stand_snoc, values_more, values_marked, sealed_more}
 
 module _ {V E : Type 0} (last : V → E) (stands : V → List E → Type 0) where
   -- e may be added to what was seen

@@ -4,6 +4,7 @@ use Rattle.std.proofs.Common.{append_assoc, length-append}
 use Rattle.std.proofs.lemmas.List.{append-nil, length-map}
 use Rattle.std.specs.List.{last_or}
 use mathlib.Core.List.{IsPrefix}
+use Rattle.td_base.proofs.lemmas.Beginnings.{prefix_length, prefix_shorter}
 use Rattle.publication.specs.Histories.{values, ended_in, Sealed, StandFrom, Stand}
 
 no_items : {A : Type 0} (xs : List A) → length xs ≡ 0 → xs ≡ []
@@ -11,35 +12,6 @@ no_items [] e = refl
 no_items (x ∷ xs) e = absurd (omega (arith, e))
 
 module _ {A : Type 0} where
-  pub prefix_self : (xs : List A) → IsPrefix xs xs
-  prefix_self xs = ([], append-nil xs)
-
-  pub prefix_trans : (xs ys zs : List A) → IsPrefix xs ys → IsPrefix ys zs → IsPrefix xs zs
-  prefix_trans xs ys zs p q = (p.0 ++ q.0, sym (append_assoc xs p.0 q.0) ∙ (ap (λ w. w ++ q.0) p.1 ∙ q.1))
-
-  pub prefix_more : (xs ys zs : List A) → IsPrefix xs ys → IsPrefix xs (ys ++ zs)
-  prefix_more xs ys zs p = prefix_trans xs ys (ys ++ zs) p (zs, refl)
-
-  pub prefix_length : (xs ys : List A) → IsPrefix xs ys → length xs ≤ length ys
-  prefix_length xs ys p = let e = ap length p.1 in omega (arith, length-append xs p.0, e)
-
-  -- of two beginnings of one list the shorter begins the longer
-  pub prefix_shorter : (xs ys zs : List A) → IsPrefix xs zs → IsPrefix ys zs → length xs ≤ length ys → IsPrefix xs ys
-  prefix_shorter [] ys zs p q le = (ys, refl)
-  prefix_shorter (x ∷ xs) [] zs p q le = absurd (omega arith)
-  prefix_shorter (x ∷ xs) (y ∷ ys) [] p q le = absurd (cc (p.1))
-  prefix_shorter (x ∷ xs) (y ∷ ys) (z ∷ zs) p q le =
-      let heads : x ≡ y = cc (p.1, q.1) in
-      let rest = prefix_shorter xs ys zs (p.0, cc (p.1)) (q.0, cc (q.1)) (omega arith) in
-      (rest.0, cc (heads, rest.1))
-
-  pub prefix_whole : (xs ys : List A) → IsPrefix xs ys → length ys ≤ length xs → xs ≡ ys
-  prefix_whole [] [] p le = refl
-  prefix_whole [] (y ∷ ys) p le = absurd (omega arith)
-  prefix_whole (x ∷ xs) [] p le = absurd (cc (p.1))
-  prefix_whole (x ∷ xs) (y ∷ ys) p le = let heads : x ≡ y = cc (p.1) in let rest =
-      prefix_whole xs ys (p.0, cc (p.1)) (omega arith) in cc (heads, rest)
-
   last_snoc : (o : Option A) (xs : List A) (x : A) → last_or o (xs ++ x ∷ []) ≡ Some x
   last_snoc o [] x = refl
   last_snoc o (y ∷ ys) x = last_snoc (Some y) ys x

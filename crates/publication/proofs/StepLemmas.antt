@@ -11,7 +11,7 @@ use Rattle.publication.specs.declared.view.SeatRole.{SeatRole}
 use Rattle.publication.specs.declared.view.SeatRole.TheVariants.{Spent, Publisher, Desk}
 use Rattle.publication.specs.ShownRule.{no_home, spent, FitsAs, opened, told, taken_over, entered_view, logged, homed, ShownHolds, Opens, Publishes}
 use Rattle.publication.specs.ShownRule.{Enters}
-use Rattle.publication.proofs.Beginnings.{prefix_self, prefix_trans, prefix_length}
+use Rattle.td_base.proofs.lemmas.Beginnings.{prefix_self, prefix_trans, prefix_length}
 
 module _ {V : Type 0} where
   -- every seat fits once the one that moved does, and the others do

@@ -10,7 +10,7 @@ use Rattle.posix_footer.specs.Lawful.{IsLawfulDate}
 use Rattle.recurrence.specs.RuleOfDate.{place_of}
 use Rattle.recurrence.specs.SameDates.{AreApart}
 use Rattle.recurrence.proofs.Carrying.{moved_is}
-use Rattle.recurrence.proofs.InYear.{Gap, places_apart, gap_is}
+use Rattle.recurrence.proofs.lemmas.InYear.{Gap, places_apart, gap_is}
 use Rattle.recurrence.proofs.Months.{leap_2001, leap_2004}
 use Rattle.recurrence.proofs.Rows.{Keeps}
 use Rattle.recurrence.proofs.SameDates.{most_true}

@@ -18,7 +18,7 @@ use Rattle.recurrence.specs.Valid.{IsValidForm}
 use Rattle.posix_footer.specs.Carried.{moved_by, is_by_number}
 use Rattle.posix_footer.specs.Onset.{first_place, more_places}
 use Rattle.recurrence.specs.RuleOfDate.{place_of, form_of, turned}
-use Rattle.posix_footer.proofs.OnsetLemmas.{month_day_is, named}
+use Rattle.posix_footer.proofs.lemmas.OnsetLemmas.{month_day_is, named}
 use Rattle.recurrence.proofs.Places.{first_early, first_late}
 use Rattle.recurrence.proofs.Rows.{Keeps, IsRowOf, IsSpotOf, spot_of, row_of, nth_of}
 use Rattle.recurrence.proofs.Steady.{IsEarly, IsLate, IsSteady}

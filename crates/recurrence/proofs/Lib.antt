@@ -1,9 +1,7 @@
-pub mod AllYear
+pub mod lemmas
 pub mod Apart
 pub mod Carrying
-pub mod InYear
 pub mod Months
-pub mod Onsets
 pub mod Places
 pub mod Rows
 pub mod Said

@@ -6,7 +6,7 @@ use Rattle.jiff_core.proofs.SignedLemmas.{signed_arith}
 use Rattle.jiff_core.proofs.MarchLemmas.{leap_day, day_count-early}
 use Rattle.jiff_core.proofs.CalendarLemmas.{days_of_months_table, days_of_months-zero, days_of_months_mono, day_count-year_is, day_count-day_of_year}
 use Rattle.td_civil.specs.Calendar.{Civil, date_of}
-use Rattle.td_civil.proofs.Counting.{date_of_counts}
+use Rattle.td_civil.proofs.lemmas.Counting.{date_of_counts}
 use Rattle.recurrence.specs.RuleOfDate.{common_date}
 
 pub leap_2001 : leap_day (pos 2001) ≡ 0

@@ -11,8 +11,8 @@ use Rattle.recurrence.specs.declared.rule_types.Carried.TheVariants as value
 use Rattle.recurrence.specs.declared.rule_types.RuleBeyond.{RuleBeyond}
 use Rattle.recurrence.specs.Occurs.{Says}
 use Rattle.recurrence.specs.RuleOfDate.{rule_of, carried_if_any, carry_if_any, carry_of}
-use Rattle.recurrence.proofs.AllYear.{all_year_daylight}
-use Rattle.recurrence.proofs.Onsets.{keeps_onsets}
+use Rattle.recurrence.proofs.lemmas.AllYear.{all_year_daylight}
+use Rattle.recurrence.proofs.lemmas.Onsets.{keeps_onsets}
 
 -- an answer by whether it is beyond
 abbrev result_of : Bool → Carried → Result Carried RuleBeyond

@@ -11,7 +11,7 @@ use Rattle.release_check.specs.Paths.{path_in}
 use Rattle.release_check.specs.ZoneFaults.{file_fault}
 use Rattle.release_check.specs.declared.check_fault.CheckFault.{CheckFault}
 use Rattle.release_check.specs.declared.check_fault.CheckFault.TheVariants as fault
-use Rattle.release_check.proofs.Prefixes.{content_read, content_refused, content_absent}
+use Rattle.release_check.proofs.lemmas.Prefixes.{content_read, content_refused, content_absent}
 use Rattle.release_check.proofs.ZoneFiles.{sound_file}
 
 -- the zones read before, with those that the rest gives

@@ -7,7 +7,7 @@ use Rattle.std.proofs.lemmas.Str.Ascii.{IsAscii-from_all}
 use Rattle.td_civil.specs.Bounds.{has_meaning}
 use Rattle.td_civil.specs.Texts.{text_of}
 use Rattle.td_civil.specs.declared.moment_type.Moment.{Moment}
-use Rattle.td_civil.proofs.TextBytes.{text_all}
+use Rattle.td_civil.proofs.lemmas.TextBytes.{text_all}
 use Rattle.release_check.specs.FaultText.{fault_text, readable, shown_text, stamp_text}
 use Rattle.release_check.specs.declared.check_fault.CheckFault.{CheckFault}
 use Rattle.release_check.specs.declared.check_fault.CheckFault.TheVariants as fault

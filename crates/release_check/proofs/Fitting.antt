@@ -18,16 +18,16 @@ use Rattle.td_civil.specs.declared.moment_type.Moment.{Moment}
 use Rattle.td_civil.specs.declared.moment_type.TheConstants.{LO, HI}
 use Rattle.catalogue.specs.Histories.{has_name}
 use Rattle.catalogue.specs.declared.release.Leaps.{Leaps}
-use Rattle.catalogue.proofs.NameIndex.{each_unsorted}
+use Rattle.catalogue.proofs.lemmas.NameIndex.{each_unsorted}
 use Rattle.std.proofs.lemmas.Int.{ints}
 use Rattle.td_civil.specs.Reading.{is_date_text}
-use Rattle.release_manifest.proofs.Expiry.{expiry_is_date}
+use Rattle.release_manifest.proofs.lemmas.Expiry.{expiry_is_date}
 use Rattle.release_manifest.specs.declared.manifest_type.ManifestLeaps.{ManifestLeaps}
 use Rattle.release_manifest.specs.declared.manifest_fault.Path.TheVariants as path
 use Rattle.release_check.specs.Before.{Before, Follows}
 use Rattle.release_check.specs.HistoryFaults.{first_missing, stamp_fault, drop_fault, place_fault}
 use Rattle.release_check.proofs.Missing.{there, gone}
-use Rattle.catalogue.proofs.Rising.{each_sorted}
+use Rattle.catalogue.proofs.lemmas.Rising.{each_sorted}
 use Rattle.release_manifest.specs.Reading.{IsManifestText}
 use Rattle.release_manifest.specs.declared.manifest_type.Manifest.{Manifest}
 use Rattle.release_manifest.specs.declared.manifest_type.ManifestZone.{ManifestZone}

@@ -22,7 +22,7 @@ use Rattle.release_check.specs.declared.check_fault.CheckFault.TheVariants as fa
 use Rattle.release_check.proofs.Contents.{zones_of_folder}
 use Rattle.release_check.proofs.Fitting.{gave, follows, formed_read, release_told, release_refused_early, release_refused_late, release_refused_last, sound_release}
 use Rattle.release_check.proofs.LeapFiles.{sound_table}
-use Rattle.release_check.proofs.Prefixes.{manifest_text_fault-prefix, manifest-prefix}
+use Rattle.release_check.proofs.lemmas.Prefixes.{manifest_text_fault-prefix, manifest-prefix}
 
 -- a fault of the manifest's text
 pub refused_text : (text : List ℕ) (f : ManifestFault) → (f ≢ manifest.NoMemory → manifest_text_fault text ≡ Some f) → RefusesText text (of_manifest f)

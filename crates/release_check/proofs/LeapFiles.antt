@@ -4,7 +4,7 @@ use Rattle.std.specs.Option.{option_map}
 use Rattle.std.proofs.lemmas.List.{take_all, length-take-le}
 use Rattle.td_base.specs.FirstFault.{◌or_else◌}
 use Rattle.td_base.specs.Files.{File, file_at}
-use Rattle.td_base.proofs.FaultLemmas.{first, second, unmapped}
+use Rattle.td_base.proofs.lemmas.FaultLemmas.{first, second, unmapped}
 use Rattle.td_civil.specs.Reading.{is_date_text}
 use Rattle.tzif_reader.specs.Cut.{lists_of}
 use Rattle.tzif_reader.specs.Faults.{first_fault}
@@ -28,7 +28,7 @@ use Rattle.release_check.specs.ManifestFaults.{has_date}
 use Rattle.release_check.specs.Paths.{path_in}
 use Rattle.release_check.specs.declared.check_fault.CheckFault.{CheckFault}
 use Rattle.release_check.specs.declared.check_fault.CheckFault.TheVariants as fault
-use Rattle.release_check.proofs.Prefixes.{fits_or_longer, too_large}
+use Rattle.release_check.proofs.lemmas.Prefixes.{fits_or_longer, too_large}
 
 -- the fault of the file, by those of its parts
 abbrev in_order : Option TzifFault → Option LeapCause → Option CheckFault

@@ -2,7 +2,7 @@ pub mod Judgement
 pub mod Missing
 pub mod Looking
 pub mod ZoneFiles
-pub mod Prefixes
+pub mod lemmas
 pub mod LeapFiles
 pub mod Contents
 pub mod Names

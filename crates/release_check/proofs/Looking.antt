@@ -3,7 +3,7 @@ use Rattle.std.proofs.Common.{◌≡◌, List, Option, None, Some, Result, Ok, E
 use Rattle.td_base.specs.Cause.{StoreFailed}
 use Rattle.td_base.specs.Files.{File}
 use Rattle.td_base.specs.Views.{StoreView}
-use Rattle.td_base.proofs.LaterLemmas.{store_refl, store_trans}
+use Rattle.td_base.proofs.lemmas.LaterLemmas.{store_refl, store_trans}
 use Rattle.release_check.specs.Found.{Finds}
 use Rattle.release_check.specs.declared.check_fault.CheckFault.{CheckFault}
 use Rattle.release_check.specs.declared.check_fault.CheckFault.TheVariants as fault

@@ -1,4 +1,4 @@
 pub mod CheckLemmas
 pub mod MeaningLemmas
 pub mod ReadingLemmas
-pub mod Expiry
+pub mod lemmas

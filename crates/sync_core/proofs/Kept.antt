@@ -17,7 +17,7 @@ use Rattle.sync_core.specs.Mirrors.{MirrorState, ZoneFile, entry_name, file_name
 use Rattle.sync_core.specs.Names.{put_in, put_all, at_text}
 use Rattle.sync_core.specs.Published.{bytes_of}
 use Rattle.sync_core.specs.Steps.{after_file, is_alias, kept_entries, kept_files, rising_zones, with_changes}
-use Rattle.sync_core.proofs.Puts.{turned, same_text, Rising, rising_filter, rising_put_all, put_rising}
+use Rattle.sync_core.proofs.lemmas.Puts.{turned, same_text, Rising, rising_filter, rising_put_all, put_rising}
 
 abbrev pub state : Option (List ℕ) → Option (List ℕ) → List ListZone → List ZoneFile → List (List ℕ) → MirrorState
 state token coming entries files pending = record { token = token; coming = coming; entries = entries; files = files; pending = pending }

@@ -1,4 +1,4 @@
-pub mod Puts
+pub mod lemmas
 pub mod Merges
 pub mod Kept
 pub mod Newest

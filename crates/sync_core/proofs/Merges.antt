@@ -7,7 +7,7 @@ use Rattle.json_forms.specs.declared.zone_list.ListZone.{ListZone}
 use Rattle.sync_core.specs.Keeping.{order_of}
 use Rattle.sync_core.specs.Mirrors.{entry_name}
 use Rattle.sync_core.specs.Names.{put_all}
-use Rattle.sync_core.proofs.Puts.{Rising, before_all, put_by, front_stays}
+use Rattle.sync_core.proofs.lemmas.Puts.{Rising, before_all, put_by, front_stays}
 
 module _ {X : Type 0} (text : X → List ℕ) where
   -- nothing is known

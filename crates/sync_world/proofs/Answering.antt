@@ -8,22 +8,22 @@ use Rattle.catalogue.specs.Histories.{EntryData, IsHistory, meta, token_of}
 use Rattle.catalogue.specs.Lookups.{delta, place_named, place_of}
 use Rattle.catalogue.specs.Plain.{IsPlainEntry}
 use Rattle.catalogue.specs.Releases.{ReleaseData}
-use Rattle.catalogue.proofs.PlainEntries.{entries_plain, token_plain}
+use Rattle.catalogue.proofs.lemmas.PlainEntries.{entries_plain, token_plain}
 use Rattle.http_request.specs.declared.head.Head.{Head}
 use Rattle.json_forms.specs.ListDocument.{list_data, list_document}
 use Rattle.json_forms.specs.ListReading.{IsListText}
 use Rattle.json_forms.specs.PlainTexts.{IsPlainZone}
 use Rattle.json_forms.specs.declared.problem_type.Problem.TheVariants.{InvalidChangedsince}
-use Rattle.json_forms.proofs.JsonLemmas.{value_read}
-use Rattle.json_forms.proofs.ListReads.{list_reads}
-use Rattle.json_forms.proofs.ProblemReads.{problem_found}
+use Rattle.json_forms.proofs.lemmas.JsonLemmas.{value_read}
+use Rattle.json_forms.proofs.lemmas.ListReads.{list_reads}
+use Rattle.json_forms.proofs.lemmas.ProblemReads.{problem_found}
 use Rattle.target.specs.declared.asked_types.Param.TheVariants as param
 use Rattle.zone_meaning.specs.Lengths.{sound_labels, sound_lengths}
 use Rattle.zone_meaning.specs.Sound.{IsSound}
 use Rattle.actions.specs.Action.{action, answer_for}
 use Rattle.actions.specs.Getting.{get_answer, got, got_as}
 use Rattle.actions.specs.Listing.{listed, list_of as list_text, change_list, changes_since, list_answer}
-use Rattle.actions.proofs.Chosen.{listed_is_plain}
+use Rattle.actions.proofs.lemmas.Chosen.{listed_is_plain}
 use Rattle.sync_core.specs.declared.heard_type.Heard.{Heard}
 use Rattle.sync_world.specs.Hearing.{Hears, IsHeadOf, action_service, asked_by, file_bytes}
 use Rattle.sync_world.specs.Primaries.{file_told, told, list_at, list_of, changes_at, changes_of}

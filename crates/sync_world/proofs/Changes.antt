@@ -5,14 +5,14 @@ use Rattle.std.specs.List.{list_all, list_any, last_or, prefix_len, suffix_len}
 use Rattle.std.specs.Str.{bytes_eq}
 use Rattle.std.proofs.lemmas.List.{reverse-append, length-reverse, get_or_append_left, get_or_default}
 use Rattle.std.proofs.lemmas.List.Folds.{list_all-append}
-use Rattle.catalogue.proofs.Growing.{prefix_all}
+use Rattle.catalogue.proofs.lemmas.Growing.{prefix_all}
 use Rattle.catalogue.specs.Releases.{ContentData, ReleaseData, names_of}
 use Rattle.catalogue.specs.Histories.{IsHistory, EntryData, entry_from, entries_of, has_content, has_name, last_change, last_release, meta}
 use Rattle.sync_world.proofs.Looks.{known}
 use Rattle.actions.specs.Listing.{listed}
 use Rattle.catalogue.specs.Lookups.{delta, zone_at}
 use Rattle.sync_world.specs.Primaries.{list_of, changes_of}
-use Rattle.sync_core.proofs.Puts.{bytes_same}
+use Rattle.sync_core.proofs.lemmas.Puts.{bytes_same}
 use Rattle.sync_world.proofs.Zones.{Distinct, has_text, entries_by, listed_by, changed_by, known_all}
 
 front_some : {X : Type 0} (p : X → Bool) (ys zs : List X) → list_all p ys ≡ false → prefix_len p (ys ++ zs) < length ys

@@ -6,7 +6,7 @@ use Rattle.std.specs.Str.{bytes_eq}
 use Rattle.std.proofs.lemmas.List.{take-append-drop}
 use Rattle.std.proofs.lemmas.List.Folds.{list_all-append}
 use Rattle.std.proofs.lemmas.Bool.{lt-ltb}
-use Rattle.sync_core.proofs.Puts.{Rising, Before, put_itself, same_bytes}
+use Rattle.sync_core.proofs.lemmas.Puts.{Rising, Before, put_itself, same_bytes}
 use Rattle.catalogue.specs.Releases.{ContentData, ReleaseData}
 use Rattle.catalogue.specs.Histories.{IsHistory, entry_from, has_content, last_change}
 use Rattle.json_forms.specs.declared.zone_list.ListZone.{ListZone}

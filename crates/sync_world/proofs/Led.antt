@@ -6,7 +6,7 @@ use Rattle.catalogue.specs.Releases.{ReleaseData}
 use Rattle.sync_core.specs.Mirrors.{entry_name}
 use Rattle.sync_core.specs.Names.{put_all}
 use Rattle.sync_core.specs.Steps.{is_alias, kept_entries}
-use Rattle.sync_core.proofs.Puts.{Rising, one_list, rising_filter, rising_put_all}
+use Rattle.sync_core.proofs.lemmas.Puts.{Rising, one_list, rising_filter, rising_put_all}
 use Rattle.sync_world.specs.Primaries.{IsPlace, changes_of, list_of}
 use Rattle.sync_world.proofs.Aliases.{cut, joined_at}
 use Rattle.sync_world.proofs.Changes.{changes_are}

@@ -7,7 +7,7 @@ use Rattle.catalogue.specs.Order.{IsRising}
 use Rattle.catalogue.specs.Releases.{ContentData, ReleaseData}
 use Rattle.sync_core.specs.Mirrors.{MirrorState, ZoneFile, entry_name, file_name}
 use Rattle.sync_core.specs.Names.{at_text}
-use Rattle.sync_core.proofs.Puts.{Rising, found_text, one_list}
+use Rattle.sync_core.proofs.lemmas.Puts.{Rising, found_text, one_list}
 use Rattle.sync_world.specs.Holding.{HoldsLast, file_of}
 use Rattle.sync_world.specs.Primaries.{Service, list_of, served_for}
 use Rattle.sync_world.proofs.Aliases.{cut}

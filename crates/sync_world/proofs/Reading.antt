@@ -11,14 +11,14 @@ use Rattle.td_civil.specs.Bounds.{HasMeaning, HasText}
 use Rattle.td_civil.specs.declared.moment_type.TheConstants.{LO, HI}
 use Rattle.td_civil.specs.Reading.{moment_in}
 use Rattle.td_civil.specs.Texts.{text_of}
-use Rattle.td_civil.proofs.Shown.{reads_back_lem}
+use Rattle.td_civil.proofs.lemmas.Shown.{reads_back_lem}
 use Rattle.json_forms.specs.JsonTexts.{json_in}
 use Rattle.json_forms.specs.ListDocument.{strings, with_aliases, zone_members, zone_data, list_data, list_document}
 use Rattle.json_forms.specs.ListReading as reading
 use Rattle.json_forms.specs.ListReading.{text_in, zone_in}
 use Rattle.json_forms.specs.declared.zone_list.ListDoc.{ListDoc}
 use Rattle.json_forms.specs.declared.zone_list.ListZone.{ListZone}
-use Rattle.json_forms.proofs.ListReads.{list_reads}
+use Rattle.json_forms.proofs.lemmas.ListReads.{list_reads}
 
 texts_back : (texts : List (List ℕ)) → reading.texts_of (items_of (map string texts)) ≡ texts
 texts_back [] = refl

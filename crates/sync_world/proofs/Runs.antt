@@ -5,7 +5,7 @@ use Rattle.td_base.specs.declared.report.Ask.TheVariants as ask
 use Rattle.catalogue.specs.Histories.{IsHistory, token_of}
 use Rattle.catalogue.specs.Lookups.{named, zone_at, zones_of}
 use Rattle.catalogue.specs.Releases.{ContentData, ReleaseData}
-use Rattle.catalogue.proofs.Growing.{history_grown}
+use Rattle.catalogue.proofs.lemmas.Growing.{history_grown}
 use Rattle.json_forms.specs.declared.zone_list.ListDoc.{ListDoc}
 use Rattle.sync_core.specs.Mirrors.{MirrorState, ask_for}
 use Rattle.sync_core.specs.declared.heard_type.Heard.{Heard}

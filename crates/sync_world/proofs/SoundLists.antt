@@ -8,11 +8,11 @@ use Rattle.serde_json.specs.Events.{items_len}
 use Rattle.serde_json.specs.View.{items_of}
 use Rattle.td_base.specs.Names.{is_identifier, is_label}
 use Rattle.td_civil.specs.Bounds.{HasMeaning}
-use Rattle.td_civil.proofs.Shown.{reads_back_lem}
+use Rattle.td_civil.proofs.lemmas.Shown.{reads_back_lem}
 use Rattle.catalogue.specs.Histories.{EntryData, IsHistory, IsRelease, entries_of, entry_of, last_change, last_release, meta}
 use Rattle.catalogue.specs.Releases.{ContentData, ReleaseData, names_of}
 use Rattle.catalogue.specs.declared.limits.TheConstants.{MOST_NAMES, MOST_ZONES}
-use Rattle.catalogue.proofs.LastRelease.{last_of}
+use Rattle.catalogue.proofs.lemmas.LastRelease.{last_of}
 use Rattle.json_forms.specs.ListDocument.{strings, with_aliases, zone_members, zone_data, list_data}
 use Rattle.json_forms.specs.ListReading.{alias_count, are_identifiers, entry_fault, has_text, is_entry, is_list, is_token, list_fault, name_count}
 use Rattle.json_forms.specs.declared.zone_list.ListZone.{ListZone}

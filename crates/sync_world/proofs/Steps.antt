@@ -14,7 +14,7 @@ use Rattle.sync_core.specs.Steps.{is_alias}
 use Rattle.std.specs.Option.{option_or}
 use Rattle.sync_world.specs.Primaries.{FindsPlaces, FindsNoOther, file_told, told, changes_at, list_at, list_of, changes_of, Service, served_for, IsPlace}
 use Rattle.catalogue.specs.Lookups.{named, zone_at, zones_of}
-use Rattle.sync_core.proofs.Puts.{Rising, bytes_same}
+use Rattle.sync_core.proofs.lemmas.Puts.{Rising, bytes_same}
 use Rattle.sync_world.proofs.Zones.{has_text, Role, a_zone, an_alias, no_name, IsZone, role, known_none}
 use Rattle.sync_world.proofs.Changes.{end, ends_distinct, still_named, at_change, changes_are}
 use Rattle.sync_world.proofs.Aliases.{zone_named, stays_at, cut, joined_at}

@@ -8,7 +8,7 @@ use Rattle.catalogue.specs.Histories.{EntryData, IsHistory, meta, token_of}
 use Rattle.catalogue.specs.Lookups.{delta, place_named, place_of}
 use Rattle.catalogue.specs.Plain.{IsPlainEntry}
 use Rattle.catalogue.specs.Releases.{ReleaseData}
-use Rattle.catalogue.proofs.PlainEntries.{entries_plain}
+use Rattle.catalogue.proofs.lemmas.PlainEntries.{entries_plain}
 use Rattle.http_request.specs.declared.head.Head.{Head}
 use Rattle.json_forms.specs.declared.zone_list.ListDoc.{ListDoc}
 use Rattle.negotiate.specs.Choices.{chosen, quality_of}

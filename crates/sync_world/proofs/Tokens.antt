@@ -4,7 +4,7 @@ use Rattle.catalogue.specs.Histories.{IsHistory, token_of}
 use Rattle.catalogue.specs.Lookups.{place_of}
 use Rattle.catalogue.specs.Releases.{ReleaseData}
 use Rattle.catalogue.specs.declared.limits.TheConstants.{MOST_PLACES}
-use Rattle.catalogue.proofs.Tokens.{place_found}
+use Rattle.catalogue.proofs.lemmas.Tokens.{place_found}
 use Rattle.zone_meaning.specs.Sound.{IsSound}
 use Rattle.sync_world.specs.Hearing.{action_service}
 use Rattle.sync_world.specs.Primaries.{FindsNoOther, FindsPlaces, IsPlace}

@@ -12,8 +12,8 @@ use Rattle.td_civil.specs.Texts.{text_of}
 use Rattle.json_forms.specs.ListDocument.{strings, with_aliases, zone_members, zone_data, list_data, list_document}
 use Rattle.json_forms.specs.PlainTexts.{IsPlainZone}
 use Rattle.json_forms.specs.declared.zone_list.ListZone.{ListZone}
-use Rattle.json_forms.proofs.PlainStamps.{stamp_is_plain}
-use Rattle.json_forms.proofs.PlainUtf8.{utf8_plain}
+use Rattle.json_forms.proofs.lemmas.PlainStamps.{stamp_is_plain}
+use Rattle.json_forms.proofs.lemmas.PlainUtf8.{utf8_plain}
 
 comma_utf8 : (later : Bool) → IsUtf8 (comma_if later)
 comma_utf8 true = IsUtf8-are_ascii (44 ∷ []) refl

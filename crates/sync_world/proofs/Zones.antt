@@ -7,14 +7,14 @@ use Rattle.std.specs.Cmp.Lexicographic.{pointwise, pointwise_decides}
 use Rattle.std.proofs.lemmas.List.Folds.{list_any-append}
 use Rattle.std.proofs.lemmas.Slice.Eq.{bytes_eq-Decides}
 use Rattle.catalogue.specs.Releases.{ContentData, ReleaseData, same_content, names_of}
-use Rattle.catalogue.proofs.SameZones.{same_is}
+use Rattle.catalogue.proofs.lemmas.SameZones.{same_is}
 use Rattle.catalogue.specs.Histories.{EntryData, entry_from}
 use Rattle.json_forms.specs.declared.zone_list.ListZone.{ListZone}
 use Rattle.sync_world.proofs.Looks.{known}
 use Rattle.sync_core.specs.Steps.{is_alias}
 use Rattle.actions.specs.Listing.{listed}
 use Rattle.catalogue.specs.Lookups.{named, zone_at}
-use Rattle.sync_core.proofs.Puts.{same_bytes, bytes_same}
+use Rattle.sync_core.proofs.lemmas.Puts.{same_bytes, bytes_same}
 
 and_both : (a b : Bool) → (a && b) ≡ true → (a ≡ true) × (b ≡ true)
 and_both true b h = (refl, h)

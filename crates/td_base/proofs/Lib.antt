@@ -1,11 +1,8 @@
 pub mod DoorLemmas
-pub mod FaultLemmas
+pub mod lemmas
 pub mod FaultyLemmas
-pub mod LaterLemmas
-pub mod LeastLemmas
 pub mod NameCutLemmas
 pub mod NetworkLemmas
-pub mod PlainLemmas
 pub mod PrefixLemmas
 pub mod StoredLemmas
 pub mod TransferLemmas

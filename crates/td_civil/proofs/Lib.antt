@@ -1,9 +1,2 @@
 pub mod Bounds
-pub mod Counting
-pub mod DateText
-pub mod ReadBack
-pub mod SameStates
-pub mod Shown
-pub mod Spelled
-pub mod TextBytes
-pub mod Years
+pub mod lemmas

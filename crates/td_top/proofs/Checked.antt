@@ -9,7 +9,7 @@ use Rattle.td_base.specs.Later.{LaterStore, LaterSink}
 use Rattle.td_base.specs.Transfer.{WritesAll}
 use Rattle.td_base.specs.Views.{SinkView, SourceView, StoreView}
 use Rattle.td_base.specs.declared.transfer.Written.TheVariants as written
-use Rattle.td_base.proofs.LaterLemmas.{source_refl, sink_refl, sink_trans, store_refl, store_trans, writes_all_later, prints_later}
+use Rattle.td_base.proofs.lemmas.LaterLemmas.{source_refl, sink_refl, sink_trans, store_refl, store_trans, writes_all_later, prints_later}
 use Rattle.catalogue.specs.Holdings.{StandsFor, release_held}
 use Rattle.catalogue.specs.Releases.{ReleaseData}
 use Rattle.catalogue.specs.declared.holding.Catalogue.{Catalogue}

@@ -8,7 +8,7 @@ use Rattle.td_base.specs.Outside.{FileTells, Looks}
 use Rattle.td_base.specs.Views.{StoreView, SourceView, SinkView}
 use Rattle.td_base.specs.declared.outside.FileRead.TheVariants as looked
 use Rattle.td_base.specs.declared.transfer.Written.TheVariants as written
-use Rattle.td_base.proofs.LaterLemmas.{source_refl, sink_refl, looks_later, writes_all_later, prints_later}
+use Rattle.td_base.proofs.lemmas.LaterLemmas.{source_refl, sink_refl, looks_later, writes_all_later, prints_later}
 use Rattle.catalogue.specs.Releases.{ReleaseData}
 use Rattle.catalogue.specs.declared.holding.Catalogue.{Catalogue}
 use Rattle.release_check.specs.FaultText.{fault_text}

@@ -6,14 +6,14 @@ use Rattle.std.proofs.lemmas.List.Elements.{All-pop, All-weaker}
 use Rattle.td_base.specs.Files.{File}
 use Rattle.td_base.specs.Later.{LaterStore}
 use Rattle.td_base.specs.Views.{StoreView}
-use Rattle.td_base.proofs.LaterLemmas.{store_trans}
+use Rattle.td_base.proofs.lemmas.LaterLemmas.{store_trans}
 use Rattle.catalogue.specs.Releases.{ReleaseData}
 use Rattle.catalogue.specs.declared.holding.Catalogue.{Catalogue}
 use Rattle.installer.specs.Installing.{GrowsBy, Installed, Installs}
 use Rattle.catalogue.specs.Holdings.{history_of}
 use Rattle.installer.specs.declared.install_fault.InstallFault.{InstallFault}
 use Rattle.installer.specs.declared.install_fault.InstallFault.TheVariants as install
-use Rattle.json_forms.proofs.ListSteps.{take_next}
+use Rattle.json_forms.proofs.lemmas.ListSteps.{take_next}
 use Rattle.logbook.specs.Pages.{Book}
 use Rattle.publication.specs.Views.{DeskView, IsNewDesk}
 use Rattle.release_check.specs.Found.{Blames}

@@ -5,13 +5,14 @@ use Rattle.td_base.specs.Cause.{Rose, RoseBy}
 use Rattle.td_base.specs.Files.{File}
 use Rattle.td_base.specs.Later.{LaterStore}
 use Rattle.td_base.specs.Views.{StoreView}
-use Rattle.td_base.proofs.LaterLemmas.{store_refl, store_trans}
+use Rattle.td_base.proofs.lemmas.LaterLemmas.{store_refl, store_trans}
 use Rattle.catalogue.specs.HeldZones.{held_content}
 use Rattle.catalogue.specs.Histories.{meta}
 use Rattle.catalogue.specs.Holdings.{release_held, zone_count, history_of}
 use Rattle.catalogue.specs.Releases.{ReleaseData}
 use Rattle.catalogue.specs.declared.holding.Catalogue.{Catalogue}
-use Rattle.catalogue.proofs.LastRelease.{last_of}
+use Rattle.catalogue.proofs.lemmas.HistoryLemmas.{history_length}
+use Rattle.catalogue.proofs.lemmas.LastRelease.{last_of}
 use Rattle.console.specs.Replies.{reply_text}
 use Rattle.console.specs.declared.line.Line.{Line}
 use Rattle.console.specs.declared.line.Line.TheVariants as line
@@ -20,7 +21,7 @@ use Rattle.console.specs.declared.said.Said.TheVariants as said
 use Rattle.installer.specs.Installing.{GrowsBy, Installs}
 use Rattle.installer.specs.declared.install_fault.InstallFault.{InstallFault}
 use Rattle.installer.specs.declared.install_fault.InstallFault.TheVariants as install
-use Rattle.publication.proofs.Beginnings.{prefix_length, prefix_self, prefix_trans}
+use Rattle.td_base.proofs.lemmas.Beginnings.{prefix_length, prefix_self, prefix_trans}
 use Rattle.release_check.specs.FaultText.{fault_text}
 use Rattle.release_check.specs.declared.check_fault.CheckFault.{CheckFault}
 use Rattle.release_check.specs.declared.check_fault.CheckFault.TheVariants as fault
@@ -45,9 +46,6 @@ session_trans a b c p q = record {
   published = prefix_trans a.installer.list b.installer.list c.installer.list p.published q.published;
   seen = prefix_trans a.desk.seen b.desk.seen c.desk.seen p.seen q.seen;
 }
-
-pub history_size : (xs : List (Catalogue (List ℕ))) → length (history_of xs) ≡ length xs
-history_size xs = length-map xs _
 
 -- a release has at most so many zones
 pub few_zones : (c : Catalogue (List ℕ)) → HasZoneHistory c → zone_count c ≤ 1024
@@ -107,7 +105,7 @@ is_shown s old new answer later same is = record {
   later = later;
   answers = λ whole start talk begins stands.
       let longer : length old.desk.seen ≤ length new.desk.seen = prefix_length old.desk.seen new.desk.seen later.seen in
-      let size = history_size new.desk.seen in (
+      let size = history_length new.desk.seen in (
         shown_to talk (length (history_of new.desk.seen)),
         record {
           store = stands.store;
@@ -138,7 +136,7 @@ is_installed s t old new dir answer history a installs same grows later knows sa
         record {
           store = store_trans start s t stands.store installs.later;
           published = sym now;
-          least = omega (arith, knows, history_size new.installer.list, size, length-append talk.published (grows.release ∷ []));
+          least = omega (arith, knows, history_length new.installer.list, size, length-append talk.published (grows.release ∷ []));
           unread = rose_by_later talk.unread start.faults s.faults t.faults stands.unread installs.later.later;
         },
         installed dir grows.release refl

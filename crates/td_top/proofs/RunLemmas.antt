@@ -5,7 +5,7 @@ use Rattle.td_base.specs.DoorViews.{DoorView, NetworkView}
 use Rattle.td_base.specs.Files.{File}
 use Rattle.td_base.specs.Later.{LaterStore}
 use Rattle.td_base.specs.Views.{SinkView, SourceView, StoreView}
-use Rattle.td_base.proofs.LaterLemmas.{sink_refl, source_refl, store_refl, store_trans}
+use Rattle.td_base.proofs.lemmas.LaterLemmas.{sink_refl, source_refl, store_refl, store_trans}
 use Rattle.catalogue.specs.Releases.{ReleaseData}
 use Rattle.catalogue.specs.declared.holding.Catalogue.{Catalogue}
 use Rattle.connection.specs.DoorWorks.{WorkView}

@@ -21,7 +21,7 @@ use Rattle.desk_pool.specs.Pool.{DoesEach}
 use Rattle.catalogue.specs.Holdings.{history_of}
 use Rattle.logbook.specs.Pages.{Book}
 use Rattle.publication.specs.Views.{DeskView}
-use Rattle.publication.proofs.Beginnings.{prefix_self}
+use Rattle.td_base.proofs.lemmas.Beginnings.{prefix_self}
 use Rattle.td_top.specs.Consoles.{ConsoleView, Halted, Ran}
 use Rattle.td_top.specs.Outside.{Outside}
 use Rattle.td_top.specs.Server.{ConnsTold, IsDone, LeavesStreams, OpensDoors, OpenedTold, ServesDoor, ServesDoors, no_door, one_more}
@@ -33,7 +33,7 @@ use Rattle.td_top.specs.declared.session.Session.{Session}
 use Rattle.td_top.specs.declared.status.Status.{Status}
 use Rattle.td_top.specs.declared.status.Status.TheVariants as status
 use Rattle.td_top.specs.declared.talking.TalkEnd.{TalkEnd}
-use Rattle.td_top.proofs.TalkLemmas.{history_longer}
+use Rattle.catalogue.proofs.lemmas.HistoryLemmas.{history_longer}
 
 -- ---- the talk
 

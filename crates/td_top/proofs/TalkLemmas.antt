@@ -3,19 +3,17 @@ use Rattle.std.proofs.Common.{◌≡◌, ℕ, ◌≤◌, List, [], ◌∷◌, �
 use Rattle.std.specs.Io.KnownBytes.{Consumes, IsAtEnd}
 use Rattle.std.specs.List.{AllByRecursion}
 use Rattle.std.proofs.KnownBytes.{Consumes-nil, Consumes-trans}
-use Rattle.std.proofs.lemmas.List.{map-append}
 use Rattle.std.proofs.lemmas.List.Concat.{flat_map-append}
-use mathlib.Core.List.{IsPrefix}
 use Rattle.td_base.specs.Cause.{SourceFailed}
 use Rattle.td_base.specs.Later.{LaterSink, LaterSource}
 use Rattle.td_base.specs.Transfer.{WritesAll}
 use Rattle.td_base.specs.Views.{SinkView, SourceView, StoreView}
 use Rattle.td_base.specs.declared.transfer.Written.{Written}
 use Rattle.td_base.specs.declared.transfer.Written.TheVariants as written
-use Rattle.td_base.proofs.LaterLemmas.{sink_trans, source_refl, source_then_failed, source_trans, store_refl, store_trans, writes_all_later}
-use Rattle.catalogue.specs.Holdings.{release_held, history_of}
+use Rattle.td_base.proofs.lemmas.LaterLemmas.{sink_trans, source_refl, source_then_failed, source_trans, store_refl, store_trans, writes_all_later}
+use Rattle.catalogue.specs.Holdings.{history_of}
 use Rattle.catalogue.specs.Releases.{ReleaseData}
-use Rattle.catalogue.specs.declared.holding.Catalogue.{Catalogue}
+use Rattle.catalogue.proofs.lemmas.HistoryLemmas.{history_length, history_longer}
 use Rattle.console.specs.Lines.{lines_of}
 use Rattle.console.specs.Replies.{reply_text}
 use Rattle.console.specs.Steps.{Gives}
@@ -23,7 +21,7 @@ use Rattle.console.specs.declared.line.Line.{Line}
 use Rattle.console.specs.declared.line.Line.TheVariants as line
 use Rattle.console.specs.declared.said.Said.{Said}
 use Rattle.console.specs.declared.said.Said.TheVariants as said
-use Rattle.publication.proofs.Beginnings.{prefix_trans}
+use Rattle.td_base.proofs.lemmas.Beginnings.{prefix_trans}
 use Rattle.td_top.specs.Outside.{outside}
 use Rattle.td_top.specs.Sessions.{AnswersLine, BeginsWhole, LaterSession}
 use Rattle.td_top.specs.Talk.{GoesOn, begun, last_token, more, none}
@@ -35,12 +33,9 @@ use Rattle.td_top.specs.declared.session.Session.{Session}
 use Rattle.td_top.specs.declared.talking.TalkEnd.{TalkEnd}
 use Rattle.td_top.specs.declared.talking.TalkEnd.TheVariants as end
 use Rattle.td_top.proofs.Checked.{cut_more, written_more}
-use Rattle.td_top.proofs.LineLemmas.{history_size, session_refl, session_trans}
+use Rattle.td_top.proofs.LineLemmas.{session_refl, session_trans}
 
 -- ---- histories
-
-pub history_longer : (xs ys : List (Catalogue (List ℕ))) → IsPrefix xs ys → IsPrefix (history_of xs) (history_of ys)
-history_longer xs ys p = (history_of p.0, sym (map-append (release_held (λ f. f)) xs p.0) ∙ ap history_of p.1)
 
 begins_before : (a b : Session) (whole : List ReleaseData) → LaterSession a b → BeginsWhole b whole → BeginsWhole a whole
 begins_before a b whole later begins = record {
@@ -94,7 +89,7 @@ nothing_asked s i o p x knows sink = record {
     record {
       store = store_refl s;
       published = refl;
-      least = omega (arith, history_size x.installer.list, knows);
+      least = omega (arith, history_length x.installer.list, knows);
       unread = omega arith;
     },
     none (begun (history_of x.installer.list)),

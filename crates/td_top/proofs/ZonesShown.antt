@@ -5,7 +5,7 @@ use Rattle.std.proofs.lemmas.List.{take_all, length-take-le}
 use Rattle.td_base.specs.Files.{File, file_at}
 use Rattle.td_base.specs.Outside.{FileTells}
 use Rattle.td_base.specs.declared.outside.FileRead.TheVariants as looked
-use Rattle.release_check.proofs.Prefixes.{fits_or_longer, too_large}
+use Rattle.release_check.proofs.lemmas.Prefixes.{fits_or_longer, too_large}
 use Rattle.tzif_reader.specs.Cut.{lists_of}
 use Rattle.tzif_reader.specs.declared.tzif_fault.TzifFault.TheVariants as tzif
 use Rattle.zone_meaning.specs.Faults.{zone_fault, footer_text_fault}

@@ -14,7 +14,7 @@ use Rattle.tzif_reader.specs.Layout.{AreCounts, AreRising, IsBlock, IsKind, IsLe
 use Rattle.tzif_reader.specs.Cut.{Parts, piece, items, long_at, parts_in, moment_at, flag_at, kind_at, leap_at, zone_from}
 use Rattle.tzif_reader.specs.Faults.{is_unordered, is_late}
 use Rattle.tzif_reader.specs.Views.{AreSized}
-use Rattle.tzif_reader.proofs.Joined.{cut_at, length_piece, joined_items}
+use Rattle.tzif_reader.proofs.lemmas.Joined.{cut_at, length_piece, joined_items}
 use Rattle.tzif_reader.proofs.Records.{kind_is, leap_is, moment_is}
 use Rattle.tzif_reader.proofs.Soundness.{AreSound}
 

@@ -15,7 +15,7 @@ use Rattle.tzif_reader.specs.declared.zone_file.ZoneFile.{ZoneFile}
 use Rattle.tzif_reader.specs.Layout.{IsBlock, IsKind, IsLeapLine, IsMoment, second_block_size}
 use Rattle.tzif_reader.specs.Cut.{Parts, piece, items, long_at, parts_in, moment_at, flag_at, kind_at, leap_at, zone_from}
 use Rattle.tzif_reader.specs.Faults.{is_unordered, is_late}
-use Rattle.tzif_reader.proofs.Joined.{field, joined_length, joined_at}
+use Rattle.tzif_reader.proofs.lemmas.Joined.{field, joined_length, joined_at}
 use Rattle.tzif_reader.proofs.Records.{CutsKind, kind_cuts, leap_cuts, moment_cuts}
 use Rattle.tzif_reader.proofs.Soundness.{AreSound}
 use Rattle.tzif_reader.proofs.Blocks.{nothing, test_from_lt}

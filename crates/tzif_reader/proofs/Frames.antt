@@ -8,7 +8,7 @@ use Rattle.tzif_reader.specs.Layout.{AreCounts, IsVersion, first_block_size, sec
 use Rattle.tzif_reader.specs.Cut.{version_in, counts_in, first_header, second_place, second_header, counts_of, block_place}
 use Rattle.td_base.specs.FirstFault.{when}
 use Rattle.tzif_reader.specs.Faults.{room_fault, header_fault, stands_for_all, counts_fault, frame_fault}
-use Rattle.td_base.proofs.FaultLemmas.{first, second, neither}
+use Rattle.td_base.proofs.lemmas.FaultLemmas.{first, second, neither}
 use Rattle.tzif_reader.proofs.Headers.{when_none, none_when, room_none, none_room, HeaderAt, header_none, none_header}
 
 stands : (count types : ℕ) → stands_for_all count types ≡ true → (count ≡ 0) ⊎ (count ≡ types)

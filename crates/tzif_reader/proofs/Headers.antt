@@ -14,8 +14,8 @@ use Rattle.tzif_reader.specs.Layout.{IsUnsigned, IsHeader, magic, listed}
 use Rattle.tzif_reader.specs.Cut.{piece, unsigned_at, version_in, counts_in}
 use Rattle.td_base.specs.FirstFault.{when}
 use Rattle.tzif_reader.specs.Faults.{room_fault, header_fault}
-use Rattle.td_base.proofs.FaultLemmas.{first, second, neither}
-use Rattle.tzif_reader.proofs.Joined.{join_step, joined_length, joined_at, cut_at, length_piece}
+use Rattle.td_base.proofs.lemmas.FaultLemmas.{first, second, neither}
+use Rattle.tzif_reader.proofs.lemmas.Joined.{join_step, joined_length, joined_at, cut_at, length_piece}
 
 pub when_none : (test : Bool) (fault : TzifFault) → when test fault ≡ None → test ≡ false
 when_none true fault h = absurd cc

@@ -1,6 +1,6 @@
 pub mod Items
 pub mod Named
-pub mod Joined
+pub mod lemmas
 pub mod Headers
 pub mod Records
 pub mod Soundness
@@ -9,4 +9,3 @@ pub mod Cuts
 pub mod Footers
 pub mod Frames
 pub mod LeapLines
-pub mod Whole

@@ -2,7 +2,7 @@
 use Rattle.std.proofs.Common.{◌≡◌, None}
 use Rattle.std.specs.Option.{option_map}
 use Rattle.td_base.specs.FirstFault.{least}
-use Rattle.td_base.proofs.FaultLemmas.{first, second, unmapped}
+use Rattle.td_base.proofs.lemmas.FaultLemmas.{first, second, unmapped}
 use Rattle.tzif_reader.specs.declared.counts.Counts.{Counts}
 use Rattle.tzif_reader.specs.declared.tzif_fault.TzifFault.TheVariants.{Order, TypeNumber, Designation}
 use Rattle.tzif_reader.specs.Cut.{Parts}

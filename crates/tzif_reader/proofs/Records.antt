@@ -12,7 +12,7 @@ use Rattle.td_civil.specs.declared.moment_type.Moment.{Moment}
 use Rattle.tzif_reader.specs.declared.zone_file.LeapLine.{LeapLine}
 use Rattle.tzif_reader.specs.Layout.{IsKind, IsLeapLine, IsMoment}
 use Rattle.tzif_reader.specs.Cut.{piece, short_at, long_at, before, moment_at, offset_at, flag_at, index_at, name_at, kind_at, leap_at}
-use Rattle.tzif_reader.proofs.Joined.{length_piece}
+use Rattle.tzif_reader.proofs.lemmas.Joined.{length_piece}
 use Rattle.tzif_reader.specs.Faults.{is_no_name, is_unnamed, is_beyond}
 
 -- ---- pieces of pieces

@@ -7,8 +7,8 @@ use Rattle.tzif_reader.specs.declared.tzif_fault.TzifFault.TheVariants.{Order, T
 use Rattle.tzif_reader.specs.Cut.{Parts}
 use Rattle.td_base.specs.FirstFault.{least}
 use Rattle.tzif_reader.specs.Faults.{contents_fault, is_unordered, is_unknown, is_unnamed, is_unflagged, is_beyond, is_late}
-use Rattle.td_base.proofs.FaultLemmas.{first, second, neither, unmapped}
-use Rattle.td_base.proofs.LeastLemmas.{least_clear, none_least}
+use Rattle.td_base.proofs.lemmas.FaultLemmas.{first, second, neither, unmapped}
+use Rattle.td_base.proofs.lemmas.LeastLemmas.{least_clear, none_least}
 use Rattle.tzif_reader.proofs.Headers.{when_none, none_when}
 
 -- no field is faulty

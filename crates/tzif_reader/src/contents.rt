@@ -72,7 +72,7 @@ fn is_beyond(types: &[u8], i: usize) -> bool
     offset < -GREATEST_OFFSET || offset > GREATEST_OFFSET
 }
 
-#[tactic(auto, using(td_base::proofs::LeastLemmas::least_step, td_base::proofs::LeastLemmas::least_found, td_base::proofs::LeastLemmas::least_none))]
+#[tactic(auto, using(td_base::proofs::lemmas::LeastLemmas::least_step, td_base::proofs::lemmas::LeastLemmas::least_found, td_base::proofs::lemmas::LeastLemmas::least_none))]
 fn first_unordered(times: &[u8], timecnt: usize) -> Option<usize>
     requires { length times.now ≡ 8 * timecnt }
     ensures { result ≡ least timecnt (is_unordered times.now) }
@@ -85,7 +85,7 @@ fn first_unordered(times: &[u8], timecnt: usize) -> Option<usize>
     None
 }
 
-#[tactic(auto, using(td_base::proofs::LeastLemmas::least_step, td_base::proofs::LeastLemmas::least_found, td_base::proofs::LeastLemmas::least_none))]
+#[tactic(auto, using(td_base::proofs::lemmas::LeastLemmas::least_step, td_base::proofs::lemmas::LeastLemmas::least_found, td_base::proofs::lemmas::LeastLemmas::least_none))]
 fn first_unknown(numbers: &[u8], typecnt: u32) -> Option<usize>
     ensures { result ≡ least (length numbers.now) (is_unknown typecnt numbers.now) }
 {
@@ -97,7 +97,7 @@ fn first_unknown(numbers: &[u8], typecnt: u32) -> Option<usize>
     None
 }
 
-#[tactic(auto, using(td_base::proofs::LeastLemmas::least_step, td_base::proofs::LeastLemmas::least_found, td_base::proofs::LeastLemmas::least_none))]
+#[tactic(auto, using(td_base::proofs::lemmas::LeastLemmas::least_step, td_base::proofs::lemmas::LeastLemmas::least_found, td_base::proofs::lemmas::LeastLemmas::least_none))]
 fn first_unnamed(designations: &[u8], types: &[u8], typecnt: usize) -> Option<usize>
     requires { length types.now ≡ 6 * typecnt }
     ensures { result ≡ least typecnt (is_unnamed designations.now types.now) }
@@ -110,7 +110,7 @@ fn first_unnamed(designations: &[u8], types: &[u8], typecnt: usize) -> Option<us
     None
 }
 
-#[tactic(auto, using(td_base::proofs::LeastLemmas::least_step, td_base::proofs::LeastLemmas::least_found, td_base::proofs::LeastLemmas::least_none))]
+#[tactic(auto, using(td_base::proofs::lemmas::LeastLemmas::least_step, td_base::proofs::lemmas::LeastLemmas::least_found, td_base::proofs::lemmas::LeastLemmas::least_none))]
 fn first_unflagged(block: &Block, typecnt: usize) -> Option<usize>
     requires { length block.now.types.now ≡ 6 * typecnt }
     ensures { result ≡ least typecnt (is_unflagged (parts_view block.now)) }
@@ -123,7 +123,7 @@ fn first_unflagged(block: &Block, typecnt: usize) -> Option<usize>
     None
 }
 
-#[tactic(auto, using(td_base::proofs::LeastLemmas::least_step, td_base::proofs::LeastLemmas::least_found, td_base::proofs::LeastLemmas::least_none))]
+#[tactic(auto, using(td_base::proofs::lemmas::LeastLemmas::least_step, td_base::proofs::lemmas::LeastLemmas::least_found, td_base::proofs::lemmas::LeastLemmas::least_none))]
 fn first_beyond(types: &[u8], typecnt: usize) -> Option<usize>
     requires { length types.now ≡ 6 * typecnt }
     ensures { result ≡ least typecnt (is_beyond types.now) }
@@ -144,7 +144,7 @@ fn is_late(times: &[u8], timecnt: usize) -> bool
 }
 
 /// Looks for the first fault of the fields, one kind after another.
-#[tactic(auto, using(td_base::proofs::FaultLemmas::sooner, td_base::proofs::FaultLemmas::later, td_base::proofs::FaultLemmas::neither), unfolding(crate::specs::Faults::contents_fault))]
+#[tactic(auto, using(td_base::proofs::lemmas::FaultLemmas::sooner, td_base::proofs::lemmas::FaultLemmas::later, td_base::proofs::lemmas::FaultLemmas::neither), unfolding(crate::specs::Faults::contents_fault))]
 pub fn check(counts: &Counts, block: &Block) -> Result<(), TzifFault>
     requires { AreSized counts.now (parts_view block.now) }
     ensures ok { OnOk result (contents_fault counts.now (parts_view block.now) ≡ None) }

@@ -17,7 +17,7 @@ pub struct Frame {
 }
 
 /// Goes over the headers and the blocks. Of the first block it looks at nothing but its length.
-#[tactic(auto, using(td_base::proofs::FaultLemmas::sooner, td_base::proofs::FaultLemmas::later, td_base::proofs::FaultLemmas::neither), unfolding(crate::specs::Faults::frame_fault, crate::specs::Cut::counts_of, crate::specs::Cut::block_place))]
+#[tactic(auto, using(td_base::proofs::lemmas::FaultLemmas::sooner, td_base::proofs::lemmas::FaultLemmas::later, td_base::proofs::lemmas::FaultLemmas::neither), unfolding(crate::specs::Faults::frame_fault, crate::specs::Cut::counts_of, crate::specs::Cut::block_place))]
 pub fn frame_of(bytes: &[u8]) -> Result<Frame, TzifFault>
     ensures fault { IfOk result (λ f. frame_fault bytes.now ≡ None) }
     ensures counts { IfOk result (λ f. f.counts ≡ counts_of bytes.now) }

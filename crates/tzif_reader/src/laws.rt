@@ -5,7 +5,7 @@ ghost use Rattle.tzif_reader.specs.declared.zone_file.ZoneFile.{ZoneFile as Zone
 ghost use Rattle.tzif_reader.specs.declared.zone_file.TheConstants.{MOST_BYTES};
 
 /// A list of bytes is a zone file exactly where it has no fault, and tells of one zone alone.
-#[tactic(auto, using(crate::proofs::Whole::exactly_one))]
+#[tactic(auto, using(crate::proofs::lemmas::Whole::exactly_one))]
 pub fn one_zone_file()
     ensures exactly { (bytes : List ℕ)
         → ((z : Zone) × IsZoneFile bytes z) ↔ (first_fault bytes ≡ None) }

@@ -36,7 +36,7 @@ fn footer_at(bytes: &[u8], place: usize) -> Result<&[u8], TzifFault>
 }
 
 /// The zone that the definitions cut out of the bytes, or their first fault.
-#[tactic(auto, using(td_base::proofs::FaultLemmas::sooner, td_base::proofs::FaultLemmas::later, td_base::proofs::FaultLemmas::neither), unfolding(crate::specs::Faults::first_fault, crate::specs::Cut::parts_of))]
+#[tactic(auto, using(td_base::proofs::lemmas::FaultLemmas::sooner, td_base::proofs::lemmas::FaultLemmas::later, td_base::proofs::lemmas::FaultLemmas::neither), unfolding(crate::specs::Faults::first_fault, crate::specs::Cut::parts_of))]
 fn zone_or_fault(alloc: Global, bytes: &[u8]) -> Result<ZoneFile, TzifFault>
     ensures exact { IfOk result (λ z. z ≡ lists_of bytes.now) }
     ensures no_fault { OnOk result (first_fault bytes.now ≡ None) }
@@ -56,7 +56,7 @@ fn zone_or_fault(alloc: Global, bytes: &[u8]) -> Result<ZoneFile, TzifFault>
 /// the size alone. An error is [`TzifFault::NoMemory`] or the first fault: of the size, of the
 /// headers and the room for the blocks as they come, of the second block, kind after kind in the
 /// order of `TzifFault`'s numbers with `TooLate` as the last, and of the footer.
-#[tactic(auto, using(crate::proofs::Whole::is_found))]
+#[tactic(auto, using(crate::proofs::lemmas::Whole::is_found))]
 pub fn read(alloc: Global, bytes: &[u8]) -> Result<ZoneFile, TzifFault>
     // What is read is laid out so.
     ensures found { IfOk result (λ z. IsZoneFile bytes.now z) }

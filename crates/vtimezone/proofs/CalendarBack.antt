@@ -14,7 +14,7 @@ use Rattle.td_civil.specs.Bounds.{HasText}
 use Rattle.td_civil.specs.Calendar.{stamp_of}
 use Rattle.td_civil.specs.Stamp.{moment_at}
 use Rattle.td_civil.specs.Texts.{local_text_of}
-use Rattle.td_civil.proofs.Shown.{elapsed_is, local_bounds_text, stamp_of_moment}
+use Rattle.td_civil.proofs.lemmas.Shown.{elapsed_is, local_bounds_text, stamp_of_moment}
 use Rattle.ical_lines.specs.Unfolding.{is_feed}
 use Rattle.recurrence.specs.declared.part_types.Part.{Part}
 use Rattle.recurrence.specs.declared.rule_types.Rule.{Rule}

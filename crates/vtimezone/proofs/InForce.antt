@@ -13,7 +13,7 @@ use Rattle.posix_footer.specs.declared.rule_types.DstRule.{DstRule}
 use Rattle.posix_footer.specs.Lawful.{IsLawfulRule}
 use Rattle.posix_footer.specs.Onset.{onset_of}
 use Rattle.posix_footer.specs.StateAt.{state_by, state_after}
-use Rattle.posix_footer.proofs.StateLemmas.{onset_rises}
+use Rattle.posix_footer.proofs.lemmas.StateLemmas.{onset_rises}
 use Rattle.recurrence.specs.declared.rule_types.Rule.{Rule}
 use Rattle.recurrence.specs.declared.part_types.Part.{Part}
 use Rattle.recurrence.specs.Falls.{IsOfYear}
@@ -23,8 +23,8 @@ use Rattle.recurrence.specs.Occurs.{FallsAt, moment_of}
 use Rattle.recurrence.specs.InForce.{state_of_part, NotAfter, IsRuleOnset, IsOnsetBy, IsOnset, IsInForce}
 use Rattle.vtimezone.proofs.Whole.{IsUntil, IsRulePart, AreRuleParts}
 use Rattle.vtimezone.specs.PartsOf.{offset_before, date_of_edge, IsBeforeEnd}
-use Rattle.recurrence.proofs.Onsets.{keeps_onsets}
-use Rattle.recurrence.proofs.InYear.{AreOrdered, onset_in_year, onsets_ordered}
+use Rattle.recurrence.proofs.lemmas.Onsets.{keeps_onsets}
+use Rattle.recurrence.proofs.lemmas.InYear.{AreOrdered, onset_in_year, onsets_ordered}
 use Rattle.vtimezone.proofs.Newest.{IsNewest, newest_first, newest_second, newest_before, state_of_newest}
 
 -- a change's rule in a year

@@ -7,16 +7,16 @@ use Rattle.std.specs.Int.{int_min}
 use Rattle.std.proofs.lemmas.Int.{by_lt_z, int_min_is}
 use Rattle.td_civil.specs.Bounds.{IsWithinBounds}
 use Rattle.td_civil.specs.Calendar.{IsInYear}
-use Rattle.td_civil.proofs.Years.{year_is_long}
-use Rattle.posix_footer.proofs.YearLemmas.{year_in_range}
-use Rattle.recurrence.proofs.AllYear.{year_9999}
+use Rattle.td_civil.proofs.lemmas.Years.{year_is_long}
+use Rattle.posix_footer.proofs.lemmas.YearLemmas.{year_in_range}
+use Rattle.recurrence.proofs.lemmas.AllYear.{year_9999}
 use Rattle.td_civil.specs.declared.moment_type.Moment.{Moment}
 use Rattle.posix_footer.specs.declared.rule_types.Edge.{Edge}
 use Rattle.posix_footer.specs.declared.rule_types.DstRule.{DstRule}
 use Rattle.posix_footer.specs.Carried.{is_carried_rule}
 use Rattle.posix_footer.specs.Lawful.{IsLawfulRule}
 use Rattle.posix_footer.specs.Onset.{onset_of}
-use Rattle.recurrence.proofs.InYear.{onset_in_year}
+use Rattle.recurrence.proofs.lemmas.InYear.{onset_in_year}
 use Rattle.vtimezone.specs.LastYear.{IsLastYear}
 use Rattle.vtimezone.specs.PartsOf.{last_before}
 

@@ -13,7 +13,7 @@ use Rattle.recurrence.specs.InForce.{state_of_part, IsOnsetBy, IsOnset, IsInForc
 use Rattle.vtimezone.proofs.Whole.{AreSingles, IsWhole}
 use Rattle.vtimezone.specs.PartsOf.{IsBeforeEnd}
 use Rattle.vtimezone.proofs.InForce.{AreParts, means_from, single_before}
-use Rattle.td_civil.proofs.Years.{some_year_lem}
+use Rattle.td_civil.proofs.lemmas.Years.{some_year_lem}
 
 module _ (state : ℤ → Local) (a e : ℤ) (Single : Part → Type 0) (singles : AreSingles state a e Single) where
   single_onset : (p : Part) (m : ℤ) → Single p → IsOnset p m → m ≡ p.start.seconds

@@ -11,10 +11,10 @@ use Rattle.posix_footer.specs.declared.rule_types.DstRule.{DstRule}
 use Rattle.posix_footer.specs.Lawful.{IsLawfulRule}
 use Rattle.posix_footer.specs.Onset.{onset_of}
 use Rattle.posix_footer.specs.StateAt.{IsLastChange, state_by, state_after}
-use Rattle.td_civil.proofs.Years.{years_apart_lem}
-use Rattle.posix_footer.proofs.ChangeLemmas.{daylight_after_start, standard_after_end}
+use Rattle.td_civil.proofs.lemmas.Years.{years_apart_lem}
+use Rattle.posix_footer.proofs.lemmas.ChangeLemmas.{daylight_after_start, standard_after_end}
 use Rattle.posix_footer.specs.Carried.{is_carried_rule}
-use Rattle.recurrence.proofs.InYear.{AreOrdered, onset_in_year}
+use Rattle.recurrence.proofs.lemmas.InYear.{AreOrdered, onset_in_year}
 
 -- every other change by t comes before this one
 pub record IsNewest (rule : DstRule) (std t y : ℤ) (at : Edge) : Type 0 where

@@ -17,7 +17,7 @@ use Rattle.posix_footer.specs.Carried.{is_carried_rule, is_all_year, beyond_if_a
 use Rattle.vtimezone.proofs.Whole.{AreSingles, IsWhole, IsRange, IsLawfulAndCarried, Means}
 use Rattle.vtimezone.specs.PartsOf.{IsBeforeEnd}
 use Rattle.vtimezone.specs.PartsOf.{IsEndOf, rule_parts, end_of, rules_if_any, rules_of, parts_from}
-use Rattle.recurrence.proofs.AllYear.{all_year_daylight, year_9999}
+use Rattle.recurrence.proofs.lemmas.AllYear.{all_year_daylight, year_9999}
 use Rattle.vtimezone.proofs.Meaning.{singles_mean, singles_stay, listed_parts_mean}
 use Rattle.vtimezone.proofs.RuleParts.{are_rule_parts, IsMeant}
 use Rattle.vtimezone.proofs.Singles.{are_singles, singles, observed_singles}

@@ -14,7 +14,7 @@ use Rattle.td_civil.specs.Calendar.{stamp_of}
 use Rattle.td_civil.specs.Stamp.{two_digits, four_digits}
 use Rattle.td_civil.specs.Texts.{local_text_of}
 use Rattle.ical_lines.specs.Unfolding.{is_feed, begins_blank, is_plain, unfolded}
-use Rattle.ical_lines.proofs.LawLemmas.{reads_back}
+use Rattle.ical_lines.proofs.lemmas.LawLemmas.{reads_back}
 use Rattle.recurrence.specs.declared.part_types.Part.{Part}
 use Rattle.recurrence.specs.declared.rule_types.Form.{Form}
 use Rattle.recurrence.specs.declared.rule_types.Form.TheVariants as form

@@ -13,13 +13,13 @@ use Rattle.posix_footer.specs.declared.rule_types.Edge.TheVariants as edge
 use Rattle.posix_footer.specs.declared.rule_types.DstRule.{DstRule}
 use Rattle.posix_footer.specs.Lawful.{IsLawfulRule}
 use Rattle.posix_footer.specs.Onset.{onset_of}
-use Rattle.posix_footer.proofs.StateLemmas.{onset_rises}
+use Rattle.posix_footer.proofs.lemmas.StateLemmas.{onset_rises}
 use Rattle.recurrence.specs.declared.part_types.Part.{Part}
 use Rattle.posix_footer.specs.Carried.{is_carried_rule}
 use Rattle.vtimezone.proofs.Whole.{IsLastBefore, IsUntil, IsRulePart, AreRuleParts}
 use Rattle.vtimezone.specs.PartsOf.{IsBeforeEnd}
 use Rattle.vtimezone.specs.PartsOf.{last_before, rule_part, part_until, rule_part_if, rule_parts}
-use Rattle.recurrence.proofs.InYear.{onset_in_year, onsets_ordered}
+use Rattle.recurrence.proofs.lemmas.InYear.{onset_in_year, onsets_ordered}
 
 in_none : (p : Part) → Contains [] p → ⊥
 in_none p there = let lt = there.1 in omega arith

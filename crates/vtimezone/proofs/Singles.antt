@@ -15,7 +15,7 @@ use Rattle.td_civil.specs.declared.local_time.Observance.{Observance}
 use Rattle.std.specs.Ordering.{int_eq}
 use Rattle.std.proofs.lemmas.Int.{ints}
 use Rattle.td_civil.specs.SameLocal.{same_local}
-use Rattle.td_civil.proofs.SameStates.{same_local_is, other_local}
+use Rattle.td_civil.proofs.lemmas.SameStates.{same_local_is, other_local}
 
 pub same_int : (x y : ℤ) → int_eq x y ≡ true → x ≡ y
 same_int x y e = grind (arith, ints)

@@ -19,9 +19,9 @@ use Rattle.td_civil.specs.Calendar.{stamp_of}
 use Rattle.td_civil.specs.Reading.{is_stamp}
 use Rattle.td_civil.specs.Stamp.{Stamp, IsStamp, two_digits, basic_spelling, moment_at}
 use Rattle.td_civil.specs.Texts.{local_text_of}
-use Rattle.td_civil.proofs.ReadBack.{two_back, four_back, same_fields}
-use Rattle.td_civil.proofs.Shown.{stamp_of_valid, stamp_of_moment}
-use Rattle.td_civil.proofs.Spelled.{stamp_from}
+use Rattle.td_civil.proofs.lemmas.ReadBack.{two_back, four_back, same_fields}
+use Rattle.td_civil.proofs.lemmas.Shown.{stamp_of_valid, stamp_of_moment}
+use Rattle.td_civil.proofs.lemmas.Spelled.{stamp_from}
 use Rattle.vtimezone.specs.Cutting.{put_before}
 use Rattle.vtimezone.specs.ReadRules.{is_number, number_in, weekday_in}
 use Rattle.vtimezone.specs.ReadValues.{fields_in, is_date_time, local_in, utc_in, is_hours, size_in, signed_by, offset_in, is_safe, text_after, text_in}

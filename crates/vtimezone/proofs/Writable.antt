@@ -13,7 +13,7 @@ use Rattle.td_civil.specs.Bounds.{HasMeaning, IsWithinBounds}
 use Rattle.td_civil.specs.Calendar.{IsInYear}
 use Rattle.td_civil.specs.declared.moment_type.Moment.{Moment}
 use Rattle.td_civil.specs.declared.local_time.Local.{Local}
-use Rattle.td_civil.proofs.Years.{year_is_long}
+use Rattle.td_civil.proofs.lemmas.Years.{year_is_long}
 use Rattle.tzif_reader.specs.Cut.{lists_of}
 use Rattle.posix_footer.specs.declared.rule_types.Edge.{Edge}
 use Rattle.posix_footer.specs.declared.rule_types.Edge.TheVariants as edge
@@ -25,11 +25,11 @@ use Rattle.posix_footer.specs.Onset.{onset_of}
 use Rattle.zone_meaning.specs.Faults.{zone_fault}
 use Rattle.zone_meaning.specs.Observed.{first_at, change_at, observed}
 use Rattle.zone_meaning.specs.State.{zone_state, footer_meant}
-use Rattle.zone_meaning.proofs.Types.{has_types, state_offset}
+use Rattle.zone_meaning.proofs.lemmas.Types.{has_types, state_offset}
 use Rattle.recurrence.specs.declared.part_types.Part.{Part}
 use Rattle.recurrence.specs.declared.part_types.Range.{Range}
-use Rattle.recurrence.proofs.InYear.{onset_in_year}
-use Rattle.recurrence.proofs.Onsets.{keeps_onsets}
+use Rattle.recurrence.proofs.lemmas.InYear.{onset_in_year}
+use Rattle.recurrence.proofs.lemmas.Onsets.{keeps_onsets}
 use Rattle.vtimezone.specs.CalendarText.{IsWritable}
 use Rattle.vtimezone.specs.PartsOf.{single_of, last_before, rule_part, part_until, rule_part_if, rule_parts, rules_if_any, rules_of, end_of, parts_from, IsEndOf}
 use Rattle.vtimezone.specs.ZoneParts.{end_in, rule_year, parts_of}

@@ -4,35 +4,35 @@ use Rattle.std.specs.Prelude.{slice_index, slice_index_or, slice_get}
 use Rattle.std.specs.Option.{IfSome}
 use Rattle.std.proofs.lemmas.Option.{slice_get-get_or}
 use Rattle.td_civil.specs.declared.moment_type.TheConstants.{LO, HI}
-use Rattle.tzif_reader.proofs.Whole.{zone_file_of}
+use Rattle.tzif_reader.proofs.lemmas.Whole.{zone_file_of}
 use Rattle.zone_meaning.specs.FaultLemmas.{file_clear}
 use Rattle.std.proofs.lemmas.Int.{int_max_is}
 use Rattle.jiff_core.specs.Calendar.{days_from_civil}
 use Rattle.jiff_core.proofs.SignedLemmas.{signed_arith}
 use Rattle.std.proofs.lemmas.Int.{by_lt_z}
-use Rattle.td_civil.proofs.Years.{year_is_long}
+use Rattle.td_civil.proofs.lemmas.Years.{year_is_long}
 use Rattle.td_civil.specs.Bounds.{HasMeaning}
 use Rattle.td_civil.specs.Calendar.{stamp_of}
-use Rattle.td_civil.proofs.Shown.{shown_year, bounds_text}
+use Rattle.td_civil.proofs.lemmas.Shown.{shown_year, bounds_text}
 use Rattle.td_civil.specs.declared.moment_type.Moment.{Moment}
 use Rattle.td_civil.specs.declared.local_time.Local.{Local}
 use Rattle.tzif_reader.specs.declared.zone_file.ZoneFile.{ZoneFile}
 use Rattle.tzif_reader.specs.Cut.{lists_of}
 use Rattle.posix_footer.specs.declared.rule_types.Footer.{Footer}
 use Rattle.posix_footer.specs.Carried.{IsCarriedIfAny}
-use Rattle.posix_footer.proofs.YearLemmas.{year_in_range}
+use Rattle.posix_footer.proofs.lemmas.YearLemmas.{year_in_range}
 use Rattle.zone_meaning.specs.Faults.{zone_fault}
 use Rattle.zone_meaning.specs.State.{zone_state, footer_meant}
 use Rattle.zone_meaning.specs.Rules.{FollowsRules, by_footer_or}
-use Rattle.zone_meaning.proofs.RuleLemmas.{zone_follows}
+use Rattle.zone_meaning.proofs.lemmas.RuleLemmas.{zone_follows}
 use Rattle.recurrence.specs.InForce.{Gives}
 use Rattle.recurrence.specs.declared.part_types.Range.{Range}
 use Rattle.vtimezone.specs.PartsOf.{IsEndOf, IsAmong}
 use Rattle.vtimezone.proofs.Whole.{IsRange, IsLawfulAndCarried, goes_on}
-use Rattle.recurrence.proofs.AllYear.{year_9999}
+use Rattle.recurrence.proofs.lemmas.AllYear.{year_9999}
 use Rattle.posix_footer.specs.Grammar.{footer_in}
 use Rattle.posix_footer.specs.declared.footer_fault.FooterFault.{FooterFault}
-use Rattle.posix_footer.proofs.Lawfulness.{read_lawful}
+use Rattle.posix_footer.proofs.lemmas.Lawfulness.{read_lawful}
 use Rattle.std.specs.Result.{result_ok}
 use Rattle.vtimezone.proofs.PartsMean.{parts_from_mean}
 use Rattle.vtimezone.specs.ZoneParts.{latest, rule_year, end_in, parts_of}

@@ -25,13 +25,13 @@ use Rattle.zone_meaning.specs.Faults.{zone_fault}
 use Rattle.zone_meaning.specs.Names.{is_name_byte, is_printable_name, rule_names, footer_names, has_printable_names}
 use Rattle.zone_meaning.specs.Observed.{observed}
 use Rattle.zone_meaning.specs.State.{zone_state, footer_meant}
-use Rattle.zone_meaning.proofs.Members.{member_first, member_later}
-use Rattle.zone_meaning.proofs.NameLemmas.{observance_name}
+use Rattle.zone_meaning.proofs.lemmas.Members.{member_first, member_later}
+use Rattle.zone_meaning.proofs.lemmas.NameLemmas.{observance_name}
 use Rattle.recurrence.specs.Occurs.{FallsAt}
 use Rattle.recurrence.specs.declared.part_types.Part.{Part}
 use Rattle.recurrence.specs.declared.part_types.Range.{Range}
 use Rattle.recurrence.specs.declared.rule_types.Rule.{Rule}
-use Rattle.recurrence.proofs.Onsets.{keeps_onsets}
+use Rattle.recurrence.proofs.lemmas.Onsets.{keeps_onsets}
 use Rattle.vtimezone.specs.CalendarText.{IsWritable, calendar, IsLineText}
 use Rattle.vtimezone.specs.PartsOf.{single_of, last_before, rule_part, part_until, rule_part_if, rule_parts, rules_if_any, rules_of, end_of, parts_from, IsEndOf}
 use Rattle.vtimezone.specs.ReadValues.{is_safe}

@@ -5,7 +5,7 @@ use Rattle.jiff_core.proofs.SignedLemmas.{signed_arith, one_part}
 use Rattle.td_base.specs.declared.short_text.ShortText.{ShortText}
 use Rattle.td_civil.specs.declared.moment_type.Moment.{Moment}
 use Rattle.td_civil.specs.declared.local_time.Local.{Local}
-use Rattle.td_civil.proofs.SameStates.{same_local_of, local_other}
+use Rattle.td_civil.proofs.lemmas.SameStates.{same_local_of, local_other}
 use Rattle.zone_meaning.specs.Observed.{is_change, observance, change_at, first_at, changes_after, changes_between, observed}
 use Rattle.zone_meaning.specs.Walks.{StaysUntil}
 

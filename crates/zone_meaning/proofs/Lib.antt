@@ -1,10 +1,6 @@
 pub mod ChangeLists
 pub mod Counting
-pub mod Members
-pub mod NameLemmas
-pub mod RangeLemmas
+pub mod lemmas
 pub mod RangeMeaning
 pub mod Refusals
-pub mod RuleLemmas
-pub mod Types
 pub mod Walking

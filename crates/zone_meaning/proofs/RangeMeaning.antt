@@ -6,11 +6,11 @@ use Rattle.jiff_core.proofs.SignedLemmas.{signed_arith, one_part}
 use Rattle.td_civil.specs.SameLocal.{same_local}
 use Rattle.td_civil.specs.declared.local_time.Local.{Local}
 use Rattle.td_civil.specs.declared.local_time.Observance.{Observance}
-use Rattle.td_civil.proofs.SameStates.{same_local_is, other_local}
+use Rattle.td_civil.proofs.lemmas.SameStates.{same_local_is, other_local}
 use Rattle.zone_meaning.specs.Observed.{change_at, first_at, observed}
 use Rattle.zone_meaning.specs.RangeLaws.{AreRisingAfter, AreObserved, IsLastBy, state_told}
-use Rattle.zone_meaning.proofs.Members.{member_first, member_later, member_cases, no_member}
-use Rattle.zone_meaning.proofs.RangeLemmas.{change_onset, first_onset, change_told, first_told, member_after, one_onset, are_observed}
+use Rattle.zone_meaning.proofs.lemmas.Members.{member_first, member_later, member_cases, no_member}
+use Rattle.zone_meaning.proofs.lemmas.RangeLemmas.{change_onset, first_onset, change_told, first_told, member_after, one_onset, are_observed}
 
 -- whether a state changes at a moment
 changes_or_not : (state : ℤ → Local) (t u : ℤ) → (state t ≡ state u) ⊎ (state t ≢ state u)

@@ -9,8 +9,8 @@ use Rattle.tzif_reader.specs.Layout.{AreRising}
 use Rattle.posix_footer.specs.declared.rule_types.Footer.{Footer}
 use Rattle.posix_footer.specs.NextOnset.{IsNext, IsQuietIfAny}
 use Rattle.posix_footer.specs.StateAt.{state_of}
-use Rattle.posix_footer.proofs.ChangeLemmas.{footer_stays}
-use Rattle.posix_footer.proofs.NextLemmas.{quiet_until, next_later}
+use Rattle.posix_footer.proofs.lemmas.ChangeLemmas.{footer_stays}
+use Rattle.posix_footer.proofs.lemmas.NextLemmas.{quiet_until, next_later}
 use Rattle.zone_meaning.specs.Kept.{HasTypes}
 use Rattle.zone_meaning.specs.State.{begun, after, state_at}
 use Rattle.zone_meaning.specs.Walks.{HaveBegun, IsTurn, IsNextTurn}

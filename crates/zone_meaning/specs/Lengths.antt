@@ -6,9 +6,9 @@ use Rattle.std.specs.List.{AllByRecursion, list_all}
 use Rattle.std.proofs.Common.{arith, ap}
 use Rattle.std.proofs.lemmas.Bool.{leb-true, and_parts}
 use Rattle.td_base.specs.Names.{is_label, is_printable}
-use Rattle.td_base.proofs.PlainLemmas.{label_is_plain}
-use Rattle.td_civil.proofs.DateText.{judged_date}
-use Rattle.tzif_reader.proofs.Whole.{zone_file_of}
+use Rattle.td_base.proofs.lemmas.PlainLemmas.{label_is_plain}
+use Rattle.td_civil.proofs.lemmas.DateText.{judged_date}
+use Rattle.tzif_reader.proofs.lemmas.Whole.{zone_file_of}
 use Rattle.catalogue.specs.Plain.{HasPlainLabels}
 use Rattle.catalogue.specs.declared.release.Leaps.{Leaps}
 use Rattle.catalogue.specs.Releases.{ContentData, ReleaseData, HasLengths, leap_file, leap_expiry}

@@ -16,7 +16,7 @@ use td_civil::{Local, Moment};
 use tzif_reader::ZoneFile;
 
 /// The state of local time at a moment (RFC 9636, section 3.2 and 3.3). It takes no memory.
-#[tactic(auto, using(crate::proofs::Types::kept_types, crate::proofs::Types::kept_state, crate::proofs::RuleLemmas::zone_follows))]
+#[tactic(auto, using(crate::proofs::lemmas::Types::kept_types, crate::proofs::lemmas::Types::kept_state, crate::proofs::lemmas::RuleLemmas::zone_follows))]
 pub fn at(zone: &Zone, t: Moment) -> Local
     requires { HasMeaning t.seconds }
     ensures state { result ≡ state.zone_state zone.now t.seconds }

@@ -5,7 +5,7 @@ use Rattle.json_forms.specs.Begun.{IsListBegun}
 use Rattle.json_forms.specs.ListDocument.{list_document}
 use Rattle.json_forms.specs.declared.zone_list.ListZone.{ListZone}
 use Rattle.actions.specs.Listing.{list_of}
-use Rattle.actions.proofs.Chosen.{chosen, next_chosen}
+use Rattle.actions.proofs.lemmas.Chosen.{chosen, next_chosen}
 use Rattle.actions.proofs.listing.listing.Goals as goal
 
 pub loop-place-preserved : goal.loop-place-preserved

@@ -2,7 +2,7 @@ use Rattle.std.proofs.Common.{[], length, take}
 use Rattle.catalogue.specs.Histories.{meta, token_of}
 use Rattle.json_forms.specs.Begun.{IsListBegun}
 use Rattle.zone_meaning.specs.ZoneHistories.{ForEachZoneHistory}
-use Rattle.actions.proofs.Chosen.{chosen}
+use Rattle.actions.proofs.lemmas.Chosen.{chosen}
 use Rattle.actions.proofs.listing.listing.Given as goal
 
 abbrev pub invariant-loop-place : goal.invariant-loop-place

@@ -1,7 +1,7 @@
 use Rattle.std.proofs.Common.{◌++◌, ◌∙◌, List, subst, sym}
 use Rattle.json_forms.specs.Begun.{IsListBegun}
 use Rattle.json_forms.specs.declared.zone_list.ListZone.{ListZone}
-use Rattle.actions.proofs.Chosen.{one_shown}
+use Rattle.actions.proofs.lemmas.Chosen.{one_shown}
 use Rattle.actions.proofs.listing.put_chosen.Goals as goal
 
 pub returns-in_ok-zone : goal.returns-in_ok-zone

@@ -1,4 +1,4 @@
-use Rattle.catalogue.proofs.PlainEntries.{entries_plain}
+use Rattle.catalogue.proofs.lemmas.PlainEntries.{entries_plain}
 use Rattle.catalogue.proofs.laws.entries_are_plain.Goals as goal
 
 pub returns : goal.returns

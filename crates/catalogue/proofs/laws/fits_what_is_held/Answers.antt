@@ -2,7 +2,7 @@ use Rattle.std.proofs.Common.{Option, ℕ, sym, subst}
 use Rattle.catalogue.specs.Releases.{ReleaseData}
 use Rattle.catalogue.specs.Histories.{FitsAfter, last_release}
 use Rattle.catalogue.specs.Holdings.{place_count}
-use Rattle.catalogue.proofs.Growing.{places_are}
+use Rattle.catalogue.proofs.lemmas.Growing.{places_are}
 use Rattle.catalogue.proofs.laws.fits_what_is_held.Goals as goal
 
 pub returns-clause-follows : goal.returns-clause-follows

@@ -1,4 +1,4 @@
-use Rattle.catalogue.proofs.Growing.{history_grown}
+use Rattle.catalogue.proofs.lemmas.Growing.{history_grown}
 use Rattle.catalogue.proofs.laws.histories_grow.Goals as goal
 
 pub returns : goal.returns

@@ -1,5 +1,5 @@
 use Rattle.std.proofs.Common.{arith}
-use Rattle.catalogue.proofs.Tokens.{tokens_apart}
+use Rattle.catalogue.proofs.lemmas.Tokens.{tokens_apart}
 use Rattle.catalogue.proofs.laws.tokens_are_apart.Goals as goal
 
 pub returns : goal.returns

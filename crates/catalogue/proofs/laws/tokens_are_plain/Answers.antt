@@ -1,4 +1,4 @@
-use Rattle.catalogue.proofs.PlainEntries.{token_plain}
+use Rattle.catalogue.proofs.lemmas.PlainEntries.{token_plain}
 use Rattle.catalogue.proofs.laws.tokens_are_plain.Goals as goal
 
 pub returns : goal.returns

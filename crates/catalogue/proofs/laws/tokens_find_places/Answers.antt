@@ -1,4 +1,4 @@
-use Rattle.catalogue.proofs.Tokens.{place_found}
+use Rattle.catalogue.proofs.lemmas.Tokens.{place_found}
 use Rattle.catalogue.proofs.laws.tokens_find_places.Goals as goal
 
 pub returns : goal.returns

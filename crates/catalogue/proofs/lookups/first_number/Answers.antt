@@ -1,7 +1,7 @@
 use Rattle.std.proofs.Common.{rules, ◌≡◌, ℕ, List, ◌∷◌, ◌++◌, ◌<◌, ◌^◌, Some, take, decimal, nat_eq, refl, sym, ap, ◌∙◌, arith}
 use Rattle.std.specs.List.{position_or_len}
 use Rattle.std.proofs.lemmas.Fmt.{decimal_injective}
-use Rattle.catalogue.proofs.Tokens.{number_before}
+use Rattle.catalogue.proofs.lemmas.Tokens.{number_before}
 use Rattle.catalogue.proofs.lookups.first_number.Goals as goal
 
 -- what stands before the first dash

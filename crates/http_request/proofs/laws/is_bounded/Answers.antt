@@ -1,4 +1,4 @@
-use Rattle.http_request.proofs.StepLemmas.{taken_some, taken_within}
+use Rattle.http_request.proofs.lemmas.StepLemmas.{taken_some, taken_within}
 use Rattle.http_request.proofs.TakingLemmas.{waiting_room}
 use Rattle.http_request.proofs.laws.is_bounded.Goals as goal
 

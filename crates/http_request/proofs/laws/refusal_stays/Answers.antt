@@ -1,4 +1,4 @@
-use Rattle.http_request.proofs.StepLemmas as steps
+use Rattle.http_request.proofs.lemmas.StepLemmas as steps
 use Rattle.http_request.proofs.laws.refusal_stays.Goals as goal
 
 pub returns : goal.returns

@@ -1,4 +1,4 @@
-use Rattle.ical_lines.proofs.LawLemmas.{reads_back}
+use Rattle.ical_lines.proofs.lemmas.LawLemmas.{reads_back}
 use Rattle.ical_lines.proofs.laws.reads_back.Goals as goal
 
 pub returns : goal.returns

@@ -3,7 +3,7 @@ use Rattle.std.proofs.lemmas.List.{take_all}
 use Rattle.json_forms.specs.Begun.{IsExpansionBegun}
 use Rattle.json_forms.specs.ExpansionDocument.{expansion_document}
 use Rattle.json_forms.specs.PlainTexts.{IsPlainObservance}
-use Rattle.json_forms.proofs.ListSteps.{take_next, all_next}
+use Rattle.json_forms.proofs.lemmas.ListSteps.{take_next, all_next}
 use Rattle.json_forms.proofs.expansion_writer.expansion_of.Goals as goal
 
 pub loop-observance-preserved : goal.loop-observance-preserved

@@ -1,5 +1,5 @@
 use Rattle.std.proofs.Common.{sym}
-use Rattle.json_forms.proofs.JsonLemmas.{value_read, value_refused}
+use Rattle.json_forms.proofs.lemmas.JsonLemmas.{value_read, value_refused}
 use Rattle.json_forms.proofs.json_reader.read_value.Goals as goal
 
 pub returns-in-Ok : goal.returns-in-Ok

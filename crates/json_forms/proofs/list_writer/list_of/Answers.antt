@@ -3,7 +3,7 @@ use Rattle.std.proofs.lemmas.List.{take_all}
 use Rattle.json_forms.specs.Begun.{IsListBegun}
 use Rattle.json_forms.specs.ListDocument.{list_document}
 use Rattle.json_forms.specs.PlainTexts.{IsPlainZone}
-use Rattle.json_forms.proofs.ListSteps.{take_next, all_next}
+use Rattle.json_forms.proofs.lemmas.ListSteps.{take_next, all_next}
 use Rattle.json_forms.proofs.list_writer.list_of.Goals as goal
 
 pub loop-zone-preserved : goal.loop-zone-preserved

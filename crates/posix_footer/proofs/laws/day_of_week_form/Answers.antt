@@ -1,4 +1,4 @@
-use Rattle.posix_footer.proofs.OnsetLemmas.{month_day_is}
+use Rattle.posix_footer.proofs.lemmas.OnsetLemmas.{month_day_is}
 use Rattle.posix_footer.proofs.laws.day_of_week_form.Goals as goal
 
 pub returns-clause-weekday : goal.returns-clause-weekday

@@ -1,6 +1,6 @@
 use Rattle.std.proofs.Common.{refl, arith, pos, ◌+ℤ◌}
 use Rattle.jiff_core.proofs.SignedLemmas.{signed_arith}
-use Rattle.posix_footer.proofs.StateLemmas.{onset_before, onset_after}
+use Rattle.posix_footer.proofs.lemmas.StateLemmas.{onset_before, onset_after}
 use Rattle.posix_footer.proofs.laws.far_years_are_quiet.Goals as goal
 
 pub returns-clause-before : goal.returns-clause-before

@@ -1,4 +1,4 @@
-use Rattle.posix_footer.proofs.Lawfulness.{read_lawful}
+use Rattle.posix_footer.proofs.lemmas.Lawfulness.{read_lawful}
 use Rattle.posix_footer.proofs.laws.footer_is_lawful.Goals as goal
 
 pub returns : goal.returns

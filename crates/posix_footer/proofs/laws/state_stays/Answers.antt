@@ -1,5 +1,5 @@
-use Rattle.posix_footer.proofs.ChangeLemmas.{footer_stays}
-use Rattle.posix_footer.proofs.NextLemmas.{quiet_until}
+use Rattle.posix_footer.proofs.lemmas.ChangeLemmas.{footer_stays}
+use Rattle.posix_footer.proofs.lemmas.NextLemmas.{quiet_until}
 use Rattle.posix_footer.proofs.laws.state_stays.Goals as goal
 
 pub returns-clause-quiet : goal.returns-clause-quiet

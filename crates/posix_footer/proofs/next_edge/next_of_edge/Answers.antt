@@ -5,8 +5,8 @@ use Rattle.std.proofs.lemmas.Int.{by_lt_z}
 use Rattle.posix_footer.specs.declared.rule_types.Edge.{Edge}
 use Rattle.posix_footer.specs.declared.rule_types.DstRule.{DstRule}
 use Rattle.posix_footer.specs.Onset.{onset_of}
-use Rattle.posix_footer.proofs.StateLemmas.{onset_after, onset_before, year_of}
-use Rattle.posix_footer.proofs.NextLemmas.{next_is}
+use Rattle.posix_footer.proofs.lemmas.StateLemmas.{onset_after, onset_before, year_of}
+use Rattle.posix_footer.proofs.lemmas.NextLemmas.{next_is}
 use Rattle.posix_footer.proofs.next_edge.next_of_edge.Goals as goal
 
 pub loop-ahead-init : goal.loop-ahead-init

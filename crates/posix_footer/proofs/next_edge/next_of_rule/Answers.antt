@@ -4,7 +4,7 @@ use Rattle.posix_footer.specs.declared.rule_types.Edge.{Edge}
 use Rattle.posix_footer.specs.declared.rule_types.Edge.TheVariants as edge
 use Rattle.posix_footer.specs.declared.rule_types.DstRule.{DstRule}
 use Rattle.posix_footer.specs.NextOnset.{IsNext, IsNextIfAny}
-use Rattle.posix_footer.proofs.NextLemmas.{first_of_edges}
+use Rattle.posix_footer.proofs.lemmas.NextLemmas.{first_of_edges}
 use Rattle.posix_footer.proofs.next_edge.next_of_rule.Goals as goal
 
 -- the first onset at the offset that was passed

@@ -1,6 +1,6 @@
 use Rattle.std.proofs.Common.{◌≡◌, ◌∙◌, rules, arith, w8, FitsSigned, to_z, of_z, to_z-of_z}
 use Rattle.jiff_core.proofs.SignedLemmas.{signed_casts}
-use Rattle.posix_footer.proofs.OnsetLemmas.{nth_weekday_is, place_in_range, IsPlaceOf}
+use Rattle.posix_footer.proofs.lemmas.OnsetLemmas.{nth_weekday_is, place_in_range, IsPlaceOf}
 use Rattle.posix_footer.proofs.onsets.date_of_week.Goals as goal
 
 pub returns-in-Ok : goal.returns-in-Ok

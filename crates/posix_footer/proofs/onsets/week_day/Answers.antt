@@ -2,7 +2,7 @@ use Rattle.std.proofs.Common.{◌∙◌, ap, arith, to_z-of_z}
 use Rattle.jiff_core.proofs.SignedLemmas.{signed_arith}
 use Rattle.jiff_core.specs.Date.{epoch_day}
 use Rattle.posix_footer.specs.Onset.{month_day}
-use Rattle.posix_footer.proofs.OnsetLemmas.{epoch_day_of}
+use Rattle.posix_footer.proofs.lemmas.OnsetLemmas.{epoch_day_of}
 use Rattle.posix_footer.proofs.onsets.week_day.Goals as goal
 
 pub returns-clause-value : goal.returns-clause-value

@@ -5,7 +5,7 @@ use Rattle.std.proofs.lemmas.Int.{by_lt_z}
 use Rattle.posix_footer.specs.declared.rule_types.Edge.{Edge}
 use Rattle.posix_footer.specs.declared.rule_types.DstRule.{DstRule}
 use Rattle.posix_footer.specs.Onset.{onset_of}
-use Rattle.posix_footer.proofs.StateLemmas.{onset_after, onset_before, latest_is, year_of}
+use Rattle.posix_footer.proofs.lemmas.StateLemmas.{onset_after, onset_before, latest_is, year_of}
 use Rattle.posix_footer.proofs.state_at.latest.Goals as goal
 
 pub loop-back-init : goal.loop-back-init

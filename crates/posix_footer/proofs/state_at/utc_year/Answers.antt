@@ -1,6 +1,6 @@
 use Rattle.std.proofs.Common.{rules, arith, FitsSigned, w32, to_z-of_z}
 use Rattle.jiff_core.proofs.SignedLemmas.{signed_arith}
-use Rattle.posix_footer.proofs.YearLemmas.{year_in_range}
+use Rattle.posix_footer.proofs.lemmas.YearLemmas.{year_in_range}
 use Rattle.posix_footer.proofs.state_at.utc_year.Goals as goal
 
 pub returns-clause-year_in : goal.returns-clause-year_in

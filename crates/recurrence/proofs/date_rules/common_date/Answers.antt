@@ -1,5 +1,5 @@
 use Rattle.std.proofs.Common.{◌∙◌, ap, ◌+◌, arith, pos}
-use Rattle.td_civil.proofs.Counting.{plain_date_is}
+use Rattle.td_civil.proofs.lemmas.Counting.{plain_date_is}
 use Rattle.recurrence.specs.RuleOfDate.{common_date}
 use Rattle.recurrence.proofs.date_rules.common_date.Goals as goal
 

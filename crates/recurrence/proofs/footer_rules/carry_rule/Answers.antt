@@ -1,6 +1,6 @@
 use Rattle.std.proofs.Common.{◌≡◌, true}
 use Rattle.posix_footer.specs.Carried.{is_carried_rule}
-use Rattle.recurrence.proofs.Onsets.{carried_parts}
+use Rattle.recurrence.proofs.lemmas.Onsets.{carried_parts}
 use Rattle.recurrence.proofs.footer_rules.carry_rule.Goals as goal
 
 pub rule_of-requires-clause-steady : goal.rule_of-requires-clause-steady

@@ -1,6 +1,6 @@
 use Rattle.release_check.proofs.Contents.{so_far_more, of_next}
 use Rattle.release_check.proofs.Looking.{if_both}
-use Rattle.td_base.proofs.LaterLemmas.{store_trans}
+use Rattle.td_base.proofs.lemmas.LaterLemmas.{store_trans}
 use Rattle.release_check.proofs.zone_files.read_zones.Goals as goal
 
 pub loop-number-preserved : goal.loop-number-preserved

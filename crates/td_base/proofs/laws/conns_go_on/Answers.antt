@@ -1,4 +1,4 @@
-use Rattle.td_base.proofs.LaterLemmas.{conn_refl, conn_trans, conn_source, conn_sink, conn_reads_later, conn_writes_later, sends_later}
+use Rattle.td_base.proofs.lemmas.LaterLemmas.{conn_refl, conn_trans, conn_source, conn_sink, conn_reads_later, conn_writes_later, sends_later}
 use Rattle.td_base.proofs.laws.conns_go_on.Goals as goal
 
 pub returns-clause-refl : goal.returns-clause-refl

@@ -1,4 +1,4 @@
-use Rattle.td_base.proofs.PlainLemmas.{identifier_is_plain, label_is_plain}
+use Rattle.td_base.proofs.lemmas.PlainLemmas.{identifier_is_plain, label_is_plain}
 use Rattle.td_base.proofs.laws.names_are_plain.Goals as goal
 
 pub returns-clause-identifier : goal.returns-clause-identifier

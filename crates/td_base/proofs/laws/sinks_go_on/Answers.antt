@@ -1,4 +1,4 @@
-use Rattle.td_base.proofs.LaterLemmas.{sink_refl, sink_trans, sink_failed_then, sink_then_failed, writes_later, writes_all_later}
+use Rattle.td_base.proofs.lemmas.LaterLemmas.{sink_refl, sink_trans, sink_failed_then, sink_then_failed, writes_later, writes_all_later}
 use Rattle.td_base.proofs.laws.sinks_go_on.Goals as goal
 
 pub returns-clause-refl : goal.returns-clause-refl

@@ -1,4 +1,4 @@
-use Rattle.td_base.proofs.LaterLemmas.{source_refl, source_trans, source_failed_then, source_then_failed, reads_later, reads_to_later}
+use Rattle.td_base.proofs.lemmas.LaterLemmas.{source_refl, source_trans, source_failed_then, source_then_failed, reads_later, reads_to_later}
 use Rattle.td_base.proofs.laws.sources_go_on.Goals as goal
 
 pub returns-clause-refl : goal.returns-clause-refl

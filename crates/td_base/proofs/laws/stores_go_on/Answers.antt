@@ -1,4 +1,4 @@
-use Rattle.td_base.proofs.LaterLemmas.{store_refl, store_trans, store_failed_then, store_then_failed, looks_later}
+use Rattle.td_base.proofs.lemmas.LaterLemmas.{store_refl, store_trans, store_failed_then, store_then_failed, looks_later}
 use Rattle.td_base.proofs.laws.stores_go_on.Goals as goal
 
 pub returns-clause-refl : goal.returns-clause-refl

@@ -1,6 +1,6 @@
 use Rattle.std.proofs.Common.{◌≡◌, sym, ◌∙◌, rules, arith, pos, ◌+ℤ◌, to_z, of_z, w32, w64, FitsSigned, to_z-of_z}
 use Rattle.jiff_core.proofs.SignedLemmas.{signed_arith}
-use Rattle.td_civil.proofs.Counting.{date_of_number}
+use Rattle.td_civil.proofs.lemmas.Counting.{date_of_number}
 use Rattle.td_civil.proofs.calendar.date_of_day.Goals as goal
 
 pub returns-clause-number : goal.returns-clause-number

@@ -2,7 +2,7 @@ use Rattle.std.proofs.Common.{◌∙◌, ap, sym, arith, subst, ℤ, pos, FitsSi
 use Rattle.jiff_core.proofs.SignedLemmas.{signed_arith}
 use Rattle.td_civil.specs.Calendar.{IsInYear}
 use Rattle.td_civil.specs.Stamp.{Stamp}
-use Rattle.td_civil.proofs.Shown.{bounds_text, shown_year, year_of_fields}
+use Rattle.td_civil.proofs.lemmas.Shown.{bounds_text, shown_year, year_of_fields}
 use Rattle.td_civil.proofs.calendar.year_of.Goals as goal
 
 pub overflow_cast-result : goal.overflow_cast-result

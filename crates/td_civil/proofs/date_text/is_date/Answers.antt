@@ -1,5 +1,5 @@
 use Rattle.std.proofs.Common.{◌∙◌}
-use Rattle.td_civil.proofs.DateText.{other_date_length, other_date, own_date, judged_as}
+use Rattle.td_civil.proofs.lemmas.DateText.{other_date_length, other_date, own_date, judged_as}
 use Rattle.td_civil.proofs.date_text.is_date.Goals as goal
 
 pub returns-then-text-ne10-clause-exact : goal.returns-then-text-ne10-clause-exact

@@ -1,4 +1,4 @@
-use Rattle.td_civil.proofs.Counting.{plain_date_is}
+use Rattle.td_civil.proofs.lemmas.Counting.{plain_date_is}
 use Rattle.td_civil.proofs.day_numbers.date_after.Goals as goal
 
 pub returns-clause-year : goal.returns-clause-year

@@ -1,4 +1,4 @@
-use Rattle.td_civil.proofs.Spelled.{found_spells, spells_found}
+use Rattle.td_civil.proofs.lemmas.Spelled.{found_spells, spells_found}
 use Rattle.td_civil.proofs.laws.is_spelled.Goals as goal
 
 pub returns : goal.returns

@@ -1,4 +1,4 @@
-use Rattle.td_civil.proofs.Shown.{one_moment_lem}
+use Rattle.td_civil.proofs.lemmas.Shown.{one_moment_lem}
 use Rattle.td_civil.proofs.laws.one_moment.Goals as goal
 
 pub returns : goal.returns

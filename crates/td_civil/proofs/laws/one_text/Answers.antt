@@ -1,4 +1,4 @@
-use Rattle.td_civil.proofs.Shown.{one_text_lem}
+use Rattle.td_civil.proofs.lemmas.Shown.{one_text_lem}
 use Rattle.td_civil.proofs.laws.one_text.Goals as goal
 
 pub returns : goal.returns

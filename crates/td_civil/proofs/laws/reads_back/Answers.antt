@@ -1,4 +1,4 @@
-use Rattle.td_civil.proofs.Shown.{text_spells, reads_back_lem}
+use Rattle.td_civil.proofs.lemmas.Shown.{text_spells, reads_back_lem}
 use Rattle.td_civil.proofs.laws.reads_back.Goals as goal
 
 pub returns-clause-spells : goal.returns-clause-spells

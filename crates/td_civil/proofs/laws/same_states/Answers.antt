@@ -1,4 +1,4 @@
-use Rattle.td_civil.proofs.SameStates.{same_local_is, same_local_of}
+use Rattle.td_civil.proofs.lemmas.SameStates.{same_local_is, same_local_of}
 use Rattle.td_civil.proofs.laws.same_states.Goals as goal
 
 pub returns : goal.returns

@@ -1,4 +1,4 @@
-use Rattle.td_civil.proofs.Years.{years_apart_lem}
+use Rattle.td_civil.proofs.lemmas.Years.{years_apart_lem}
 use Rattle.td_civil.proofs.laws.years_apart.Goals as goal
 
 pub returns : goal.returns

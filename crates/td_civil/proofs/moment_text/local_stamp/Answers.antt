@@ -1,6 +1,6 @@
 use Rattle.std.proofs.Common.{arith, ◌+ℤ◌, FitsSigned, w32, w64, to_z-of_z}
 use Rattle.jiff_core.proofs.SignedLemmas.{signed_arith}
-use Rattle.td_civil.proofs.Shown.{made_local_text, made_shows, local_bounds_text}
+use Rattle.td_civil.proofs.lemmas.Shown.{made_local_text, made_shows, local_bounds_text}
 use Rattle.td_civil.proofs.moment_text.local_stamp.Goals as goal
 
 pub returns-clause-shows : goal.returns-clause-shows

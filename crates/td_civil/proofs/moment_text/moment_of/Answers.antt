@@ -1,6 +1,6 @@
 use Rattle.std.proofs.Common.{sym, arith, FitsSigned, w64, to_z-of_z}
 use Rattle.jiff_core.proofs.SignedLemmas.{signed_arith}
-use Rattle.td_civil.proofs.Spelled.{found_spells, none_spells}
+use Rattle.td_civil.proofs.lemmas.Spelled.{found_spells, none_spells}
 use Rattle.td_civil.proofs.moment_text.moment_of.Goals as goal
 
 pub returns-in-Some-clause-found : goal.returns-in-Some-clause-found

@@ -1,5 +1,5 @@
 use Rattle.std.proofs.Common.{◌∙◌}
-use Rattle.td_civil.proofs.Spelled.{other_length, other_text, own_text}
+use Rattle.td_civil.proofs.lemmas.Spelled.{other_length, other_text, own_text}
 use Rattle.td_civil.proofs.moment_text.seconds_in.Goals as goal
 
 pub returns-then-text-ne20-clause-value : goal.returns-then-text-ne20-clause-value

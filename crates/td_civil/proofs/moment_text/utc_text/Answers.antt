@@ -1,6 +1,6 @@
 use Rattle.std.proofs.Common.{arith, FitsSigned, w64, to_z-of_z}
 use Rattle.jiff_core.proofs.SignedLemmas.{signed_arith}
-use Rattle.td_civil.proofs.Shown.{made_text, made_spells, bounds_text}
+use Rattle.td_civil.proofs.lemmas.Shown.{made_text, made_spells, bounds_text}
 use Rattle.td_civil.proofs.moment_text.utc_text.Goals as goal
 
 pub returns-clause-spells : goal.returns-clause-spells

@@ -1,5 +1,5 @@
 use Rattle.std.proofs.Common.{rules, refl}
-use Rattle.td_base.proofs.LaterLemmas.{store_trans}
+use Rattle.td_base.proofs.lemmas.LaterLemmas.{store_trans}
 use Rattle.catalogue.specs.Holdings.{history_of}
 use Rattle.td_top.proofs.Installing.{rest_more, rest_refused}
 use Rattle.td_top.proofs.LineLemmas.{session_trans}

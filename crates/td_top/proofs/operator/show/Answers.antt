@@ -1,6 +1,6 @@
 use Rattle.std.proofs.Common.{refl}
 use Rattle.catalogue.specs.Holdings.{history_of}
-use Rattle.publication.proofs.Beginnings.{prefix_self}
+use Rattle.td_base.proofs.lemmas.Beginnings.{prefix_self}
 use Rattle.td_top.proofs.LineLemmas.{is_shown}
 use Rattle.td_top.proofs.operator.show.Goals as goal
 

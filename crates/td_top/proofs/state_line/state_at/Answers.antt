@@ -1,5 +1,5 @@
 use Rattle.std.proofs.Common.{Some, refl}
-use Rattle.td_base.proofs.LaterLemmas.{looks_later}
+use Rattle.td_base.proofs.lemmas.LaterLemmas.{looks_later}
 use Rattle.td_top.specs.Grammar.{at}
 use Rattle.td_top.proofs.Endings.{ends_shown, ends_absent, ends_unread, ends_empty}
 use Rattle.td_top.proofs.state_line.state_at.Goals as goal

@@ -1,7 +1,7 @@
 use Rattle.std.proofs.Common.{refl, sym, ◌∙◌}
 use Rattle.console.specs.declared.line.Line.TheVariants as line
 use Rattle.console.specs.declared.said.Said.TheVariants as said
-use Rattle.td_base.proofs.LaterLemmas.{store_refl}
+use Rattle.td_base.proofs.lemmas.LaterLemmas.{store_refl}
 use Rattle.td_top.proofs.LineLemmas.{as_written, is_quit, session_refl, starved}
 use Rattle.td_top.proofs.TalkLemmas.{line_turn, quit_turn, read_turn}
 use Rattle.td_top.proofs.TurnLemmas.{is_last}

@@ -1,5 +1,5 @@
 use Rattle.tzif_reader.specs.Faults.{is_unnamed}
-use Rattle.td_base.proofs.LeastLemmas.{least_clear}
+use Rattle.td_base.proofs.lemmas.LeastLemmas.{least_clear}
 use Rattle.tzif_reader.proofs.zone.kinds_of.Goals as goal
 
 pub kind_of-kind-requires-clause-named : goal.kind_of-kind-requires-clause-named

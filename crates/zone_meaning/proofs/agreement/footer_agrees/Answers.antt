@@ -1,4 +1,4 @@
-use Rattle.zone_meaning.proofs.Types.{kept_types, kept_end}
+use Rattle.zone_meaning.proofs.lemmas.Types.{kept_types, kept_end}
 use Rattle.zone_meaning.proofs.agreement.footer_agrees.Goals as goal
 
 pub last_goes_on-requires-clause-types : goal.last_goes_on-requires-clause-types

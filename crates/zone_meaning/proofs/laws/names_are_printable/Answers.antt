@@ -1,4 +1,4 @@
-use Rattle.zone_meaning.proofs.NameLemmas.{zone_name, observance_name}
+use Rattle.zone_meaning.proofs.lemmas.NameLemmas.{zone_name, observance_name}
 use Rattle.zone_meaning.proofs.laws.names_are_printable.Goals as goal
 
 pub returns-clause-states : goal.returns-clause-states

@@ -1,5 +1,5 @@
 use Rattle.zone_meaning.specs.Observed.{observed}
-use Rattle.zone_meaning.proofs.RangeLemmas.{are_observed}
+use Rattle.zone_meaning.proofs.lemmas.RangeLemmas.{are_observed}
 use Rattle.zone_meaning.proofs.RangeMeaning.{one_list}
 use Rattle.zone_meaning.proofs.laws.observances_are_the_changes.Goals as goal
 

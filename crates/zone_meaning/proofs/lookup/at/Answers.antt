@@ -1,7 +1,7 @@
 use Rattle.std.proofs.Common.{sym, subst}
 use Rattle.td_civil.specs.declared.local_time.Local.{Local}
 use Rattle.posix_footer.specs.Lawful.{IsLawfulOffset}
-use Rattle.zone_meaning.proofs.Types.{kept_types, state_offset}
+use Rattle.zone_meaning.proofs.lemmas.Types.{kept_types, state_offset}
 use Rattle.zone_meaning.proofs.lookup.at.Goals as goal
 
 pub state_at-requires-clause-types : goal.state_at-requires-clause-types

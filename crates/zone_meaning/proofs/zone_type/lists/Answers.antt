@@ -1,4 +1,4 @@
-use Rattle.zone_meaning.proofs.Types.{kept_types}
+use Rattle.zone_meaning.proofs.lemmas.Types.{kept_types}
 use Rattle.zone_meaning.proofs.zone_type.lists.Goals as goal
 
 pub returns-clause-types : goal.returns-clause-types

@@ -6,7 +6,7 @@ use Rattle.catalogue.specs.Holdings.{StandsFor}
 use Rattle.catalogue.specs.Lookups.{delta, places_changed, positions}
 use Rattle.catalogue.specs.Releases.{ReleaseData}
 use Rattle.catalogue.specs.declared.holding.Catalogue.{Catalogue}
-use Rattle.catalogue.proofs.Tokens.{positions-map, items_at}
+use Rattle.catalogue.proofs.lemmas.Tokens.{positions-map, items_at}
 use Rattle.catalogue.proofs.holding.Catalogue.changed_since.Goals as goal
 
 places_are : {Z : Type 0} (bytes : Z → List ℕ) (sound : ReleaseData → Type 0) (k : Catalogue Z) (H : List ReleaseData) (n : ℕ) → StandsFor bytes sound k H

@@ -3,7 +3,7 @@ use Rattle.std.specs.List.{slice_get}
 use Rattle.catalogue.specs.Histories.{meta}
 use Rattle.catalogue.specs.Plain.{IsPlainEntry}
 use Rattle.catalogue.specs.HeldZones.{entry_data, held_entry}
-use Rattle.catalogue.proofs.PlainEntries.{entries_plain, each_at, get_mapped}
+use Rattle.catalogue.proofs.lemmas.PlainEntries.{entries_plain, each_at, get_mapped}
 use Rattle.catalogue.proofs.holding.Catalogue.entry.Goals as goal
 
 pub returns-clause-plain : goal.returns-clause-plain

@@ -12,8 +12,8 @@ use Rattle.catalogue.specs.Order.{rising_by}
 use Rattle.catalogue.specs.Releases.{ContentData, ReleaseData, names_of}
 use Rattle.catalogue.specs.declared.holding.Catalogue.{Catalogue}
 use Rattle.catalogue.specs.declared.names.Name.{Name}
-use Rattle.catalogue.proofs.LastRelease.{last_of}
-use Rattle.catalogue.proofs.NameIndex.{entry_names, joined_names, joined-names_of, names_listed, zone_is_there, place_found, place_missed, compared, same_text, searchable, none_same}
+use Rattle.catalogue.proofs.lemmas.LastRelease.{last_of}
+use Rattle.catalogue.proofs.lemmas.NameIndex.{entry_names, joined_names, joined-names_of, names_listed, zone_is_there, place_found, place_missed, compared, same_text, searchable, none_same}
 use Rattle.catalogue.proofs.holding.Catalogue.find_name.Goals as goal
 
 -- the names are those of the entries

@@ -2,7 +2,7 @@ use Rattle.std.proofs.Common.{◌≡◌, ap, sym, ◌∙◌, get_or, false}
 use Rattle.catalogue.specs.Releases.{content_as_is, same_content}
 use Rattle.catalogue.specs.HeldZones.{held_content}
 use Rattle.catalogue.specs.Lookups.{place_named}
-use Rattle.catalogue.proofs.SameZones.{none_held, other_held}
+use Rattle.catalogue.proofs.lemmas.SameZones.{none_held, other_held}
 use Rattle.catalogue.proofs.holding.Catalogue.find_same.Goals as goal
 
 pub returns-in_err-at-clause-none : goal.returns-in_err-at-clause-none

@@ -6,7 +6,7 @@ use Rattle.catalogue.specs.Digests.{content_digest}
 use Rattle.catalogue.specs.Histories.{entry_from}
 use Rattle.catalogue.specs.HeldZones.{held_digest}
 use Rattle.catalogue.proofs.Lengths.{short_contents, each_mapped}
-use Rattle.catalogue.proofs.Rising.{in_order}
+use Rattle.catalogue.proofs.lemmas.Rising.{in_order}
 use Rattle.catalogue.proofs.Standing.{stands_first}
 use Rattle.catalogue.proofs.holding.Catalogue.first.Goals as goal
 

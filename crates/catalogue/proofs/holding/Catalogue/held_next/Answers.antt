@@ -2,7 +2,7 @@ use Rattle.std.proofs.Common.{◌≡◌, ap, ◌∙◌, get_or, true, []}
 use Rattle.catalogue.specs.Releases.{content_as_is, same_content}
 use Rattle.catalogue.specs.HeldZones.{entry_data, held_content}
 use Rattle.catalogue.specs.Holdings.{release_of}
-use Rattle.catalogue.proofs.SameZones.{kept_entry, kept_digest}
+use Rattle.catalogue.proofs.lemmas.SameZones.{kept_entry, kept_digest}
 use Rattle.catalogue.proofs.holding.Catalogue.held_next.Goals as goal
 
 pub returns-in_ok-held-in-Some-clause-entry : goal.returns-in_ok-held-in-Some-clause-entry

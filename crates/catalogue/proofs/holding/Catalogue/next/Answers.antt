@@ -6,9 +6,9 @@ use Rattle.catalogue.specs.Digests.{content_digest}
 use Rattle.catalogue.specs.Growing.{entry_next}
 use Rattle.catalogue.specs.HeldZones.{held_digest}
 use Rattle.catalogue.specs.Holdings.{place_count, release_held}
-use Rattle.catalogue.proofs.Growing.{stands_next}
+use Rattle.catalogue.proofs.lemmas.Growing.{stands_next}
 use Rattle.catalogue.proofs.Lengths.{short_contents, each_mapped}
-use Rattle.catalogue.proofs.Rising.{in_order}
+use Rattle.catalogue.proofs.lemmas.Rising.{in_order}
 use Rattle.catalogue.proofs.holding.Catalogue.next.Goals as goal
 
 pub all_next-requires : goal.all_next-requires

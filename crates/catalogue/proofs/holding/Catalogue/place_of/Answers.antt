@@ -3,8 +3,8 @@ use Rattle.std.specs.Str.{bytes_eq}
 use Rattle.std.proofs.lemmas.Slice.Eq.{bytes_eq-Decides}
 use Rattle.catalogue.specs.Histories.{token_of}
 use Rattle.catalogue.specs.Lookups.{place_of}
-use Rattle.catalogue.proofs.Growing.{places_are}
-use Rattle.catalogue.proofs.Tokens.{few_places, place_found, place_missed, token_at, token_numbered}
+use Rattle.catalogue.proofs.lemmas.Growing.{places_are}
+use Rattle.catalogue.proofs.lemmas.Tokens.{few_places, place_found, place_missed, token_at, token_numbered}
 use Rattle.catalogue.proofs.holding.Catalogue.place_of.Goals as goal
 use Rattle.catalogue.proofs.holding.Catalogue.place_of.Goals.{then-place-eq0-via-then-place-eq0, then-place-eq0-via-else-place-eq0+then-self-place}
 

@@ -1,6 +1,7 @@
 use Rattle.std.proofs.Common.{◌≡◌, ◌≤◌, length, true, sym, ap, ◌∙◌, arith}
 use Rattle.publication.specs.Histories.{values, ended_in}
-use Rattle.publication.proofs.Beginnings.{prefix_self, prefix_whole, fewer, no_longer}
+use Rattle.td_base.proofs.lemmas.Beginnings.{prefix_self, prefix_whole}
+use Rattle.publication.proofs.Beginnings.{fewer, no_longer}
 use Rattle.publication.proofs.desk.Desk.enter.Goals as goal
 
 pub returns-then-number-self-clause-seen : goal.returns-then-number-self-clause-seen

@@ -1,6 +1,7 @@
 use Rattle.std.proofs.Common.{◌≡◌, ◌≤◌, length, true, sym, ap, ◌∙◌, arith}
 use Rattle.publication.specs.Histories.{values, ended_in}
-use Rattle.publication.proofs.Beginnings.{prefix_length, fewer, ended_has_all, both_whole, no_longer}
+use Rattle.td_base.proofs.lemmas.Beginnings.{prefix_length}
+use Rattle.publication.proofs.Beginnings.{fewer, ended_has_all, both_whole, no_longer}
 use Rattle.publication.proofs.desk.Desk.learn.Goals as goal
 
 pub returns-then-edition-clause-seen : goal.returns-then-edition-clause-seen

@@ -1,7 +1,8 @@
 use Rattle.std.specs.List.{last_or}
 use Rattle.std.proofs.Common.{None, Some, length, sym, ap, ◌∙◌}
 use Rattle.publication.specs.Histories.{values, ended_in}
-use Rattle.publication.proofs.Beginnings.{prefix_self, added_mark}
+use Rattle.td_base.proofs.lemmas.Beginnings.{prefix_self}
+use Rattle.publication.proofs.Beginnings.{added_mark}
 use Rattle.publication.proofs.publisher.PublisherOf.end.Goals as goal
 
 pub marked-told-requires-clause-last : goal.marked-told-requires-clause-last

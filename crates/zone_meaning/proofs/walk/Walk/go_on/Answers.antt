@@ -5,7 +5,7 @@ use Rattle.td_civil.specs.declared.local_time.Observance.{Observance}
 use Rattle.zone_meaning.specs.Observed.{observance, change_at, changes_between}
 use Rattle.zone_meaning.specs.State.{state_at}
 use Rattle.zone_meaning.proofs.ChangeLists.{same_left, change_left, change_is, made_is}
-use Rattle.zone_meaning.proofs.Types.{state_offset, read_offset}
+use Rattle.zone_meaning.proofs.lemmas.Types.{state_offset, read_offset}
 use Rattle.zone_meaning.proofs.Walking.{begun_is}
 use Rattle.zone_meaning.proofs.walk.Walk.go_on.Goals as goal
 

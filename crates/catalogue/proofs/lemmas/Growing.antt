@@ -14,7 +14,7 @@ use Rattle.catalogue.specs.HeldZones.{held_content, held_digest, held_entry}
 use Rattle.catalogue.specs.Histories.{IsHistory, IsRelease, EntryData, FitsAfter, entries_of, entry_from, entry_of, has_content, last_change, last_release, meta, token_of, tokens_of}
 use Rattle.catalogue.specs.Holdings.{StandsFor, place_count, release_held, release_of}
 use Rattle.catalogue.specs.declared.holding.Catalogue.{Catalogue}
-use Rattle.catalogue.proofs.LastRelease.{Last, last_of}
+use Rattle.catalogue.proofs.lemmas.LastRelease.{Last, last_of}
 use Rattle.catalogue.proofs.Standing.{each_content}
 
 -- ---- runs at the end of a list

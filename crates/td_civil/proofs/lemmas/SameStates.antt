@@ -8,7 +8,7 @@ use Rattle.std.proofs.lemmas.Int.{ints}
 use Rattle.td_base.specs.declared.short_text.ShortText.{ShortText}
 use Rattle.td_civil.specs.declared.local_time.Local.{Local}
 use Rattle.td_civil.specs.SameLocal.{same_local}
-use Rattle.td_civil.proofs.Spelled.{same_text, text_same}
+use Rattle.td_civil.proofs.lemmas.Spelled.{same_text, text_same}
 
 made : ℤ → Bool → ShortText 32 → Local
 made offset dst name = record { offset = offset; dst = dst; name = name }

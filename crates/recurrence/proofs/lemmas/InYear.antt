@@ -17,8 +17,8 @@ use Rattle.recurrence.specs.RuleOfDate.{second_of, place_of}
 use Rattle.recurrence.proofs.Rows.{Keeps}
 use Rattle.recurrence.proofs.Steady.{steady_is}
 use Rattle.recurrence.proofs.Carrying.{moved_is, moved_number}
-use Rattle.posix_footer.proofs.OnsetLemmas.{named}
-use Rattle.recurrence.proofs.Onsets.{carried_parts, second_below, time_is}
+use Rattle.posix_footer.proofs.lemmas.OnsetLemmas.{named}
+use Rattle.recurrence.proofs.lemmas.Onsets.{carried_parts, second_below, time_is}
 
 -- a carried date's day in a year, by its place in the year
 pub record IsPlaced (date : Date) (y : ℤ) : Type 0 where

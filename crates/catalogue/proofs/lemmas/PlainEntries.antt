@@ -11,7 +11,7 @@ use Rattle.std.specs.Option.{IfSome}
 use Rattle.hex.specs.Hex.{encode_lower, encode_with, lower_digits}
 use Rattle.sha2.specs.Sha256.{digest_bytes, sha256}
 use Rattle.td_base.specs.Names.{IsPlain, is_identifier, is_printable}
-use Rattle.td_base.proofs.PlainLemmas.{identifier_is_plain}
+use Rattle.td_base.proofs.lemmas.PlainLemmas.{identifier_is_plain}
 use Rattle.td_civil.specs.Bounds.{HasMeaning}
 use Rattle.catalogue.specs.Releases.{ContentData, ReleaseData, HasLengths, names_of}
 use Rattle.catalogue.specs.Digests.{chain_of, content_bytes, content_digest, link_bytes, linked, tag_of, token_text}

@@ -4,7 +4,7 @@ use Rattle.std.proofs.lemmas.Int.{by_lt_z}
 use Rattle.jiff_core.specs.Calendar.{days_from_civil, IsBetween, IsCivilDate, IsYear}
 use Rattle.jiff_core.proofs.SignedLemmas.{signed_arith}
 use Rattle.jiff_core.proofs.CalendarLemmas.{days_from_civil-day_count, day_count-later_year, day_count-day_of_year, day_of_year_bound}
-use Rattle.td_civil.proofs.Years.{year_is_long}
+use Rattle.td_civil.proofs.lemmas.Years.{year_is_long}
 use Rattle.posix_footer.specs.declared.rule_types.DayForm.{DayForm}
 use Rattle.posix_footer.specs.declared.rule_types.DayForm.TheVariants as day
 use Rattle.posix_footer.specs.declared.rule_types.Edge.{Edge}
@@ -14,7 +14,7 @@ use Rattle.posix_footer.specs.declared.rule_types.DstRule.{DstRule}
 use Rattle.posix_footer.specs.Lawful.{IsLawfulDay, IsLawfulDate, IsLawfulOffset, IsLawfulRule}
 use Rattle.posix_footer.specs.Onset.{month_day, day_number, moment_on, onset_of}
 use Rattle.posix_footer.specs.StateAt.{IsLatest}
-use Rattle.posix_footer.proofs.OnsetLemmas.{days_before_bounds, month_day_within, day_number_within}
+use Rattle.posix_footer.proofs.lemmas.OnsetLemmas.{days_before_bounds, month_day_within, day_number_within}
 
 -- a year whose onsets count is one that the calendar has
 pub year_of : (y : ℤ) → IsBetween (pos 1798) (pos 9999) y → IsYear y

@@ -11,8 +11,8 @@ use Rattle.tzif_reader.specs.declared.zone_file.ZoneFile.{ZoneFile}
 use Rattle.tzif_reader.specs.Layout.{magic, AreCounts, IsVersion, IsZoneFile, IsHeader, first_block_size, second_block_size}
 use Rattle.tzif_reader.specs.Cut.{Parts, piece, version_in, counts_in, parts_in, first_header, second_place, second_header, counts_of, block_place, parts_of, footer_of, zone_from, lists_of}
 use Rattle.tzif_reader.specs.Faults.{frame_fault, contents_fault, footer_fault, first_fault}
-use Rattle.td_base.proofs.FaultLemmas.{first, second, neither}
-use Rattle.tzif_reader.proofs.Joined.{cut_at, field, length_piece}
+use Rattle.td_base.proofs.lemmas.FaultLemmas.{first, second, neither}
+use Rattle.tzif_reader.proofs.lemmas.Joined.{cut_at, field, length_piece}
 use Rattle.tzif_reader.proofs.Headers.{header_is, header_cuts}
 use Rattle.tzif_reader.proofs.Soundness.{AreSound, contents_none, none_contents}
 use Rattle.tzif_reader.proofs.Blocks.{block_is}

@@ -16,8 +16,8 @@ use Rattle.catalogue.specs.Histories.{token_of, tokens_of}
 use Rattle.catalogue.specs.Holdings.{StandsFor, place_count, release_held}
 use Rattle.catalogue.specs.Lookups.{place_of, positions}
 use Rattle.catalogue.specs.declared.holding.Catalogue.{Catalogue}
-use Rattle.catalogue.proofs.Growing.{places_are, prefix_all}
-use Rattle.catalogue.proofs.LastRelease.{last_of}
+use Rattle.catalogue.proofs.lemmas.Growing.{places_are, prefix_all}
+use Rattle.catalogue.proofs.lemmas.LastRelease.{last_of}
 
 -- ---- a token begins with its place
 

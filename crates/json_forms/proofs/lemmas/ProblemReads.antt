@@ -12,7 +12,7 @@ use Rattle.json_forms.specs.declared.problem_type.Problem.{Problem}
 use Rattle.json_forms.specs.declared.problem_type.Problem.TheVariants.{InvalidAction, InvalidChangedsince, TzidNotFound, InvalidFormat, InvalidStart, InvalidEnd, InvalidPattern}
 use Rattle.json_forms.specs.JsonTexts.{json_in}
 use Rattle.json_forms.specs.ProblemDocument.{status_of, type_of, problem_data, problem_document, has_type, all_problems, problem_named, type_member, problem_in}
-use Rattle.json_forms.proofs.JsonLemmas.{value_read}
+use Rattle.json_forms.proofs.lemmas.JsonLemmas.{value_read}
 use Rattle.json_forms.proofs.ReadBack.{IsReadable, read_back}
 
 pub problem_has_no_float : (problem : Problem) → has_float (problem_data problem) ≡ false

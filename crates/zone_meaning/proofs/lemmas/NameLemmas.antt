@@ -18,8 +18,8 @@ use Rattle.zone_meaning.specs.Names.{is_printable_name, footer_names, has_printa
 use Rattle.zone_meaning.specs.Observed.{observed}
 use Rattle.zone_meaning.specs.RangeLaws.{state_told}
 use Rattle.zone_meaning.specs.State.{begun, after, state_at, footer_meant, zone_state}
-use Rattle.zone_meaning.proofs.RangeLemmas.{change_told, first_told, are_observed}
-use Rattle.zone_meaning.proofs.Types.{begun_bound, has_types}
+use Rattle.zone_meaning.proofs.lemmas.RangeLemmas.{change_told, first_told, are_observed}
+use Rattle.zone_meaning.proofs.lemmas.Types.{begun_bound, has_types}
 
 abbrev IsPrintable : Local → Type 0
 IsPrintable s = is_printable_name s.name ≡ true

@@ -19,9 +19,9 @@ use Rattle.posix_footer.specs.declared.rule_types.DstRule.{DstRule}
 use Rattle.posix_footer.specs.Lawful.{IsLawfulRule}
 use Rattle.posix_footer.specs.Onset.{day_number, moment_on, onset_of, days_before}
 use Rattle.posix_footer.specs.StateAt.{IsLastChange, state_by}
-use Rattle.posix_footer.proofs.ChangeLemmas.{daylight_after_start}
+use Rattle.posix_footer.proofs.lemmas.ChangeLemmas.{daylight_after_start}
 use Rattle.posix_footer.specs.Carried.{is_year_start, is_year_end, starts_year, ends_year, is_all_year}
-use Rattle.td_civil.proofs.Years.{some_year_lem}
+use Rattle.td_civil.proofs.lemmas.Years.{some_year_lem}
 
 -- when the year y begins by the clocks of standard time
 abbrev begin_of : ℤ → ℤ → ℤ

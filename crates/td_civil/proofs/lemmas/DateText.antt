@@ -6,8 +6,8 @@ use Rattle.std.proofs.lemmas.Bool.{and_parts, and_from, and_right, not-true, not
 use Rattle.std.proofs.Math.Bool.{and-true}
 use Rattle.jiff_core.proofs.CalendarLemmas.{days_in_month_bounds}
 use Rattle.td_civil.specs.Reading.{two_at, four_at, is_date, date_spelling, is_date_text, IsDateText}
-use Rattle.td_civil.proofs.Spelled.{same_text, text_same, date_parts, date_from}
-use Rattle.td_civil.proofs.ReadBack.{two_back, four_back}
+use Rattle.td_civil.proofs.lemmas.Spelled.{same_text, text_same, date_parts, date_from}
+use Rattle.td_civil.proofs.lemmas.ReadBack.{two_back, four_back}
 
 pub other_date_length : (text : List ℕ) → length text ≢ 10 → false ≡ is_date_text text
 unfolding is_date_text

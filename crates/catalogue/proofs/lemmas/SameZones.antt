@@ -14,8 +14,8 @@ use Rattle.catalogue.specs.Holdings.{StandsFor, release_held}
 use Rattle.catalogue.specs.Lookups.{is_name_of, place_named}
 use Rattle.catalogue.specs.declared.holding.Catalogue.{Catalogue}
 use Rattle.catalogue.proofs.AnyOrder.{Apart, Parts, parted}
-use Rattle.catalogue.proofs.LastRelease.{last_of}
-use Rattle.catalogue.proofs.NameIndex.{position-map}
+use Rattle.catalogue.proofs.lemmas.LastRelease.{last_of}
+use Rattle.catalogue.proofs.lemmas.NameIndex.{position-map}
 
 -- ---- equal contents
 

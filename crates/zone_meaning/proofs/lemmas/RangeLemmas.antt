@@ -6,10 +6,10 @@ use Rattle.std.proofs.lemmas.Int.{by_lt_z}
 use Rattle.jiff_core.proofs.SignedLemmas.{signed_arith, one_part}
 use Rattle.td_civil.specs.declared.local_time.Local.{Local}
 use Rattle.td_civil.specs.declared.local_time.Observance.{Observance}
-use Rattle.td_civil.proofs.SameStates.{same_local_is, other_local}
+use Rattle.td_civil.proofs.lemmas.SameStates.{same_local_is, other_local}
 use Rattle.zone_meaning.specs.Observed.{is_change, change_at, first_at, changes_after, changes_between, observed}
 use Rattle.zone_meaning.specs.RangeLaws.{AreRisingAfter, IsChangeBetween, AreObserved, state_told}
-use Rattle.zone_meaning.proofs.Members.{member_first, member_later, member_cases, no_member}
+use Rattle.zone_meaning.proofs.lemmas.Members.{member_first, member_later, member_cases, no_member}
 
 pub change_onset : (state : ℤ → Local) (t : ℤ) → (change_at state t).onset.seconds ≡ t
 unfolding change_at

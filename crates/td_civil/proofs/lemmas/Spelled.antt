@@ -8,7 +8,7 @@ use Rattle.std.proofs.lemmas.Slice.Eq.{bytes_eq-Decides}
 use Rattle.jiff_core.specs.Calendar.{days_in_month}
 use Rattle.td_civil.specs.Stamp.{Stamp, IsStamp, spelling, moment_at, Spells}
 use Rattle.td_civil.specs.Reading.{stamp_in, is_date, is_stamp, moment_if, moment_in}
-use Rattle.td_civil.proofs.ReadBack.{stamp_back}
+use Rattle.td_civil.proofs.lemmas.ReadBack.{stamp_back}
 
 pub date_parts : (y m d : ℕ) → is_date y m d ≡ true → (y ≤ 9999) × ((1 ≤ m) × (m ≤ 12)) × ((1 ≤ d) × (d ≤ days_in_month (pos y) m))
 date_parts y m d e =

@@ -16,7 +16,7 @@ use Rattle.catalogue.specs.Histories.{EntryData}
 use Rattle.catalogue.specs.Lookups.{is_name_of}
 use Rattle.catalogue.specs.HeldZones.{names_at, numbered}
 use Rattle.catalogue.specs.declared.names.Name.{Name}
-use Rattle.catalogue.proofs.Rising.{NeverFalls, each_sorted, never_falls}
+use Rattle.catalogue.proofs.lemmas.Rising.{NeverFalls, each_sorted, never_falls}
 use Rattle.catalogue.proofs.AnyOrder.{Apart, apart_turned, parted}
 
 -- ---- sorted lists

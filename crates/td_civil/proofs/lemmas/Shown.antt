@@ -8,9 +8,9 @@ use Rattle.td_civil.specs.Calendar.{Civil, date_of, stamp_after, elapsed, stamp_
 use Rattle.td_civil.specs.Stamp.{Stamp, IsStamp, spelling, basic_spelling, moment_at, Spells, ShowsLocal}
 use Rattle.td_civil.specs.Texts.{text_of, local_text_of}
 use Rattle.td_civil.specs.Reading.{moment_in}
-use Rattle.td_civil.proofs.Counting.{IsDated, date_of_counts, dated_bounds, one_date}
-use Rattle.td_civil.proofs.ReadBack.{same_fields}
-use Rattle.td_civil.proofs.Spelled.{spells_found}
+use Rattle.td_civil.proofs.lemmas.Counting.{IsDated, date_of_counts, dated_bounds, one_date}
+use Rattle.td_civil.proofs.lemmas.ReadBack.{same_fields}
+use Rattle.td_civil.proofs.lemmas.Spelled.{spells_found}
 
 pub stamp_after_valid : (n : ℕ) → n < 315_569_520_000 → IsStamp (stamp_after n)
 stamp_after_valid n h =

@@ -11,7 +11,7 @@ use Rattle.posix_footer.specs.declared.rule_types.DstRule.{DstRule}
 use Rattle.posix_footer.specs.Lawful.{IsLawfulRule}
 use Rattle.posix_footer.specs.Onset.{onset_of}
 use Rattle.posix_footer.specs.NextOnset.{IsNextOnset, NoneAfter, IsNext, IsNextOf, IsNextIfAny, IsQuietIfAny, ComesAfter, earlier}
-use Rattle.posix_footer.proofs.StateLemmas.{onset_rises, year_of}
+use Rattle.posix_footer.proofs.lemmas.StateLemmas.{onset_rises, year_of}
 
 -- an onset after the moment, where each of an earlier year is not, is the first of its edge
 pub next_is : (rule : DstRule) (std y t m : ℤ) (at : Edge) → IsLawfulRule std rule → IsBetween (pos 1798) (pos 9999) y → m ≡ onset_of rule std y at → t <ℤ m

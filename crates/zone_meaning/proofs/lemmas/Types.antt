@@ -12,8 +12,8 @@ use Rattle.td_civil.specs.declared.local_time.Local.{Local}
 use Rattle.tzif_reader.specs.declared.zone_file.ZoneFile.{ZoneFile}
 use Rattle.tzif_reader.specs.Layout.{IsZoneFile, IsKind}
 use Rattle.tzif_reader.specs.Cut.{lists_of}
-use Rattle.tzif_reader.proofs.Joined.{joined_at}
-use Rattle.tzif_reader.proofs.Whole.{zone_file_of}
+use Rattle.tzif_reader.proofs.lemmas.Joined.{joined_at}
+use Rattle.tzif_reader.proofs.lemmas.Whole.{zone_file_of}
 use Rattle.zone_meaning.specs.Faults.{zone_fault}
 use Rattle.posix_footer.specs.declared.rule_types.DstRule.{DstRule}
 use Rattle.posix_footer.specs.declared.rule_types.Footer.{Footer}

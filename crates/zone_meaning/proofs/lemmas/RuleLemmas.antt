@@ -12,7 +12,7 @@ use Rattle.zone_meaning.specs.Faults.{zone_fault}
 use Rattle.zone_meaning.specs.State.{begun, after, state_at, zone_state, footer_meant}
 use Rattle.zone_meaning.specs.Rules.{FollowsRules, by_footer_or}
 use Rattle.zone_meaning.proofs.Counting.{begun_are}
-use Rattle.zone_meaning.proofs.Types.{has_types}
+use Rattle.zone_meaning.proofs.lemmas.Types.{has_types}
 use Rattle.zone_meaning.proofs.Walking.{early}
 
 -- once all have

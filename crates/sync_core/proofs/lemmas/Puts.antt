@@ -8,7 +8,7 @@ use Rattle.std.proofs.lemmas.Cmp.{nat_list_cmp_total}
 use Rattle.std.specs.Str.{bytes_eq}
 use Rattle.std.specs.Option.{option_or}
 use Rattle.std.proofs.lemmas.Slice.Eq.{bytes_eq-Decides}
-use Rattle.catalogue.proofs.Rising.{behind}
+use Rattle.catalogue.proofs.lemmas.Rising.{behind}
 use Rattle.catalogue.specs.Order.{is_before, IsRising}
 use Rattle.sync_core.specs.Names.{put_in, put_all, at_text}
 

@@ -1,0 +1,7 @@
+-- Lemmas that proofs of other crates may cite.
+pub mod JsonLemmas
+pub mod ListReads
+pub mod ListSteps
+pub mod PlainUtf8
+pub mod PlainStamps
+pub mod ProblemReads

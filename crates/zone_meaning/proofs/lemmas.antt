@@ -1,0 +1,6 @@
+-- Lemmas that proofs of other crates may cite.
+pub mod Members
+pub mod NameLemmas
+pub mod RangeLemmas
+pub mod RuleLemmas
+pub mod Types
