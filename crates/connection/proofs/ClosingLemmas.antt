@@ -9,7 +9,7 @@ use Rattle.http_request.specs.declared.head.Head.{Head}
 use Rattle.http_request.proofs.lemmas.StepLemmas.{one_step, refused≢taken, refused≢waiting, same_head, same_len, same_status, taken≢waiting}
 use Rattle.connection.proofs.ServedLemmas.{both_false}
 use Rattle.connection.specs.Replies.{is_last, replies}
-use Rattle.connection.specs.Served.{ByInput, ByRefusal, ByRequest, Finish, Finishes, IsClosed, Session, farewell}
+use Rattle.connection.specs.Served.{ByInput, ByRefusal, ByRequest, Finish, FinishesBy, IsClosed, Session, farewell}
 
 -- the requests, each of which closes the connection or leaves it open, and what comes after them; so many came before
 abbrev pub Goes : ℕ → List ℕ → List Head → Finish → Type 0
@@ -104,7 +104,7 @@ goes_input n read (h ∷ hs) held g a few = (
   ),
 )
 
-goes : (s : Session) (heads : List Head) (f : Finish) → Finishes s heads f → Goes 0 s.read heads f
+goes : (s : Session) (heads : List Head) (f : Finish) → FinishesBy s heads f → Goes 0 s.read heads f
 goes s heads ByRequest c =
     subst (λ l. Goes 0 s.read l ByRequest) (sym c.heads_are)
     (goes_request 0 s.read c.before c.last c.held (subst (λ l. Gives s.read l c.held) c.heads_are c.gives) c.open_before.kept

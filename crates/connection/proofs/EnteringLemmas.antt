@@ -6,7 +6,7 @@ use Rattle.publication.specs.Views.{DeskView}
 use Rattle.td_base.proofs.lemmas.Beginnings.{prefix_self, prefix_trans, prefix_length}
 use Rattle.td_base.specs.declared.report.End.{End}
 use Rattle.td_base.specs.declared.report.End.TheVariants as end
-use Rattle.connection.specs.Entering.{Enters, EntersAt, EntersEach, GoesOn, HasCounted}
+use Rattle.connection.specs.Entering.{EntersFor, EntersAt, EntersEach, GoesOn, HasCounted}
 
 module _ {V : Type 0} where
   pub enters_more : (a b c : DeskView V) (ps : List ℕ) (p : ℕ) → EntersEach a ps b → EntersAt b p c → EntersEach a (ps ++ p ∷ []) c
@@ -42,7 +42,7 @@ module _ {V : Type 0} where
   each_goes_on a b [] e = goes_on_same a b e
   each_goes_on a b (p ∷ ps) e = goes_on_both a e.0 b e.1.goes_on (each_goes_on e.0 b ps e.2)
 
-  pub goes_on : (a b : DeskView V) (ps : List ℕ) (e : End) → Enters a ps b e → GoesOn a b
+  pub goes_on : (a b : DeskView V) (ps : List ℕ) (e : End) → EntersFor a ps b e → GoesOn a b
   goes_on a b ps end.Closed h = each_goes_on a b ps h
   goes_on a b ps end.ReadFault h = each_goes_on a b ps h
   goes_on a b ps end.WriteFault h = each_goes_on a b ps h
@@ -55,7 +55,7 @@ module _ {V : Type 0} where
   each_counted a b [] e = omega (arith, ap (λ d. d.enters) e)
   each_counted a b (p ∷ ps) e = omega (arith, e.1.enters, each_counted e.0 b ps e.2)
 
-  pub counted : (a b : DeskView V) (ps : List ℕ) (e : End) → Enters a ps b e → HasCounted a.enters ps b.enters e
+  pub counted : (a b : DeskView V) (ps : List ℕ) (e : End) → EntersFor a ps b e → HasCounted a.enters ps b.enters e
   counted a b ps end.Closed h = each_counted a b ps h
   counted a b ps end.ReadFault h = each_counted a b ps h
   counted a b ps end.WriteFault h = each_counted a b ps h
@@ -73,7 +73,7 @@ module _ {V : Type 0} where
       let longer : length a.seen ≤ length e.0.seen = prefix_length a.seen e.0.seen e.1.goes_on.longer in
       (omega (arith, le, longer, e.1.place_is), each_from n e.0 b ps (omega (arith, le, longer)) e.2)
 
-  pub first : (a b : DeskView V) (ps : List ℕ) (e : End) → Enters a ps b e → AllByRecursion (λ p. length a.seen ≤ p) ps
+  pub first : (a b : DeskView V) (ps : List ℕ) (e : End) → EntersFor a ps b e → AllByRecursion (λ p. length a.seen ≤ p) ps
   first a b ps end.Closed h = each_from (length a.seen) a b ps (omega arith) h
   first a b ps end.ReadFault h = each_from (length a.seen) a b ps (omega arith) h
   first a b ps end.WriteFault h = each_from (length a.seen) a b ps (omega arith) h
@@ -86,7 +86,7 @@ module _ {V : Type 0} where
       let size : length e.0.seen ≡ n = ap length same.0 ∙ is in (e.1.place_is ∙ size, each_at n e.0 b ps size same.1 e.2)
 
   -- a desk that has seen the end answers at the last place
-  pub at_end : (a b : DeskView V) (ps : List ℕ) (e : End) → Enters a ps b e → a.ended ≡ true → AllByRecursion (λ p. p ≡ length a.seen) ps
+  pub at_end : (a b : DeskView V) (ps : List ℕ) (e : End) → EntersFor a ps b e → a.ended ≡ true → AllByRecursion (λ p. p ≡ length a.seen) ps
   at_end a b ps end.Closed h over = each_at (length a.seen) a b ps refl over h
   at_end a b ps end.ReadFault h over = each_at (length a.seen) a b ps refl over h
   at_end a b ps end.WriteFault h over = each_at (length a.seen) a b ps refl over h

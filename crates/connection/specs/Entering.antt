@@ -34,12 +34,12 @@ module _ {V : Type 0} where
       (next : DeskView V) × EntersAt before place next × EntersEach next places now
 
   -- and, where memory ran out, perhaps one more that was refused
-  abbrev pub Enters : DeskView V → List ℕ → DeskView V → End → Type 0
-  Enters before places now end.NoMemory =
+  abbrev pub EntersFor : DeskView V → List ℕ → DeskView V → End → Type 0
+  EntersFor before places now end.NoMemory =
       (last : DeskView V) × EntersEach before places last × ((now ≡ last) ⊎ IsRefused last now)
-  Enters before places now end.Closed = EntersEach before places now
-  Enters before places now end.ReadFault = EntersEach before places now
-  Enters before places now end.WriteFault = EntersEach before places now
+  EntersFor before places now end.Closed = EntersEach before places now
+  EntersFor before places now end.ReadFault = EntersEach before places now
+  EntersFor before places now end.WriteFault = EntersEach before places now
 
 -- the number of enters rose by that of the places, or, where memory ran out, perhaps by one more
 abbrev pub HasCounted : ℕ → List ℕ → ℕ → End → Type 0

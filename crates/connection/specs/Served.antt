@@ -62,10 +62,10 @@ pub record ClosesLast (read : List ℕ) (heads : List Head) : Type 0 where
   pub open_before : IsOpen before
   pub closes : is_last (length before) last ≡ true
 
-abbrev pub Finishes : Session → List Head → Finish → Type 0
-Finishes s heads ByRequest = ClosesLast s.read heads
-Finishes s heads (ByRefusal status) = Asks s.read heads (Bad status) × IsOpen heads
-Finishes s heads ByInput =
+abbrev pub FinishesBy : Session → List Head → Finish → Type 0
+FinishesBy s heads ByRequest = ClosesLast s.read heads
+FinishesBy s heads (ByRefusal status) = Asks s.read heads (Bad status) × IsOpen heads
+FinishesBy s heads ByInput =
     (held : List ℕ) × Asks s.read heads (Rest held) × IsOpen heads × IsAtEnd s.left
 
 -- what is written after the replies
@@ -79,7 +79,7 @@ farewell ByInput = []
 pub record IsClosed (answer : ℕ → Head → Answer) (s : Session) : Type 0 where
   pub heads : List Head
   pub finish : Finish
-  pub finishes : Finishes s heads finish
+  pub finishes : FinishesBy s heads finish
   pub placed : length s.places ≡ length heads
   pub written : s.written ≡ replies answer heads s.places ++ farewell finish
 

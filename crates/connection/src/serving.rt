@@ -1,7 +1,7 @@
 ghost use Rattle.std.specs.Prelude.{◌≡◌, ◌≤◌, length, [], true};
 ghost use Rattle.std.specs.List.{AllByRecursion};
 ghost use mathlib.Core.List.{IsPrefix};
-ghost use Rattle.connection.specs.Entering.{Enters, HasCounted};
+ghost use Rattle.connection.specs.Entering.{EntersFor, HasCounted};
 ghost use Rattle.connection.specs.Replies.{is_last};
 ghost use Rattle.connection.specs.Serving.{Serves};
 ghost use Rattle.json_forms.specs.PlainTexts.{IsPlainRole};
@@ -33,7 +33,7 @@ pub fn serve<C: Conn>(
 ) -> Report
     requires role { IsPlainRole role.now }
     ensures served { Serves desk.new role.now (C.seen conn.old) (C.seen conn.new) result }
-    ensures enters { Enters desk.old result.places desk.new result.end }
+    ensures enters { EntersFor desk.old result.places desk.new result.end }
     ensures pair { desk.new.pair ≡ desk.old.pair }
     ensures seen { IsPrefix desk.old.seen desk.new.seen }
     ensures first { AllByRecursion (λ p. length desk.old.seen ≤ p) result.places }
@@ -59,7 +59,7 @@ fn serve_requests<C: Conn>(
     requires none { places.old ≡ [] }
     ensures served { Serves desk.new role.now (C.seen conn.old) (C.seen conn.new)
         (record { end = result; places = places.new }) }
-    ensures enters { Enters desk.old places.new desk.new result }
+    ensures enters { EntersFor desk.old places.new desk.new result }
 {
     let mut heads = Heads::new(alloc);
     'requests: loop {

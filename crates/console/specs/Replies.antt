@@ -15,12 +15,12 @@ reply_text said.Bye = codes "bye\n"
 reply_text said.Unknown = codes "unknown\n"
 
 -- a reply of bounded length: any but a refusal
-abbrev pub IsShort : Said → Type 0
-IsShort (said.Refused fault) = ⊥
-IsShort (said.Ready token) = ⊤
-IsShort (said.Installed token) = ⊤
-IsShort (said.Unchanged token) = ⊤
-IsShort said.NoMemory = ⊤
-IsShort (said.Serving token zones) = ⊤
-IsShort said.Bye = ⊤
-IsShort said.Unknown = ⊤
+abbrev pub IsBoundedReply : Said → Type 0
+IsBoundedReply (said.Refused fault) = ⊥
+IsBoundedReply (said.Ready token) = ⊤
+IsBoundedReply (said.Installed token) = ⊤
+IsBoundedReply (said.Unchanged token) = ⊤
+IsBoundedReply said.NoMemory = ⊤
+IsBoundedReply (said.Serving token zones) = ⊤
+IsBoundedReply said.Bye = ⊤
+IsBoundedReply said.Unknown = ⊤

@@ -14,11 +14,11 @@ abbrev pub first_line : List ℕ → Line
 first_line held = line_of (before_first is_feed held)
 
 -- what a call answers of the bytes held, and which it leaves
-abbrev pub Steps : List ℕ → Option Line → List ℕ → Type 0
-Steps old (Some line) new =
+abbrev pub StepsLine : List ℕ → Option Line → List ℕ → Type 0
+StepsLine old (Some line) new =
     IsTrue (has_feed old) × (line ≡ line_of (before_first is_feed old))
     × (new ≡ after_first is_feed old)
-Steps old None new = (has_feed old ≡ false) × (new ≡ take most_held old)
+StepsLine old None new = (has_feed old ≡ false) × (new ≡ take most_held old)
 
 -- the first line of the bytes held is to install
 abbrev pub HasInstall : List ℕ → Type 0
@@ -26,19 +26,20 @@ HasInstall held = IsTrue (has_feed held) × IsInstall (line_of (before_first is_
 
 -- whatever more is fed, the lines of all bytes are those given, followed by those of what is held
 -- and of what is fed then
-abbrev pub Gives : List ℕ → List Line → List ℕ → Type 0
-Gives all given held = (more : List ℕ) → lines_of (all ++ more) ≡ given ++ lines_of (held ++ more)
+abbrev pub GivesLines : List ℕ → List Line → List ℕ → Type 0
+GivesLines all given held =
+    (more : List ℕ) → lines_of (all ++ more) ≡ given ++ lines_of (held ++ more)
 
 -- what the next call answers after these lines were given: one more, or that they are the lines of
 -- all bytes
-abbrev pub Continues : List ℕ → List Line → Option Line → List ℕ → Type 0
-Continues all given (Some line) held = Gives all (given ++ line ∷ []) held
-Continues all given None held = Gives all given held × (lines_of all ≡ given)
+abbrev pub ContinuesLines : List ℕ → List Line → Option Line → List ℕ → Type 0
+ContinuesLines all given (Some line) held = GivesLines all (given ++ line ∷ []) held
+ContinuesLines all given None held = GivesLines all given held × (lines_of all ≡ given)
 
 -- a line takes bytes, so that asking again and again ends
-abbrev pub LeavesFewer : List ℕ → List ℕ → Option Line → Type 0
-LeavesFewer old new (Some line) = length new < length old
-LeavesFewer old new None = length new ≤ length old
+abbrev pub LineTakesBytes : List ℕ → List ℕ → Option Line → Type 0
+LineTakesBytes old new (Some line) = length new < length old
+LineTakesBytes old new None = length new ≤ length old
 
 -- where there is no line, few bytes are held
 abbrev pub LeavesFew : List ℕ → Option Line → Type 0

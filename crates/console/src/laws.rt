@@ -2,7 +2,7 @@
 ghost use Rattle.std.specs.Prelude.{◌≡◌, ℕ, List, [], ◌++◌, map, IsTrue};
 ghost use Rattle.std.specs.List.{flat_map, list_all};
 ghost use Rattle.console.specs.Lines.{ended, is_whole_text, line_of, lines_of};
-ghost use Rattle.console.specs.Steps.{Gives};
+ghost use Rattle.console.specs.Steps.{GivesLines};
 ghost use Rattle.console.specs.declared.line.Line.{Line};
 ghost use Rattle.console.specs.declared.line.Line.TheVariants as line;
 ghost use Rattle.td_base.specs.Names.{is_path_word};
@@ -19,12 +19,12 @@ pub fn folders_are_named()
         → IsTrue (is_path_word folder) }
 {}
 
-/// The lines of a list are the first of those of each longer one. `Gives` holds at the start, and
-/// at each moment the lines given, followed by those of what is held, are those of all bytes.
+/// The lines of a list are the first of those of each longer one. `GivesLines` holds at the start,
+/// and at each moment the lines given, followed by those of what is held, are those of all bytes.
 pub fn goes_on()
     ensures prefix { (bytes more : List ℕ)
         → (later : List Line) × (lines_of (bytes ++ more) ≡ lines_of bytes ++ later) }
-    ensures start { Gives [] [] [] }
+    ensures start { GivesLines [] [] [] }
     ensures given { (all : List ℕ) (given : List Line) (held : List ℕ)
-        → Gives all given held → lines_of all ≡ given ++ lines_of held }
+        → GivesLines all given held → lines_of all ≡ given ++ lines_of held }
 {}

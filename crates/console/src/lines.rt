@@ -2,8 +2,8 @@ ghost use Rattle.std.specs.Prelude.{◌≡◌, ℕ, List, [], ◌∷◌, ◌+◌
 ghost use Rattle.std.specs.Prelude.{IfSome, IfOk, OnOk, OnErr, IsTrue, Some};
 ghost use Rattle.std.specs.List.{position};
 ghost use Rattle.console.specs.Lines.{has_feed, is_feed, line_of, IsInstall};
-ghost use Rattle.console.specs.Steps.{Continues, Gives, HasInstall, LeavesFewer, LeavesFew, Steps};
-ghost use Rattle.console.specs.Steps.{first_line};
+ghost use Rattle.console.specs.Steps.{ContinuesLines, GivesLines, HasInstall, LeavesFew};
+ghost use Rattle.console.specs.Steps.{LineTakesBytes, StepsLine, first_line};
 ghost use Rattle.console.specs.declared.line.Line.{Line};
 
 use crate::Line;
@@ -53,7 +53,7 @@ impl Lines {
         ensures ok { OnOk result (self.new ≡ self.old ++ piece.now) }
         ensures err { OnErr result (self.new ≡ self.old) }
         ensures cutting { OnOk result ((all : List ℕ) (given : List Line)
-            → Gives all given self.old → Gives (all ++ piece.now) given self.new) }
+            → GivesLines all given self.old → GivesLines (all ++ piece.now) given self.new) }
     {
         self.bytes.extend_from_slice(piece)?;
         Ok(())
@@ -62,16 +62,16 @@ impl Lines {
     /// The first line of what is held, which loses its bytes, or `None` exactly where no line feed
     /// is held. Then at most 1,101 bytes stay. Only a line `install DIR` takes memory.
     pub fn next(&mut self) -> Result<Option<Line>, NoMemory>
-        ensures steps { IfOk result (λ line. Steps self.old line self.new) }
+        ensures steps { IfOk result (λ line. StepsLine self.old line self.new) }
         ensures err { OnErr result (self.new ≡ self.old) }
         ensures memory { OnErr result (HasInstall self.old) }
 
         // Over all the bytes that were fed, with the lines given so far.
         ensures cutting { IfOk result (λ line. (all : List ℕ) (given : List Line)
-            → Gives all given self.old → Continues all given line self.new) }
+            → GivesLines all given self.old → ContinuesLines all given line self.new) }
 
         // What a caller that feeds and asks in turn needs of each answer.
-        ensures fewer { IfOk result (LeavesFewer self.old self.new) }
+        ensures fewer { IfOk result (LineTakesBytes self.old self.new) }
         ensures few { IfOk result (LeavesFew self.new) }
     {
         self.step()
@@ -80,11 +80,11 @@ impl Lines {
     /// Takes off the first line unread, for which no memory is needed.
     pub fn pass_over(&mut self)
         requires { IsTrue (has_feed self.old) }
-        ensures steps { Steps self.old (Some (first_line self.old)) self.new }
+        ensures steps { StepsLine self.old (Some (first_line self.old)) self.new }
 
         // Over all the bytes that were fed, with the lines given so far.
         ensures cutting { (all : List ℕ) (given : List Line)
-            → Gives all given self.old → Gives all (given ++ first_line self.old ∷ []) self.new }
+            → GivesLines all given self.old → GivesLines all (given ++ first_line self.old ∷ []) self.new }
         ensures fewer { length self.new < length self.old }
     {
         let len = self.first_feed().unwrap();
@@ -93,7 +93,7 @@ impl Lines {
 
     /// The same, by the place of the first line feed.
     fn step(&mut self) -> Result<Option<Line>, NoMemory>
-        ensures steps { IfOk result (λ line. Steps self.old line self.new) }
+        ensures steps { IfOk result (λ line. StepsLine self.old line self.new) }
         ensures err { OnErr result (self.new ≡ self.old) }
         ensures memory { OnErr result (HasInstall self.old) }
     {

@@ -1,6 +1,6 @@
 //! The texts of the replies.
 ghost use Rattle.std.specs.Prelude.{◌≡◌, ◌+◌, ◌≤◌, ◌++◌, length, take, codes, decimal, OnOk, OnErr};
-ghost use Rattle.console.specs.Replies.{IsShort, reply_text};
+ghost use Rattle.console.specs.Replies.{IsBoundedReply, reply_text};
 
 use crate::{Said, ShortLine};
 use itoa::Buffer;
@@ -44,7 +44,7 @@ fn append_line(out: &mut Bytes, word: &[u8], text: &[u8], end: &[u8]) -> Result<
 
 /// The reply, which takes no memory. A refusal may be too long for it.
 pub fn short(said: &Said) -> ShortLine
-    requires { IsShort said.now }
+    requires { IsBoundedReply said.now }
     ensures { result ≡ reply_text said.now }
 {
     match said {

@@ -1,5 +1,5 @@
 ghost use Rattle.std.specs.Prelude.{◌<◌, ◌≤◌, length};
-ghost use Rattle.console.specs.Replies.{IsShort};
+ghost use Rattle.console.specs.Replies.{IsBoundedReply};
 
 use crate::{Line, Lines, Said, folders_are_named, goes_on, reads_written, reply, short};
 use std::alloc::Global;
@@ -273,7 +273,7 @@ fn check_reply(rt: &impl Abort, alloc: Global, said: &Said, text: &[u8]) -> Resu
 
 /// A reply that holds a token, as `short` gives it and as `reply` appends it.
 fn check_short(rt: &impl Abort, alloc: Global, said: &Said, text: &[u8]) -> Result<(), NoMemory>
-    requires { IsShort said.now }
+    requires { IsBoundedReply said.now }
 {
     assert!(rt; short(said).as_slice() == text);
     check_reply(rt, alloc, said, text)

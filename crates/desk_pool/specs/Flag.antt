@@ -37,9 +37,9 @@ word_of false = 0
 
 -- what the holder of a seat knows fits a flag that was raised or not: the flag itself, at its own
 -- seat, knows which, and a sign has seen it raised only where it was
-abbrev pub FitsAs : Bool → Bool → Bool → ℕ → ℕ → Type 0
-FitsAs true raised is flag seat = (seat ≡ flag) × (raised ≡ is)
-FitsAs false raised is flag seat = raised ≡ true → is ≡ true
+abbrev pub FitsFlag : Bool → Bool → Bool → ℕ → ℕ → Type 0
+FitsFlag true raised is flag seat = (seat ≡ flag) × (raised ≡ is)
+FitsFlag false raised is flag seat = raised ≡ true → is ≡ true
 
 -- the rule: the word says whether the flag was raised, and what each seat knows fits that
 pub record Holds (s : State (Unit {0}) Knows) : Type 0 where
@@ -47,7 +47,7 @@ pub record Holds (s : State (Unit {0}) Knows) : Type 0 where
   pub flag : ℕ
   pub words : s.words ≡ word_of raised ∷ []
   pub seats : (seat : ℕ) (v : Knows) → get_elem? s.views seat ≡ some v
-      → FitsAs v.owns v.raised raised flag seat
+      → FitsFlag v.owns v.raised raised flag seat
 
 -- after raising it, the flag knows that it was raised
 abbrev pub Raises : Step (Unit {0}) → Me (Unit {0}) Knows → ℕ → Me (Unit {0}) Knows → Type 0
@@ -55,8 +55,8 @@ Raises st m n m' = m' ≡ (knows true true, m.1)
 
 -- a look finds the word of a flag that was raised or not, and the sign has seen which; what it has
 -- seen before stays true
-abbrev pub Looks : Step (Unit {0}) → Me (Unit {0}) Knows → ℕ → Me (Unit {0}) Knows → Type 0
-Looks st m n m' =
+abbrev pub LooksAtFlag : Step (Unit {0}) → Me (Unit {0}) Knows → ℕ → Me (Unit {0}) Knows → Type 0
+LooksAtFlag st m n m' =
     (raised : Bool) × (n ≡ word_of raised) × (m' ≡ (knows false raised, m.1))
     × (m.0.raised ≡ true → raised ≡ true)
 

@@ -27,9 +27,9 @@ impl Play<(), Knows> for Raising {
 pub struct Looking;
 
 impl Play<(), Knows> for Looking {
-    ghost use Rattle.desk_pool.specs.Flag.{Looks};
+    ghost use Rattle.desk_pool.specs.Flag.{LooksAtFlag};
 
-    ghost then = { Looks };
+    ghost then = { LooksAtFlag };
 }
 
 /// The flag gives a sign, which has seen nothing.

@@ -11,11 +11,11 @@ use Rattle.http_request.specs.declared.step.Step.{Step}
 use Rattle.http_request.specs.declared.step.Step.TheVariants as step
 
 -- a window begins with this head, judged
-abbrev pub Reads : List ℕ → Reading → Type 0
-Reads text (reading.Taken head len) =
+abbrev pub ReadsHead : List ℕ → Reading → Type 0
+ReadsHead text (reading.Taken head len) =
     (h : RequestHead) × HeadOf text h × (refusal_of h ≡ None) × (head ≡ asked_by h)
     × (len ≡ length (print_request h))
-Reads text (reading.Refused status) =
+ReadsHead text (reading.Refused status) =
     ((h : RequestHead) × HeadOf text h × (refusal_of h ≡ Some status))
     ⊎ (HasNoHead text × (status ≡ 400))
 
@@ -24,10 +24,10 @@ abbrev pub IsServed : List ℕ → Type 0
 IsServed text = (h : RequestHead) × HeadOf text h × (refusal_of h ≡ None)
 
 -- the step at the beginning of the bytes, with the search where it waits
-abbrev pub Finds : List ℕ → Step → Type 0
-Finds bytes (step.Taken head len) = IsStep bytes (Taken head len)
-Finds bytes (step.Refused status) = IsStep bytes (Refused status)
-Finds bytes (step.Waiting scan) = IsStep bytes Waiting × IsScanned bytes scan
+abbrev pub FindsStep : List ℕ → Step → Type 0
+FindsStep bytes (step.Taken head len) = IsStep bytes (Taken head len)
+FindsStep bytes (step.Refused status) = IsStep bytes (Refused status)
+FindsStep bytes (step.Waiting scan) = IsStep bytes Waiting × IsScanned bytes scan
 
 -- the reading of a window as the step
 abbrev pub step_of : Reading → Step

@@ -1,6 +1,6 @@
 ghost use Rattle.std.specs.Prelude.{◌≤◌, length, IfOk, OnErr};
 ghost use Rattle.httparse.specs.Spans.{IsRequestWithin, IsRequestOf};
-ghost use Rattle.http_request.specs.Readings.{Reads, IsServed};
+ghost use Rattle.http_request.specs.Readings.{ReadsHead, IsServed};
 
 use crate::Head;
 use crate::judging::{asked, refusal};
@@ -24,7 +24,7 @@ pub enum Reading {
 
 /// Reads a window.
 pub fn read(alloc: Global, window: &[u8]) -> Result<Reading, NoMemory>
-    ensures reads { IfOk result (Reads window.now) }
+    ensures reads { IfOk result (ReadsHead window.now) }
     ensures err { OnErr result (IsServed window.now) }
 {
     let mut room = [EMPTY_HEADER_SPAN; MOST_FIELDS];
@@ -45,7 +45,7 @@ fn read_spans(
     requires room { length room.now ≤ 66 }
     requires within { IsRequestWithin window.now room.now spans }
     requires head { IsRequestOf window.now room.now spans }
-    ensures reads { IfOk result (Reads window.now) }
+    ensures reads { IfOk result (ReadsHead window.now) }
     ensures err { OnErr result (IsServed window.now) }
 {
     let method = spans.method.of(window);

@@ -1,6 +1,6 @@
 ghost use Rattle.std.specs.Prelude.{◌≡◌, ◌&&◌, ◌||◌, nat_le, length, IfOk, OnErr};
 ghost use Rattle.http_request.specs.Ends.{most_bytes, most_feeds};
-ghost use Rattle.http_request.specs.Readings.{Finds, step_of};
+ghost use Rattle.http_request.specs.Readings.{FindsStep, step_of};
 ghost use Rattle.http_request.specs.Scans.{IsScanned, Searches};
 ghost use Rattle.http_request.specs.Steps.{IsTaken};
 ghost use Rattle.http_request.specs.declared.scan.Search.TheVariants as search;
@@ -33,7 +33,7 @@ pub enum Step {
 /// Looks at the beginning of the bytes, which were searched that far.
 pub fn look(alloc: Global, bytes: &[u8], scan: Scan) -> Result<Step, NoMemory>
     requires { IsScanned bytes.now scan }
-    ensures finds { IfOk result (Finds bytes.now) }
+    ensures finds { IfOk result (FindsStep bytes.now) }
     ensures err { OnErr result (IsTaken bytes.now) }
 {
     match find_end(bytes, scan) {
@@ -60,7 +60,7 @@ fn is_within(len: usize, feeds: usize) -> bool
 fn wait(bytes: &[u8], scan: Scan) -> Step
     requires scanned { IsScanned bytes.now scan }
     requires all { scan.seen ≡ length bytes.now }
-    ensures { Finds bytes.now result }
+    ensures { FindsStep bytes.now result }
 {
     let full = is_full(bytes.len(), scan.feeds);
     if full {
@@ -73,7 +73,7 @@ fn wait(bytes: &[u8], scan: Scan) -> Step
 /// Reads the bytes up to the end of the head, if that is within the limits.
 fn read_window(alloc: Global, bytes: &[u8], len: usize, feeds: usize) -> Result<Step, NoMemory>
     requires { Searches bytes.now (search.End len feeds) }
-    ensures finds { IfOk result (Finds bytes.now) }
+    ensures finds { IfOk result (FindsStep bytes.now) }
     ensures err { OnErr result (IsTaken bytes.now) }
 {
     let within = is_within(len, feeds);

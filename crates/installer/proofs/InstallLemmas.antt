@@ -9,7 +9,7 @@ use Rattle.catalogue.specs.declared.holding.Catalogue.{Catalogue}
 use Rattle.catalogue.specs.declared.release.Release.{Release}
 use Rattle.zone_meaning.specs.Sound.{IsSound}
 use Rattle.release_check.specs.Before.{ForEachBefore, before_of}
-use Rattle.release_check.specs.Found.{Finds, IsReleaseIn}
+use Rattle.release_check.specs.Found.{FindsIn, IsReleaseIn}
 use Rattle.installer.specs.Installing.{GrowsBy, Installs}
 
 abbrev held : Catalogue (List ℕ) → ReleaseData
@@ -37,7 +37,7 @@ stands_held c H r s = subst (λ x. Stands c (H ++ x ∷ [])) (same_last c H r s)
 -- ---- an install
 
 pub grew : (old new : StoreView) (dir : List ℕ) (c : Catalogue (List ℕ)) (H : List ReleaseData) (r : Release (List ℕ)) (next : Catalogue (List ℕ))
-    → Stands c H → Finds old new (Ok r) (λ files. ForEachBefore (Some c) (λ G. IsReleaseIn dir (before_of G) (Ok r) files))
+    → Stands c H → FindsIn old new (Ok r) (λ files. ForEachBefore (Some c) (λ G. IsReleaseIn dir (before_of G) (Ok r) files))
     → Stands next (H ++ release_data (λ file. file) r ∷ [])
     → Installs old new dir H (λ c'. H ++ held c' ∷ []) (Ok next)
 grew old new dir c H r next s f n = record {

@@ -18,16 +18,16 @@ use Rattle.installer.specs.declared.install_fault.InstallFault.TheVariants as fa
 
 -- a folder is refused: it gives this fault after the history. Out of memory and a failed read are
 -- tied to no file.
-abbrev pub Refuses : List File → List ℕ → List ReleaseData → InstallFault → Type 0
-Refuses files dir H fault.NoMemory = ⊤
-Refuses files dir H (fault.Check f) = Blames f (FolderGives files dir (before_of H) (Err f))
+abbrev pub GivesFault : List File → List ℕ → List ReleaseData → InstallFault → Type 0
+GivesFault files dir H fault.NoMemory = ⊤
+GivesFault files dir H (fault.Check f) = Blames f (FolderGives files dir (before_of H) (Err f))
 
 -- the release that a folder gives after the history has joined it, or the folder is refused
 abbrev pub Installed : {A : Type 0} → List File → List ℕ → List ReleaseData
     → (A → List ReleaseData) → Result A InstallFault → Type 0
 Installed files dir H history (Ok a) =
     (r : ReleaseData) × FolderGives files dir (before_of H) (Ok r) × (history a ≡ H ++ r ∷ [])
-Installed files dir H history (Err e) = Refuses files dir H e
+Installed files dir H history (Err e) = GivesFault files dir H e
 
 -- A store was looked into for the folder: no file changed, the count of faults never falls, the
 -- answer is tied to the files where they are told, and a failed read is answered only where the

@@ -7,7 +7,7 @@ use Rattle.std.proofs.lemmas.Int.{ints}
 use Rattle.posix_footer.specs.declared.rule_types.DayForm.{DayForm}
 use Rattle.posix_footer.specs.declared.rule_types.DayForm.TheVariants as day
 use Rattle.posix_footer.specs.Items.{begins, begins_as, behind, is_sign, is_quotable, quoted_at, name_at, part_at, clock_at, signed_at, offset_at, ahead_at, daylight_offset_at, begins_offset, time_at, week_at, julian_at, year_day_at, day_at}
-use Rattle.posix_footer.specs.Spelling.{IsRun, IsPlain, IsQuoted, IsName, IsNumber, IsPart, IsBehindHours, IsClock, HasSign, IsSigned, IsOffset, IsDay}
+use Rattle.posix_footer.specs.Spelling.{IsRun, IsUnquoted, IsQuoted, IsName, IsNumber, IsClockPart, IsBehindHours, IsClock, HasSign, IsSignedNumber, IsOffset, IsDay}
 use Rattle.posix_footer.proofs.Runs.{run_again, number_again}
 use Rattle.posix_footer.proofs.Found.{IsDaylightOffset}
 
@@ -29,7 +29,7 @@ pub record IsEnd (rest : List ℕ) : Type 0 where
 letter_no_quote : (b : ℕ) → is_ascii_alphabetic b ≡ true → (b == 60) ≡ false
 letter_no_quote b h = grind (arith, nat_tests)
 
-plain_again : (text name rest : List ℕ) → IsPlain text name → begins_as is_ascii_alphabetic rest ≡ false → name_at (text ++ rest) ≡ Some (name, rest)
+plain_again : (text name rest : List ℕ) → IsUnquoted text name → begins_as is_ascii_alphabetic rest ≡ false → name_at (text ++ rest) ≡ Some (name, rest)
 unfolding name_at
 plain_again text name rest is end =
     let first = first_of_run is_ascii_alphabetic (λ b. b == 60) false name rest letter_no_quote is.letters.all (omega (arith, is.letters.at_least)) in
@@ -48,7 +48,7 @@ pub name_again : (text name rest : List ℕ) → IsName text name → begins_as 
 name_again text name rest (inl is) end = plain_again text name rest is end
 name_again text name rest (inr is) end = quoted_again text name rest is
 
-part_again : (text : List ℕ) (n : ℕ) (rest : List ℕ) → IsPart text n → begins_as is_ascii_digit rest ≡ false → part_at (text ++ rest) ≡ Some (n, rest)
+part_again : (text : List ℕ) (n : ℕ) (rest : List ℕ) → IsClockPart text n → begins_as is_ascii_digit rest ≡ false → part_at (text ++ rest) ≡ Some (n, rest)
 unfolding part_at
 part_again text n rest is end = ap (λ t. part_at (t ++ rest)) is.text_is ∙ number_again 2 2 0 59 is.digits n rest is.number end
 
@@ -66,7 +66,7 @@ record Parts (text : List ℕ) (seconds : ℕ) (rest : List ℕ) : Type 0 where
   pub value : seconds ≡ 60 * minute + second
   pub end : begins_as is_ascii_digit text ≡ false
 
-part_begins : (text : List ℕ) (n : ℕ) (rest : List ℕ) → IsPart text n → begins_as is_ascii_digit (text ++ rest) ≡ false
+part_begins : (text : List ℕ) (n : ℕ) (rest : List ℕ) → IsClockPart text n → begins_as is_ascii_digit (text ++ rest) ≡ false
 part_begins text n rest is = ap (λ t. begins_as is_ascii_digit (t ++ rest)) is.text_is
 
 parts_along : (one two : List ℕ) (seconds : ℕ) (rest : List ℕ) → one ≡ two → Parts one seconds rest → Parts two seconds rest
@@ -155,13 +155,13 @@ signed_text digits greatest sign text n z rest (inl plus) is end = elim plus.sig
 signed_text digits greatest sign text n z rest (inr minus) is end =
     ap (λ s. signed_at digits greatest (s ++ (text ++ rest))) minus.sign_is ∙ minus_text digits greatest text n rest is end ∙ ap (λ y. Some (y, rest)) (sym minus.value)
 
-signed_again : (digits greatest : ℕ) (text : List ℕ) (z : ℤ) (rest : List ℕ) → IsSigned digits greatest text z → IsEnd rest →
+signed_again : (digits greatest : ℕ) (text : List ℕ) (z : ℤ) (rest : List ℕ) → IsSignedNumber digits greatest text z → IsEnd rest →
     signed_at digits greatest (text ++ rest) ≡ Some (z, rest)
 signed_again digits greatest text z rest is end =
     ap (λ t. signed_at digits greatest t) (ap (λ t. t ++ rest) is.text_is ∙ append_assoc is.sign is.clock_text rest)
     ∙ signed_text digits greatest is.sign is.clock_text is.seconds z rest is.signed is.clock end
 
-pub time_again : (text : List ℕ) (z : ℤ) (rest : List ℕ) → IsSigned 3 167 text z → IsEnd rest → time_at (text ++ rest) ≡ Some (z, rest)
+pub time_again : (text : List ℕ) (z : ℤ) (rest : List ℕ) → IsSignedNumber 3 167 text z → IsEnd rest → time_at (text ++ rest) ≡ Some (z, rest)
 unfolding time_at
 time_again text z rest is end = signed_again 3 167 text z rest is end
 

@@ -8,7 +8,7 @@ use Rattle.posix_footer.specs.declared.rule_types.DstRule.{DstRule}
 use Rattle.posix_footer.specs.declared.rule_types.Footer.{Footer}
 use Rattle.posix_footer.specs.Items.{begins, begins_as, behind}
 use Rattle.posix_footer.specs.Grammar.{time_behind, date_at, standard_at, daylight_at, dates_behind, rule_at, rule_in, footer_at, footer_in}
-use Rattle.posix_footer.specs.Spelling.{IsName, IsOffset, IsStandard, IsDaylight, IsDay, IsSigned, IsTime, IsTwo, IsDate, IsRule, IsRuleIfAny, Spells}
+use Rattle.posix_footer.specs.Spelling.{IsName, IsOffset, IsStandard, IsDaylight, IsDay, IsSignedNumber, IsTime, IsTwo, IsDate, IsRule, IsRuleIfAny, SpellsFooter}
 use Rattle.posix_footer.proofs.Again.{first_of_run, IsEnd, name_again, offset_again, offset_no_letter, daylight_offset_again, day_again, time_again}
 use Rattle.posix_footer.proofs.Found.{IsDaylightOffset}
 
@@ -65,7 +65,7 @@ no_time : (size : ℕ) (z : ℤ) (rest : List ℕ) → z ≡ pos 7200 → begins
 unfolding time_behind
 no_time size z rest value slash = rw slash (ap (λ y. Ok (y, rest)) (sym value))
 
-with_time : (size : ℕ) (text : List ℕ) (z : ℤ) (rest : List ℕ) → IsSigned 3 167 text z → IsEnd rest → time_behind size (47 ∷ (text ++ rest)) ≡ Ok (z, rest)
+with_time : (size : ℕ) (text : List ℕ) (z : ℤ) (rest : List ℕ) → IsSignedNumber 3 167 text z → IsEnd rest → time_behind size (47 ∷ (text ++ rest)) ≡ Ok (z, rest)
 unfolding time_behind
 with_time size text z rest is end = rw (time_again text z rest is end) refl
 
@@ -159,6 +159,6 @@ footer_text size std_text rule_text std (Some rule) is some =
     } in
     rw (standard_again size std_text std rule_text is end, rule_not_empty std.offset rule_text rule some, rule_in_again size std rule_text rule some) refl
 
-pub footer_again : (text : List ℕ) (footer : Footer) → Spells text footer → footer_in text ≡ Ok footer
+pub footer_again : (text : List ℕ) (footer : Footer) → SpellsFooter text footer → footer_in text ≡ Ok footer
 footer_again text footer is =
     ap (λ t. footer_at (length text) t) is.text_is ∙ footer_text (length text) is.std_text is.rule_text footer.std footer.dst is.std is.rule

@@ -6,7 +6,7 @@ use Rattle.std.proofs.lemmas.Option.{cond_some}
 use Rattle.posix_footer.specs.declared.rule_types.DayForm.{DayForm}
 use Rattle.posix_footer.specs.declared.rule_types.DayForm.TheVariants as day
 use Rattle.posix_footer.specs.Items.{begins, begins_as, behind, is_sign, is_quotable, run_at, quoted_at, name_at, number_at, part_at, clock_at, signed_at, offset_at, ahead_at, daylight_offset_at, begins_offset, time_at, week_at, julian_at, year_day_at, day_at}
-use Rattle.posix_footer.specs.Spelling.{IsName, IsNumber, IsPart, IsBehindHours, IsClock, IsSigned, IsOffset, IsHourAhead, IsDay}
+use Rattle.posix_footer.specs.Spelling.{IsName, IsNumber, IsClockPart, IsBehindHours, IsClock, IsSignedNumber, IsOffset, IsHourAhead, IsDay}
 use Rattle.posix_footer.proofs.Runs.{Reads, between, IsRunOf, run_found, run_along, number_found}
 use Rattle.std.specs.Char.{is_ascii_alphabetic}
 
@@ -81,7 +81,7 @@ joined text first second middle rest e f = e ∙ ap (λ y. first ++ y) f ∙ sym
 -- a part is read where `:` stands, and nowhere else
 record IsPartRead (text : List ℕ) (x : ℕ × List ℕ) : Type 0 where
   pub first : begins 58 text ≡ true
-  pub read : Reads IsPart text x
+  pub read : Reads IsClockPart text x
 
 record IsNoPart (text : List ℕ) (x : ℕ × List ℕ) : Type 0 where
   pub first : begins 58 text ≡ false
@@ -194,7 +194,7 @@ sign_read (b ∷ bs) = byte_read b bs (b == 45) (b == 43) refl refl
 signed_from : (digits greatest : ℕ) (text : List ℕ) (clock : ℕ × List ℕ) (x : ℤ × List ℕ) → SignRead text →
     Reads (IsClock digits greatest) (behind_sign text) clock →
     ◌≡◌ {A = Option (ℤ × List ℕ)} (Some (cond (begins 45 text) (neg_ℤ (pos clock.0)) (pos clock.0), clock.1)) (Some x) →
-    Reads (IsSigned digits greatest) text x
+    Reads (IsSignedNumber digits greatest) text x
 signed_from digits greatest text clock x (inl minus) read last = record {
   front = 45 ∷ read.front;
   text_is = minus.text_is ∙ ap (λ y. 45 ∷ y) (read.text_is ∙ ap (λ y. read.front ++ y) (ap (λ p. p.1) (Some_same _ _ last)));
@@ -220,14 +220,14 @@ signed_from digits greatest text clock x (inr (sign, plus)) read last = record {
   };
 }
 
-signed_found : (digits greatest : ℕ) (text : List ℕ) (x : ℤ × List ℕ) → signed_at digits greatest text ≡ Some x → Reads (IsSigned digits greatest) text x
+signed_found : (digits greatest : ℕ) (text : List ℕ) (x : ℤ × List ℕ) → signed_at digits greatest text ≡ Some x → Reads (IsSignedNumber digits greatest) text x
 unfolding signed_at
 signed_found digits greatest text x h =
     let clock = between (clock_at digits greatest (behind_sign text)) _ x h in
     signed_from digits greatest text clock.value x (sign_read text)
     (clock_found digits greatest (behind_sign text) clock.value clock.first_is) clock.then_is
 
-offset_from : (text : List ℕ) (west x : ℤ × List ℕ) → Reads (IsSigned 2 24) text west →
+offset_from : (text : List ℕ) (west x : ℤ × List ℕ) → Reads (IsSignedNumber 2 24) text west →
     cond (nat_lt (unsigned_abs west.0) 86400) (Some (neg_ℤ west.0, west.1)) None ≡ Some x → Reads IsOffset text x
 offset_from text west x read last =
     let parts = cond_some _ _ _ last in
@@ -270,7 +270,7 @@ daylight_offset_found std text x h = elim (chosen (begins_as begins_offset text)
   | inr c ↦ ahead_found std text x c.1
 ]
 
-pub time_found : (text : List ℕ) (x : ℤ × List ℕ) → time_at text ≡ Some x → Reads (IsSigned 3 167) text x
+pub time_found : (text : List ℕ) (x : ℤ × List ℕ) → time_at text ≡ Some x → Reads (IsSignedNumber 3 167) text x
 unfolding time_at
 time_found text x h = signed_found 3 167 text x h
 

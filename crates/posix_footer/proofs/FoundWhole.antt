@@ -10,7 +10,7 @@ use Rattle.posix_footer.specs.declared.footer_fault.FooterFault.{FooterFault}
 use Rattle.posix_footer.specs.declared.footer_fault.FooterFault.TheVariants as fault
 use Rattle.posix_footer.specs.Items.{begins, behind, name_at, offset_at, daylight_offset_at, day_at}
 use Rattle.posix_footer.specs.Grammar.{◌>>=◌, place, time_behind, date_at, standard_at, daylight_at, dates_behind, rule_at, rule_in, footer_at, footer_in}
-use Rattle.posix_footer.specs.Spelling.{IsName, IsOffset, IsStandard, IsDaylight, IsDay, IsSigned, IsTime, IsTwo, IsDate, IsRuleIfAny, Spells}
+use Rattle.posix_footer.specs.Spelling.{IsName, IsOffset, IsStandard, IsDaylight, IsDay, IsSignedNumber, IsTime, IsTwo, IsDate, IsRuleIfAny, SpellsFooter}
 use Rattle.posix_footer.proofs.Runs.{Reads}
 use Rattle.posix_footer.proofs.Found.{chosen, first_is, behind_found, joined, name_found, offset_found, IsDaylightOffset, daylight_offset_found, day_found, time_found}
 
@@ -74,7 +74,7 @@ daylight_found size std text x h =
 abbrev pub IsTimeIfAny : List ℕ → ℤ → Type 0
 IsTimeIfAny text time = IsTime text time ⊎ IsTwo text time
 
-time_from : (text : List ℕ) (x : ℤ × List ℕ) → begins 47 text ≡ true → Reads (IsSigned 3 167) (drop 1 text) x → Reads IsTimeIfAny text x
+time_from : (text : List ℕ) (x : ℤ × List ℕ) → begins 47 text ≡ true → Reads (IsSignedNumber 3 167) (drop 1 text) x → Reads IsTimeIfAny text x
 time_from text x first read = record {
   front = 47 ∷ read.front;
   text_is = first_is 47 text first ∙ ap (λ y. 47 ∷ y) read.text_is;
@@ -185,7 +185,7 @@ rule_in_found size std text x h =
     rule_in_from std text dates.value dst.value rule.value x (daylight_found _ _ _ _ dst.first_is)
     (dates_found _ _ _ dates.first_is) (rule_found _ _ _ _ rule.first_is) rule.then_is
 
-footer_from : (text : List ℕ) (std : Local × List ℕ) (x : Footer) → Reads IsStandard text std → IsWithRule std.0 std.1 x → Spells text x
+footer_from : (text : List ℕ) (std : Local × List ℕ) (x : Footer) → Reads IsStandard text std → IsWithRule std.0 std.1 x → SpellsFooter text x
 footer_from text std x s w =
     let P : Local → Type 0 = λ state. IsStandard s.front state in
     let Q : Local → Type 0 = λ state. IsRuleIfAny state.offset std.1 x.dst in
@@ -208,12 +208,12 @@ behind_standard size std x h = elim (chosen (length std.1 == 0) _ _ _ h) [
   | inr c ↦ rule_in_found size std.0 std.1 x c.1
 ]
 
-pub footer_found : (text : List ℕ) (x : Footer) → footer_in text ≡ Ok x → Spells text x
+pub footer_found : (text : List ℕ) (x : Footer) → footer_in text ≡ Ok x → SpellsFooter text x
 unfolding footer_at
 footer_found text x h =
     let std = between (standard_at (length text) text) _ x h in
     footer_from text std.value x (standard_found _ _ _ std.first_is) (behind_standard (length text) std.value x std.then_is)
 
-pub found_if_ok : (text : List ℕ) (result : Result Footer FooterFault) → result ≡ footer_in text → IfOk result (Spells text)
+pub found_if_ok : (text : List ℕ) (result : Result Footer FooterFault) → result ≡ footer_in text → IfOk result (SpellsFooter text)
 found_if_ok text (Ok footer) h = footer_found text footer (sym h)
 found_if_ok text (Err e) h = tt

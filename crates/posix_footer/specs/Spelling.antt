@@ -20,7 +20,7 @@ pub record IsRun (kind : ℕ → Bool) (fewest most : ℕ) (text : List ℕ) : T
   pub at_most : length text ≤ most
 
 -- a name by itself, in letters, or between `<` and `>`
-pub record IsPlain (text name : List ℕ) : Type 0 where
+pub record IsUnquoted (text name : List ℕ) : Type 0 where
   pub letters : IsRun is_ascii_alphabetic 3 32 name
   pub text_is : text ≡ name
 
@@ -29,7 +29,7 @@ pub record IsQuoted (text name : List ℕ) : Type 0 where
   pub text_is : text ≡ 60 ∷ (name ++ 62 ∷ [])
 
 abbrev pub IsName : List ℕ → List ℕ → Type 0
-IsName text name = IsPlain text name ⊎ IsQuoted text name
+IsName text name = IsUnquoted text name ⊎ IsQuoted text name
 
 -- a number from low to high, in fewest to most digits
 pub record IsNumber (fewest most low high : ℕ) (text : List ℕ) (n : ℕ) : Type 0 where
@@ -39,7 +39,7 @@ pub record IsNumber (fewest most low high : ℕ) (text : List ℕ) (n : ℕ) : T
   pub at_most : n ≤ high
 
 -- `:` and two digits up to 59
-pub record IsPart (text : List ℕ) (n : ℕ) : Type 0 where
+pub record IsClockPart (text : List ℕ) (n : ℕ) : Type 0 where
   pub digits : List ℕ
   pub text_is : text ≡ 58 ∷ digits
   pub number : IsNumber 2 2 0 59 digits n
@@ -51,7 +51,7 @@ pub record IsEmpty (text : List ℕ) (seconds : ℕ) : Type 0 where
 
 pub record IsMinutes (text : List ℕ) (seconds : ℕ) : Type 0 where
   pub minute : ℕ
-  pub part : IsPart text minute
+  pub part : IsClockPart text minute
   pub value : seconds ≡ 60 * minute
 
 pub record IsMinutesAndSeconds (text : List ℕ) (seconds : ℕ) : Type 0 where
@@ -60,8 +60,8 @@ pub record IsMinutesAndSeconds (text : List ℕ) (seconds : ℕ) : Type 0 where
   pub minute_text : List ℕ
   pub second_text : List ℕ
   pub text_is : text ≡ minute_text ++ second_text
-  pub minute_part : IsPart minute_text minute
-  pub second_part : IsPart second_text second
+  pub minute_part : IsClockPart minute_text minute
+  pub second_part : IsClockPart second_text second
   pub value : seconds ≡ 60 * minute + second
 
 abbrev pub IsBehindHours : List ℕ → ℕ → Type 0
@@ -90,7 +90,7 @@ pub record IsTurned (sign : List ℕ) (n : ℕ) (z : ℤ) : Type 0 where
 abbrev pub HasSign : List ℕ → ℕ → ℤ → Type 0
 HasSign sign n z = IsAsIs sign n z ⊎ IsTurned sign n z
 
-pub record IsSigned (digits greatest : ℕ) (text : List ℕ) (z : ℤ) : Type 0 where
+pub record IsSignedNumber (digits greatest : ℕ) (text : List ℕ) (z : ℤ) : Type 0 where
   pub seconds : ℕ
   pub sign : List ℕ
   pub clock_text : List ℕ
@@ -102,7 +102,7 @@ pub record IsSigned (digits greatest : ℕ) (text : List ℕ) (z : ℤ) : Type 0
 -- east
 pub record IsOffset (text : List ℕ) (offset : ℤ) : Type 0 where
   pub west : ℤ
-  pub signed : IsSigned 2 24 text west
+  pub signed : IsSignedNumber 2 24 text west
   pub within : unsigned_abs west < 86400
   pub value : offset ≡ neg_ℤ west
 
@@ -154,7 +154,7 @@ IsDay text (day.Week month week weekday) = IsWeek text month week weekday
 pub record IsTime (text : List ℕ) (time : ℤ) : Type 0 where
   pub time_text : List ℕ
   pub text_is : text ≡ 47 ∷ time_text
-  pub signed : IsSigned 3 167 time_text time
+  pub signed : IsSignedNumber 3 167 time_text time
 
 pub record IsTwo (text : List ℕ) (time : ℤ) : Type 0 where
   pub text_is : text ≡ []
@@ -183,7 +183,7 @@ IsRuleIfAny std text None = text ≡ []
 IsRuleIfAny std text (Some rule) = IsRule std text rule
 
 -- the whole text spells the footer
-pub record Spells (text : List ℕ) (footer : Footer) : Type 0 where
+pub record SpellsFooter (text : List ℕ) (footer : Footer) : Type 0 where
   pub std_text : List ℕ
   pub rule_text : List ℕ
   pub text_is : text ≡ std_text ++ rule_text

@@ -3,7 +3,7 @@ ghost use Rattle.std.specs.Prelude.{◌≡◌, true, false, IfOk, pos};
 ghost use Rattle.posix_footer.specs.Grammar.{footer_in, footer_at, rule_in, rule_at, dates_behind};
 ghost use Rattle.posix_footer.specs.Grammar.{daylight_at, standard_at, date_at, time_behind};
 ghost use Rattle.posix_footer.specs.Lawful.{IsLawful, IsLawfulDate, IsLawfulOffset, IsLawfulRule};
-ghost use Rattle.posix_footer.specs.Spelling.{Spells};
+ghost use Rattle.posix_footer.specs.Spelling.{SpellsFooter};
 ghost use Rattle.posix_footer.specs.declared.rule_types.Footer.{Footer};
 ghost use Rattle.posix_footer.specs.Takes.{TakesOrFails, SkipsOrFails};
 ghost use Rattle.jiff_core.specs.Calendar.{IsWithin};
@@ -19,9 +19,9 @@ pub fn read(text: &[u8]) -> Result<Footer, FooterFault>
     // The footer, or the fault and its place.
     ensures exact { result ≡ footer_in text.now }
     // What is read is spelled so.
-    ensures found { IfOk result (Spells text.now) }
+    ensures found { IfOk result (SpellsFooter text.now) }
     // What is spelled so is read, and as nothing else.
-    ensures only { (footer : Footer) → Spells text.now footer → result ≡ Ok footer }
+    ensures only { (footer : Footer) → SpellsFooter text.now footer → result ≡ Ok footer }
     ensures lawful { IfOk result IsLawful }
 {
     Parser::new(text).footer()

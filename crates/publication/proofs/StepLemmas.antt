@@ -9,7 +9,7 @@ use Rattle.crossbeam_utils.specs.Register.{Admits, TurnsAt, Turns, Forks, Merges
 use Rattle.publication.specs.declared.view.View.{View}
 use Rattle.publication.specs.declared.view.SeatRole.{SeatRole}
 use Rattle.publication.specs.declared.view.SeatRole.TheVariants.{Spent, Publisher, Desk}
-use Rattle.publication.specs.ShownRule.{no_home, spent, FitsAs, opened, told, taken_over, entered_view, logged, homed, ShownHolds, Opens, Publishes}
+use Rattle.publication.specs.ShownRule.{no_home, spent, FitsAs, opened, told, taken_over, entered_view, logged, homed, ShownHolds, OpensView, Publishes}
 use Rattle.publication.specs.ShownRule.{Enters}
 use Rattle.td_base.proofs.lemmas.Beginnings.{prefix_self, prefix_trans, prefix_length}
 
@@ -68,7 +68,7 @@ module _ {T X V : Type 0} (content : T → Option X) (log : X → List V) (book 
   }
 
   pub opens : (seat : ℕ) (v : View V) (x y : T) (e : X) → content x ≡ None → content y ≡ Some e → 0 < length (log e)
-      → TurnsAt (ShownHolds content log book) seat v x y (Opens content log book)
+      → TurnsAt (ShownHolds content log book) seat v x y (OpensView content log book)
   opens seat v x y e none shows some_value views h at =
       let empty : length h.list ≡ 0 = ap length (sym h.shown ∙ ap (logged log book) none) in (
         opened (book e) (log e),

@@ -75,8 +75,8 @@ module _ {T X V : Type 0} (content : T → Option X) (log : X → List V) (book 
         → FitsAs v.role list home publisher seat v
 
   -- a first value is shown
-  abbrev pub Opens : View V → T → T → View V → Type 0
-  Opens v x y w = (e : X) × (content y ≡ Some e) × (w ≡ opened (book e) (log e))
+  abbrev pub OpensView : View V → T → T → View V → Type 0
+  OpensView v x y w = (e : X) × (content y ≡ Some e) × (w ≡ opened (book e) (log e))
 
   -- one more is shown
   abbrev pub Publishes : View V → T → T → View V → Type 0

@@ -1,5 +1,5 @@
 //! The rule of what is shown, and what each step on it tells.
-ghost use Rattle.publication.specs.ShownRule.{ShownHolds, Opens, Publishes, Enters};
+ghost use Rattle.publication.specs.ShownRule.{ShownHolds, OpensView, Publishes, Enters};
 ghost use Rattle.publication.specs.ShownRule.{spent, told, taken_over};
 
 use crate::edition::Edition;
@@ -26,7 +26,7 @@ impl<V: Value, T: Sets<V>> Protocol<T, View<V>> for ShownRule<V> {
 pub struct Opening;
 
 impl<V: Value, T: Sets<V>> Outcome<T, View<V>> for Opening {
-    ghost then = { Opens T.content (λ t. t.list) (λ t. t.home) };
+    ghost then = { OpensView T.content (λ t. t.list) (λ t. t.home) };
 }
 
 /// One value more is shown; or, at the end, the last one again.

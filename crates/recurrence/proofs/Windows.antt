@@ -9,7 +9,7 @@ use Rattle.recurrence.specs.declared.rule_types.Form.{Form}
 use Rattle.recurrence.specs.declared.rule_types.Form.TheVariants as form
 use Rattle.recurrence.specs.Falls.{Falls, HasDate, IsOfYear, IsWeekday}
 use Rattle.recurrence.specs.Row.{row_first, days_ahead, weeks_begin}
-use Rattle.recurrence.specs.Valid.{IsMonth, IsPlace, IsFirstDay, IsValidForm}
+use Rattle.recurrence.specs.Valid.{IsMonth, IsOrdinal, IsFirstDay, IsValidForm}
 use Rattle.recurrence.specs.Occurs.{IsOccurrence}
 
 -- which of those days it is
@@ -200,7 +200,7 @@ row_inside (form.YearDays (negsuc n) weekday) y h = let long = days_in_year_boun
 row_inside (form.FixedDate month date) y h =
     omega (arith, common_length y month, days_of_months_more y month h.0.0, days_of_months_mono y month 12 h.0.1, days_of_months_all y)
 
-pub week_inside : (month : ℕ) (nth : ℤ) (w : ℕ) (y : ℤ) → IsMonth month → IsPlace nth → row_first (form.NthDay month nth w) y + 6 < days_in_year y
+pub week_inside : (month : ℕ) (nth : ℤ) (w : ℕ) (y : ℤ) → IsMonth month → IsOrdinal nth → row_first (form.NthDay month nth w) y + 6 < days_in_year y
 week_inside month (pos n) w y m h =
     let long = days_in_month_bounds y month in
     omega (arith, days_of_months_more y month m.0, days_of_months_mono y month 12 m.1, days_of_months_all y)
@@ -271,7 +271,7 @@ day_at_place y month date h =
     omega (arith, signed_arith, days_from_civil-day_count, day_count-day_of_year y month date h)
 
 -- where the seven days begin, from the first of their month or year
-pub weeks_start : (month : ℕ) (nth : ℤ) (w : ℕ) (y first after s : ℤ) → IsPlace nth → first ≡ days_from_civil y month 1
+pub weeks_start : (month : ℕ) (nth : ℤ) (w : ℕ) (y first after s : ℤ) → IsOrdinal nth → first ≡ days_from_civil y month 1
     → after ≡ pos (weeks_begin nth (days_in_month y month)) → s ≡ first +ℤ after → s ≡ days_from_civil y 1 1 +ℤ pos (row_first (form.NthDay month nth w) y)
 weeks_start month (pos n) w y first after s h is k e =
     omega (arith, signed_arith, day_at_place y month 1 (omega arith))

@@ -44,5 +44,5 @@ pub record IsInForce (In : Part → Type 0) (t : ℤ) (p : Part) : Type 0 where
       → (m <ℤ onset) ⊎ ((m ≡ onset) × (other ≡ p))
 
 -- the part in force among those of a list gives the state
-abbrev pub Gives : List Part → ℤ → Local → Type 0
-Gives parts t state = (p : Part) × (IsInForce (Contains parts) t p × (state_of_part p ≡ state))
+abbrev pub GivesState : List Part → ℤ → Local → Type 0
+GivesState parts t state = (p : Part) × (IsInForce (Contains parts) t p × (state_of_part p ≡ state))

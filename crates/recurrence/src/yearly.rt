@@ -1,7 +1,7 @@
 //! The day of a rule in a year.
 ghost use Rattle.std.specs.Prelude.{◌≡◌, ◌+◌, ◌-◌, ◌≤◌, pos, negsuc, neg_ℤ, ◌+ℤ◌};
 ghost use Rattle.jiff_core.specs.Calendar.{IsBetween, IsEpochDay, days_in_month, days_from_civil};
-ghost use Rattle.recurrence.specs.Valid.{IsMonth, IsPlace, IsFirstDay, IsValidForm, IsValid};
+ghost use Rattle.recurrence.specs.Valid.{IsMonth, IsOrdinal, IsFirstDay, IsValidForm, IsValid};
 ghost use Rattle.recurrence.specs.Occurs.{IsOccurrence};
 ghost use Rattle.recurrence.specs.Row as row;
 
@@ -74,7 +74,7 @@ fn first_of_month(year: i16, month: u8) -> i64
 fn first_of_weeks(year: i16, month: u8, nth: i8) -> i64
     requires year_in { IsBetween (pos 1800) (pos 9999) year }
     requires month { IsMonth month }
-    requires nth { IsPlace nth }
+    requires nth { IsOrdinal nth }
     ensures value { result ≡ pos (row.weeks_begin nth (days_in_month year month)) }
     ensures bound { IsBetween (pos 0) (pos 24) result }
 {

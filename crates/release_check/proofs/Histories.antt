@@ -7,7 +7,7 @@ use Rattle.catalogue.specs.Releases.{ReleaseData, release_data}
 use Rattle.catalogue.specs.declared.release.Release.{Release}
 use Rattle.td_base.specs.Files.{File}
 use Rattle.td_base.specs.Views.{StoreView}
-use Rattle.release_check.specs.Found.{Finds}
+use Rattle.release_check.specs.Found.{FindsIn}
 use Rattle.release_check.specs.declared.check_fault.CheckFault.{CheckFault}
 use Rattle.release_check.proofs.Looking.{finds_as}
 use Rattle.catalogue.specs.declared.holding.Catalogue.{Catalogue}
@@ -33,7 +33,7 @@ fits_each last r h = for_each last (λ b. Follows b r) h
 
 -- what an answer says after what is held it says after each history
 pub found_each : {T : Type 0} (a b : StoreView) (last : Option (Catalogue (List ℕ))) (r : Result T CheckFault) (P : Before → List File → Type 0)
-    → Finds a b r (P (before_held last)) → Finds a b r (λ files. ForEachBefore last (λ H. P (before_of H) files))
+    → FindsIn a b r (P (before_held last)) → FindsIn a b r (λ files. ForEachBefore last (λ H. P (before_of H) files))
 found_each a b last r P found = finds_as a b r r _ _ (λ files h. for_each last (λ x. P x files) h) (λ e. e) found
 
 pub fits_result : (last : Option (Catalogue (List ℕ))) (r : Result (Release (List ℕ)) CheckFault)

@@ -4,7 +4,7 @@ use Rattle.td_base.specs.Cause.{StoreFailed}
 use Rattle.td_base.specs.Files.{File}
 use Rattle.td_base.specs.Views.{StoreView}
 use Rattle.td_base.proofs.lemmas.LaterLemmas.{store_refl, store_trans}
-use Rattle.release_check.specs.Found.{Finds}
+use Rattle.release_check.specs.Found.{FindsIn}
 use Rattle.release_check.specs.declared.check_fault.CheckFault.{CheckFault}
 use Rattle.release_check.specs.declared.check_fault.CheckFault.TheVariants as fault
 
@@ -23,7 +23,7 @@ if_both (Some x) P Q R f h k = f x h k
 
 -- nothing was looked at
 pub finds_none : {T : Type 0} (v : StoreView) (r : Result T CheckFault) (P : List File → Type 0)
-    → ((files : List File) → P files) → (IsErrOf r fault.ReadFault → ⊥) → Finds v v r P
+    → ((files : List File) → P files) → (IsErrOf r fault.ReadFault → ⊥) → FindsIn v v r P
 finds_none v r P all never = record {
   later = store_refl v;
   told = if_all v.files P all;
@@ -32,7 +32,7 @@ finds_none v r P all never = record {
 
 -- one answer is turned into another
 pub finds_as : {T U : Type 0} (a b : StoreView) (r : Result T CheckFault) (s : Result U CheckFault) (P Q : List File → Type 0)
-    → ((files : List File) → P files → Q files) → (IsErrOf s fault.ReadFault → IsErrOf r fault.ReadFault) → Finds a b r P → Finds a b s Q
+    → ((files : List File) → P files → Q files) → (IsErrOf s fault.ReadFault → IsErrOf r fault.ReadFault) → FindsIn a b r P → FindsIn a b s Q
 finds_as a b r s P Q turned same found = record {
   later = found.later;
   told = if_told a.files P Q turned found.told;
@@ -42,7 +42,7 @@ finds_as a b r s P Q turned same found = record {
 -- one look after another
 pub finds_then : {T U V : Type 0} (a b c : StoreView) (r : Result T CheckFault) (s : Result U CheckFault) (t : Result V CheckFault)
     (P Q R : List File → Type 0) → ((files : List File) → P files → Q files → R files)
-    → (IsErrOf t fault.ReadFault → IsErrOf s fault.ReadFault) → Finds a b r P → Finds b c s Q → Finds a c t R
+    → (IsErrOf t fault.ReadFault → IsErrOf s fault.ReadFault) → FindsIn a b r P → FindsIn b c s Q → FindsIn a c t R
 finds_then a b c r s t P Q R joined same first second =
     let later = second.later.later in
     let before = first.later.later in

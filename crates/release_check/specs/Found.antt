@@ -25,7 +25,7 @@ use Rattle.release_check.specs.declared.check_fault.CheckFault.TheVariants as fa
 
 -- A store was looked into: no file changed, the count of faults never falls, the answer is tied to
 -- the files where they are told, and a failed read is answered only where the store failed.
-pub record Finds {T : Type 0} (old new : StoreView) (result : Result T CheckFault)
+pub record FindsIn {T : Type 0} (old new : StoreView) (result : Result T CheckFault)
     (Told : List File → Type 0) : Type 0 where
   pub later : LaterStore old new
   pub told : IfSome old.files Told
@@ -66,19 +66,20 @@ IsTableIn dir named (Ok table) files = table_in files dir named ≡ Ok table
 IsTableIn dir named (Err e) files = Blames e (table_in files dir named ≡ Err e)
 
 -- an answer that is this result
-abbrev pub Answers : Result ReleaseData CheckFault → Result (Release (List ℕ)) CheckFault → Type 0
-Answers given (Ok r) = given ≡ Ok (release_data (λ bytes. bytes) r)
-Answers given (Err e) = Blames e (given ≡ Err e)
+abbrev pub IsAnswerOf : Result ReleaseData CheckFault → Result (Release (List ℕ)) CheckFault
+    → Type 0
+IsAnswerOf given (Ok r) = given ≡ Ok (release_data (λ bytes. bytes) r)
+IsAnswerOf given (Err e) = Blames e (given ≡ Err e)
 
 -- the release of a manifest and the files of a directory after what stands before it, or the first
 -- fault, where the texts of the manifest have their forms and where they are judged
 abbrev pub IsOfManifest : List ℕ → Manifest → Before → Result (Release (List ℕ)) CheckFault
     → List File → Type 0
-IsOfManifest dir m before result files = Answers (release_in files dir before m) result
+IsOfManifest dir m before result files = IsAnswerOf (release_in files dir before m) result
 
 abbrev pub IsExaminedIn : List ℕ → Manifest → Before → Result (Release (List ℕ)) CheckFault
     → List File → Type 0
-IsExaminedIn dir m before result files = Answers (examined_in files dir before m) result
+IsExaminedIn dir m before result files = IsAnswerOf (examined_in files dir before m) result
 
 -- the release of a directory after what stands before it, or its first fault
 abbrev pub IsReleaseIn : List ℕ → Before → Result (Release (List ℕ)) CheckFault → List File → Type 0

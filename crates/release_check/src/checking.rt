@@ -5,7 +5,7 @@ ghost use Rattle.release_manifest.specs.Reading.{IsManifestText};
 ghost use Rattle.zone_meaning.specs.Sound.{IsSound};
 ghost use Rattle.release_check.specs.Before.{Before as Earlier, ForEachBefore, Follows};
 ghost use Rattle.release_check.specs.Before.{before_held, before_of};
-ghost use Rattle.release_check.specs.Found.{Finds, IsExaminedIn, IsManifestIn, IsOfManifest};
+ghost use Rattle.release_check.specs.Found.{FindsIn, IsExaminedIn, IsManifestIn, IsOfManifest};
 ghost use Rattle.release_check.specs.Found.{IsReleaseIn};
 ghost use Rattle.release_check.specs.Judged.{of_manifest, RefusesText};
 ghost use Rattle.release_check.specs.ManifestFaults.{IsFormed};
@@ -35,9 +35,9 @@ pub fn check<S: Store>(
     store: &mut S,
     last: Option<&Catalogue<Zone>>,
 ) -> Result<Release<Zone>, CheckFault>
-    ensures held { Finds (S.seen store.old) (S.seen store.new) result
+    ensures held { FindsIn (S.seen store.old) (S.seen store.new) result
         (IsReleaseIn dir.now (before_held (option_copied last.entry)) result) }
-    ensures found { Finds (S.seen store.old) (S.seen store.new) result (λ files.
+    ensures found { FindsIn (S.seen store.old) (S.seen store.new) result (λ files.
         ForEachBefore (option_copied last.entry) (λ H.
         IsReleaseIn dir.now (before_of H) result files)) }
     ensures sound { IfOk result (λ r. IsSound (release_data (λ bytes. bytes) r)) }
@@ -58,9 +58,9 @@ pub fn examine<S: Store>(
     store: &mut S,
     last: Option<&Catalogue<Zone>>,
 ) -> Result<Release<Zone>, CheckFault>
-    ensures held { Finds (S.seen store.old) (S.seen store.new) result
+    ensures held { FindsIn (S.seen store.old) (S.seen store.new) result
         (IsExaminedIn dir.now manifest.now (before_held (option_copied last.entry)) result) }
-    ensures found { Finds (S.seen store.old) (S.seen store.new) result (λ files.
+    ensures found { FindsIn (S.seen store.old) (S.seen store.new) result (λ files.
         ForEachBefore (option_copied last.entry) (λ H.
         IsExaminedIn dir.now manifest.now (before_of H) result files)) }
     ensures sound { IfOk result (λ r. IsSound (release_data (λ bytes. bytes) r)) }
@@ -79,7 +79,7 @@ fn release_in<S: Store>(
     store: &mut S,
     last: Option<&Catalogue<Zone>>,
 ) -> Result<Release<Zone>, CheckFault>
-    ensures found { Finds (S.seen store.old) (S.seen store.new) result
+    ensures found { FindsIn (S.seen store.old) (S.seen store.new) result
         (IsReleaseIn dir.now (before_held (option_copied last.entry)) result) }
     ensures sound { IfOk result (λ r. IsSound (release_data (λ bytes. bytes) r)) }
     ensures follows { IfOk result (λ r. Follows (before_held (option_copied last.entry))
@@ -98,7 +98,7 @@ fn examined_in<S: Store>(
     store: &mut S,
     last: Option<&Catalogue<Zone>>,
 ) -> Result<Release<Zone>, CheckFault>
-    ensures found { Finds (S.seen store.old) (S.seen store.new) result
+    ensures found { FindsIn (S.seen store.old) (S.seen store.new) result
         (IsExaminedIn dir.now manifest.now (before_held (option_copied last.entry)) result) }
     ensures sound { IfOk result (λ r. IsSound (release_data (λ bytes. bytes) r)) }
     ensures follows { IfOk result (λ r. Follows (before_held (option_copied last.entry))
@@ -118,7 +118,7 @@ fn release_of<S: Store>(
     last: Option<&Catalogue<Zone>>,
 ) -> Result<Release<Zone>, CheckFault>
     requires { IsFormed manifest.now }
-    ensures found { Finds (S.seen store.old) (S.seen store.new) result
+    ensures found { FindsIn (S.seen store.old) (S.seen store.new) result
         (IsOfManifest dir.now manifest.now (before_held (option_copied last.entry)) result) }
     ensures sound { IfOk result (λ r. IsSound (release_data (λ bytes. bytes) r)) }
     ensures follows { IfOk result (λ r. Follows (before_held (option_copied last.entry))
@@ -138,7 +138,7 @@ fn release_of<S: Store>(
 
 /// The manifest of a folder.
 fn read_manifest<S: Store>(alloc: Global, dir: &[u8], store: &mut S) -> Result<Manifest, CheckFault>
-    ensures found { (before : Earlier) → Finds (S.seen store.old) (S.seen store.new) result
+    ensures found { (before : Earlier) → FindsIn (S.seen store.old) (S.seen store.new) result
         (IsManifestIn dir.now before result) }
     ensures meant { IfOk result (λ m. (text : List ℕ) × IsManifestText text m) }
 {

@@ -1,5 +1,5 @@
 ghost use Rattle.std.specs.Prelude.{◌≡◌, IfOk};
-ghost use Rattle.release_check.specs.Found.{Finds, IsFile};
+ghost use Rattle.release_check.specs.Found.{FindsIn, IsFile};
 ghost use Rattle.release_check.specs.Paths.{path_in};
 
 use crate::check_fault::CheckFault;
@@ -14,7 +14,7 @@ pub fn read_in<S: Store>(
     most: u64,
     store: &mut S,
 ) -> Result<Bytes, CheckFault>
-    ensures { Finds (S.seen store.old) (S.seen store.new) result
+    ensures { FindsIn (S.seen store.old) (S.seen store.new) result
         (IsFile (path_in dir.now name.now) most result) }
 {
     let path = path_in(alloc, dir, name)?;
@@ -28,7 +28,7 @@ fn read_path<S: Store>(
     most: u64,
     store: &mut S,
 ) -> Result<Bytes, CheckFault>
-    ensures { Finds (S.seen store.old) (S.seen store.new) result (IsFile path most result) }
+    ensures { FindsIn (S.seen store.old) (S.seen store.new) result (IsFile path most result) }
 {
     match store.read_file(alloc, path.as_slice(), most) {
         FileRead::Found(bytes) => Ok(bytes),

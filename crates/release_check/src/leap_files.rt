@@ -2,7 +2,7 @@
 ghost use Rattle.std.specs.Prelude.{◌≡◌, IfOk, IfSome, IsTrue, Some};
 ghost use Rattle.td_civil.specs.Reading.{is_date_text};
 ghost use Rattle.zone_meaning.specs.Sound.{IsSoundLeaps};
-ghost use Rattle.release_check.specs.Found.{Finds, IsTableIn};
+ghost use Rattle.release_check.specs.Found.{FindsIn, IsTableIn};
 ghost use Rattle.release_check.specs.Judged.{JudgesUnread, of_leap_reader, of_table};
 ghost use Rattle.release_check.specs.LeapFile.{leap_file_fault, table_of};
 ghost use Rattle.release_check.specs.ManifestFaults.{has_date};
@@ -27,7 +27,7 @@ pub fn read_table<S: Store>(
     store: &mut S,
 ) -> Result<Option<Leaps>, CheckFault>
     requires date { IsTrue (has_date leaps.now) }
-    ensures found { Finds (S.seen store.old) (S.seen store.new) result
+    ensures found { FindsIn (S.seen store.old) (S.seen store.new) result
         (IsTableIn dir.now leaps.now result) }
     ensures sound { IfOk result (λ table. IfSome table IsSoundLeaps) }
 {
@@ -45,7 +45,7 @@ fn read_named<S: Store>(
     store: &mut S,
 ) -> Result<Option<Leaps>, CheckFault>
     requires date { IsTrue (is_date_text leaps.now.expires) }
-    ensures found { Finds (S.seen store.old) (S.seen store.new) result
+    ensures found { FindsIn (S.seen store.old) (S.seen store.new) result
         (IsTableIn dir.now (Some leaps.now) result) }
     ensures sound { IfOk result (λ table. IfSome table IsSoundLeaps) }
 {

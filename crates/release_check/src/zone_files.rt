@@ -1,7 +1,7 @@
 ghost use Rattle.std.specs.Prelude.{◌≡◌, map, IfOk};
 ghost use Rattle.catalogue.specs.Releases.{content_data};
 ghost use Rattle.zone_meaning.specs.Sound.{IsSoundFile};
-ghost use Rattle.release_check.specs.Found.{Finds, IsZoneIn, AreZonesIn, IsOf, AreOf};
+ghost use Rattle.release_check.specs.Found.{FindsIn, IsZoneIn, AreZonesIn, IsOf, AreOf};
 ghost use Rattle.release_check.specs.Judged.{JudgesUnread, of_reader};
 ghost use Rattle.release_check.specs.ZoneFaults.{file_fault};
 
@@ -26,7 +26,7 @@ pub fn read_zones<S: Store>(
     zones: &[ManifestZone],
     store: &mut S,
 ) -> Result<Items<Content<Zone>>, CheckFault>
-    ensures found { Finds (S.seen store.old) (S.seen store.new) result
+    ensures found { FindsIn (S.seen store.old) (S.seen store.new) result
         (AreZonesIn dir.now zones.now result) }
     ensures of { IfOk result (λ cs. AreOf zones.now (map (content_data (λ bytes. bytes)) cs)) }
 {
@@ -46,7 +46,7 @@ fn read_zone<S: Store>(
     zone: &ManifestZone,
     store: &mut S,
 ) -> Result<Content<Zone>, CheckFault>
-    ensures found { Finds (S.seen store.old) (S.seen store.new) result
+    ensures found { FindsIn (S.seen store.old) (S.seen store.new) result
         (IsZoneIn dir.now number zone.now result) }
     ensures of { IfOk result (λ c. IsOf zone.now (content_data (λ bytes. bytes) c)) }
 {

@@ -84,9 +84,9 @@ impl Error for ManifestFault {}
 
 impl From<NoMemory> for ManifestFault {
     ghost use Rattle.std.specs.Prelude.{◌≡◌};
-    ghost use Rattle.release_manifest.specs.declared.manifest_fault.ManifestFault.TheVariants as fault;
+    ghost use Rattle.release_manifest.specs.declared.manifest_fault.ManifestFault.TheVariants as f;
 
-    ghost from_gives = { λ _ e. e ≡ fault.NoMemory };
+    ghost from_gives = { λ _ e. e ≡ f.NoMemory };
 
     fn from(_: NoMemory) -> Self {
         ManifestFault::NoMemory

@@ -85,7 +85,8 @@ fn read_manifest(alloc: Global, value: &Value) -> Result<Manifest, ManifestFault
 fn read_leaps(alloc: Global, manifest: &Value) -> Result<Option<ManifestLeaps>, ManifestFault>
     ensures is { IfOk result
         (λ leaps. AreLeaps (get (codes "leapseconds") (view manifest.now)) leaps) }
-    ensures judged { JudgesChecks result (leap_checks (get (codes "leapseconds") (view manifest.now))) }
+    ensures judged { JudgesChecks result
+        (leap_checks (get (codes "leapseconds") (view manifest.now))) }
 {
     match manifest.get("leapseconds") {
         Some(member) => Ok(Some(read_leap_members(alloc, member)?)),

@@ -61,7 +61,8 @@ fn read_zone(alloc: Global, zone: &Value, number: usize) -> Result<ManifestZone,
 #[tactic(auto, unfolding(crate::specs::Checks::alias_checks))]
 fn read_aliases(alloc: Global, zone: &Value, number: usize) -> Result<Items<Bytes>, ManifestFault>
     ensures is { IfOk result (λ texts. AreAliases (get (codes "aliases") (view zone.now)) texts) }
-    ensures judged { JudgesChecks result (alias_checks number (get (codes "aliases") (view zone.now))) }
+    ensures judged { JudgesChecks result
+        (alias_checks number (get (codes "aliases") (view zone.now))) }
 {
     let Some(member) = zone.get("aliases") else {
         return Ok(Items::new(alloc));

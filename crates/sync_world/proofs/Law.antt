@@ -14,7 +14,7 @@ use Rattle.sync_core.specs.declared.heard_type.Heard.TheVariants as heard
 use Rattle.sync_core.specs.declared.heard_type.Settled.TheVariants.{Holds}
 use Rattle.sync_world.specs.Holding.{HoldsLast}
 use Rattle.sync_world.specs.Primaries.{HeardIsTold, FindsPlaces, FindsNoOther, Service, file_told, served_for, told}
-use Rattle.sync_world.specs.Worlds.{World, Sent, Step, IsAnswer, Leads, after, begun}
+use Rattle.sync_world.specs.Worlds.{SyncWorld, Sent, Step, IsAnswer, Leads, after, begun}
 use Rattle.sync_world.proofs.Files.{history_front}
 use Rattle.sync_world.proofs.Lists.{exactly}
 use Rattle.sync_world.proofs.Looks.{state_ask, state_after, looked_up}
@@ -56,7 +56,7 @@ list_asked P G doc token (t ∷ ts) held e k = absurd (no_list P G t doc k)
 
 module _ (P : Service) (sound : ReleaseData → Type 0) (hears : List ReleaseData → Ask → Heard → Type 0) (so : HeardIsTold sound hears P)
     (finds : FindsPlaces sound P) (no_other : FindsNoOther sound P) where
-  pub law : (H : List ReleaseData) (xs : List Step) (w v : World) (n : ℕ) (sent : Sent) (h : Heard) → IsHistory sound H → 1 ≤ length H
+  pub law : (H : List ReleaseData) (xs : List Step) (w v : SyncWorld) (n : ℕ) (sent : Sent) (h : Heard) → IsHistory sound H → 1 ≤ length H
       → Leads sound hears (begun H) xs w
       → IsAnswer hears w n v sent h → settles w.mirror h ≡ Holds → HoldsLast P v.mirror (take n w.history)
   law H xs w v n sent h history some leads a holds =

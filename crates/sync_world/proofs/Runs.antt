@@ -12,7 +12,7 @@ use Rattle.sync_core.specs.declared.heard_type.Heard.{Heard}
 use Rattle.sync_core.specs.declared.heard_type.Heard.TheVariants as heard
 use Rattle.sync_world.specs.Primaries.{HeardIsTold, FindsPlaces, FindsNoOther, Service, served_for, told, list_at, list_of, changes_of, changes_at, IsPlace}
 use Rattle.sync_world.specs.Worlds as world
-use Rattle.sync_world.specs.Worlds.{World, Sent, Step, IsAnswer, Follows, Leads, after, begun, sent_then}
+use Rattle.sync_world.specs.Worlds.{SyncWorld, Sent, Step, IsAnswer, LeadsTo, Leads, after, begun, sent_then}
 use Rattle.sync_world.proofs.Aliases.{cut}
 use Rattle.sync_world.proofs.Changes.{end, ends_distinct}
 use Rattle.sync_world.proofs.Files.{zones_are, named_of_zone, history_front}
@@ -27,7 +27,7 @@ abbrev pub SentStands : Service → List ReleaseData → StateData → Option Se
 SentStands P H s None = Invariant P H (length H) s
 SentStands P H s (Some sent) = (sent.ask ≡ state_ask s) × (1 ≤ sent.since) × (sent.since ≤ length H) × Invariant P H sent.since s
 
-pub record WorldStands (P : Service) (sound : ReleaseData → Type 0) (w : World) : Type 0 where
+pub record WorldStands (P : Service) (sound : ReleaseData → Type 0) (w : SyncWorld) : Type 0 where
   pub history : IsHistory sound w.history
   pub some : 1 ≤ length w.history
   pub state : SentStands P w.history (looked_up w.mirror) w.sent
@@ -77,7 +77,7 @@ module _ (P : Service) (sound : ReleaseData → Type 0) (hears : List ReleaseDat
       → told P (take n H) a ≡ Some h
   told_so H n a h history low upto is = so (take n H) a h (history_front sound H n history) (omega (arith, length-take n H)) is
 
-  taken : (w : World) (h : Heard) → WorldStands P sound w → Invariant P w.history (length w.history) (state_after (looked_up w.mirror) h)
+  taken : (w : SyncWorld) (h : Heard) → WorldStands P sound w → Invariant P w.history (length w.history) (state_after (looked_up w.mirror) h)
       → WorldStands P sound (after w h)
   taken w h i k = record {
     history = i.history;
@@ -86,7 +86,7 @@ module _ (P : Service) (sound : ReleaseData → Type 0) (hears : List ReleaseDat
     rises = rising_after w.mirror h i.rises;
   }
 
-  step : (w : World) (x : Step) (v : World) → WorldStands P sound w → Follows sound hears w x v → WorldStands P sound v
+  step : (w : SyncWorld) (x : Step) (v : SyncWorld) → WorldStands P sound w → LeadsTo sound hears w x v → WorldStands P sound v
   step w (world.install r) v i is =
       subst (WorldStands P sound) (sym is.1) (record {
         history = history_grown sound w.history r i.history is.0;
@@ -124,11 +124,11 @@ module _ (P : Service) (sound : ReleaseData → Type 0) (hears : List ReleaseDat
       subst (WorldStands P sound) (sym is)
       (record { history = i.history; some = i.some; state = fresh (record { token = refl; coming = refl; pending = refl }); rises = none_rise })
 
-  steps : (w : World) (xs : List Step) (v : World) → WorldStands P sound w → Leads sound hears w xs v → WorldStands P sound v
+  steps : (w : SyncWorld) (xs : List Step) (v : SyncWorld) → WorldStands P sound w → Leads sound hears w xs v → WorldStands P sound v
   steps w [] v i is = subst (WorldStands P sound) (sym is) i
   steps w (x ∷ xs) v i is = steps is.0 xs v (step w x is.0 i is.1) is.2
 
-  pub always : (H : List ReleaseData) (xs : List Step) (w : World) → IsHistory sound H → 1 ≤ length H → Leads sound hears (begun H) xs w → WorldStands P sound w
+  pub always : (H : List ReleaseData) (xs : List Step) (w : SyncWorld) → IsHistory sound H → 1 ≤ length H → Leads sound hears (begun H) xs w → WorldStands P sound w
   always H xs w h some is =
       steps (begun H) xs w (record { history = h; some = some; state = fresh (record { token = refl; coming = refl; pending = refl }); rises = none_rise }) is
 

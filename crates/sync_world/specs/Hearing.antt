@@ -39,22 +39,22 @@ pub record IsHeadOf (a : Ask) (head : Head) : Type 0 where
 
 -- what is heard in an answer: a list in a document, a file in a body, and that a token is refused
 -- in a problem of this type
-abbrev pub Hears : Ask → Answer → Heard → Type 0
-Hears (ask.List token) answer (heard.List doc) =
+abbrev pub HearsIn : Ask → Answer → Heard → Type 0
+HearsIn (ask.List token) answer (heard.List doc) =
     (answer.status ≡ 200) × IsListText answer.body doc
-Hears (ask.List token) answer (heard.Zone bytes) = ⊥
-Hears (ask.List None) answer heard.BadToken = ⊥
-Hears (ask.List (Some token)) answer heard.BadToken =
+HearsIn (ask.List token) answer (heard.Zone bytes) = ⊥
+HearsIn (ask.List None) answer heard.BadToken = ⊥
+HearsIn (ask.List (Some token)) answer heard.BadToken =
     (answer.status ≡ 400) × (problem_in answer.body ≡ Some InvalidChangedsince)
-Hears (ask.Get name) answer (heard.List doc) = ⊥
-Hears (ask.Get name) answer (heard.Zone bytes) = (answer.status ≡ 200) × (answer.body ≡ bytes)
-Hears (ask.Get name) answer heard.BadToken = ⊥
+HearsIn (ask.Get name) answer (heard.List doc) = ⊥
+HearsIn (ask.Get name) answer (heard.Zone bytes) = (answer.status ≡ 200) × (answer.body ≡ bytes)
+HearsIn (ask.Get name) answer heard.BadToken = ⊥
 
 -- a request that asks so is answered over the history, and this is heard in the answer
-pub record IsHeard (H : List ReleaseData) (a : Ask) (h : Heard) : Type 0 where
+pub record IsHeardOver (H : List ReleaseData) (a : Ask) (h : Heard) : Type 0 where
   pub head : Head
   pub asks_so : IsHeadOf a head
-  pub hears : Hears a (action H Primary head) h
+  pub hears : HearsIn a (action H Primary head) h
 
 -- a primary that answers so knows the tokens of all its places, and has a zone's own file under
 -- each of its names

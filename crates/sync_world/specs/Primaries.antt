@@ -69,7 +69,7 @@ HeardIsTold sound hears P = (H : List ReleaseData) (a : Ask) (h : Heard) → IsH
     → 1 ≤ length H → hears H a h → told P H a ≡ Some h
 
 -- a primary serves so
-pub record Serves (sound : ReleaseData → Type 0) (hears : List ReleaseData → Ask → Heard → Type 0)
+pub record ServesSo (sound : ReleaseData → Type 0) (hears : List ReleaseData → Ask → Heard → Type 0)
     (P : Service) : Type 0 where
   pub heard_is_told : HeardIsTold sound hears P
   pub finds : FindsPlaces sound P

@@ -15,13 +15,13 @@ pub record Sent : Type 0 where
   pub since : ℕ
 
 -- the history of the primary, the mirror, and what is outstanding
-pub record World : Type 0 where
+pub record SyncWorld : Type 0 where
   pub history : List ReleaseData
   pub mirror : MirrorState
   pub sent : Option Sent
 
 -- a primary, and a mirror that has heard nothing
-abbrev pub begun : List ReleaseData → World
+abbrev pub begun : List ReleaseData → SyncWorld
 begun H = record { history = H; mirror = empty_mirror; sent = None }
 
 pub data Step : Type 0 where
@@ -45,13 +45,13 @@ sent_then None mirror n = record { ask = ask_of mirror; since = n }
 sent_then (Some sent) mirror n = sent
 
 -- what the world is after the mirror took this
-abbrev pub after : World → Heard → World
+abbrev pub after : SyncWorld → Heard → SyncWorld
 after w h = record { history = w.history; mirror = sync_step w.mirror h; sent = None }
 
 -- the mirror takes what is heard of the primary over its first n releases, no fewer than it had
 -- when the ask was first sent
-pub record IsAnswer (hears : List ReleaseData → Ask → Heard → Type 0) (w : World) (n : ℕ)
-    (v : World) (sent : Sent) (h : Heard) : Type 0 where
+pub record IsAnswer (hears : List ReleaseData → Ask → Heard → Type 0) (w : SyncWorld) (n : ℕ)
+    (v : SyncWorld) (sent : Sent) (h : Heard) : Type 0 where
   pub outstanding : w.sent ≡ Some sent
   pub from : sent.since ≤ n
   pub upto : n ≤ length w.history
@@ -59,28 +59,28 @@ pub record IsAnswer (hears : List ReleaseData → Ask → Heard → Type 0) (w :
   pub is_taken : v ≡ after w h
 
 -- the token of the outstanding ask is refused
-pub record IsRefusal (w v : World) (since : ℕ) (token : List ℕ) : Type 0 where
+pub record IsTokenRefused (w v : SyncWorld) (since : ℕ) (token : List ℕ) : Type 0 where
   pub outstanding : w.sent ≡ Some (record { ask = ask.List (Some token); since = since })
   pub is_taken : v ≡ after w heard.BadToken
 
 module _ (sound : ReleaseData → Type 0) (hears : List ReleaseData → Ask → Heard → Type 0) where
   -- one step leads from a world to another
-  abbrev pub Follows : World → Step → World → Type 0
-  Follows w (install r) v = IsRelease sound w.history r
+  abbrev pub LeadsTo : SyncWorld → Step → SyncWorld → Type 0
+  LeadsTo w (install r) v = IsRelease sound w.history r
       × (v ≡ record { history = w.history ++ r ∷ []; mirror = w.mirror; sent = w.sent })
-  Follows w asks v = v ≡ record {
+  LeadsTo w asks v = v ≡ record {
     history = w.history;
     mirror = w.mirror;
     sent = Some (sent_then w.sent w.mirror (length w.history));
   }
-  Follows w (answer n) v = (sent : Sent) × (h : Heard) × IsAnswer hears w n v sent h
-  Follows w refuse_token v = (since : ℕ) × (token : List ℕ) × IsRefusal w v since token
-  Follows w lose v = v ≡ w
-  Follows w restart v = v ≡ record { history = w.history; mirror = w.mirror; sent = None }
-  Follows w restart_empty v =
+  LeadsTo w (answer n) v = (sent : Sent) × (h : Heard) × IsAnswer hears w n v sent h
+  LeadsTo w refuse_token v = (since : ℕ) × (token : List ℕ) × IsTokenRefused w v since token
+  LeadsTo w lose v = v ≡ w
+  LeadsTo w restart v = v ≡ record { history = w.history; mirror = w.mirror; sent = None }
+  LeadsTo w restart_empty v =
       v ≡ record { history = w.history; mirror = empty_mirror; sent = None }
 
   -- the steps lead from a world to another
-  abbrev pub Leads : World → List Step → World → Type 0
+  abbrev pub Leads : SyncWorld → List Step → SyncWorld → Type 0
   Leads w [] v = v ≡ w
-  Leads w (x ∷ xs) v = (u : World) × Follows w x u × Leads u xs v
+  Leads w (x ∷ xs) v = (u : SyncWorld) × LeadsTo w x u × Leads u xs v

@@ -14,10 +14,11 @@ ghost use Rattle.sync_core.specs.Names.{put_all};
 ghost use Rattle.sync_core.specs.Steps.{kept_entries};
 ghost use Rattle.sync_core.specs.declared.heard_type.Heard.{Heard};
 ghost use Rattle.sync_core.specs.declared.heard_type.Heard.TheVariants as heard;
-ghost use Rattle.sync_world.specs.Hearing.{Hears, IsHeadOf, IsHeard, action_service};
+ghost use Rattle.sync_world.specs.Hearing.{HearsIn, IsHeadOf, IsHeardOver, action_service};
 ghost use Rattle.sync_world.specs.Holding.{HoldsLast, SaysHolds};
-ghost use Rattle.sync_world.specs.Primaries.{IsPlace, IsTokenOf, Serves, changes_of, list_of, told};
-ghost use Rattle.sync_world.specs.Worlds.{Sent, Step, World, IsAnswer, Leads, begun};
+ghost use Rattle.sync_world.specs.Primaries.{IsPlace, IsTokenOf, ServesSo};
+ghost use Rattle.sync_world.specs.Primaries.{changes_of, list_of, told};
+ghost use Rattle.sync_world.specs.Worlds.{Sent, Step, SyncWorld, IsAnswer, Leads, begun};
 
 use crate::Primary;
 use catalogue::ZoneData;
@@ -27,24 +28,24 @@ use catalogue::ZoneData;
 pub fn answers_are_heard()
     ensures { (H : List ReleaseData) (a : Ask) (head : Head) (h : Heard) → IsHistory IsSound H
         → 1 ≤ length H → IsHeadOf a head
-        → (told action_service H a ≡ Some h) ↔ Hears a (action H Primary head) h }
+        → (told action_service H a ≡ Some h) ↔ HearsIn a (action H Primary head) h }
 {}
 
 /// Each request for what is outstanding is answered, at each place from the one on at which it was
 /// first sent, and the answer does not refuse the token.
 pub fn requests_are_answered()
-    ensures { (H : List ReleaseData) (steps : List Step) (w : World) (sent : Sent)
+    ensures { (H : List ReleaseData) (steps : List Step) (w : SyncWorld) (sent : Sent)
         (n : ℕ) (head : Head)
-        → IsHistory IsSound H → 1 ≤ length H → Leads IsSound IsHeard (begun H) steps w
+        → IsHistory IsSound H → 1 ≤ length H → Leads IsSound IsHeardOver (begun H) steps w
         → w.sent ≡ Some sent → sent.since ≤ n → n ≤ length w.history → IsHeadOf sent.ask head
-        → (h : Heard) × Hears sent.ask (action (take n w.history) Primary head) h
+        → (h : Heard) × HearsIn sent.ask (action (take n w.history) Primary head) h
         × (h ≢ heard.BadToken) }
 {}
 
 /// What is heard in the answers of the actions is what there is to be told, and a token finds its
 /// place.
 pub fn actions_serve()
-    ensures { Serves IsSound IsHeard action_service }
+    ensures { ServesSo IsSound IsHeardOver action_service }
 {}
 
 /// Wherever any steps lead from a history and an empty mirror: where the answer over the first n
@@ -52,18 +53,18 @@ pub fn actions_serve()
 /// these n releases. The answers are those of the actions, and releases are sound as they are for
 /// this service.
 pub fn mirrors_hold_releases()
-    ensures { (H : List ReleaseData) (steps : List Step) (w v : World) (n : ℕ)
+    ensures { (H : List ReleaseData) (steps : List Step) (w v : SyncWorld) (n : ℕ)
         (sent : Sent) (h : Heard)
-        → IsHistory IsSound H → 1 ≤ length H → Leads IsSound IsHeard (begun H) steps w
-        → IsAnswer IsHeard w n v sent h → SaysHolds w.mirror h
+        → IsHistory IsSound H → 1 ≤ length H → Leads IsSound IsHeardOver (begun H) steps w
+        → IsAnswer IsHeardOver w n v sent h → SaysHolds w.mirror h
         → HoldsLast action_service v.mirror (take n w.history) }
 {}
 
 /// The same of any primary, as it serves.
 pub fn mirrors_hold<P: Primary>()
-    ensures { (H : List ReleaseData) (steps : List Step) (w v : World) (n : ℕ)
+    ensures { (H : List ReleaseData) (steps : List Step) (w v : SyncWorld) (n : ℕ)
         (sent : Sent) (h : Heard)
-        → Serves P.sound P.hears P.service → IsHistory P.sound H → 1 ≤ length H
+        → ServesSo P.sound P.hears P.service → IsHistory P.sound H → 1 ≤ length H
         → Leads P.sound P.hears (begun H) steps w
         → IsAnswer P.hears w n v sent h → SaysHolds w.mirror h
         → HoldsLast P.service v.mirror (take n w.history) }
@@ -72,8 +73,8 @@ pub fn mirrors_hold<P: Primary>()
 /// An ask that is outstanding has an answer at each place from the one on at which it was first
 /// sent, and no answer refuses its token while no token is retired.
 pub fn asks_are_answered<P: Primary>()
-    ensures { (H : List ReleaseData) (steps : List Step) (w : World) (sent : Sent) (n : ℕ)
-        → Serves P.sound P.hears P.service → IsHistory P.sound H → 1 ≤ length H
+    ensures { (H : List ReleaseData) (steps : List Step) (w : SyncWorld) (sent : Sent) (n : ℕ)
+        → ServesSo P.sound P.hears P.service → IsHistory P.sound H → 1 ≤ length H
         → Leads P.sound P.hears (begun H) steps w
         → w.sent ≡ Some sent → sent.since ≤ n → n ≤ length w.history
         → IsSomeAnd (told P.service (take n w.history) sent.ask)
@@ -83,8 +84,9 @@ pub fn asks_are_answered<P: Primary>()
 /// The token of an outstanding ask is that of a place, and no answer refuses it until that place is
 /// retired.
 pub fn tokens_are_refused_late<P: Primary>()
-    ensures { (H : List ReleaseData) (steps : List Step) (w : World) (since : ℕ) (token : List ℕ)
-        → Serves P.sound P.hears P.service → IsHistory P.sound H → 1 ≤ length H
+    ensures { (H : List ReleaseData) (steps : List Step) (w : SyncWorld) (since : ℕ)
+        (token : List ℕ)
+        → ServesSo P.sound P.hears P.service → IsHistory P.sound H → 1 ≤ length H
         → Leads P.sound P.hears (begun H) steps w
         → w.sent ≡ Some (record { ask = ask.List (Some token); since = since })
         → IsTokenOf P.service w.history since token }

@@ -19,11 +19,11 @@ pub struct Actions;
 
 impl Primary for Actions {
     ghost use Rattle.zone_meaning.specs.Sound.{IsSound};
-    ghost use Rattle.sync_world.specs.Hearing.{IsHeard, action_service};
+    ghost use Rattle.sync_world.specs.Hearing.{IsHeardOver, action_service};
 
     ghost sound = { IsSound };
 
-    ghost hears = { IsHeard };
+    ghost hears = { IsHeardOver };
 
     ghost service = { action_service };
 }

@@ -18,7 +18,7 @@ use Rattle.form_urlencoded.proofs.FormLemmas.{raw_pairs-nil}
 use Rattle.target.specs.Paths.{is_slash, is_question_mark, path_and_query, path_of, query_of, raw_segments, decode_segment, decode_segments}
 use Rattle.target.specs.Parameters.{values, param_with, parameter}
 use Rattle.target.specs.Actions.{action, action_of, asks}
-use Rattle.target.specs.Names.{zone_target, has_marks, IsName}
+use Rattle.target.specs.Names.{zone_target, has_marks, IsUtf8Name}
 use Rattle.target.specs.declared.asked_types.Param.TheVariants as param
 use Rattle.target.specs.declared.asked_types.Asked.TheVariants as ask
 use Rattle.target.proofs.SegmentLemmas.{segment_of_text}
@@ -91,7 +91,7 @@ asked tzid some =
     let e : (length tzid == 0) ≡ false = ne_eqb (length tzid) 0 (λ z. omega arith) in
     rw (e, absent (codes "start"), absent (codes "end")) refl
 
-pub asks_by_name : (set : AsciiSet) (tzid : List ℕ) → has_marks set ≡ true → IsName tzid → asks (zone_target set tzid) ≡ ask.Get tzid param.Absent param.Absent
+pub asks_by_name : (set : AsciiSet) (tzid : List ℕ) → has_marks set ≡ true → IsUtf8Name tzid → asks (zone_target set tzid) ≡ ask.Get tzid param.Absent param.Absent
 unfolding asks
 asks_by_name set tzid marks is =
     let percent = both (contains set 37) (contains set 47 && contains set 63) marks in

@@ -13,7 +13,7 @@ abbrev pub has_marks : AsciiSet → Bool
 has_marks set = contains set 37 && (contains set 47 && contains set 63)
 
 -- bytes that are UTF-8, and at least one
-pub record IsName (tzid : List ℕ) : Type 0 where
+pub record IsUtf8Name (tzid : List ℕ) : Type 0 where
   pub bytes : All (λ b. b < 256) tzid
   pub text : IsUtf8 tzid
   pub some : 0 < length tzid

@@ -8,5 +8,5 @@ segments_left None = []
 segments_left (Some text) = segments text
 
 -- the text is the segment, and after a slash what is left, if there is one
-abbrev pub IsCut : List ℕ → List ℕ → Option (List ℕ) → Type 0
-IsCut text segment left = segments text ≡ segment ∷ segments_left left
+abbrev pub IsSegmentCut : List ℕ → List ℕ → Option (List ℕ) → Type 0
+IsSegmentCut text segment left = segments text ≡ segment ∷ segments_left left

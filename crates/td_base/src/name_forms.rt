@@ -3,7 +3,7 @@ ghost use Rattle.std.specs.Option.{option_copied};
 ghost use Rattle.std.specs.List.{list_all, list_any};
 ghost use Rattle.td_base.specs.Names as names;
 ghost use Rattle.td_base.specs.Names.{segments};
-ghost use Rattle.td_base.specs.NameCuts.{IsCut};
+ghost use Rattle.td_base.specs.NameCuts.{IsSegmentCut};
 
 /// The most bytes of an identifier.
 const MOST_IDENTIFIER_BYTES: usize = 64;
@@ -114,7 +114,7 @@ fn is_name_byte(byte: u8) -> bool
 
 /// The text before the first slash, and the text after it, if there is one.
 fn cut_segment(text: &[u8]) -> (&[u8], Option<&[u8]>)
-    ensures cut { IsCut text.now result.0.now (option_copied result.1) }
+    ensures cut { IsSegmentCut text.now result.0.now (option_copied result.1) }
     ensures shorter { IfSome result.1 (λ rest. length rest.now < length text.now) }
 {
     for (at, byte) in text.iter().enumerate() {

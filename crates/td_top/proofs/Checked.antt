@@ -23,12 +23,12 @@ use Rattle.zone_meaning.specs.Sound.{IsSound}
 use Rattle.zone_meaning.specs.ZoneHistories.{HasZoneHistory}
 use Rattle.td_top.specs.Checks.{Checks, all, refused, cut, unread, out_of_memory}
 use Rattle.td_top.specs.Ends.{checked, Printed}
-use Rattle.td_top.specs.Folders.{Begins, FoldersGive, GivesAfter, none, more}
+use Rattle.td_top.specs.Folders.{FoldersBegin, FoldersGive, GivesAfter, none, more}
 use Rattle.td_top.specs.Grammar.{check}
 use Rattle.td_top.specs.Lines.{ok_line, ok_lines, ok_lines_after, refused_line}
 use Rattle.td_top.specs.Outside.{outside}
-use Rattle.td_top.specs.Steps.{ChecksNext, EndsAt, GoesOn, IsCheckedTo, Stands, TellsRelease, grown}
-use Rattle.td_top.specs.Tells.{EndsLater, Refuses, RefusesInstall}
+use Rattle.td_top.specs.Steps.{ChecksNext, EndsAt, PrintsOk, IsCheckedTo, Stands, TellsRelease, grown}
+use Rattle.td_top.specs.Tells.{EndsLater, TellsRefused, RefusesInstall}
 use Rattle.td_top.specs.declared.status.Status.{Status}
 use Rattle.td_top.specs.declared.status.Status.TheVariants as status
 use Rattle.td_top.proofs.Installing.{blames, kept_gives, parted, stops_here, taken_more}
@@ -83,7 +83,7 @@ pub comes_told : (H : List ReleaseData) (dir : List ℕ) (s t : StoreView) (old 
 comes_told H dir s t old new c (Ok next) store stands give h = record {
   store = store;
   output = writes_all_later old new (ok_line (grown H c)) written.Whole (h.1 (grown H c) stands);
-  comes = subst (λ (x : Catalogue (List ℕ)). GoesOn s.files H dir old new x) (sym h.0)
+  comes = subst (λ (x : Catalogue (List ℕ)). PrintsOk s.files H dir old new x) (sym h.0)
       (record { gives = give; stands = stands; line = h.1 (grown H c) stands });
 }
 comes_told H dir s t old new c (Err status.NotWritten) store stands give h = record {
@@ -119,7 +119,7 @@ told_refused H dir s t old new f status.Refused store memory read give h = recor
 told_refused H dir s t old new f end store memory read give h = absurd h
 
 refused_by : (H : List ReleaseData) (dir : List ℕ) (s t : StoreView) (old new : SinkView) (f : CheckFault) (end : Status) → LaterStore s t
-    → f ≢ fault.NoMemory → f ≢ fault.ReadFault → GivesAfter s.files H dir (Err f) → Refuses (folder_text f) old new end
+    → f ≢ fault.NoMemory → f ≢ fault.ReadFault → GivesAfter s.files H dir (Err f) → TellsRefused (folder_text f) old new end
     → ChecksNext H dir s t old new (Err end)
 refused_by H dir s t old new f end store memory read give (inl h) = told_refused H dir s t old new f end store memory read give h
 refused_by H dir s t old new f end store memory read give (inr h) = ended H dir s t old new status.NoMemory end h.0 store (left old new h.1) h.1
@@ -176,7 +176,7 @@ ends_checked dirs row last s t i old new same so =
     (all so.history (subst (λ (front : List (List ℕ)). FoldersGive s.files front so.history) same so.give) so.lines)
 
 -- the first of the folders
-begun : (files : Option (List File)) (dirs : List (List ℕ)) (i : ℕ) (H : List ReleaseData) → FoldersGive files (take i dirs) H → Begins files dirs H
+begun : (files : Option (List File)) (dirs : List (List ℕ)) (i : ℕ) (H : List ReleaseData) → FoldersGive files (take i dirs) H → FoldersBegin files dirs H
 begun files dirs i H give = record { first = take i dirs; rest = drop i dirs; dirs_are = sym (take-append-drop i dirs); give = give }
 
 -- a cut line after whole ones

@@ -20,12 +20,12 @@ use Rattle.zone_meaning.specs.Faults.{zone_fault}
 use Rattle.zone_meaning.specs.declared.zone_fault.ZoneFault.{ZoneFault}
 use Rattle.td_top.specs.Called.{print, CallsFor, folders_of, releases, no_release, state, no_zone, no_file}
 use Rattle.td_top.specs.Ends.{printed, served, unread, out_of_memory, IsSilent, Printed}
-use Rattle.td_top.specs.Folders.{Stops}
+use Rattle.td_top.specs.Folders.{StopsWith}
 use Rattle.td_top.specs.Grammar.{Asked, answer, at}
 use Rattle.td_top.specs.Installed.{InstallsAll}
 use Rattle.td_top.specs.Lines.{refused_line}
 use Rattle.td_top.specs.Outside.{outside, Later}
-use Rattle.td_top.specs.Tells.{EndsLater, ServesLast, Tells, Refuses, RefusesInstall, Shows, ShowsBy}
+use Rattle.td_top.specs.Tells.{EndsLater, ServesLast, Tells, TellsRefused, RefusesInstall, Shows, ShowsBy}
 use Rattle.td_top.specs.declared.status.Status.{Status}
 use Rattle.td_top.specs.declared.status.Status.TheVariants as status
 use Rattle.td_top.proofs.ZonesShown.{IsOfPrefix, of_prefix}
@@ -87,7 +87,7 @@ ends_refused asked dirs (install.Check fault.NoMemory) s t i old new end folders
 ends_refused asked dirs (install.Check fault.ReadFault) s t i old new end folders silent h r =
     ends_unread (Some asked) s t i old new end silent (h.failed refl) h.later r.0 r.1
 ends_refused asked dirs (install.Check f) s t i old new end folders silent h r =
-    let stops : (H : List ReleaseData) × Stops s.files dirs H f = h.came (λ e. cc) (λ e. cc) in
+    let stops : (H : List ReleaseData) × StopsWith s.files dirs H f = h.came (λ e. cc) (λ e. cc) in
     ends_told (Some asked) s t i old new status.Refused (refused_line (fault_text f)) end silent (no_release asked dirs stops.0 f folders stops.1) h.later r
 
 -- a history that is served, or for which there is no memory
@@ -124,7 +124,7 @@ absent path None told = tt
 absent path (Some fs) told = told
 
 pub ends_absent : (path : List ℕ) (m : ℤ) (s t : StoreView) (i : SourceView) (old new : SinkView) (end : Status)
-    → Looks s t path 65537 looked.Absent → Refuses (codes "8 Absent " ++ path) old new end
+    → Looks s t path 65537 looked.Absent → TellsRefused (codes "8 Absent " ++ path) old new end
     → EndsLater (Some (at path m)) (outside s i old) (outside t i new) end
 ends_absent path m s t i old new end looks h =
     ends_told (Some (at path m)) s t i old new status.Refused _ end tt (no_file path m (absent path s.files looks.told))

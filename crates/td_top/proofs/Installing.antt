@@ -19,7 +19,7 @@ use Rattle.publication.specs.Views.{DeskView, IsNewDesk}
 use Rattle.release_check.specs.Found.{Blames}
 use Rattle.release_check.specs.declared.check_fault.CheckFault.{CheckFault}
 use Rattle.release_check.specs.declared.check_fault.CheckFault.TheVariants as fault
-use Rattle.td_top.specs.Folders.{FoldersGive, GivesAfter, Stops, none, more}
+use Rattle.td_top.specs.Folders.{FoldersGive, GivesAfter, StopsWith, none, more}
 use Rattle.td_top.specs.Installed.{Extends, InstallsAll, InstallsRest, Refused}
 
 -- ---- rows
@@ -108,7 +108,7 @@ installs_err {A = A} {B = B} s t dir H h k e i = record {
 -- ---- a row of folders
 
 pub stops_here : (files : Option (List File)) (first : List (List ℕ)) (dir : List ℕ) (rest dirs : List (List ℕ)) (H : List ReleaseData) (f : CheckFault)
-    → dirs ≡ first ++ dir ∷ rest → FoldersGive files first H → GivesAfter files H dir (Err f) → f ≢ fault.NoMemory → f ≢ fault.ReadFault → Stops files dirs H f
+    → dirs ≡ first ++ dir ∷ rest → FoldersGive files first H → GivesAfter files H dir (Err f) → f ≢ fault.NoMemory → f ≢ fault.ReadFault → StopsWith files dirs H f
 stops_here files first dir rest dirs H f is give after memory read = record {
   first = first;
   dir = dir;

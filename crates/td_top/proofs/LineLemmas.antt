@@ -29,8 +29,8 @@ use Rattle.zone_meaning.specs.Sound.{IsSound}
 use Rattle.zone_meaning.specs.ZoneHistories.{HasZoneHistory}
 use Rattle.td_top.specs.Folders.{GivesAfter}
 use Rattle.td_top.specs.Sessions.{AnswersLine, LaterSession, SaysRefused, SaysWhy, StandsAt}
-use Rattle.td_top.specs.Talk.{Answers, IsUnknown, Talk, TakesMemory, installed, joined, last_token, no_memory, once_more, quit, refused, shown_to, status, unknown, unread}
-use Rattle.td_top.specs.Turns.{IsRefusal, TellsAnswer}
+use Rattle.td_top.specs.Talk.{GetsAnswer, IsUnknown, Talk, TakesMemory, installed, joined, last_token, no_memory, once_more, quit, refused, shown_to, status, unknown, unread}
+use Rattle.td_top.specs.Turns.{IsSaidRefusal, TellsAnswer}
 use Rattle.td_top.specs.declared.session.Session.{Session}
 use Rattle.td_top.proofs.Installing.{blames, gives, kept_gives}
 
@@ -76,7 +76,7 @@ stands_on start s t old new talk store later same stands = record {
 -- a line that leaves the talk as it is
 pub stays : (s t : StoreView) (old new : Session) (asked : Line) (answer : Said) → LaterStore s t → LaterSession old new
     → new.installer.list ≡ old.installer.list
-    → ((files : Option (List File)) (whole : List ReleaseData) (talk : Talk) → Answers files whole talk asked answer talk)
+    → ((files : Option (List File)) (whole : List ReleaseData) (talk : Talk) → GetsAnswer files whole talk asked answer talk)
     → AnswersLine s t old new asked answer
 stays s t old new asked answer store later same answers = record {
   store = store;
@@ -207,18 +207,18 @@ is_refused s t old new dir (install.Check f) answer history installs same later 
 
 -- ---- a refusal for which there is no memory
 
-starves : (files : Option (List File)) (whole : List ReleaseData) (t u : Talk) (asked : Line) (answer : Said) → IsRefusal answer
-    → Answers files whole t asked answer u
-    → (Answers files whole t asked said.NoMemory t) × ((u.published ≡ t.published) × (u.least ≡ t.least))
-starves files whole t u asked answer is (installed dir r a b e f) = absurd (subst IsRefusal e is)
+starves : (files : Option (List File)) (whole : List ReleaseData) (t u : Talk) (asked : Line) (answer : Said) → IsSaidRefusal answer
+    → GetsAnswer files whole t asked answer u
+    → (GetsAnswer files whole t asked said.NoMemory t) × ((u.published ≡ t.published) × (u.least ≡ t.least))
+starves files whole t u asked answer is (installed dir r a b e f) = absurd (subst IsSaidRefusal e is)
 starves files whole t u asked answer is (refused dir f a b c e g) = (no_memory (subst TakesMemory (sym a) tt) refl refl, (ap (λ (x : Talk). x.published) g, ap (λ (x : Talk). x.least) g))
 starves files whole t u asked answer is (unread dir a e g) = (no_memory (subst TakesMemory (sym a) tt) refl refl, (ap (λ (x : Talk). x.published) g, ap (λ (x : Talk). x.least) g))
-starves files whole t u asked answer is (status shown a b c e g) = absurd (subst IsRefusal e is)
-starves files whole t u asked answer is (quit a e g) = absurd (subst IsRefusal e is)
-starves files whole t u asked answer is (unknown a e g) = absurd (subst IsRefusal e is)
-starves files whole t u asked answer is (no_memory a e g) = absurd (subst IsRefusal e is)
+starves files whole t u asked answer is (status shown a b c e g) = absurd (subst IsSaidRefusal e is)
+starves files whole t u asked answer is (quit a e g) = absurd (subst IsSaidRefusal e is)
+starves files whole t u asked answer is (unknown a e g) = absurd (subst IsSaidRefusal e is)
+starves files whole t u asked answer is (no_memory a e g) = absurd (subst IsSaidRefusal e is)
 
-starved_instead : (s t : StoreView) (old new : Session) (asked : Line) (answer : Said) → IsRefusal answer → AnswersLine s t old new asked answer
+starved_instead : (s t : StoreView) (old new : Session) (asked : Line) (answer : Said) → IsSaidRefusal answer → AnswersLine s t old new asked answer
     → AnswersLine s t old new asked said.NoMemory
 starved_instead s t old new asked answer is h = record {
   store = h.store;

@@ -6,19 +6,19 @@ use Rattle.release_check.specs.declared.check_fault.CheckFault.{CheckFault}
 use Rattle.release_check.specs.declared.check_fault.CheckFault.TheVariants as fault
 use Rattle.td_top.specs.Grammar.{Asked}
 use Rattle.td_top.specs.Outside.{Outside}
-use Rattle.td_top.specs.Tells.{EndsLater, Refuses, RefusesFolder}
+use Rattle.td_top.specs.Tells.{EndsLater, TellsRefused, RefusesFolder}
 use Rattle.td_top.specs.declared.status.Status.{Status}
 
 -- the fault of a folder ends a run by its text, unless memory or a read failed
 pub refuses_told : (f : CheckFault) (old new : SinkView) (end : Status) → f ≢ fault.NoMemory → f ≢ fault.ReadFault
-    → Refuses (fault_text f) old new end → RefusesFolder f old new end
+    → TellsRefused (fault_text f) old new end → RefusesFolder f old new end
 refuses_told fault.NoMemory old new end memory read tells = absurd (memory refl)
 refuses_told fault.ReadFault old new end memory read tells = absurd (read refl)
 refuses_told f old new end memory read tells = tells
 
 -- a reason that is another
-pub refuses_as : (why other : List ℕ) (old new : SinkView) (end : Status) → why ≡ other → Refuses why old new end → Refuses other old new end
-refuses_as why other old new end same h = subst (λ (text : List ℕ). Refuses text old new end) same h
+pub refuses_as : (why other : List ℕ) (old new : SinkView) (end : Status) → why ≡ other → TellsRefused why old new end → TellsRefused other old new end
+refuses_as why other old new end same h = subst (λ (text : List ℕ). TellsRefused text old new end) same h
 
 -- a command that is another
 pub ends_as : (asked other : Option Asked) (before after : Outside) (end : Status) → asked ≡ other

@@ -16,7 +16,7 @@ use Rattle.catalogue.specs.Releases.{ReleaseData}
 use Rattle.catalogue.proofs.lemmas.HistoryLemmas.{history_length, history_longer}
 use Rattle.console.specs.Lines.{lines_of}
 use Rattle.console.specs.Replies.{reply_text}
-use Rattle.console.specs.Steps.{Gives}
+use Rattle.console.specs.Steps.{GivesLines}
 use Rattle.console.specs.declared.line.Line.{Line}
 use Rattle.console.specs.declared.line.Line.TheVariants as line
 use Rattle.console.specs.declared.said.Said.{Said}
@@ -26,7 +26,7 @@ use Rattle.td_top.specs.Outside.{outside}
 use Rattle.td_top.specs.Sessions.{AnswersLine, BeginsWhole, LaterSession}
 use Rattle.td_top.specs.Talk.{GoesOn, begun, last_token, more, none}
 use Rattle.td_top.specs.Talking.{ComesTo, IsAt, LaterScene, Scene, TalksOver, scene, talk_text}
-use Rattle.td_top.specs.Turns.{Feeds, FeedsTalk, HasNone, IsNext, Reaches, SaysBye, SaysText}
+use Rattle.td_top.specs.Turns.{FeedsHeld, FeedsTalk, HasNone, IsNextLine, Reaches, SaysBye, SaysText}
 use Rattle.td_top.specs.declared.talking.Turn.{Turn}
 use Rattle.td_top.specs.declared.talking.Turn.TheVariants as turn
 use Rattle.td_top.specs.declared.session.Session.{Session}
@@ -47,17 +47,17 @@ begins_before a b whole later begins = record {
 -- ---- lines
 
 -- all lines of what was fed are those asked and those of what is held
-lines_held : (all held : List ℕ) (given : List Line) → Gives all given held → lines_of all ≡ given ++ lines_of held
+lines_held : (all held : List ℕ) (given : List Line) → GivesLines all given held → lines_of all ≡ given ++ lines_of held
 lines_held all held given g = ap lines_of (sym (append-nil all)) ∙ (g [] ∙ ap (λ (l : List ℕ). given ++ lines_of l) (append-nil held))
 
-gives_more : (all held read : List ℕ) (given : List Line) → Gives all given held → Gives (all ++ read) given (held ++ read)
+gives_more : (all held read : List ℕ) (given : List Line) → GivesLines all given held → GivesLines (all ++ read) given (held ++ read)
 gives_more all held read given g = λ rest.
     ap lines_of (append_assoc all read rest) ∙ (g (read ++ rest) ∙ ap (λ (l : List ℕ). given ++ lines_of l) (sym (append_assoc held read rest)))
 
 pub ready_text : (a b : List ℕ) → a ≡ b → reply_text (said.Ready a) ≡ reply_text (said.Ready b)
 ready_text a b e = ap (λ (t : List ℕ). reply_text (said.Ready t)) e
 
-pub gives_none : Gives [] [] []
+pub gives_none : GivesLines [] [] []
 gives_none = λ more. refl
 
 all_more : {A : Type 0} (P : A → Type 0) (xs : List A) (x : A) → AllByRecursion P xs → P x → AllByRecursion P (xs ++ x ∷ [])
@@ -98,7 +98,7 @@ nothing_asked s i o p x knows sink = record {
 
 pub starts : (s : StoreView) (i : SourceView) (o p : SinkView) (x : Session) (text : List ℕ) → length x.installer.list ≤ length x.desk.seen
     → text ≡ reply_text (said.Ready (last_token (history_of x.installer.list))) → WritesAll o p text written.Whole
-    → Gives [] [] [] → IsAt (scene (outside s i o) x) (scene (outside s i p) x) []
+    → GivesLines [] [] [] → IsAt (scene (outside s i o) x) (scene (outside s i p) x) []
 starts s i o p x text knows is h gives = record {
   read = [];
   asked = [];
@@ -112,7 +112,7 @@ starts s i o p x text knows is h gives = record {
 
 pub cut_at_once : (s : StoreView) (i : SourceView) (o p : SinkView) (x : Session) (text : List ℕ) → length x.installer.list ≤ length x.desk.seen
     → text ≡ reply_text (said.Ready (last_token (history_of x.installer.list))) → WritesAll o p text written.Cut
-    → Gives [] [] [] → ComesTo (scene (outside s i o) x) (scene (outside s i p) x) (Some end.NotWritten)
+    → GivesLines [] [] [] → ComesTo (scene (outside s i o) x) (scene (outside s i p) x) (Some end.NotWritten)
 cut_at_once s i o p x text knows is h gives = record {
   read = [];
   asked = [];
@@ -142,14 +142,14 @@ over_input : (start : Scene) (s : StoreView) (i j : SourceView) (o : SinkView) (
 over_input start s i j o x asked told input over = record { later = later_input start s i j o x over.later input; talks = over.talks }
 
 fed : (start : Scene) (s : StoreView) (i j : SourceView) (o : SinkView) (x : Session) (held held' new : List ℕ)
-    → IsAt start (scene (outside s i o) x) held → HasNone held held' → LaterSource i j → Feeds i j held' new
+    → IsAt start (scene (outside s i o) x) held → HasNone held held' → LaterSource i j → FeedsHeld i j held' new
     → IsAt start (scene (outside s j o) x) new
 fed start s i j o x held held' new at whole input f = record {
   read = at.read ++ f.read;
   asked = at.asked;
   told = at.told;
   consumed = Consumes-trans start.outside.input.left i.left j.left at.read f.read at.consumed f.consumed;
-  gives = subst (λ (l : List ℕ). Gives (at.read ++ f.read) at.asked l) (sym f.joined)
+  gives = subst (λ (l : List ℕ). GivesLines (at.read ++ f.read) at.asked l) (sym f.joined)
       (gives_more at.read held' f.read at.asked (whole at.read at.asked at.gives).0);
   goes_on = at.goes_on;
   over = over_input start s i j o x at.asked at.told input at.over;
@@ -222,7 +222,7 @@ over_more start s t i o p x y asked told next a goes sink over answers = record 
 }
 
 cut_by : (start : Scene) (s t : StoreView) (i : SourceView) (o p : SinkView) (x y : Session) (held new : List ℕ) (next : Line) (a : Said)
-    → IsAt start (scene (outside s i o) x) held → IsNext held new next → AnswersLine s t x y next a → WritesAll o p (reply_text a) written.Cut
+    → IsAt start (scene (outside s i o) x) held → IsNextLine held new next → AnswersLine s t x y next a → WritesAll o p (reply_text a) written.Cut
     → ComesTo start (scene (outside t i p) y) (Some end.NotWritten)
 cut_by start s t i o p x y held new next a at is answers h = record {
   read = at.read;
@@ -247,7 +247,7 @@ said_whole start o p told a g h =
     (written_more start.outside.output o p (talk_text (history_of start.session.installer.list) told) (reply_text a) g h)
 
 answered : (start : Scene) (s t : StoreView) (i : SourceView) (o p : SinkView) (x y : Session) (held new : List ℕ) (next : Line) (a : Said)
-    → GoesOn next → IsAt start (scene (outside s i o) x) held → IsNext held new next → AnswersLine s t x y next a
+    → GoesOn next → IsAt start (scene (outside s i o) x) held → IsNextLine held new next → AnswersLine s t x y next a
     → WritesAll o p (reply_text a) written.Whole → IsAt start (scene (outside t i p) y) new
 answered start s t i o p x y held new next a goes at is answers h = record {
   read = at.read;
@@ -261,7 +261,7 @@ answered start s t i o p x y held new next a goes at is answers h = record {
 }
 
 said_turn : (start : Scene) (s t : StoreView) (i : SourceView) (o p : SinkView) (x y : Session) (held new : List ℕ) (next : Line) (a : Said) (r : Turn)
-    → GoesOn next → IsAt start (scene (outside s i o) x) held → IsNext held new next → AnswersLine s t x y next a → SaysText o p (reply_text a) r
+    → GoesOn next → IsAt start (scene (outside s i o) x) held → IsNextLine held new next → AnswersLine s t x y next a → SaysText o p (reply_text a) r
     → Reaches start (scene (outside t i p) y) new r
 said_turn start s t i o p x y held new next a turn.On goes at is answers h = answered start s t i o p x y held new next a goes at is answers h
 said_turn start s t i o p x y held new next a (turn.End end.NotWritten) goes at is answers h = cut_by start s t i o p x y held new next a at is answers h
@@ -272,7 +272,7 @@ said_turn start s t i o p x y held new next a turn.NoMemory goes at is answers h
 
 -- by the text that was written
 pub line_turn : (start : Scene) (s t : StoreView) (i : SourceView) (o p : SinkView) (x y : Session) (held new text : List ℕ) (next : Line) (r : Turn)
-    → GoesOn next → IsAt start (scene (outside s i o) x) held → IsNext held new next
+    → GoesOn next → IsAt start (scene (outside s i o) x) held → IsNextLine held new next
     → (b : Said) × (AnswersLine s t x y next b) × (text ≡ reply_text b) → SaysText o p text r
     → Reaches start (scene (outside t i p) y) new r
 line_turn start s t i o p x y held new text next r goes at is told h =
@@ -280,7 +280,7 @@ line_turn start s t i o p x y held new text next r goes at is told h =
 
 -- the last line
 quit_by : (start : Scene) (s : StoreView) (i : SourceView) (o p : SinkView) (x : Session) (held new : List ℕ)
-    → IsAt start (scene (outside s i o) x) held → IsNext held new line.Quit → AnswersLine s s x x line.Quit said.Bye
+    → IsAt start (scene (outside s i o) x) held → IsNextLine held new line.Quit → AnswersLine s s x x line.Quit said.Bye
     → WritesAll o p (reply_text said.Bye) written.Whole → ComesTo start (scene (outside s i p) x) (Some end.Quit)
 quit_by start s i o p x held new at is answers h = record {
   read = at.read;
@@ -294,7 +294,7 @@ quit_by start s i o p x held new at is answers h = record {
 }
 
 pub quit_turn : (start : Scene) (s : StoreView) (i : SourceView) (o p : SinkView) (x : Session) (held new : List ℕ) (ended : TalkEnd)
-    → IsAt start (scene (outside s i o) x) held → IsNext held new line.Quit → AnswersLine s s x x line.Quit said.Bye
+    → IsAt start (scene (outside s i o) x) held → IsNextLine held new line.Quit → AnswersLine s s x x line.Quit said.Bye
     → SaysBye o p ended → Reaches start (scene (outside s i p) x) new (turn.End ended)
 quit_turn start s i o p x held new end.Quit at is answers h = quit_by start s i o p x held new at is answers h
 quit_turn start s i o p x held new end.NotWritten at is answers h = cut_by start s s i o p x x held new line.Quit said.Bye at is answers h

@@ -8,7 +8,7 @@ use Rattle.zone_meaning.specs.Faults.{zone_fault}
 use Rattle.zone_meaning.specs.FaultText.{fault_text as zone_text}
 use Rattle.zone_meaning.specs.State.{zone_state}
 use Rattle.zone_meaning.specs.declared.zone_fault.ZoneFault.{ZoneFault}
-use Rattle.td_top.specs.Folders.{FoldersGive, Stops}
+use Rattle.td_top.specs.Folders.{FoldersGive, StopsWith}
 use Rattle.td_top.specs.Grammar.{Asked, answer, at, check, serve as serve_doors}
 use Rattle.td_top.specs.Lines.{refused_line, state_line, usage_line}
 use Rattle.td_top.specs.declared.status.Status.{Status}
@@ -36,7 +36,7 @@ pub data CallsFor (files : Option (List File)) : Option Asked → Called → Typ
   releases : (dirs : List (List ℕ)) (H : List ReleaseData) → FoldersGive files dirs H
       → CallsFor files (Some (answer dirs)) (serve H)
   no_release : (asked : Asked) (dirs : List (List ℕ)) (H : List ReleaseData) (f : CheckFault)
-      → folders_of asked ≡ Some dirs → Stops files dirs H f
+      → folders_of asked ≡ Some dirs → StopsWith files dirs H f
       → CallsFor files (Some asked) (print status.Refused (refused_line (folder_text f)))
   state : (path bytes : List ℕ) (m : ℤ) → IfSome files (λ fs. file_at fs path ≡ Some bytes)
       → zone_fault bytes ≡ None

@@ -8,7 +8,7 @@ use Rattle.td_base.specs.declared.transfer.Written.TheVariants as written
 use Rattle.catalogue.specs.Releases.{ReleaseData}
 use Rattle.release_check.specs.FaultText.{fault_text as folder_text}
 use Rattle.release_check.specs.declared.check_fault.CheckFault.{CheckFault}
-use Rattle.td_top.specs.Folders.{Begins, FoldersGive, Stops}
+use Rattle.td_top.specs.Folders.{FoldersBegin, FoldersGive, StopsWith}
 use Rattle.td_top.specs.Lines.{ok_lines, refused_line}
 use Rattle.td_top.specs.declared.status.Status.{Status}
 use Rattle.td_top.specs.declared.status.Status.TheVariants as status
@@ -20,15 +20,15 @@ pub data Checks (dirs : List (List ℕ)) (s t : StoreView) (old new : SinkView) 
   all : (H : List ReleaseData) → FoldersGive s.files dirs H
       → WritesAll old new (ok_lines H) written.Whole → Checks dirs s t old new status.Done
   -- one folder is refused; a failed write may have cut the line that says so
-  refused : (H : List ReleaseData) (f : CheckFault) (middle : SinkView) → Stops s.files dirs H f
+  refused : (H : List ReleaseData) (f : CheckFault) (middle : SinkView) → StopsWith s.files dirs H f
       → WritesAll old middle (ok_lines H) written.Whole
       → Prints middle new (refused_line (folder_text f)) → Checks dirs s t old new status.Refused
   -- a failed write cut the lines of the first folders
-  cut : (H : List ReleaseData) → Begins s.files dirs H
+  cut : (H : List ReleaseData) → FoldersBegin s.files dirs H
       → WritesAll old new (ok_lines H) written.Cut → Checks dirs s t old new status.NotWritten
   -- a file was not read, or memory ran out, after the lines of the first folders
-  unread : (H : List ReleaseData) → Begins s.files dirs H
+  unread : (H : List ReleaseData) → FoldersBegin s.files dirs H
       → WritesAll old new (ok_lines H) written.Whole → StoreFailed s t
       → Checks dirs s t old new status.NotRead
-  out_of_memory : (H : List ReleaseData) → Begins s.files dirs H
+  out_of_memory : (H : List ReleaseData) → FoldersBegin s.files dirs H
       → WritesAll old new (ok_lines H) written.Whole → Checks dirs s t old new status.NoMemory

@@ -22,7 +22,7 @@ pub data FoldersGive (files : Option (List File)) : List (List ℕ) → List Rel
       → FoldersGive files (dirs ++ dir ∷ []) (H ++ r ∷ [])
 
 -- the first of the folders give these releases
-pub record Begins (files : Option (List File)) (dirs : List (List ℕ)) (H : List ReleaseData)
+pub record FoldersBegin (files : Option (List File)) (dirs : List (List ℕ)) (H : List ReleaseData)
     : Type 0 where
   pub first : List (List ℕ)
   pub rest : List (List ℕ)
@@ -30,7 +30,7 @@ pub record Begins (files : Option (List File)) (dirs : List (List ℕ)) (H : Lis
   pub give : FoldersGive files first H
 
 -- the folders before one give these releases, and that one has a fault
-pub record Stops (files : Option (List File)) (dirs : List (List ℕ)) (H : List ReleaseData)
+pub record StopsWith (files : Option (List File)) (dirs : List (List ℕ)) (H : List ReleaseData)
     (f : CheckFault) : Type 0 where
   pub first : List (List ℕ)
   pub dir : List ℕ

@@ -11,13 +11,13 @@ use Rattle.installer.specs.declared.install_fault.InstallFault.{InstallFault}
 use Rattle.installer.specs.declared.install_fault.InstallFault.TheVariants as install
 use Rattle.release_check.specs.Found.{Blames}
 use Rattle.release_check.specs.declared.check_fault.CheckFault.TheVariants as fault
-use Rattle.td_top.specs.Folders.{FoldersGive, Stops}
+use Rattle.td_top.specs.Folders.{FoldersGive, StopsWith}
 use Rattle.td_top.specs.declared.opening.Opened.{Opened}
 
 -- the folders were not all installed: one of them has this fault, unless memory or a read failed
 abbrev pub Refused : Option (List File) → List (List ℕ) → InstallFault → Type 0
 Refused files dirs install.NoMemory = ⊤
-Refused files dirs (install.Check f) = Blames f ((H : List ReleaseData) × Stops files dirs H f)
+Refused files dirs (install.Check f) = Blames f ((H : List ReleaseData) × StopsWith files dirs H f)
 
 -- folders that come after others were installed, and their history is now this one
 abbrev pub Extends : Option (List File) → List (List ℕ) → List ReleaseData → List ReleaseData

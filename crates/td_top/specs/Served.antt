@@ -12,7 +12,7 @@ use Rattle.td_top.specs.Outside.{Outside}
 
 -- what was read of the input and written to the output is that of a served connection; each request
 -- was answered at the last place of the history
-pub record Serves (H : List ReleaseData) (before after : Outside) (end : End) : Type 0 where
+pub record ServesStreams (H : List ReleaseData) (before after : Outside) (end : End) : Type 0 where
   pub read : List ℕ
   pub written : List ℕ
   pub places : List ℕ

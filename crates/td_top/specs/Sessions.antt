@@ -15,7 +15,7 @@ use Rattle.installer.specs.declared.install_fault.InstallFault.TheVariants as in
 use Rattle.release_check.specs.FaultText.{fault_text}
 use Rattle.release_check.specs.declared.check_fault.CheckFault.{CheckFault}
 use Rattle.release_check.specs.declared.check_fault.CheckFault.TheVariants as fault
-use Rattle.td_top.specs.Talk.{Answers, Talk}
+use Rattle.td_top.specs.Talk.{GetsAnswer, Talk}
 use Rattle.td_top.specs.declared.session.Session.{Session}
 
 -- what was published is published, and what was seen was seen
@@ -45,7 +45,8 @@ pub record AnswersLine (s t : StoreView) (before now : Session) (asked : Line) (
   pub later : LaterSession before now
   pub answers : (whole : List ReleaseData) (start : StoreView) (talk : Talk)
       → BeginsWhole now whole → StandsAt start s before talk
-      → (next : Talk) × StandsAt start t now next × Answers start.files whole talk asked answer next
+      → (next : Talk) × StandsAt start t now next
+      × GetsAnswer start.files whole talk asked answer next
 
 -- what is said of a folder that is refused: why, or that memory ran out
 abbrev pub SaysWhy : CheckFault → Said → Type 0

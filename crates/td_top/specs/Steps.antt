@@ -29,8 +29,8 @@ abbrev pub grown : List ReleaseData → Catalogue (List ℕ) → List ReleaseDat
 grown H c = H ++ release_held (λ file. file) c ∷ []
 
 -- the catalogue stands for each history for which the other stands, with one release more
-abbrev pub Follows : Option (Catalogue (List ℕ)) → Catalogue (List ℕ) → Type 0
-Follows last c =
+abbrev pub AddsRelease : Option (Catalogue (List ℕ)) → Catalogue (List ℕ) → Type 0
+AddsRelease last c =
     (H : List ReleaseData) → Stands last H → StandsFor (λ file. file) IsSound c (grown H c)
 
 -- the line of a catalogue's last release
@@ -48,7 +48,7 @@ TellsRelease c old new (Err status.NoMemory) = new ≡ old
 TellsRelease c old new (Err end) = ⊥
 
 -- the folder gave the release that the catalogue holds, and its line was printed
-pub record GoesOn (files : Option (List File)) (H : List ReleaseData) (dir : List ℕ)
+pub record PrintsOk (files : Option (List File)) (H : List ReleaseData) (dir : List ℕ)
     (old new : SinkView) (c : Catalogue (List ℕ)) : Type 0 where
   pub gives : GivesAfter files H dir (Ok (release_held (λ file. file) c))
   pub stands : StandsFor (λ file. file) IsSound c (grown H c)
@@ -63,7 +63,7 @@ pub record IsRefused (files : Option (List File)) (H : List ReleaseData) (dir : 
   pub line : Prints old new (refused_line (folder_text why))
 
 -- the folder gave a release, and a failed write cut its line
-pub record IsCut (files : Option (List File)) (H : List ReleaseData) (dir : List ℕ)
+pub record CutsOk (files : Option (List File)) (H : List ReleaseData) (dir : List ℕ)
     (old new : SinkView) : Type 0 where
   pub release : ReleaseData
   pub gives : GivesAfter files H dir (Ok release)
@@ -76,22 +76,22 @@ EndsAt H dir s t old new status.Done = ⊥
 EndsAt H dir s t old new status.Usage = ⊥
 EndsAt H dir s t old new status.Refused = IsRefused s.files H dir old new
 EndsAt H dir s t old new status.NotRead = StoreFailed s t × (new ≡ old)
-EndsAt H dir s t old new status.NotWritten = IsCut s.files H dir old new
+EndsAt H dir s t old new status.NotWritten = CutsOk s.files H dir old new
 EndsAt H dir s t old new status.NotStarted = ⊥
 EndsAt H dir s t old new status.NoNetwork = ⊥
 EndsAt H dir s t old new status.NoMemory = new ≡ old
 
-abbrev pub Comes : List ReleaseData → List ℕ → StoreView → StoreView → SinkView → SinkView
+abbrev pub FolderComes : List ReleaseData → List ℕ → StoreView → StoreView → SinkView → SinkView
     → Result (Catalogue (List ℕ)) Status → Type 0
-Comes H dir s t old new (Ok c) = GoesOn s.files H dir old new c
-Comes H dir s t old new (Err end) = EndsAt H dir s t old new end
+FolderComes H dir s t old new (Ok c) = PrintsOk s.files H dir old new c
+FolderComes H dir s t old new (Err end) = EndsAt H dir s t old new end
 
 -- one folder more was checked, after a history
 pub record ChecksNext (H : List ReleaseData) (dir : List ℕ) (s t : StoreView)
     (old new : SinkView) (result : Result (Catalogue (List ℕ)) Status) : Type 0 where
   pub store : LaterStore s t
   pub output : LaterSink old new
-  pub comes : Comes H dir s t old new result
+  pub comes : FolderComes H dir s t old new result
 
 -- the first of the folders gave the history of a catalogue, and their lines were printed
 pub record IsCheckedTo (first : List (List ℕ)) (last : Option (Catalogue (List ℕ)))

@@ -65,33 +65,33 @@ TakesMemory line.Strange = ⊥
 
 -- What one line gets said, and what it makes of the talk. `whole` is the history of the run, with
 -- which each place that is shown has its releases in common.
-pub data Answers (files : Option (List File)) (whole : List ReleaseData) (t : Talk) (asked : Line)
-    (answer : Said) (u : Talk) : Type 0 where
+pub data GetsAnswer (files : Option (List File)) (whole : List ReleaseData) (t : Talk)
+    (asked : Line) (answer : Said) (u : Talk) : Type 0 where
   -- the folder gives a release after those published, which joins them
   installed : (dir : List ℕ) (r : ReleaseData) → asked ≡ line.Install dir
       → GivesAfter files t.published dir (Ok r)
       → answer ≡ said.Installed (last_token (t.published ++ r ∷ [])) → u ≡ joined t r
-      → Answers files whole t asked answer u
+      → GetsAnswer files whole t asked answer u
   -- the folder is refused
   refused : (dir : List ℕ) (f : CheckFault) → asked ≡ line.Install dir
       → GivesAfter files t.published dir (Err f)
       → (f ≢ fault.NoMemory) × (f ≢ fault.ReadFault)
       → answer ≡ said.Refused (fault_text f) → u ≡ t
-      → Answers files whole t asked answer u
+      → GetsAnswer files whole t asked answer u
   -- the store failed
   unread : (dir : List ℕ) → asked ≡ line.Install dir
       → answer ≡ said.Refused (fault_text fault.ReadFault) → u ≡ once_more t
-      → Answers files whole t asked answer u
+      → GetsAnswer files whole t asked answer u
   -- a place is shown that is not before the last release installed, nor before one shown earlier
   status : (shown : List ReleaseData) → asked ≡ line.Status → IsPrefix shown whole
       → t.least ≤ length shown → answer ≡ said.Serving (last_token shown) (length (meta shown))
-      → u ≡ shown_to t (length shown) → Answers files whole t asked answer u
-  quit : asked ≡ line.Quit → answer ≡ said.Bye → u ≡ t → Answers files whole t asked answer u
+      → u ≡ shown_to t (length shown) → GetsAnswer files whole t asked answer u
+  quit : asked ≡ line.Quit → answer ≡ said.Bye → u ≡ t → GetsAnswer files whole t asked answer u
   unknown : IsUnknown asked → answer ≡ said.Unknown → u ≡ t
-      → Answers files whole t asked answer u
+      → GetsAnswer files whole t asked answer u
   -- memory ran out, and nothing was published
   no_memory : TakesMemory asked → answer ≡ said.NoMemory → u ≡ t
-      → Answers files whole t asked answer u
+      → GetsAnswer files whole t asked answer u
 
 -- a line that asks that the talk end
 abbrev pub is_quit : Line → Bool
@@ -111,5 +111,5 @@ pub data Talks (files : Option (List File)) (whole : List ReleaseData)
   none : (t : Talk) → Talks files whole t [] [] t
   more : (t u v : Talk) (asked : List Line) (told : List Said) (next : Line) (answer : Said)
       → Talks files whole t asked told u → AllByRecursion GoesOn asked
-      → Answers files whole u next answer v
+      → GetsAnswer files whole u next answer v
       → Talks files whole t (asked ++ next ∷ []) (told ++ answer ∷ []) v

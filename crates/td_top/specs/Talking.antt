@@ -10,7 +10,7 @@ use Rattle.td_base.specs.declared.transfer.Written.TheVariants as written
 use Rattle.catalogue.specs.Releases.{ReleaseData}
 use Rattle.console.specs.Lines.{lines_of}
 use Rattle.console.specs.Replies.{reply_text}
-use Rattle.console.specs.Steps.{Gives}
+use Rattle.console.specs.Steps.{GivesLines}
 use Rattle.console.specs.declared.line.Line.{Line}
 use Rattle.console.specs.declared.line.Line.TheVariants as line
 use Rattle.console.specs.declared.said.Said.{Said}
@@ -49,8 +49,8 @@ pub record TalksOver (before now : Scene) (asked : List Line) (told : List Said)
       asked told t
 
 -- the first of the lines in the bytes that were read
-abbrev pub Reads : SourceView → SourceView → List ℕ → List Line → List Line → Type 0
-Reads before now read asked ignored =
+abbrev pub ReadsLines : SourceView → SourceView → List ℕ → List Line → List Line → Type 0
+ReadsLines before now read asked ignored =
     Consumes before.left now.left read × (lines_of read ≡ asked ++ ignored)
 
 -- why a talk ended: the last line asked for it; the input ended, or a read of it failed, after all
@@ -76,7 +76,7 @@ pub record Talked (before now : Scene) (ended : TalkEnd) : Type 0 where
   pub asked : List Line
   pub ignored : List Line
   pub told : List Said
-  pub reads : Reads before.outside.input now.outside.input read asked ignored
+  pub reads : ReadsLines before.outside.input now.outside.input read asked ignored
   pub over : TalksOver before now asked told
   pub written : WritesAll before.outside.output now.outside.output
       (talk_text (history_of before.session.installer.list) told) (how_written ended)
@@ -93,7 +93,7 @@ pub record IsAt (before now : Scene) (held : List ℕ) : Type 0 where
   pub asked : List Line
   pub told : List Said
   pub consumed : Consumes before.outside.input.left now.outside.input.left read
-  pub gives : Gives read asked held
+  pub gives : GivesLines read asked held
   pub goes_on : AllByRecursion GoesOn asked
   pub over : TalksOver before now asked told
   pub written : WritesAll before.outside.output now.outside.output
@@ -108,7 +108,7 @@ pub record AnswersOperator (opening whole : List ReleaseData) (before now : Outs
   pub ignored : List Line
   pub told : List Said
   pub last : Talk
-  pub reads : Reads before.input now.input read asked ignored
+  pub reads : ReadsLines before.input now.input read asked ignored
   pub talks : Talks before.store.files whole (begun opening) asked told last
   pub published : last.published ≡ whole
   pub unread : RoseBy last.unread before.store.faults now.store.faults

@@ -17,7 +17,7 @@ use Rattle.td_top.specs.Ends.{Ends, Printed}
 use Rattle.td_top.specs.Grammar.{Asked}
 use Rattle.td_top.specs.Lines.{refused_line, state_line}
 use Rattle.td_top.specs.Outside.{Outside, Later, outside}
-use Rattle.td_top.specs.Served.{Serves}
+use Rattle.td_top.specs.Served.{ServesStreams}
 use Rattle.td_top.specs.Statuses.{status_of}
 use Rattle.td_top.specs.declared.status.Status.{Status}
 use Rattle.td_top.specs.declared.status.Status.TheVariants as status
@@ -31,7 +31,7 @@ pub record EndsLater (asked : Option Asked) (before after : Outside) (end : Stat
 -- has no part in it
 pub record ServesLater (H : List ReleaseData) (i j : SourceView) (old new : SinkView) (end : End)
     : Type 0 where
-  pub serves : (s t : StoreView) → Serves H (outside s i old) (outside t j new) end
+  pub serves : (s t : StoreView) → ServesStreams H (outside s i old) (outside t j new) end
   pub input : LaterSource i j
   pub output : LaterSink old new
 
@@ -55,14 +55,14 @@ abbrev pub Tells : Status → List ℕ → SinkView → SinkView → Status → 
 Tells called text old new end = Printed called text old new end ⊎ IsLeft old new end status.NoMemory
 
 -- something is refused for this reason
-abbrev pub Refuses : List ℕ → SinkView → SinkView → Status → Type 0
-Refuses why old new end = Tells status.Refused (refused_line why) old new end
+abbrev pub TellsRefused : List ℕ → SinkView → SinkView → Status → Type 0
+TellsRefused why old new end = Tells status.Refused (refused_line why) old new end
 
 -- the fault of a folder ends a run
 abbrev pub RefusesFolder : CheckFault → SinkView → SinkView → Status → Type 0
 RefusesFolder fault.NoMemory old new end = IsLeft old new end status.NoMemory
 RefusesFolder fault.ReadFault old new end = IsLeft old new end status.NotRead
-RefusesFolder f old new end = Refuses (folder_text f) old new end
+RefusesFolder f old new end = TellsRefused (folder_text f) old new end
 
 -- a folder that was not installed ends a run
 abbrev pub RefusesInstall : InstallFault → SinkView → SinkView → Status → Type 0
@@ -72,7 +72,7 @@ RefusesInstall (install.Check f) old new end = RefusesFolder f old new end
 -- the state of a zone file ends a run, or the file's fault does
 abbrev pub ShowsBy : List ℕ → ℤ → Option ZoneFault → SinkView → SinkView → Status → Type 0
 ShowsBy bytes m None old new end = Tells status.Done (state_line (zone_state bytes m)) old new end
-ShowsBy bytes m (Some f) old new end = Refuses (zone_text f) old new end
+ShowsBy bytes m (Some f) old new end = TellsRefused (zone_text f) old new end
 
 abbrev pub Shows : List ℕ → ℤ → SinkView → SinkView → Status → Type 0
 Shows bytes m old new end = ShowsBy bytes m (zone_fault bytes) old new end

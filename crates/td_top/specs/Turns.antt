@@ -7,7 +7,7 @@ use Rattle.td_base.specs.Views.{SinkView, SourceView}
 use Rattle.td_base.specs.declared.transfer.Written.TheVariants as written
 use Rattle.console.specs.Lines.{lines_of}
 use Rattle.console.specs.Replies.{reply_text}
-use Rattle.console.specs.Steps.{Gives}
+use Rattle.console.specs.Steps.{GivesLines}
 use Rattle.console.specs.declared.line.Line.{Line}
 use Rattle.console.specs.declared.line.Line.TheVariants as line
 use Rattle.console.specs.declared.said.Said.{Said}
@@ -23,31 +23,32 @@ use Rattle.td_top.specs.declared.talking.Taken.{Taken}
 use Rattle.td_top.specs.declared.talking.Taken.TheVariants as taken
 
 -- whatever was asked so far, the next line was this
-abbrev pub IsNext : List ℕ → List ℕ → Line → Type 0
-IsNext held new next =
-    (all : List ℕ) (given : List Line) → Gives all given held → Gives all (given ++ next ∷ []) new
+abbrev pub IsNextLine : List ℕ → List ℕ → Line → Type 0
+IsNextLine held new next =
+    (all : List ℕ) (given : List Line) → GivesLines all given held
+    → GivesLines all (given ++ next ∷ []) new
 
 -- all lines of what was fed were asked
 abbrev pub HasNone : List ℕ → List ℕ → Type 0
 HasNone held new =
-    (all : List ℕ) (given : List Line) → Gives all given held
-    → Gives all given new × (lines_of all ≡ given)
+    (all : List ℕ) (given : List Line) → GivesLines all given held
+    → GivesLines all given new × (lines_of all ≡ given)
 
 -- what came of the next line of the bytes that are held
 abbrev pub TakesLine : List ℕ → List ℕ → Taken → Type 0
-TakesLine held new (taken.Line next) = IsNext held new next
-TakesLine held new taken.Unread = (dir : List ℕ) × IsNext held new (line.Install dir)
+TakesLine held new (taken.Line next) = IsNextLine held new next
+TakesLine held new taken.Unread = (dir : List ℕ) × IsNextLine held new (line.Install dir)
 TakesLine held new taken.None = HasNone held new
 
 -- one read of the input, of whose bytes these joined those held
-pub record Feeds (before now : SourceView) (held new : List ℕ) : Type 0 where
+pub record FeedsHeld (before now : SourceView) (held new : List ℕ) : Type 0 where
   pub read : List ℕ
   pub consumed : Consumes before.left now.left read
   pub joined : new ≡ held ++ read
 
 -- what a read of the input came to
 abbrev pub FeedsTalk : SourceView → SourceView → List ℕ → List ℕ → Turn → Type 0
-FeedsTalk before now held new turn.On = Feeds before now held new
+FeedsTalk before now held new turn.On = FeedsHeld before now held new
 FeedsTalk before now held new (turn.End end.InputEnded) =
     Consumes before.left now.left [] × IsAtEnd now.left
 FeedsTalk before now held new (turn.End end.NotRead) =
@@ -61,20 +62,20 @@ abbrev pub text_of : Reply → List ℕ
 text_of (reply.Short text) = text
 text_of (reply.Long text) = text
 
-abbrev pub IsRefusal : Said → Type 0
-IsRefusal (said.Refused fault) = ⊤
-IsRefusal (said.Ready token) = ⊥
-IsRefusal (said.Installed token) = ⊥
-IsRefusal (said.Unchanged token) = ⊥
-IsRefusal said.NoMemory = ⊥
-IsRefusal (said.Serving token zones) = ⊥
-IsRefusal said.Bye = ⊥
-IsRefusal said.Unknown = ⊥
+abbrev pub IsSaidRefusal : Said → Type 0
+IsSaidRefusal (said.Refused fault) = ⊤
+IsSaidRefusal (said.Ready token) = ⊥
+IsSaidRefusal (said.Installed token) = ⊥
+IsSaidRefusal (said.Unchanged token) = ⊥
+IsSaidRefusal said.NoMemory = ⊥
+IsSaidRefusal (said.Serving token zones) = ⊥
+IsSaidRefusal said.Bye = ⊥
+IsSaidRefusal said.Unknown = ⊥
 
 -- the text of an answer, or, of a refusal, that there is no memory for it
 abbrev pub TellsAnswer : Said → List ℕ → Type 0
 TellsAnswer answer text =
-    (text ≡ reply_text answer) ⊎ (IsRefusal answer × (text ≡ reply_text said.NoMemory))
+    (text ≡ reply_text answer) ⊎ (IsSaidRefusal answer × (text ≡ reply_text said.NoMemory))
 
 -- a text was written, or a failed write cut it, which ends the talk
 abbrev pub SaysText : SinkView → SinkView → List ℕ → Turn → Type 0
@@ -103,5 +104,5 @@ Turns before now held new done =
     (start : Scene) → IsAt start before held → Reaches start now new done
 
 -- a talk that holds no bytes goes on to its end
-abbrev pub GoesOn : Scene → Scene → Option TalkEnd → Type 0
-GoesOn before now ended = (start : Scene) → IsAt start before [] → ComesTo start now ended
+abbrev pub TalksOn : Scene → Scene → Option TalkEnd → Type 0
+TalksOn before now ended = (start : Scene) → IsAt start before [] → ComesTo start now ended

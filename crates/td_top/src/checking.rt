@@ -5,7 +5,7 @@ ghost use Rattle.installer.specs.Installing.{Installs};
 ghost use Rattle.zone_meaning.specs.ZoneHistories.{HasZoneHistory};
 ghost use Rattle.td_top.specs.Grammar.{check};
 ghost use Rattle.td_top.specs.Outside.{outside};
-ghost use Rattle.td_top.specs.Steps.{ChecksNext, Follows, HasLine, Stands, TellsRelease};
+ghost use Rattle.td_top.specs.Steps.{ChecksNext, AddsRelease, HasLine, Stands, TellsRelease};
 ghost use Rattle.td_top.specs.Steps.{grown};
 ghost use Rattle.td_top.specs.Tells.{EndsLater};
 
@@ -70,7 +70,7 @@ fn follow<S: Store>(
     requires { IfSome last.now HasZoneHistory }
     ensures found { (H : List ReleaseData) → Stands last.now H
         → Installs (S.seen store.old) (S.seen store.new) folder.now H (grown H) result }
-    ensures stands { IfOk result (Follows last.now) }
+    ensures stands { IfOk result (AddsRelease last.now) }
 {
     match last {
         None => first_in(alloc, folder, store),

@@ -1,7 +1,7 @@
 ghost use Rattle.std.specs.Prelude.{◌≡◌, IfOk, IfSome};
 ghost use Rattle.td_top.specs.Ends.{Printed};
 ghost use Rattle.td_top.specs.Lines.{refused_line};
-ghost use Rattle.td_top.specs.Tells.{CanPrint, Refuses};
+ghost use Rattle.td_top.specs.Tells.{CanPrint, TellsRefused};
 
 use crate::status::Status;
 use std::alloc::Global;
@@ -23,7 +23,7 @@ pub fn print<K: Sink>(output: &mut K, status: Status, text: &[u8]) -> Status
 
 /// Refuses something for the reason that a text gives.
 pub fn refuse<K: Sink>(alloc: Global, why: &Bytes, output: &mut K) -> Status
-    ensures { Refuses why.now (K.seen output.old) (K.seen output.new) result }
+    ensures { TellsRefused why.now (K.seen output.old) (K.seen output.new) result }
 {
     match refused_line(alloc, why) {
         Ok(line) => print(output, Status::Refused, line.as_slice()),
@@ -34,7 +34,7 @@ pub fn refuse<K: Sink>(alloc: Global, why: &Bytes, output: &mut K) -> Status
 /// Refuses something for a reason that can be shown.
 pub fn refuse_shown<D: Display, K: Sink>(alloc: Global, why: &D, output: &mut K) -> Status
     ensures { IfSome (D.output why.now) (λ text.
-        Refuses text (K.seen output.old) (K.seen output.new) result) }
+        TellsRefused text (K.seen output.old) (K.seen output.new) result) }
 {
     match shown(alloc, why) {
         Ok(why) => refuse(alloc, &why, output),

@@ -1,6 +1,6 @@
 ghost use Rattle.std.specs.Prelude.{◌≡◌, IfOk};
 ghost use Rattle.release_check.specs.FaultText.{fault_text};
-ghost use Rattle.td_top.specs.Tells.{Refuses, RefusesFolder, RefusesInstall};
+ghost use Rattle.td_top.specs.Tells.{TellsRefused, RefusesFolder, RefusesInstall};
 
 use crate::printing::refuse;
 use crate::status::Status;
@@ -32,7 +32,7 @@ fn refuse_folder<K: Sink>(alloc: Global, fault: &CheckFault, output: &mut K) -> 
 
 /// Prints the fault of a folder.
 fn tell_fault<K: Sink>(alloc: Global, fault: &CheckFault, output: &mut K) -> Status
-    ensures { Refuses (fault_text fault.now) (K.seen output.old) (K.seen output.new) result }
+    ensures { TellsRefused (fault_text fault.now) (K.seen output.old) (K.seen output.new) result }
 {
     match fault_text(alloc, fault) {
         Ok(text) => refuse(alloc, &text, output),

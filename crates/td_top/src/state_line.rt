@@ -7,7 +7,7 @@ ghost use Rattle.zone_meaning.specs.State.{zone_state};
 ghost use Rattle.td_top.specs.Grammar.{at};
 ghost use Rattle.td_top.specs.Lines.{state_line};
 ghost use Rattle.td_top.specs.Outside.{outside};
-ghost use Rattle.td_top.specs.Tells.{EndsLater, Refuses, Shows};
+ghost use Rattle.td_top.specs.Tells.{EndsLater, TellsRefused, Shows};
 
 use crate::printing::{print, refuse, refuse_shown};
 use crate::status::Status;
@@ -89,7 +89,7 @@ fn kind_word(dst: bool) -> &'static [u8]
 
 /// Refuses an absent file.
 fn refuse_absent<K: Sink>(alloc: Global, file: &[u8], output: &mut K) -> Status
-    ensures { Refuses (codes "8 Absent " ++ file.now)
+    ensures { TellsRefused (codes "8 Absent " ++ file.now)
         (K.seen output.old) (K.seen output.new) result }
 {
     match absent_text(alloc, file) {

@@ -3,8 +3,8 @@ ghost use Rattle.td_base.specs.Later.{LaterSource};
 ghost use Rattle.td_top.specs.Outside.{outside};
 ghost use Rattle.td_top.specs.Talk.{is_quit};
 ghost use Rattle.td_top.specs.Talking.{ComesTo, scene};
-ghost use Rattle.td_top.specs.Turns.{FeedsTalk, IsRefusal, SaysBye, SaysText, TakesLine};
-ghost use Rattle.td_top.specs.Turns.{GoesOn, TellsAnswer, Turns, text_of};
+ghost use Rattle.td_top.specs.Turns.{FeedsTalk, IsSaidRefusal, SaysBye, SaysText, TakesLine};
+ghost use Rattle.td_top.specs.Turns.{TalksOn, TellsAnswer, Turns, text_of};
 
 use crate::operator::{answer_line, newest};
 use crate::session::Session;
@@ -101,7 +101,7 @@ fn answer_lines<R: Wait, S: Store, C: Source, K: Sink>(
     input: &mut C,
     output: &mut K,
 ) -> Option<TalkEnd>
-    ensures { GoesOn
+    ensures { TalksOn
         (scene (outside (S.seen store.old) (C.seen input.old) (K.seen output.old)) session.old)
         (scene (outside (S.seen store.new) (C.seen input.new) (K.seen output.new)) session.new)
         result }
@@ -197,7 +197,7 @@ fn reply_for(alloc: Global, said: &Said) -> Reply
 
 /// The reply for a refusal.
 fn refusal_for(alloc: Global, said: &Said) -> Reply
-    requires { IsRefusal said.now }
+    requires { IsSaidRefusal said.now }
     ensures { TellsAnswer said.now (text_of result) }
 {
     let mut line = Bytes::new(alloc);

@@ -1,5 +1,5 @@
 ghost use Rattle.std.specs.Prelude.{◌≡◌};
-ghost use Rattle.tzif_reader.specs.declared.tzif_fault.TzifFault.TheVariants.{NoMemory as OutOfMemory};
+ghost use Rattle.tzif_reader.specs.declared.tzif_fault.TzifFault.TheVariants as variant;
 
 use std::error::Error;
 use std::fmt;
@@ -69,7 +69,7 @@ impl fmt::Display for TzifFault {
 impl Error for TzifFault {}
 
 impl From<NoMemory> for TzifFault {
-    ghost from_gives = { λ _ fault. fault ≡ OutOfMemory };
+    ghost from_gives = { λ _ e. e ≡ variant.NoMemory };
 
     fn from(_: NoMemory) -> Self {
         TzifFault::NoMemory

@@ -19,7 +19,7 @@ use Rattle.recurrence.specs.declared.part_types.Part.{Part}
 use Rattle.recurrence.specs.declared.rule_types.Form.{Form}
 use Rattle.recurrence.specs.declared.rule_types.Form.TheVariants as form
 use Rattle.recurrence.specs.declared.rule_types.Rule.{Rule}
-use Rattle.recurrence.specs.Valid.{IsValidForm, IsFirstDay, IsPlace}
+use Rattle.recurrence.specs.Valid.{IsValidForm, IsFirstDay, IsOrdinal}
 use Rattle.vtimezone.specs.CalendarText.{line, kind_of, start_line, change_lines, rule_lines, part_lines, head_lines, alias_lines, end_lines, tail_lines, calendar_lines, calendar, IsLineText, IsReadable}
 use Rattle.vtimezone.specs.Values.{sign_of, seconds_text, offset_text, utc_basic, weekday_name, next_number, seven_numbers, by_month, by_weekday, by_nth_weekday, by_month_day, by_month_days, by_year_days, form_text, until_text, rule_text}
 
@@ -120,7 +120,7 @@ first_within : (z : ℤ) → IsFirstDay z → unsigned_abs z ≤ 900
 first_within (pos n) h = omega (arith, signed_arith)
 first_within (negsuc n) h = omega (arith, signed_arith)
 
-place_within : (z : ℤ) → IsPlace z → unsigned_abs z ≤ 1000
+place_within : (z : ℤ) → IsOrdinal z → unsigned_abs z ≤ 1000
 place_within (pos n) h = omega (arith, signed_arith)
 place_within (negsuc n) h = omega (arith, signed_arith)
 

@@ -13,7 +13,7 @@ use Rattle.td_civil.proofs.lemmas.Shown.{bounds_text}
 use Rattle.recurrence.specs.declared.rule_types.Form.{Form}
 use Rattle.recurrence.specs.declared.rule_types.Form.TheVariants as form
 use Rattle.recurrence.specs.declared.rule_types.Rule.{Rule}
-use Rattle.recurrence.specs.Valid.{IsValidForm, IsFirstDay, IsMonth, IsPlace}
+use Rattle.recurrence.specs.Valid.{IsValidForm, IsFirstDay, IsMonth, IsOrdinal}
 use Rattle.jiff_core.specs.Calendar.{days_in_month}
 use Rattle.vtimezone.specs.Cutting.{Named, cut_at, cut_first, all_read, put_before}
 use Rattle.vtimezone.specs.ReadRules.{Day, number_in, month_in, months_in, numbers_in, days_in, form_read, month_days_form, recur_with, recur_of, recur_in}
@@ -91,7 +91,7 @@ small_number n most low high least = record {
   small = omega arith;
 }
 
-place_short : (z : ℤ) → IsPlace z → IsShort 2 53 z
+place_short : (z : ℤ) → IsOrdinal z → IsShort 2 53 z
 place_short (pos n) h = record { some = omega arith; low = h.0; high = omega (arith, h); short = omega (arith, h); small = omega (arith, h) }
 place_short (negsuc n) h = record {
   some = omega arith;

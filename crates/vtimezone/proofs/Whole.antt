@@ -12,7 +12,7 @@ use Rattle.posix_footer.specs.Lawful.{IsLawfulRule, IsLawful}
 use Rattle.posix_footer.specs.Onset.{onset_of}
 use Rattle.posix_footer.specs.StateAt.{state_after, state_by, state_of}
 use Rattle.recurrence.specs.declared.part_types.Part.{Part}
-use Rattle.recurrence.specs.InForce.{state_of_part, Gives}
+use Rattle.recurrence.specs.InForce.{state_of_part, GivesState}
 use Rattle.recurrence.specs.RuleOfDate.{rule_of}
 use Rattle.vtimezone.specs.PartsOf.{offset_before, date_of_edge, IsBeforeEnd, IsEndOf}
 
@@ -81,4 +81,4 @@ IsLawfulAndCarried (Some footer) = IsLawful footer × (beyond footer ≡ false)
 
 -- what is shown of a moment
 abbrev pub Means : List Part → (ℤ → Local) → ℤ → Type 0
-Means parts state t = Gives parts t (state t)
+Means parts state t = GivesState parts t (state t)

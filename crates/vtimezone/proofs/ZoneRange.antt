@@ -25,7 +25,7 @@ use Rattle.zone_meaning.specs.Faults.{zone_fault}
 use Rattle.zone_meaning.specs.State.{zone_state, footer_meant}
 use Rattle.zone_meaning.specs.Rules.{FollowsRules, by_footer_or}
 use Rattle.zone_meaning.proofs.lemmas.RuleLemmas.{zone_follows}
-use Rattle.recurrence.specs.InForce.{Gives}
+use Rattle.recurrence.specs.InForce.{GivesState}
 use Rattle.recurrence.specs.declared.part_types.Range.{Range}
 use Rattle.vtimezone.specs.PartsOf.{IsEndOf, IsAmong}
 use Rattle.vtimezone.proofs.Whole.{IsRange, IsLawfulAndCarried, goes_on}
@@ -114,7 +114,7 @@ lawful_footer (b ∷ bs) carried = lawful_result (b ∷ bs) (footer_in (b ∷ bs
 
 pub zone_parts_mean : (file : List ℕ) (range : Range) → zone_fault file ≡ None → IsCarriedIfAny (footer_meant (lists_of file).footer)
     → HasMeaning range.from.seconds → IsEndOf range.from.seconds (end_in range) → (t : ℤ) → IsAmong range.from.seconds (end_in range) t
-    → Gives (parts_of file range) t (zone_state file t)
+    → GivesState (parts_of file range) t (zone_state file t)
 unfolding parts_of
 zone_parts_mean file range h carried meaning end t among =
     let a = range.from.seconds in

@@ -5,7 +5,7 @@ use Rattle.td_civil.specs.declared.moment_type.Moment.{Moment}
 use Rattle.td_civil.specs.Calendar.{stamp_of}
 use Rattle.tzif_reader.specs.Cut.{lists_of}
 use Rattle.zone_meaning.specs.State.{zone_state, footer_meant}
-use Rattle.recurrence.specs.InForce.{Gives}
+use Rattle.recurrence.specs.InForce.{GivesState}
 use Rattle.recurrence.specs.declared.part_types.Part.{Part}
 use Rattle.recurrence.specs.declared.part_types.Range.{Range}
 use Rattle.vtimezone.specs.PartsOf.{parts_from, seconds_if_any, IsAmong}
@@ -33,4 +33,4 @@ parts_of file range =
 -- at each moment of a range the part in force gives the state of the zone file
 abbrev pub MeansZone : List ℕ → Range → List Part → Type 0
 MeansZone file range parts =
-    (t : ℤ) → IsAmong range.from.seconds (end_in range) t → Gives parts t (zone_state file t)
+    (t : ℤ) → IsAmong range.from.seconds (end_in range) t → GivesState parts t (zone_state file t)

@@ -7,7 +7,7 @@ ghost use Rattle.tzif_reader.specs.Cut.{lists_of};
 ghost use Rattle.zone_meaning.specs.Faults.{zone_fault};
 ghost use Rattle.zone_meaning.specs.Names.{has_printable_names};
 ghost use Rattle.zone_meaning.specs.State.{zone_state, footer_meant};
-ghost use Rattle.recurrence.specs.InForce.{Gives, IsInForce};
+ghost use Rattle.recurrence.specs.InForce.{GivesState, IsInForce};
 ghost use Rattle.recurrence.specs.declared.part_types.Part.{Part};
 ghost use Rattle.recurrence.specs.declared.part_types.Range.{Range};
 ghost use Rattle.ical_lines.specs.Unfolding.{unfolded};
@@ -25,7 +25,7 @@ pub fn parts_mean()
         → IsCarriedIfAny (footer_meant (lists_of file).footer)
         → HasMeaning range.from.seconds → IsEndOf range.from.seconds (end_in range)
         → (t : ℤ) → IsAmong range.from.seconds (end_in range) t
-        → Gives (parts_of file range) t (zone_state file t) }
+        → GivesState (parts_of file range) t (zone_state file t) }
 {}
 
 /// At most one part is in force.

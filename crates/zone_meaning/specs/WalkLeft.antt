@@ -9,8 +9,8 @@ use Rattle.zone_meaning.specs.Walks.{IsWalk, IsStop}
 abbrev pub left : Walk → List Observance
 left w = changes_between (state_at w.lists.now w.footer.now) w.at.seconds w.end.seconds
 
-abbrev pub IsSound : Walk → Type 0
-IsSound w = IsWalk w.lists.now w.footer.now w.at.seconds w.end.seconds w.begun w.state
+abbrev pub IsSoundWalk : Walk → Type 0
+IsSoundWalk w = IsWalk w.lists.now w.footer.now w.at.seconds w.end.seconds w.begun w.state
 
 abbrev pub StopsAt : Walk → ℤ → Type 0
 StopsAt w m = IsStop w.lists.now w.footer.now w.at.seconds w.end.seconds w.begun m

@@ -27,11 +27,11 @@ impl<'a> Model for Changes<'a> {
 
     ghost Value = { List Observance };
 
-    ghost use Rattle.zone_meaning.specs.WalkLeft.{left, with_first, IsSound};
+    ghost use Rattle.zone_meaning.specs.WalkLeft.{left, with_first, IsSoundWalk};
 
     ghost view = { λ o. with_first o.first (left o.walk) };
 
-    ghost invariant = { λ o. IsSound o.walk };
+    ghost invariant = { λ o. IsSoundWalk o.walk };
 }
 
 impl<'a> Changes<'a> {

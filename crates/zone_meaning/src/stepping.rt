@@ -1,7 +1,7 @@
 //! The steps of a walk.
 ghost use Rattle.std.specs.Prelude.{◌≡◌, ◌≤◌, ◌+◌, min, [], None};
 ghost use Rattle.zone_meaning.specs.Walks.{IsNextStop};
-ghost use Rattle.zone_meaning.specs.WalkLeft.{left, HandsOut, IsFurther, IsSound, StopsAt};
+ghost use Rattle.zone_meaning.specs.WalkLeft.{left, HandsOut, IsFurther, IsSoundWalk, StopsAt};
 
 use crate::lookup::state_when;
 use crate::walk::{Walk, next_turn};
@@ -18,8 +18,8 @@ fn one_more(begun: usize, len: usize) -> usize
 impl<'a> Walk<'a> {
     /// The next change, if one comes before the end.
     pub(crate) fn next(&mut self) -> Option<Observance>
-        requires { IsSound self.old }
-        ensures sound { IsSound self.new }
+        requires { IsSoundWalk self.old }
+        ensures sound { IsSoundWalk self.new }
         ensures left { HandsOut (left self.old) result (left self.new) }
         ensures none { result ≡ None → left self.new ≡ [] }
     {
@@ -33,7 +33,7 @@ impl<'a> Walk<'a> {
 
     /// The next moment before the end at which the state may change.
     fn next_stop(&self) -> Option<Moment>
-        requires { IsSound self.now }
+        requires { IsSoundWalk self.now }
         ensures { IsNextStop self.now.lists.now self.now.footer.now self.now.at.seconds
             self.now.end.seconds self.now.begun result }
     {
@@ -46,9 +46,9 @@ impl<'a> Walk<'a> {
     /// Goes on to a moment up to which the state stays, and gives the change if the state changes
     /// there.
     fn go_on(&mut self, stop: Moment) -> Option<Observance>
-        requires sound { IsSound self.old }
+        requires sound { IsSoundWalk self.old }
         requires stop { StopsAt self.old stop.seconds }
-        ensures sound { IsSound self.new }
+        ensures sound { IsSoundWalk self.new }
         ensures further { IsFurther self.old self.new }
         ensures left { HandsOut (left self.old) result (left self.new) }
     {

@@ -1,5 +1,5 @@
 ghost use Rattle.std.specs.Prelude.{◌≡◌};
-ghost use Rattle.zone_meaning.specs.declared.zone_fault.ZoneFault.TheVariants.{NoMemory as OutOfMemory};
+ghost use Rattle.zone_meaning.specs.declared.zone_fault.ZoneFault.TheVariants as variant;
 
 use posix_footer::FooterFault;
 use std::error::Error;
@@ -18,7 +18,7 @@ pub enum ZoneFault {
 }
 
 impl From<NoMemory> for ZoneFault {
-    ghost from_gives = { λ _ fault. fault ≡ OutOfMemory };
+    ghost from_gives = { λ _ e. e ≡ variant.NoMemory };
 
     fn from(_: NoMemory) -> Self {
         ZoneFault::NoMemory

@@ -9,7 +9,7 @@ use Rattle.posix_footer.specs.declared.rule_types.DstRule.{DstRule}
 use Rattle.posix_footer.specs.declared.rule_types.Footer.{Footer}
 use Rattle.posix_footer.specs.Grammar.{footer_in}
 use Rattle.posix_footer.specs.Lawful.{IsLawfulDay, IsLawfulDate, IsLawfulOffset, IsLawfulRule, IsLawfulIfAny, IsLawful}
-use Rattle.posix_footer.specs.Spelling.{IsBehindHours, IsClock, HasSign, IsSigned, IsOffset, IsHourAhead, IsDay, IsTime, IsTwo, IsDate, IsRule, IsRuleIfAny, Spells}
+use Rattle.posix_footer.specs.Spelling.{IsBehindHours, IsClock, HasSign, IsSignedNumber, IsOffset, IsHourAhead, IsDay, IsTime, IsTwo, IsDate, IsRule, IsRuleIfAny, SpellsFooter}
 use Rattle.posix_footer.proofs.FoundWhole.{footer_found}
 
 behind_bound : (text : List ℕ) (seconds : ℕ) → IsBehindHours text seconds → seconds < 3600
@@ -26,7 +26,7 @@ sign_keeps : (sign : List ℕ) (n : ℕ) (z : ℤ) → HasSign sign n z → unsi
 sign_keeps sign n z (inl same) = omega (arith, signed_arith, same.value)
 sign_keeps sign n z (inr turned) = omega (arith, signed_arith, turned.value)
 
-time_within : (text : List ℕ) (z : ℤ) → IsSigned 3 167 text z → IsWithin 604799 z
+time_within : (text : List ℕ) (z : ℤ) → IsSignedNumber 3 167 text z → IsWithin 604799 z
 time_within text z is =
     let same = sign_keeps is.sign is.seconds z is.signed in
     let bound = clock_bound 3 167 is.clock_text is.seconds is.clock in
@@ -72,7 +72,7 @@ lawful_if_any : (std : ℤ) (text : List ℕ) (rule : Option DstRule) → IsLawf
 lawful_if_any std text None h is = tt
 lawful_if_any std text (Some rule) h is = lawful_rule std text rule h is
 
-pub spelled_lawful : (text : List ℕ) (footer : Footer) → Spells text footer → IsLawful footer
+pub spelled_lawful : (text : List ℕ) (footer : Footer) → SpellsFooter text footer → IsLawful footer
 spelled_lawful text footer is =
     let offset = offset_within is.std.offset_text footer.std.offset is.std.offset in
     record {

@@ -1,7 +1,7 @@
 use Rattle.std.proofs.Common.{sym, subst, List}
 use Rattle.std.specs.List.{All}
 use Rattle.recurrence.specs.declared.part_types.Part.{Part}
-use Rattle.recurrence.specs.InForce.{Gives}
+use Rattle.recurrence.specs.InForce.{GivesState}
 use Rattle.zone_meaning.specs.State.{zone_state}
 use Rattle.vtimezone.specs.CalendarText.{IsWritable}
 use Rattle.vtimezone.proofs.Writable.{parts_writable}
@@ -10,7 +10,7 @@ use Rattle.vtimezone.proofs.zone_parts.parts.Goals as goal
 
 pub returns-clause-means : goal.returns-clause-means
 returns-clause-means c = λ t among.
-    let P : List Part → Type 0 = λ ps. Gives ps t (zone_state c.args.zone.now t) in
+    let P : List Part → Type 0 = λ ps. GivesState ps t (zone_state c.args.zone.now t) in
     subst P (sym c.in_ok-parts.ensures.exact)
     (zone_parts_mean c.args.zone.now c.args.range c.in_ok-parts.ensures.no_fault c.requires.carried c.requires.from c.requires.until t among)
 

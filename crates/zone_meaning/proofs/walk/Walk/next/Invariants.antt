@@ -1,10 +1,10 @@
 use Rattle.std.proofs.Common.{◌≡◌, ◌-ℤ◌, unsigned_abs}
-use Rattle.zone_meaning.specs.WalkLeft.{left, IsSound}
+use Rattle.zone_meaning.specs.WalkLeft.{left, IsSoundWalk}
 use Rattle.zone_meaning.proofs.walk.Walk.next.Given as goal
 
 abbrev pub invariant-loop-stop : goal.invariant-loop-stop
 invariant-loop-stop l = record {
-  sound : IsSound l.self;
+  sound : IsSoundWalk l.self;
   same : left l.fn.self ≡ left l.self;
 }
 
