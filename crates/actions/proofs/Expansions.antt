@@ -13,7 +13,7 @@ use Rattle.td_civil.specs.declared.local_time.Local.{Local}
 use Rattle.td_civil.specs.declared.local_time.Observance.{Observance}
 use Rattle.json_forms.specs.Begun.{IsExpansionBegun}
 use Rattle.json_forms.specs.PlainTexts.{IsPlainObservance}
-use Rattle.zone_meaning.specs.Names.{is_name_byte, is_printable_name}
+use Rattle.zone_meaning.specs.Names.{is_designation_byte, is_printable_name}
 use Rattle.zone_meaning.specs.Observed.{IsRange, first_at, observed}
 use Rattle.zone_meaning.specs.RangeLaws.{IsChangeBetween}
 use Rattle.zone_meaning.specs.Sound.{IsSoundFile}
@@ -29,13 +29,13 @@ each_of P (x ∷ xs) h = (h x (member_first x xs), each_of P xs (λ y there. h y
 
 -- ---- names
 
-byte_is_plain : (b : ℕ) → is_name_byte b ≡ true → is_printable b ≡ true
+byte_is_plain : (b : ℕ) → is_designation_byte b ≡ true → is_printable b ≡ true
 byte_is_plain b name = grind (arith, nat_tests)
 
-bytes_are_plain : (bs : List ℕ) → list_all is_name_byte bs ≡ true → IsPlain bs
+bytes_are_plain : (bs : List ℕ) → list_all is_designation_byte bs ≡ true → IsPlain bs
 bytes_are_plain [] names = refl
 bytes_are_plain (b ∷ bs) names =
-    let parts = and_parts (is_name_byte b) (list_all is_name_byte bs) names in
+    let parts = and_parts (is_designation_byte b) (list_all is_designation_byte bs) names in
     rw (byte_is_plain b parts.0, bytes_are_plain bs parts.1)
 
 name_is_plain : (name : List ℕ) → is_printable_name name ≡ true → IsPlain name

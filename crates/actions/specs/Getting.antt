@@ -17,7 +17,7 @@ use Rattle.negotiate.specs.declared.choosing.Format.TheVariants as format
 use Rattle.target.specs.declared.asked_types.Param.{Param}
 use Rattle.target.specs.declared.asked_types.Param.TheVariants as param
 use Rattle.vtimezone.specs.CalendarText.{calendar}
-use Rattle.vtimezone.specs.ZoneParts.{parts_of}
+use Rattle.vtimezone.specs.ZoneParts.{range_parts}
 use Rattle.actions.specs.declared.ranges.Bound.{Bound}
 use Rattle.actions.specs.Documents.{with_data, with_problem, unchanged}
 use Rattle.actions.specs.Ranges.{lower, upper, end_if_any, range_between}
@@ -40,7 +40,7 @@ alias_of name tzid = if bytes_eq name tzid then None else Some tzid
 -- the calendar of a zone between two bounds, under this name
 unfoldable pub calendar_of : List ℕ → ContentData → Bound → Bound → List ℕ
 calendar_of name c start end =
-    calendar name (alias_of name c.tzid) (parts_of c.file (range_between start end))
+    calendar name (alias_of name c.tzid) (range_parts c.file (range_between start end))
     (end_if_any end)
 
 -- with both bounds

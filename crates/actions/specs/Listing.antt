@@ -24,8 +24,8 @@ listed e = record {
 }
 
 -- the zones of the last release that pass the test, with the token of the last place
-unfoldable pub list_of : List ReleaseData → (EntryData → Bool) → List ℕ
-list_of H shows = list_document (token_of H (length H)) (map listed (filter shows (meta H)))
+unfoldable pub list_text : List ReleaseData → (EntryData → Bool) → List ℕ
+list_text H shows = list_document (token_of H (length H)) (map listed (filter shows (meta H)))
 
 -- the zones whose content last changed after a place
 unfoldable pub change_list : List ReleaseData → ℕ → List ℕ
@@ -37,7 +37,7 @@ changes_since H None = with_problem problem.InvalidChangedsince
 
 -- all zones, or those that changed since the place of which this is the token
 unfoldable pub list_answer : List ReleaseData → Param → Answer
-list_answer H param.Absent = with_document (list_of H (λ _. true))
+list_answer H param.Absent = with_document (list_text H (λ _. true))
 list_answer H (param.Once token) = changes_since H (place_of H token)
 list_answer H param.Repeated = with_problem problem.InvalidChangedsince
 

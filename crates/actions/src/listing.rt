@@ -2,14 +2,14 @@ ghost use Rattle.std.specs.Prelude.{◌≡◌, ◌++◌, List, ℕ, IfOk, OnOk, 
 ghost use Rattle.catalogue.specs.HeldZones.{entry_data};
 ghost use Rattle.catalogue.specs.Plain.{IsPlainEntry};
 ghost use Rattle.json_forms.specs.Begun.{IsListBegun};
-ghost use Rattle.json_forms.specs.ToldZone.{told};
+ghost use Rattle.json_forms.specs.ToldZone.{told_zone};
 ghost use Rattle.json_forms.specs.declared.zone_list.ListZone.{ListZone};
 ghost use Rattle.zone_meaning.specs.ZoneHistories.{ForEachZoneHistory, HasZoneHistory};
 ghost use Rattle.http_answer.specs.Replies.{IsAnswerStatus};
 ghost use Rattle.actions.specs.Documents.{with_document};
 ghost use Rattle.catalogue.specs.Lookups.{place_of};
 ghost use Rattle.actions.specs.Listing as listing;
-ghost use Rattle.actions.specs.Listing.{list_answer, list_of, listed, listed_if};
+ghost use Rattle.actions.specs.Listing.{list_answer, list_text, listed, listed_if};
 
 use crate::choice::Choice;
 use crate::documents::{document, refusal};
@@ -85,7 +85,7 @@ impl Choice for Everything {
 fn full_list(alloc: Global, catalogue: &Catalogue<Zone>) -> Result<Answer, NoMemory>
     requires { HasZoneHistory catalogue.now }
     ensures { ForEachZoneHistory catalogue.now (λ H.
-        IfOk result (λ answer. answer ≡ with_document (list_of H (λ _. true)))) }
+        IfOk result (λ answer. answer ≡ with_document (list_text H (λ _. true)))) }
 {
     Ok(document(listing(alloc, catalogue, &Everything)?))
 }
@@ -98,7 +98,7 @@ pub fn listing<C: Choice>(
 ) -> Result<Bytes, NoMemory>
     requires { HasZoneHistory catalogue.now }
     ensures { ForEachZoneHistory catalogue.now (λ H.
-        IfOk result (λ text. text ≡ list_of H (C.shows choice.now))) }
+        IfOk result (λ text. text ≡ list_text H (C.shows choice.now))) }
 {
     let token = catalogue.token(catalogue.count());
     let mut list = ListWriter::begin(Bytes::new(alloc), token.as_slice())?;
@@ -128,7 +128,7 @@ fn put_chosen<C: Choice>(
 
 /// What a list tells of a zone.
 fn texts_of(entry: &Entry<Zone>) -> ZoneTexts<'_>
-    ensures { told result ≡ listed (entry_data (λ z. z) entry.now) }
+    ensures { told_zone result ≡ listed (entry_data (λ z. z) entry.now) }
 {
     ZoneTexts {
         tzid: entry.content.tzid.as_slice(),

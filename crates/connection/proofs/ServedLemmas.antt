@@ -9,7 +9,7 @@ use Rattle.std.proofs.lemmas.List.Folds.{list_any-append}
 use Rattle.http_answer.specs.Replies.{fixed}
 use Rattle.http_answer.specs.declared.answer.Answer.{Answer}
 use Rattle.http_request.specs.Asks.{Asks, Bad, Gives, Rest}
-use Rattle.http_request.specs.Ends.{end_among, lines_from}
+use Rattle.http_request.specs.Ends.{end_among, head_lines_from}
 use Rattle.http_request.specs.Steps.{IsStep, NotYet, Waiting}
 use Rattle.http_request.specs.declared.head.Head.{Head}
 use Rattle.td_base.specs.declared.report.End.TheVariants as end
@@ -282,7 +282,7 @@ gave_up_begun answer count read left written places heads next held place sent r
 }
 
 nothing_waits : IsStep [] Waiting
-unfolding lines_from end_among
+unfolding head_lines_from end_among
 nothing_waits = record { found = NotYet; finds = (refl, refl); is = refl }
 
 pub needed_none : IsNeeded []

@@ -10,7 +10,7 @@ use Rattle.console.proofs.PlaceLemmas.{before_here, after_here, before_later, af
 use Rattle.console.specs.declared.line.Line.{Line}
 use Rattle.console.specs.declared.line.Line.TheVariants as line
 use Rattle.td_base.specs.Names.{is_path_word}
-use Rattle.console.specs.Lines.{without_return, install_of, command_of, is_feed, has_feed, is_whole_text, ended, line_of, lines_from, lines_of}
+use Rattle.console.specs.Lines.{without_return, install_of, asked_in, is_feed, has_feed, is_whole_text, ended_lines, line_of, lines_from, lines_of}
 
 pub lines_none : (begun : List ℕ) → lines_from begun [] ≡ []
 unfolding lines_from
@@ -56,7 +56,7 @@ first_line begun (b ∷ bs) more = by_test (first_line (begun ++ b ∷ []) bs mo
         ∙ (later rest ∙ ap (λ t. line_of t ∷ lines_from [] (after_first is_feed bs ++ more)) (append_assoc begun (b ∷ []) (before_first is_feed bs))))
 
 -- a text and its end
-whole_line : (text more : List ℕ) → has_feed text ≡ false → lines_of (ended text ++ more) ≡ line_of text ∷ lines_of more
+whole_line : (text more : List ℕ) → has_feed text ≡ false → lines_of (ended_lines text ++ more) ≡ line_of text ∷ lines_of more
 whole_line text more e =
     ap (lines_from []) (append_assoc text (10 ∷ []) more) ∙ (all_begun [] text (10 ∷ more) e ∙ lines_feed text 10 more refl)
 
@@ -124,11 +124,11 @@ not_true false e = refl
 not_true true e = absurd (cc e)
 
 -- texts that are written are read back
-pub written : (texts : List (List ℕ)) → list_all is_whole_text texts ≡ true → lines_of (flat_map ended texts) ≡ map line_of texts
+pub written : (texts : List (List ℕ)) → list_all is_whole_text texts ≡ true → lines_of (flat_map ended_lines texts) ≡ map line_of texts
 written [] e = lines_none []
 written (text ∷ texts) e =
     let parts : (is_whole_text text ≡ true) × (list_all is_whole_text texts ≡ true) = both (is_whole_text text) (list_all is_whole_text texts) e in
-    whole_line text (flat_map ended texts) (not_true (has_feed text) parts.0) ∙ ap (λ l. line_of text ∷ l) (written texts parts.1)
+    whole_line text (flat_map ended_lines texts) (not_true (has_feed text) parts.0) ∙ ap (λ l. line_of text ∷ l) (written texts parts.1)
 
 -- the folder of a line, or another list
 abbrev folder_or : List ℕ → Line → List ℕ
@@ -158,8 +158,8 @@ words_by false true quit l text h e = absurd (true≢false (sym (ap is_install e
 words_by false false true l text h e = absurd (true≢false (sym (ap is_install e)))
 words_by false false false l text h e = h e
 
-of_command : (bytes text : List ℕ) → command_of bytes ≡ line.Install text → is_path_word text ≡ true
-unfolding command_of
+of_command : (bytes text : List ℕ) → asked_in bytes ≡ line.Install text → is_path_word text ≡ true
+unfolding asked_in
 of_command bytes text e =
     words_by (bytes_eq bytes (codes "sync")) (bytes_eq bytes (codes "status")) (bytes_eq bytes (codes "quit")) (install_of bytes) text
     (install_by (bytes_eq (take 8 bytes) (codes "install ")) (is_path_word (drop 8 bytes)) text (drop 8 bytes) refl) e
@@ -173,4 +173,4 @@ short_by false l text h e = absurd (true≢false (sym (ap is_install e)))
 pub named_folder : (bytes folder : List ℕ) → line_of bytes ≡ line.Install folder → is_path_word folder ≡ true
 unfolding line_of
 named_folder bytes folder e =
-    short_by (nat_le (length bytes) 1100) (command_of (without_return bytes)) folder (of_command (without_return bytes) folder) e
+    short_by (nat_le (length bytes) 1100) (asked_in (without_return bytes)) folder (of_command (without_return bytes) folder) e

@@ -8,8 +8,8 @@ use Rattle.console.specs.declared.line.Line.{Line}
 use Rattle.console.specs.declared.line.Line.TheVariants as line
 
 -- how many bytes a line may have before its line feed
-abbrev pub most_bytes : ℕ
-most_bytes = 1100
+abbrev pub most_line_bytes : ℕ
+most_line_bytes = 1100
 
 -- the text without one carriage return at its end
 abbrev pub without_return : List ℕ → List ℕ
@@ -26,8 +26,8 @@ install_of text =
     else line.Strange
 
 -- what a text asks for
-unfoldable pub command_of : List ℕ → Line
-command_of text =
+unfoldable pub asked_in : List ℕ → Line
+asked_in text =
     if bytes_eq text (codes "sync") then line.Sync
     else if bytes_eq text (codes "status") then line.Status
     else if bytes_eq text (codes "quit") then line.Quit
@@ -36,7 +36,7 @@ command_of text =
 -- what the bytes before a line feed ask for
 unfoldable pub line_of : List ℕ → Line
 line_of bytes =
-    if nat_le (length bytes) most_bytes then command_of (without_return bytes) else line.Strange
+    if nat_le (length bytes) most_line_bytes then asked_in (without_return bytes) else line.Strange
 
 abbrev pub is_feed : ℕ → Bool
 is_feed b = b == 10
@@ -60,8 +60,8 @@ abbrev pub is_whole_text : List ℕ → Bool
 is_whole_text text = not (has_feed text)
 
 -- a text and its end
-abbrev pub ended : List ℕ → List ℕ
-ended text = text ++ 10 ∷ []
+abbrev pub ended_lines : List ℕ → List ℕ
+ended_lines text = text ++ 10 ∷ []
 
 -- the line is to install
 abbrev pub IsInstall : Line → Type 0

@@ -1,7 +1,7 @@
 //! Laws of the definitions, each the contract of a function that does nothing.
 ghost use Rattle.std.specs.Prelude.{◌≡◌, ℕ, List, [], ◌++◌, map, IsTrue};
 ghost use Rattle.std.specs.List.{flat_map, list_all};
-ghost use Rattle.console.specs.Lines.{ended, is_whole_text, line_of, lines_of};
+ghost use Rattle.console.specs.Lines.{ended_lines, is_whole_text, line_of, lines_of};
 ghost use Rattle.console.specs.Steps.{GivesLines};
 ghost use Rattle.console.specs.declared.line.Line.{Line};
 ghost use Rattle.console.specs.declared.line.Line.TheVariants as line;
@@ -10,7 +10,7 @@ ghost use Rattle.td_base.specs.Names.{is_path_word};
 /// Texts without line feeds, each followed by one, are the lines of these texts.
 pub fn reads_written()
     ensures { (texts : List (List ℕ)) → IsTrue (list_all is_whole_text texts)
-        → lines_of (flat_map ended texts) ≡ map line_of texts }
+        → lines_of (flat_map ended_lines texts) ≡ map line_of texts }
 {}
 
 /// The folder that a line asks to install has a path as words may name one.

@@ -84,7 +84,8 @@ impl Lines {
 
         // Over all the bytes that were fed, with the lines given so far.
         ensures cutting { (all : List ℕ) (given : List Line)
-            → GivesLines all given self.old → GivesLines all (given ++ first_line self.old ∷ []) self.new }
+            → GivesLines all given self.old
+            → GivesLines all (given ++ first_line self.old ∷ []) self.new }
         ensures fewer { length self.new < length self.old }
     {
         let len = self.first_feed().unwrap();

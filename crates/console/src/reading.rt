@@ -29,10 +29,10 @@ fn without_return(bytes: &[u8]) -> &[u8]
 }
 
 /// The line of a text without an end.
-#[tactic(auto, unfolding(crate::specs::Lines::command_of))]
+#[tactic(auto, unfolding(crate::specs::Lines::asked_in))]
 fn read_command(alloc: Global, text: &[u8]) -> Result<Line, NoMemory>
-    ensures ok { IfOk result (λ line. line ≡ spec.command_of text.now) }
-    ensures memory { OnErr result (spec.IsInstall (spec.command_of text.now)) }
+    ensures ok { IfOk result (λ line. line ≡ spec.asked_in text.now) }
+    ensures memory { OnErr result (spec.IsInstall (spec.asked_in text.now)) }
 {
     if text == b"sync".as_slice() {
         return Ok(Line::Sync);

@@ -1,7 +1,7 @@
 ghost use Rattle.std.specs.Prelude.{◌≡◌, ◌≤◌, None, MatchResult};
 ghost use Rattle.std.specs.IoError.{error_kind};
 ghost use Rattle.td_base.specs.Cause.{Rose};
-ghost use Rattle.devices.specs.Opened.{FitsRead, GivesPrefix, is_absent, refusal};
+ghost use Rattle.devices.specs.Opened.{FitsRead, GivesPrefix, is_absent, open_refusal};
 
 use crate::real_source::RealSource;
 use std::alloc::Global;
@@ -86,7 +86,7 @@ fn read_opening<F: Read + Drop>(
     ensures fits { FitsRead most result }
     ensures opened { MatchResult opening
         (λ file. GivesPrefix most (F.remaining file) result)
-        (λ error. result ≡ refusal (error_kind error)) }
+        (λ error. result ≡ open_refusal (error_kind error)) }
 {
     match opening {
         Ok(file) => read_opened(alloc, file, most),
@@ -109,7 +109,7 @@ fn read_opened<F: Read + Drop>(alloc: Global, file: F, most: u64) -> Result<File
 
 /// The answer for a file that the system did not open.
 fn not_opened(kind: ErrorKind) -> Result<FileRead, ErrorKind>
-    ensures { result ≡ refusal kind }
+    ensures { result ≡ open_refusal kind }
 {
     match kind {
         ErrorKind::NotFound | ErrorKind::NotADirectory => Ok(FileRead::Absent),

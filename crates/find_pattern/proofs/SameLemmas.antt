@@ -2,7 +2,7 @@
 use Rattle.std.proofs.Common.{◌≡◌, ◌≢◌, ◌<◌, ◌≤◌, ℕ, suc, ◌+◌, Bool, true, false, ◌&&◌, nat_eq, List, [], ◌∷◌, length, drop, get_or, refl, sym, ap, ◌∙◌}
 use Rattle.std.proofs.lemmas.List.{drop_more, drop_all}
 use Rattle.std.proofs.lemmas.Bool.{eq-eqb, ne_eqb}
-use Rattle.find_pattern.specs.Matching.{fold_byte, is_same, begins, contains, suffixes}
+use Rattle.find_pattern.specs.Matching.{fold_byte, is_same, starts_as, contains, suffixes}
 
 and-false : (b : Bool) → (b && false) ≡ false
 and-false true = refl
@@ -44,7 +44,7 @@ module _ (xs ys : List ℕ) (i : ℕ) (so_far : is_same (drop i xs) (drop i ys) 
   past_both h k = ap (λ l. is_same l []) (sym (drop_all i xs h)) ∙ ap (λ l. is_same (drop i xs) l) (sym (drop_all i ys k)) ∙ so_far
 
 -- the text that begins here stands in the rest
-pub begins_here : (text left : List ℕ) → true ≡ begins text left → true ≡ contains text left
+pub begins_here : (text left : List ℕ) → true ≡ starts_as text left → true ≡ contains text left
 unfolding suffixes
 begins_here text [] e = rw (← e)
 begins_here text (b ∷ left) e = rw (← e)

@@ -3,7 +3,7 @@ use Rattle.std.proofs.Common.{◌≡◌, ◌<◌, ℕ, ◌+◌, Bool, true, fals
 use Rattle.std.specs.List.{flat_map}
 use Rattle.find_pattern.specs.declared.pattern_type.Pattern.{Pattern}
 use Rattle.find_pattern.specs.Patterns.{is_star, is_backslash, is_special, literal, with_byte, with_lead, read_from, pattern}
-use Rattle.find_pattern.specs.Spelling.{spelled_byte, star_if, spelled, is_spelled}
+use Rattle.find_pattern.specs.Spelling.{spelled_byte, star_if, spelled_as, is_spelled}
 
 neither : (s t : Bool) → (s || t) ≡ false → (s ≡ false) × (t ≡ false)
 neither true t e = cc
@@ -75,7 +75,7 @@ no_lead trail (b ∷ text) h =
     (no_star (is_special b) b (flat_map spelled_byte text ++ star_if trail) refl)
 
 pub reads_back : (lead trail : Bool) (text : List ℕ) → is_spelled lead trail text ≡ true
-    → pattern (spelled lead trail text) ≡ Ok (record { lead = lead; trail = trail; text = text })
+    → pattern (spelled_as lead trail text) ≡ Ok (record { lead = lead; trail = trail; text = text })
 reads_back true trail text h =
     after_star (flat_map spelled_byte text ++ star_if trail) (some_text trail text h) ∙ ap with_lead (reads_text text trail 1)
 reads_back false trail text h = no_lead trail text h ∙ reads_text text trail 0

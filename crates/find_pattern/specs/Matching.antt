@@ -13,8 +13,8 @@ fold_byte b = if b == 95 then 32 else to_ascii_lowercase b
 unfoldable pub is_same : List ℕ → List ℕ → Bool
 is_same text other = bytes_eq (map fold_byte text) (map fold_byte other)
 
-abbrev pub begins : List ℕ → List ℕ → Bool
-begins text name = is_same text (take (length text) name)
+abbrev pub starts_as : List ℕ → List ℕ → Bool
+starts_as text name = is_same text (take (length text) name)
 
 abbrev pub ends : List ℕ → List ℕ → Bool
 ends text name = is_same text (drop (length name - length text) name)
@@ -25,12 +25,12 @@ suffixes [] = [] ∷ []
 suffixes (b ∷ bs) = (b ∷ bs) ∷ suffixes bs
 
 abbrev pub contains : List ℕ → List ℕ → Bool
-contains text name = list_any (begins text) (suffixes name)
+contains text name = list_any (starts_as text) (suffixes name)
 
 abbrev pub matches_as : Bool → Bool → List ℕ → List ℕ → Bool
 matches_as false false text name = is_same text name
 matches_as true false text name = ends text name
-matches_as false true text name = begins text name
+matches_as false true text name = starts_as text name
 matches_as true true text name = contains text name
 
 -- a name matches a pattern

@@ -11,12 +11,12 @@ spelled_byte b = if is_special b then 92 ∷ b ∷ [] else b ∷ []
 abbrev pub star_if : Bool → List ℕ
 star_if mark = if mark then 42 ∷ [] else []
 
-abbrev pub spelled : Bool → Bool → List ℕ → List ℕ
-spelled lead trail text = star_if lead ++ (flat_map spelled_byte text ++ star_if trail)
+abbrev pub spelled_as : Bool → Bool → List ℕ → List ℕ
+spelled_as lead trail text = star_if lead ++ (flat_map spelled_byte text ++ star_if trail)
 
 -- the text of a pattern
-abbrev pub spelling : Pattern → List ℕ
-spelling p = spelled p.lead p.trail p.text
+abbrev pub pattern_text : Pattern → List ℕ
+pattern_text p = spelled_as p.lead p.trail p.text
 
 -- a star alone sets both marks, so without a text there is no pattern with one of them
 abbrev pub is_spelled : Bool → Bool → List ℕ → Bool

@@ -2,10 +2,10 @@
 ghost use Rattle.std.specs.Prelude.{◌≡◌, Ok, IsTrue};
 ghost use Rattle.find_pattern.specs.declared.pattern_type.Pattern.{Pattern};
 ghost use Rattle.find_pattern.specs.Patterns.{pattern};
-ghost use Rattle.find_pattern.specs.Spelling.{spelling, is_spelled};
+ghost use Rattle.find_pattern.specs.Spelling.{pattern_text, is_spelled};
 
 /// The text of a pattern is read as that pattern.
 pub fn reads_back()
     ensures { (p : Pattern) → IsTrue (is_spelled p.lead p.trail p.text)
-        → pattern (spelling p) ≡ Ok p }
+        → pattern (pattern_text p) ≡ Ok p }
 {}

@@ -22,7 +22,7 @@ pub fn matches(pattern: &Pattern, name: &[u8]) -> bool
 
 /// Whether the name begins with the text.
 fn begins(text: &[u8], name: &[u8]) -> bool
-    ensures { result ≡ matching.begins text.now name.now }
+    ensures { result ≡ matching.starts_as text.now name.now }
 {
     let len = text.len().min(name.len());
     is_same(text, &name[..len])

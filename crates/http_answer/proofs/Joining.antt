@@ -1,7 +1,7 @@
 -- Parts that are appended one by one are lines with their ends.
 use Rattle.std.proofs.Common.{◌≡◌, ℕ, List, [], ◌++◌, append_assoc}
 use Rattle.std.proofs.lemmas.List.{append-nil}
-use Rattle.http_answer.specs.Parts.{text_of}
+use Rattle.http_answer.specs.Parts.{parts_text}
 use Rattle.http_answer.specs.Replies.{ended}
 
 pub status_parts : (old version digits space phrase end : List ℕ)
@@ -16,5 +16,5 @@ pub tag_parts : (old name tag vary end : List ℕ)
 tag_parts old name tag vary end = simp (append_assoc, append-nil)
 
 pub message_parts : (old line : List ℕ) (lines : List (List ℕ)) (end body : List ℕ)
-    → (((old ++ ended line) ++ text_of lines) ++ end) ++ body ≡ old ++ ((ended line ++ text_of lines) ++ (end ++ body))
+    → (((old ++ ended line) ++ parts_text lines) ++ end) ++ body ≡ old ++ ((ended line ++ parts_text lines) ++ (end ++ body))
 message_parts old line lines end body = simp append_assoc

@@ -3,12 +3,12 @@ use Rattle.std.specs.Prelude.{◌≡◌, ℕ, List, ◌++◌, length, take, flat
 use Rattle.http_answer.specs.Replies.{ended}
 
 -- the lines with their ends
-abbrev pub text_of : List (List ℕ) → List ℕ
-text_of lines = flat_map ended lines
+abbrev pub parts_text : List (List ℕ) → List ℕ
+parts_text lines = flat_map ended lines
 
 -- the line of a field, with its end
-unfoldable pub line_of : List ℕ → List ℕ → List ℕ
-line_of name value = name ++ (value ++ codes "\r\n")
+unfoldable pub field_line : List ℕ → List ℕ → List ℕ
+field_line name value = name ++ (value ++ codes "\r\n")
 
 -- the list begins with these bytes
 unfoldable pub StartsWith : List ℕ → List ℕ → Type 0

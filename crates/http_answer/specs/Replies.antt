@@ -73,13 +73,13 @@ fields answer close =
     ++ close_lines close)))
 
 -- the body, unless it is not modified or the head only was asked for
-abbrev pub content : Answer → Bool → List ℕ
-content answer head_only = if is_unchanged answer.status || head_only then [] else answer.body
+abbrev pub body_sent : Answer → Bool → List ℕ
+body_sent answer head_only = if is_unchanged answer.status || head_only then [] else answer.body
 
 -- the reply to a request, which may ask for its head only; after it the connection may close
 unfoldable pub reply : Answer → Bool → Bool → List ℕ
 reply answer head_only close =
-    message (status_line answer.status ∷ fields answer close) (content answer head_only)
+    message (status_line answer.status ∷ fields answer close) (body_sent answer head_only)
 
 -- the methods that are served, told where the method is not
 abbrev pub allow_lines : ℕ → List (List ℕ)

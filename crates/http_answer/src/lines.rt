@@ -1,13 +1,13 @@
 ghost use Rattle.std.specs.Prelude.{◌≡◌};
-ghost use Rattle.http_answer.specs.Parts.{text_of};
-ghost use Rattle.http_answer.specs.Replies.{close_lines, content, location_lines, type_lines};
+ghost use Rattle.http_answer.specs.Parts.{parts_text};
+ghost use Rattle.http_answer.specs.Replies.{close_lines, body_sent, location_lines, type_lines};
 
 use crate::{Answer, Kind};
 
 /// The line of the body's type.
 #[tactic(auto, unfolding(crate::specs::Replies::type_lines))]
 pub fn type_line(kind: Option<Kind>) -> &'static [u8]
-    ensures { result.now ≡ text_of (type_lines kind) }
+    ensures { result.now ≡ parts_text (type_lines kind) }
 {
     match kind {
         None => b"",
@@ -21,7 +21,7 @@ pub fn type_line(kind: Option<Kind>) -> &'static [u8]
 /// The line that tells where the service is found.
 #[tactic(auto, unfolding(crate::specs::Replies::location_lines))]
 pub fn location_line(moved: bool) -> &'static [u8]
-    ensures { result.now ≡ text_of (location_lines moved) }
+    ensures { result.now ≡ parts_text (location_lines moved) }
 {
     if moved { b"Location: /tzdist\r\n" } else { b"" }
 }
@@ -29,14 +29,14 @@ pub fn location_line(moved: bool) -> &'static [u8]
 /// The line that tells that the connection closes.
 #[tactic(auto, unfolding(crate::specs::Replies::close_lines))]
 pub fn close_line(close: bool) -> &'static [u8]
-    ensures { result.now ≡ text_of (close_lines close) }
+    ensures { result.now ≡ parts_text (close_lines close) }
 {
     if close { b"Connection: close\r\n" } else { b"" }
 }
 
 /// The body, where it is written.
 pub fn content(answer: &Answer, head_only: bool) -> &[u8]
-    ensures { result.now ≡ content answer.now head_only }
+    ensures { result.now ≡ body_sent answer.now head_only }
 {
     if answer.status == 304 || head_only {
         b""

@@ -1,5 +1,5 @@
 ghost use Rattle.std.specs.Prelude.{◌≡◌, ◌++◌, OnOk};
-ghost use Rattle.http_answer.specs.Parts.{Keeps, line_of, text_of};
+ghost use Rattle.http_answer.specs.Parts.{Keeps, field_line, parts_text};
 ghost use Rattle.http_answer.specs.Replies.{IsAnswerStatus, ended, length_lines, status_line};
 ghost use Rattle.http_answer.specs.Replies.{tag_lines, type_lines, unless_unchanged};
 
@@ -19,7 +19,7 @@ pub fn put(out: &mut Bytes, text: &[u8]) -> Result<(), NoMemory>
 
 /// Appends the line of a field.
 fn put_line(out: &mut Bytes, name: &[u8], value: &[u8]) -> Result<(), NoMemory>
-    ensures ok { OnOk result (out.new ≡ out.old ++ line_of name.now value.now) }
+    ensures ok { OnOk result (out.new ≡ out.old ++ field_line name.now value.now) }
     ensures kept { Keeps out.old out.new }
 {
     put(out, name)?;
@@ -44,7 +44,7 @@ pub fn put_status(out: &mut Bytes, status: u16) -> Result<(), NoMemory>
 /// Appends the line of the body's type.
 pub fn put_type(out: &mut Bytes, answer: &Answer) -> Result<(), NoMemory>
     ensures ok { OnOk result (out.new ≡ out.old
-        ++ text_of (unless_unchanged answer.now.status (type_lines answer.now.kind))) }
+        ++ parts_text (unless_unchanged answer.now.status (type_lines answer.now.kind))) }
     ensures kept { Keeps out.old out.new }
 {
     if answer.status == 304 {
@@ -55,7 +55,7 @@ pub fn put_type(out: &mut Bytes, answer: &Answer) -> Result<(), NoMemory>
 
 /// Appends the lines of the tag.
 pub fn put_tag(out: &mut Bytes, tag: &Option<Bytes>) -> Result<(), NoMemory>
-    ensures ok { OnOk result (out.new ≡ out.old ++ text_of (tag_lines tag.now)) }
+    ensures ok { OnOk result (out.new ≡ out.old ++ parts_text (tag_lines tag.now)) }
     ensures kept { Keeps out.old out.new }
 {
     match tag {
@@ -71,7 +71,7 @@ pub fn put_tag(out: &mut Bytes, tag: &Option<Bytes>) -> Result<(), NoMemory>
 /// Appends the line of the body's length.
 pub fn put_length(out: &mut Bytes, answer: &Answer) -> Result<(), NoMemory>
     ensures ok { OnOk result (out.new ≡ out.old
-        ++ text_of (unless_unchanged answer.now.status (length_lines answer.now.body))) }
+        ++ parts_text (unless_unchanged answer.now.status (length_lines answer.now.body))) }
     ensures kept { Keeps out.old out.new }
 {
     if answer.status == 304 {

@@ -1,5 +1,5 @@
 ghost use Rattle.std.specs.Prelude.{◌≡◌, ◌++◌, OnOk, OnErr};
-ghost use Rattle.http_answer.specs.Parts.{Keeps, text_of};
+ghost use Rattle.http_answer.specs.Parts.{Keeps, parts_text};
 ghost use Rattle.http_answer.specs.Replies.{IsAnswerStatus, fields, reply, ended, status_line};
 
 use crate::Answer;
@@ -39,7 +39,7 @@ fn put_reply(out: &mut Bytes, answer: &Answer, head_only: bool, close: bool) -> 
 
 /// Appends the fields, each where it applies.
 fn put_fields(out: &mut Bytes, answer: &Answer, close: bool) -> Result<(), NoMemory>
-    ensures ok { OnOk result (out.new ≡ out.old ++ text_of (fields answer.now close)) }
+    ensures ok { OnOk result (out.new ≡ out.old ++ parts_text (fields answer.now close)) }
     ensures kept { Keeps out.old out.new }
 {
     put_type(out, answer)?;

@@ -2,18 +2,18 @@
 use Rattle.std.proofs.Common.{◌≡◌, ◌≢◌, ℕ, suc, ◌+◌, ◌<◌, ◌≤◌, ◌⊎◌, inl, inr, List, [], ◌∷◌, ◌++◌, length, take, drop, take-append-drop, length-append, Bool, true, false, not, ◌&&◌, ◌||◌, Some, None, refl, sym, ap, ◌∙◌, arith, add-one}
 use Rattle.std.proofs.lemmas.Bool.{cases_Bool, cases_eq, ne_eqb}
 use Rattle.std.proofs.lemmas.Option.{none-some, same_Some}
-use Rattle.http_request.specs.Ends.{lines_from, end_among, end_of_head, is_blank, feeds}
+use Rattle.http_request.specs.Ends.{head_lines_from, end_among, end_of_head, is_blank_line, feeds}
 use Rattle.http_request.specs.Scans.{end_from, head_end}
 
 -- the byte at the prefix ends the head
-pub end_last : (begun : Bool) (line : List ℕ) (at b : ℕ) (bs : List ℕ) → b ≡ 10 → (begun && is_blank line) ≡ true
+pub end_last : (begun : Bool) (line : List ℕ) (at b : ℕ) (bs : List ℕ) → b ≡ 10 → (begun && is_blank_line line) ≡ true
     → end_from begun line at (b ∷ bs) ≡ Some (at + 1)
 unfolding end_from
 end_last begun line at b bs e h = rw (e, h)
 
 -- it ends another line
-pub end_line : (begun : Bool) (line : List ℕ) (at b : ℕ) (bs : List ℕ) → b ≡ 10 → (begun && is_blank line) ≡ false
-    → end_from begun line at (b ∷ bs) ≡ end_from (begun || not (is_blank line)) [] (at + 1) bs
+pub end_line : (begun : Bool) (line : List ℕ) (at b : ℕ) (bs : List ℕ) → b ≡ 10 → (begun && is_blank_line line) ≡ false
+    → end_from begun line at (b ∷ bs) ≡ end_from (begun || not (is_blank_line line)) [] (at + 1) bs
 unfolding end_from
 end_line begun line at b bs e h = rw (e, h)
 
@@ -38,11 +38,11 @@ pub record Stops (begun : Bool) (line : List ℕ) (at b : ℕ) : Type 0 where
   pub same : (bs : List ℕ) → end_from begun line at (b ∷ bs) ≡ Some (at + 1)
 
 pub one_byte : (begun : Bool) (line : List ℕ) (at b : ℕ) → Stops begun line at b ⊎ GoesOn begun line at b
-one_byte begun line at b = at_feed (cases_eq b 10) (cases_Bool (begun && is_blank line))
+one_byte begun line at b = at_feed (cases_eq b 10) (cases_Bool (begun && is_blank_line line))
   where
-    at_feed : (b ≡ 10) ⊎ (b ≢ 10) → ((begun && is_blank line) ≡ true) ⊎ ((begun && is_blank line) ≡ false) → Stops begun line at b ⊎ GoesOn begun line at b
+    at_feed : (b ≡ 10) ⊎ (b ≢ 10) → ((begun && is_blank_line line) ≡ true) ⊎ ((begun && is_blank_line line) ≡ false) → Stops begun line at b ⊎ GoesOn begun line at b
     at_feed (inl e) (inl h) = inl (record { feed = e; same = λ bs. end_last begun line at b bs e h })
-    at_feed (inl e) (inr h) = inr (record { begun_after = begun || not (is_blank line); line_after = []; same = λ bs. end_line begun line at b bs e h })
+    at_feed (inl e) (inr h) = inr (record { begun_after = begun || not (is_blank_line line); line_after = []; same = λ bs. end_line begun line at b bs e h })
     at_feed (inr n) h = inr (record { begun_after = begun; line_after = line ++ b ∷ []; same = λ bs. end_within begun line at b bs n })
 
 -- an end that is found stays, whatever follows; it lies after what stood before, within the list, at a line feed
@@ -138,48 +138,48 @@ late bytes next n e f =
         let prefix : take n (bytes ++ next) ≡ bytes ++ take (x.more + 1) next = ap (λ m. take m (bytes ++ next)) place ∙ take_past bytes next (x.more + 1) in
         (omega (arith, place), rw prefix (omega (arith, feeds-append bytes (take (x.more + 1) next), x.feed)))
 
-lines_feed : (line : List ℕ) (b : ℕ) (bs : List ℕ) → b ≡ 10 → lines_from line (b ∷ bs) ≡ line ∷ lines_from [] bs
-unfolding lines_from
+lines_feed : (line : List ℕ) (b : ℕ) (bs : List ℕ) → b ≡ 10 → head_lines_from line (b ∷ bs) ≡ line ∷ head_lines_from [] bs
+unfolding head_lines_from
 lines_feed line b bs e = rw e
 
-lines_within : (line : List ℕ) (b : ℕ) (bs : List ℕ) → b ≢ 10 → lines_from line (b ∷ bs) ≡ lines_from (line ++ b ∷ []) bs
-unfolding lines_from
+lines_within : (line : List ℕ) (b : ℕ) (bs : List ℕ) → b ≢ 10 → head_lines_from line (b ∷ bs) ≡ head_lines_from (line ++ b ∷ []) bs
+unfolding head_lines_from
 lines_within line b bs e = rw (ne_eqb b 10 e)
 
-among_stop : (begun : Bool) (at : ℕ) (line : List ℕ) (lines : List (List ℕ)) → (begun && is_blank line) ≡ true
+among_stop : (begun : Bool) (at : ℕ) (line : List ℕ) (lines : List (List ℕ)) → (begun && is_blank_line line) ≡ true
     → end_among begun at (line ∷ lines) ≡ Some (at + length line + 1)
 unfolding end_among
 among_stop begun at line lines h = rw h
 
-among_go : (begun : Bool) (at : ℕ) (line : List ℕ) (lines : List (List ℕ)) → (begun && is_blank line) ≡ false
-    → end_among begun at (line ∷ lines) ≡ end_among (begun || not (is_blank line)) (at + length line + 1) lines
+among_go : (begun : Bool) (at : ℕ) (line : List ℕ) (lines : List (List ℕ)) → (begun && is_blank_line line) ≡ false
+    → end_among begun at (line ∷ lines) ≡ end_among (begun || not (is_blank_line line)) (at + length line + 1) lines
 unfolding end_among
 among_go begun at line lines h = rw h
 
-among_none : (begun : Bool) (at : ℕ) (line : List ℕ) → end_among begun at (lines_from line []) ≡ None
-unfolding end_among lines_from
+among_none : (begun : Bool) (at : ℕ) (line : List ℕ) → end_among begun at (head_lines_from line []) ≡ None
+unfolding end_among head_lines_from
 among_none begun at line = refl
 
 -- the end by lines is the end byte by byte
 pub by_lines : (begun : Bool) (start : ℕ) (line : List ℕ) (at : ℕ) (bytes : List ℕ) → at ≡ start + length line
-    → end_among begun start (lines_from line bytes) ≡ end_from begun line at bytes
+    → end_among begun start (head_lines_from line bytes) ≡ end_from begun line at bytes
 by_lines begun start line at [] e = among_none begun start line ∙ sym (end_none begun line at)
 by_lines begun start line at (b ∷ bs) e =
-    by_byte (λ o n m. by_lines o n [] m bs) (λ l m. by_lines begun start l m bs) (cases_eq b 10) (cases_Bool (begun && is_blank line))
+    by_byte (λ o n m. by_lines o n [] m bs) (λ l m. by_lines begun start l m bs) (cases_eq b 10) (cases_Bool (begun && is_blank_line line))
   where
     place : start + length line + 1 ≡ at + 1
     place = omega (arith, e)
 
-    by_byte : ((o : Bool) (n m : ℕ) → m ≡ n + 0 → end_among o n (lines_from [] bs) ≡ end_from o [] m bs)
-        → ((l : List ℕ) (m : ℕ) → m ≡ start + length l → end_among begun start (lines_from l bs) ≡ end_from begun l m bs)
-        → (b ≡ 10) ⊎ (b ≢ 10) → ((begun && is_blank line) ≡ true) ⊎ ((begun && is_blank line) ≡ false)
-        → end_among begun start (lines_from line (b ∷ bs)) ≡ end_from begun line at (b ∷ bs)
+    by_byte : ((o : Bool) (n m : ℕ) → m ≡ n + 0 → end_among o n (head_lines_from [] bs) ≡ end_from o [] m bs)
+        → ((l : List ℕ) (m : ℕ) → m ≡ start + length l → end_among begun start (head_lines_from l bs) ≡ end_from begun l m bs)
+        → (b ≡ 10) ⊎ (b ≢ 10) → ((begun && is_blank_line line) ≡ true) ⊎ ((begun && is_blank_line line) ≡ false)
+        → end_among begun start (head_lines_from line (b ∷ bs)) ≡ end_from begun line at (b ∷ bs)
     by_byte f g (inl t) (inl h) =
-        ap (end_among begun start) (lines_feed line b bs t) ∙ (among_stop begun start line (lines_from [] bs) h
+        ap (end_among begun start) (lines_feed line b bs t) ∙ (among_stop begun start line (head_lines_from [] bs) h
         ∙ (ap Some place ∙ sym (end_last begun line at b bs t h)))
     by_byte f g (inl t) (inr h) =
-        ap (end_among begun start) (lines_feed line b bs t) ∙ (among_go begun start line (lines_from [] bs) h
-        ∙ (f (begun || not (is_blank line)) (start + length line + 1) (at + 1) (omega (arith, e)) ∙ sym (end_line begun line at b bs t h)))
+        ap (end_among begun start) (lines_feed line b bs t) ∙ (among_go begun start line (head_lines_from [] bs) h
+        ∙ (f (begun || not (is_blank_line line)) (start + length line + 1) (at + 1) (omega (arith, e)) ∙ sym (end_line begun line at b bs t h)))
     by_byte f g (inr t) h =
         ap (end_among begun start) (lines_within line b bs t)
         ∙ (g (line ++ b ∷ []) (at + 1) (omega (arith, e, length-append line (b ∷ []))) ∙ sym (end_within begun line at b bs t))

@@ -7,7 +7,7 @@ use Rattle.http_request.specs.Ends.{feeds, fits, window, is_full}
 use Rattle.http_request.specs.Judging.{refusal_of, asked_by}
 use Rattle.http_request.specs.Steps.{HeadOf, Whole, Malformed, TooLarge, NotYet, Taken, Refused, Waiting, verdict, IsStep, IsTaken}
 use Rattle.http_request.specs.Scans.{IsScanned, head_end}
-use Rattle.http_request.specs.Readings.{ReadsHead, FindsStep, IsServed, step_of}
+use Rattle.http_request.specs.Readings.{ReadsHead, FindsStep, IsServed, reading_step}
 use Rattle.http_request.specs.declared.scan.Scan.{Scan}
 use Rattle.http_request.specs.declared.reading.Reading.{Reading}
 use Rattle.http_request.specs.declared.reading.Reading.TheVariants as reading
@@ -59,7 +59,7 @@ judged : (bytes : List ℕ) (n : ℕ) (h : RequestHead) (r : Option ℕ) → win
 judged bytes n h r w x e = record { found = Whole h; finds = (n, w, x); is = ap (verdict h) (sym e) }
 
 pub ends_within : (bytes : List ℕ) (n count : ℕ) (r : Reading) → head_end bytes ≡ Some n → count ≡ feeds (take n bytes)
-    → (nat_le n 16384 && nat_le count 66) ≡ true → ReadsHead (take n bytes) r → FindsStep bytes (step_of r)
+    → (nat_le n 16384 && nat_le count 66) ≡ true → ReadsHead (take n bytes) r → FindsStep bytes (reading_step r)
 ends_within bytes n count (reading.Taken head len) e c f x =
     subst (λ o. IsStep bytes o) (ap (λ l. Taken l (length (print_request x.0))) (sym x.3) ∙ ap (Taken head) (sym x.4))
     (judged bytes n x.0 None (within_is bytes n count e c f) x.1 x.2)

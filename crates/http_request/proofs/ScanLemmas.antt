@@ -2,19 +2,19 @@
 use Rattle.std.proofs.Common.{◌≡◌, ◌≢◌, ℕ, ◌+◌, ◌<◌, ◌≤◌, List, [], ◌∷◌, ◌++◌, ◌==◌, ◌⊎◌, inl, inr, length, take, drop, get_or, Bool, true, false, not, ◌&&◌, ◌||◌, None, refl, sym, ap, ◌∙◌, arith, append_assoc, take-append-drop, length-take-le}
 use Rattle.std.proofs.lemmas.Bool.{eq-eqb, eqb-true, cases_eq, ne_eqb, and_parts}
 use Rattle.std.proofs.lemmas.List.{take_more, drop_more, take_all, append-nil}
-use Rattle.http_request.specs.Ends.{is_blank, feeds}
-use Rattle.http_request.specs.Scans.{IsScanned, ends_with, past, kind_of, line_past, is_other, Searches, end_from, head_end}
+use Rattle.http_request.specs.Ends.{is_blank_line, feeds}
+use Rattle.http_request.specs.Scans.{IsScanned, ends_with, past, line_kind, line_past, is_other, Searches, end_from, head_end}
 use Rattle.http_request.specs.declared.scan.Scan.{Scan}
 use Rattle.http_request.specs.declared.scan.Line.TheVariants as line
 use Rattle.http_request.specs.declared.scan.Search.TheVariants as search
 use Rattle.http_request.proofs.EndLemmas.{end_last, end_line, end_within, end_none, feeds-append}
 
-pub blank_kind : (line : List ℕ) → is_blank line ≡ not (is_other (kind_of line))
+pub blank_kind : (line : List ℕ) → is_blank_line line ≡ not (is_other (line_kind line))
 blank_kind [] = refl
 blank_kind (b ∷ []) = grind arith
 blank_kind (b ∷ c ∷ bs) = refl
 
-pub kind_past : (line : List ℕ) (b : ℕ) → line_past (kind_of line) b ≡ kind_of (line ++ b ∷ [])
+pub kind_past : (line : List ℕ) (b : ℕ) → line_past (line_kind line) b ≡ line_kind (line ++ b ∷ [])
 kind_past [] b = refl
 kind_past (a ∷ []) b = grind arith
 kind_past (a ∷ c ∷ bs) b = refl
@@ -27,8 +27,8 @@ pub counted : (bytes : List ℕ) (scan : Scan) → IsScanned bytes scan → scan
 counted bytes scan s = omega (arith, s.feeds, feeds-le-length (take scan.seen bytes), length-take-le scan.seen bytes s.within)
 
 -- one byte more
-ends_split : (begun : Bool) (line : List ℕ) (b : ℕ) → (b == 10 && (begun && not (is_other (kind_of line)))) ≡ true
-    → (b ≡ 10) × ((begun && is_blank line) ≡ true)
+ends_split : (begun : Bool) (line : List ℕ) (b : ℕ) → (b == 10 && (begun && not (is_other (line_kind line)))) ≡ true
+    → (b ≡ 10) × ((begun && is_blank_line line) ≡ true)
 ends_split begun line b e = rw (blank_kind line) (eqb-true b 10 (and_parts (b == 10) _ e).0, (and_parts (b == 10) _ e).1)
 
 feeds_more : (bytes : List ℕ) (i : ℕ) → i < length bytes → feeds (take (i + 1) bytes) ≡ feeds (take i bytes) + feeds (get_or bytes i 0 ∷ [])
@@ -57,8 +57,8 @@ feed_counts b e = rw e
 other_counts : (b : ℕ) → b ≢ 10 → feeds (b ∷ []) ≡ 0
 other_counts b e = rw (ne_eqb b 10 e)
 
-other_is : (scan : Scan) (line : List ℕ) → scan.line ≡ kind_of line → is_other scan.line ≡ not (is_blank line)
-other_is scan line e = ap is_other e ∙ (sym (not_not (is_other (kind_of line))) ∙ ap not (sym (blank_kind line)))
+other_is : (scan : Scan) (line : List ℕ) → scan.line ≡ line_kind line → is_other scan.line ≡ not (is_blank_line line)
+other_is scan line e = ap is_other e ∙ (sym (not_not (is_other (line_kind line))) ∙ ap not (sym (blank_kind line)))
   where
     not_not : (b : Bool) → not (not b) ≡ b
     not_not true = refl
@@ -69,7 +69,7 @@ pub scan_ends : (bytes : List ℕ) (scan : Scan) → IsScanned bytes scan → sc
     → Searches bytes (search.End (past scan (get_or bytes scan.seen 0)).seen (past scan (get_or bytes scan.seen 0)).feeds)
 scan_ends bytes scan s h e =
     let b = get_or bytes scan.seen 0 in
-    let parts : (b ≡ 10) × ((scan.begun && is_blank s.line) ≡ true) =
+    let parts : (b ≡ 10) × ((scan.begun && is_blank_line s.line) ≡ true) =
     ends_split scan.begun s.line b (ap (λ k. b == 10 && (scan.begun && not (is_other k))) (sym s.kind) ∙ e) in
     rw (past_feed scan b parts.0) (
       at_place bytes scan s h ∙ end_last scan.begun s.line scan.seen b (drop (scan.seen + 1) bytes) parts.0 parts.1,
@@ -90,8 +90,8 @@ scan_past bytes scan s h e = by_byte (cases_eq (get_or bytes scan.seen 0) 10)
     by_byte : (get_or bytes scan.seen 0 ≡ 10) ⊎ (get_or bytes scan.seen 0 ≢ 10) → IsScanned bytes (past scan (get_or bytes scan.seen 0))
     by_byte (inl f) =
         let b = get_or bytes scan.seen 0 in
-        let not_end : (scan.begun && is_blank s.line) ≡ false
-        = goes_on_at_feed scan.begun (is_other scan.line) (is_blank s.line) (other_is scan s.line s.kind)
+        let not_end : (scan.begun && is_blank_line s.line) ≡ false
+        = goes_on_at_feed scan.begun (is_other scan.line) (is_blank_line s.line) (other_is scan s.line s.kind)
         (ap (λ t. t && (scan.begun && not (is_other scan.line))) (sym (eq-eqb b 10 f)) ∙ e) in
         rw (past_feed scan b f) (record {
           line = [];

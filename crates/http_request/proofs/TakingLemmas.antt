@@ -6,8 +6,8 @@ use Rattle.std.specs.List.{list_all}
 use Rattle.httparse.specs.Grammar.{RequestHead, print_request}
 use Rattle.td_base.specs.TargetForm.{has_form}
 use Rattle.td_base.specs.declared.no_memory.NoMemory.{NoMemory}
-use Rattle.http_request.specs.Ends.{feeds, most_bytes, most_feeds}
-use Rattle.http_request.specs.Judging.{refusal, refusal_of, asked_by, pairs_of, is_served, is_well_formed, has_hosts, values, is_zero}
+use Rattle.http_request.specs.Ends.{feeds, most_head_bytes, most_feeds}
+use Rattle.http_request.specs.Judging.{refusal, refusal_of, asked_by, pairs_of, is_served, is_well_formed, has_hosts, field_values, is_zero}
 use Rattle.http_request.specs.Steps.{Found, Whole, Malformed, TooLarge, NotYet, Finds, Taken, Refused, Waiting, outcome, verdict, IsStep, IsTaken, Steps}
 use Rattle.http_request.specs.Taking.{HasForm, HasStatus, IsRefusal, LeavesFewer, LeavesRoom}
 use Rattle.http_request.specs.declared.head.Head.{Head}
@@ -32,8 +32,8 @@ for_good old new (Err e) status s m b = absurd (no_taken old status m b)
 refusal_none : (method target : List ℕ) (minor : ℕ) (pairs : List (List ℕ × List ℕ)) → refusal method target minor pairs ≡ None → has_form target ≡ true
 unfolding refusal
 refusal_none method target minor pairs e =
-    by_tests (is_served method) (has_hosts minor (length (values (codes "host") pairs)))
-    (length (values (codes "transfer-encoding") pairs) == 0) (list_all is_zero (values (codes "content-length") pairs)) (has_form target) e
+    by_tests (is_served method) (has_hosts minor (length (field_values (codes "host") pairs)))
+    (length (field_values (codes "transfer-encoding") pairs) == 0) (list_all is_zero (field_values (codes "content-length") pairs)) (has_form target) e
   where
     by_tests : (m a b c f : Bool) → cond {A = Option ℕ} (not m) (Some 405) (cond {A = Option ℕ} (not (a && (b && (c && f)))) (Some 400) None) ≡ None → f ≡ true
     by_tests true true true true true e = refl
@@ -81,10 +81,10 @@ step_fewer old new (Err e) s = tt
 has_room : (m n : ℕ) → (nat_le 16384 m || nat_le 66 n) ≡ false → (m < 16384) × (n < 66)
 has_room m n e = (grind (arith, nat_tests), grind (arith, nat_tests))
 
-pub waiting_room : (bytes : List ℕ) → IsStep bytes Waiting → (length bytes < most_bytes) × (feeds bytes < most_feeds)
+pub waiting_room : (bytes : List ℕ) → IsStep bytes Waiting → (length bytes < most_head_bytes) × (feeds bytes < most_feeds)
 waiting_room bytes x = by_found x.found x.finds x.is
   where
-    by_found : (f : Found) → Finds bytes f → Waiting ≡ outcome f → (length bytes < most_bytes) × (feeds bytes < most_feeds)
+    by_found : (f : Found) → Finds bytes f → Waiting ≡ outcome f → (length bytes < most_head_bytes) × (feeds bytes < most_feeds)
     by_found NotYet y e = has_room (length bytes) (feeds bytes) y.1
     by_found Malformed y e = absurd (refused≢waiting 400 (sym e))
     by_found TooLarge y e = absurd (refused≢waiting 431 (sym e))
@@ -92,7 +92,7 @@ waiting_room bytes x = by_found x.found x.finds x.is
 
 pub step_room : (old new : List ℕ) (r : Result Next NoMemory) → IfOk r (λ n. Steps old n new) → IfOk r (LeavesRoom new)
 step_room old new (Ok (next.Request head)) s = tt
-step_room old new (Ok next.More) s = subst (λ l. (length l < most_bytes) × (feeds l < most_feeds)) (sym s.1) (waiting_room old s.0)
+step_room old new (Ok next.More) s = subst (λ l. (length l < most_head_bytes) × (feeds l < most_feeds)) (sym s.1) (waiting_room old s.0)
 step_room old new (Ok (next.Bad status)) s = tt
 step_room old new (Err e) s = tt
 

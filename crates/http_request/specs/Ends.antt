@@ -6,24 +6,24 @@ use Rattle.std.specs.Prelude.{◌&&◌, ◌||◌, ◌==◌, nat_le, if◌then◌
 use Rattle.std.specs.Prelude.{option_and_then}
 
 -- how many bytes a head may have
-abbrev pub most_bytes : ℕ
-most_bytes = 16384
+abbrev pub most_head_bytes : ℕ
+most_head_bytes = 16384
 
 -- how many line feeds it may have: those of the request line, of 64 fields and of the empty line
 abbrev pub most_feeds : ℕ
 most_feeds = 66
 
 -- what stands before the line feed of an empty line
-abbrev pub is_blank : List ℕ → Bool
-is_blank [] = true
-is_blank (b ∷ []) = b == 13
-is_blank (b ∷ c ∷ bs) = false
+abbrev pub is_blank_line : List ℕ → Bool
+is_blank_line [] = true
+is_blank_line (b ∷ []) = b == 13
+is_blank_line (b ∷ c ∷ bs) = false
 
 -- the lines that are whole, without their line feeds; `line` is what has come of the first
-unfoldable pub lines_from : List ℕ → List ℕ → List (List ℕ)
-lines_from line [] = []
-lines_from line (b ∷ bs) =
-    if b == 10 then line ∷ lines_from [] bs else lines_from (line ++ b ∷ []) bs
+unfoldable pub head_lines_from : List ℕ → List ℕ → List (List ℕ)
+head_lines_from line [] = []
+head_lines_from line (b ∷ bs) =
+    if b == 10 then line ∷ head_lines_from [] bs else head_lines_from (line ++ b ∷ []) bs
 
 -- How many bytes there are up to and with the first empty line that comes after a line that is
 -- not empty. `at` bytes stand before these lines; `begun` says whether a line that is not empty
@@ -31,11 +31,11 @@ lines_from line (b ∷ bs) =
 unfoldable pub end_among : Bool → ℕ → List (List ℕ) → Option ℕ
 end_among begun at [] = None
 end_among begun at (line ∷ lines) =
-    if begun && is_blank line then Some (at + length line + 1)
-    else end_among (begun || not (is_blank line)) (at + length line + 1) lines
+    if begun && is_blank_line line then Some (at + length line + 1)
+    else end_among (begun || not (is_blank_line line)) (at + length line + 1) lines
 
 abbrev pub end_of_head : List ℕ → Option ℕ
-end_of_head bytes = end_among false 0 (lines_from [] bytes)
+end_of_head bytes = end_among false 0 (head_lines_from [] bytes)
 
 -- how many line feeds there are
 abbrev pub feeds : List ℕ → ℕ
@@ -44,7 +44,7 @@ feeds (b ∷ bs) = (if b == 10 then 1 else 0) + feeds bs
 
 -- a prefix of this length is within the limits
 abbrev pub fits : List ℕ → ℕ → Bool
-fits bytes n = nat_le n most_bytes && nat_le (feeds (take n bytes)) most_feeds
+fits bytes n = nat_le n most_head_bytes && nat_le (feeds (take n bytes)) most_feeds
 
 -- the length of the prefix that is read as one head: it ends with that empty line and is within the
 -- limits
@@ -53,4 +53,4 @@ window bytes = option_and_then (λ n. if fits bytes n then Some n else None) (en
 
 -- without a window, no bytes that follow can make one
 abbrev pub is_full : List ℕ → Bool
-is_full bytes = nat_le most_bytes (length bytes) || nat_le most_feeds (feeds bytes)
+is_full bytes = nat_le most_head_bytes (length bytes) || nat_le most_feeds (feeds bytes)

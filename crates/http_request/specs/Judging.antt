@@ -10,15 +10,16 @@ use Rattle.td_base.specs.TargetForm.{has_form}
 use Rattle.http_request.specs.declared.head.Head.{Head}
 
 -- the values of the fields with this name, whatever the case of its letters
-abbrev pub values : List ℕ → List (List ℕ × List ℕ) → List (List ℕ)
-values name [] = []
-values name (pair ∷ pairs) =
-    cond (str_eq_ignore_ascii_case pair.0 name) (pair.1 ∷ values name pairs) (values name pairs)
+abbrev pub field_values : List ℕ → List (List ℕ × List ℕ) → List (List ℕ)
+field_values name [] = []
+field_values name (pair ∷ pairs) =
+    cond (str_eq_ignore_ascii_case pair.0 name) (pair.1 ∷ field_values name pairs)
+    (field_values name pairs)
 
 -- several fields with one name, joined to one value
-abbrev pub joined : List (List ℕ) → Option (List ℕ)
-joined [] = None
-joined (v ∷ vs) = Some (v ++ flat_map (λ w. codes ", " ++ w) vs)
+abbrev pub joined_values : List (List ℕ) → Option (List ℕ)
+joined_values [] = None
+joined_values (v ∷ vs) = Some (v ++ flat_map (λ w. codes ", " ++ w) vs)
 
 -- one Host field with HTTP/1.1, and at most one with HTTP/1.0
 abbrev pub has_hosts : ℕ → ℕ → Bool
@@ -31,9 +32,9 @@ is_zero value = not (length value == 0) && list_all (λ b. b == 48) value
 -- the hosts are as they have to be, there is no content, and the target has one of the two forms
 abbrev pub is_well_formed : ℕ → List ℕ → List (List ℕ × List ℕ) → Bool
 is_well_formed minor target pairs =
-    has_hosts minor (length (values (codes "host") pairs))
-    && (length (values (codes "transfer-encoding") pairs) == 0
-    && (list_all is_zero (values (codes "content-length") pairs)
+    has_hosts minor (length (field_values (codes "host") pairs))
+    && (length (field_values (codes "transfer-encoding") pairs) == 0
+    && (list_all is_zero (field_values (codes "content-length") pairs)
     && has_form target))
 
 -- a member of a comma list, whatever the case of its letters
@@ -44,7 +45,7 @@ has_member member list =
 -- HTTP/1.0, or a Connection field with the member `close`
 abbrev pub closes : ℕ → List (List ℕ × List ℕ) → Bool
 closes minor pairs =
-    minor == 0 || list_any (has_member (codes "close")) (values (codes "connection") pairs)
+    minor == 0 || list_any (has_member (codes "close")) (field_values (codes "connection") pairs)
 
 -- the methods that are served, GET and HEAD
 abbrev pub is_served : List ℕ → Bool
@@ -62,8 +63,8 @@ abbrev pub asked : List ℕ → List ℕ → ℕ → List (List ℕ × List ℕ)
 asked method target minor pairs = record {
   head_only = bytes_eq method (codes "HEAD");
   target = target;
-  accept = joined (values (codes "accept") pairs);
-  none_match = joined (values (codes "if-none-match") pairs);
+  accept = joined_values (field_values (codes "accept") pairs);
+  none_match = joined_values (field_values (codes "if-none-match") pairs);
   close = closes minor pairs;
 }
 

@@ -30,9 +30,9 @@ FindsStep bytes (step.Refused status) = IsStep bytes (Refused status)
 FindsStep bytes (step.Waiting scan) = IsStep bytes Waiting × IsScanned bytes scan
 
 -- the reading of a window as the step
-abbrev pub step_of : Reading → Step
-step_of (reading.Taken head len) = step.Taken head len
-step_of (reading.Refused status) = step.Refused status
+abbrev pub reading_step : Reading → Step
+reading_step (reading.Taken head len) = step.Taken head len
+reading_step (reading.Refused status) = step.Refused status
 
 -- what is kept beside the held bytes: how far they were searched, and the refusal once it was
 -- answered

@@ -6,7 +6,7 @@ use Rattle.http_request.specs.declared.scan.Line.TheVariants as line
 use Rattle.http_request.specs.declared.scan.Scan.{Scan}
 use Rattle.http_request.specs.declared.scan.Search.{Search}
 use Rattle.http_request.specs.declared.scan.Search.TheVariants as search
-use Rattle.http_request.specs.Ends.{is_blank, feeds}
+use Rattle.http_request.specs.Ends.{is_blank_line, feeds}
 
 -- The same end, byte by byte. `at` bytes stand before these; `begun` says whether a line that is
 -- not empty is among them, and `line` is what they have of the line at their end.
@@ -14,18 +14,18 @@ unfoldable pub end_from : Bool → List ℕ → ℕ → List ℕ → Option ℕ
 end_from begun line at [] = None
 end_from begun line at (b ∷ bs) =
     if b == 10
-    then (if begun && is_blank line then Some (at + 1)
-    else end_from (begun || not (is_blank line)) [] (at + 1) bs)
+    then (if begun && is_blank_line line then Some (at + 1)
+    else end_from (begun || not (is_blank_line line)) [] (at + 1) bs)
     else end_from begun (line ++ b ∷ []) (at + 1) bs
 
 abbrev pub head_end : List ℕ → Option ℕ
 head_end bytes = end_from false [] 0 bytes
 
 -- what the search keeps of a line
-abbrev pub kind_of : List ℕ → Line
-kind_of [] = line.Nothing
-kind_of (b ∷ []) = if b == 13 then line.Return else line.Other
-kind_of (b ∷ c ∷ bs) = line.Other
+abbrev pub line_kind : List ℕ → Line
+line_kind [] = line.Nothing
+line_kind (b ∷ []) = if b == 13 then line.Return else line.Other
+line_kind (b ∷ c ∷ bs) = line.Other
 
 abbrev pub is_other : Line → Bool
 is_other line.Nothing = false
@@ -61,7 +61,7 @@ past scan b =
 -- no head ends in the first `seen` bytes, and the search goes on after them
 pub record IsScanned (bytes : List ℕ) (scan : Scan) : Type 0 where
   pub line : List ℕ
-  pub kind : scan.line ≡ kind_of line
+  pub kind : scan.line ≡ line_kind line
   pub within : scan.seen ≤ length bytes
   pub feeds : scan.feeds ≡ feeds (take scan.seen bytes)
   pub goes_on : (next : List ℕ)

@@ -1,7 +1,7 @@
 -- What a caller that feeds and asks in turn needs of each answer.
 use Rattle.std.specs.Prelude.{◌≡◌, ◌⊎◌, ◌<◌, IsTrue, ℕ, List, length, ⊤}
 use Rattle.td_base.specs.TargetForm.{has_form}
-use Rattle.http_request.specs.Ends.{feeds, most_bytes, most_feeds}
+use Rattle.http_request.specs.Ends.{feeds, most_head_bytes, most_feeds}
 use Rattle.http_request.specs.declared.head.Next.{Next}
 use Rattle.http_request.specs.declared.head.Next.TheVariants as next
 
@@ -13,7 +13,7 @@ LeavesFewer old new (next.Bad status) = ⊤
 
 -- where more is asked for, fewer bytes and line feeds are held than one head may have
 abbrev pub LeavesRoom : List ℕ → Next → Type 0
-LeavesRoom new next.More = (length new < most_bytes) × (feeds new < most_feeds)
+LeavesRoom new next.More = (length new < most_head_bytes) × (feeds new < most_feeds)
 LeavesRoom new (next.Request head) = ⊤
 LeavesRoom new (next.Bad status) = ⊤
 

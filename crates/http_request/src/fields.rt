@@ -2,8 +2,8 @@ ghost use Rattle.std.specs.Prelude.{◌≡◌, ◌==◌, length, map, All, IfOk,
 ghost use Rattle.std.specs.List.{list_all, list_any};
 ghost use Rattle.std.specs.Str.{str_eq_ignore_ascii_case};
 ghost use Rattle.httparse.specs.Spans.{IsHeaderWithin, header_bytes};
-ghost use Rattle.http_request.specs.Joining.{with_value};
-ghost use Rattle.http_request.specs.Judging.{has_member, is_zero, joined, values};
+ghost use Rattle.http_request.specs.Joining.{joined_value};
+ghost use Rattle.http_request.specs.Judging.{has_member, is_zero, joined_values, field_values};
 
 use crate::members::is_listed;
 use http::header::CONNECTION;
@@ -22,7 +22,7 @@ fn is_named(buf: &[u8], field: HeaderSpan, name: &[u8]) -> bool
 /// How many fields have this name.
 pub fn count_named(buf: &[u8], fields: &[HeaderSpan], name: &[u8]) -> usize
     requires { All (IsHeaderWithin (length buf.now)) fields.now }
-    ensures { result ≡ length (values name.now (map (header_bytes buf.now) fields.now)) }
+    ensures { result ≡ length (field_values name.now (map (header_bytes buf.now) fields.now)) }
 {
     let mut count = 0;
     for field in fields {
@@ -51,7 +51,7 @@ fn has_only_zeros(value: &[u8]) -> bool
 pub fn all_zero(buf: &[u8], fields: &[HeaderSpan], name: &[u8]) -> bool
     requires { All (IsHeaderWithin (length buf.now)) fields.now }
     ensures { result ≡ list_all is_zero
-        (values name.now (map (header_bytes buf.now) fields.now)) }
+        (field_values name.now (map (header_bytes buf.now) fields.now)) }
 {
     for field in fields {
         if is_named(buf, *field, name) && !is_zeros(field.value.of(buf)) {
@@ -71,7 +71,7 @@ pub fn joined(
 ) -> Result<Option<Bytes>, NoMemory>
     requires { All (IsHeaderWithin (length buf.now)) fields.now }
     ensures { IfOk result (λ all.
-        all ≡ joined (values name.now (map (header_bytes buf.now) fields.now))) }
+        all ≡ joined_values (field_values name.now (map (header_bytes buf.now) fields.now))) }
 {
     let mut all = None;
     for field in fields {
@@ -84,7 +84,7 @@ pub fn joined(
 
 /// The text with one more value at its end.
 fn with_value(alloc: Global, all: Option<Bytes>, value: &[u8]) -> Result<Bytes, NoMemory>
-    ensures { IfOk result (λ text. text ≡ with_value all value.now) }
+    ensures { IfOk result (λ text. text ≡ joined_value all value.now) }
 {
     match all {
         None => Bytes::from_slice(alloc, value),
@@ -100,7 +100,7 @@ fn with_value(alloc: Global, all: Option<Bytes>, value: &[u8]) -> Result<Bytes, 
 pub fn closes_any(buf: &[u8], fields: &[HeaderSpan]) -> bool
     requires { All (IsHeaderWithin (length buf.now)) fields.now }
     ensures { result ≡ list_any (has_member (codes "close"))
-        (values (codes "connection") (map (header_bytes buf.now) fields.now)) }
+        (field_values (codes "connection") (map (header_bytes buf.now) fields.now)) }
 {
     for field in fields {
         if is_named(buf, *field, CONNECTION.as_str().as_bytes())

@@ -1,7 +1,7 @@
 //! Laws of the definitions, each the contract of a function that does nothing.
 ghost use Rattle.std.specs.Prelude.{◌≡◌, ◌<◌, ◌≤◌, ◌++◌, ◌∷◌, [], ℕ, List, drop, length};
 ghost use Rattle.http_request.specs.Asks.{Asks, Bad, Ending, Gives, IsPrefixOf, Rest};
-ghost use Rattle.http_request.specs.Ends.{feeds, most_bytes, most_feeds};
+ghost use Rattle.http_request.specs.Ends.{feeds, most_head_bytes, most_feeds};
 ghost use Rattle.http_request.specs.Steps.{IsStep, Outcome, Refused, Taken, Waiting};
 ghost use Rattle.http_request.specs.declared.head.Head.{Head};
 
@@ -32,7 +32,7 @@ pub fn is_bounded()
     ensures taken { (bytes : List ℕ) (head : Head) (len : ℕ)
         → IsStep bytes (Taken head len) → (0 < len) × (len ≤ length bytes) }
     ensures waiting { (bytes : List ℕ)
-        → IsStep bytes Waiting → (length bytes < most_bytes) × (feeds bytes < most_feeds) }
+        → IsStep bytes Waiting → (length bytes < most_head_bytes) × (feeds bytes < most_feeds) }
 {}
 
 /// What was given stays given when a piece is fed. A head that is taken is the next, and a

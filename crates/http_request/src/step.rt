@@ -1,6 +1,6 @@
 ghost use Rattle.std.specs.Prelude.{◌≡◌, ◌&&◌, ◌||◌, nat_le, length, IfOk, OnErr};
-ghost use Rattle.http_request.specs.Ends.{most_bytes, most_feeds};
-ghost use Rattle.http_request.specs.Readings.{FindsStep, step_of};
+ghost use Rattle.http_request.specs.Ends.{most_head_bytes, most_feeds};
+ghost use Rattle.http_request.specs.Readings.{FindsStep, reading_step};
 ghost use Rattle.http_request.specs.Scans.{IsScanned, Searches};
 ghost use Rattle.http_request.specs.Steps.{IsTaken};
 ghost use Rattle.http_request.specs.declared.scan.Search.TheVariants as search;
@@ -44,14 +44,14 @@ pub fn look(alloc: Global, bytes: &[u8], scan: Scan) -> Result<Step, NoMemory>
 
 /// Whether so many bytes with so many line feeds leave no room for a head.
 fn is_full(len: usize, feeds: usize) -> bool
-    ensures { result ≡ (nat_le most_bytes len || nat_le most_feeds feeds) }
+    ensures { result ≡ (nat_le most_head_bytes len || nat_le most_feeds feeds) }
 {
     len >= MOST_BYTES || feeds >= MOST_FEEDS
 }
 
 /// Whether a head of so many bytes with so many line feeds is within the limits.
 fn is_within(len: usize, feeds: usize) -> bool
-    ensures { result ≡ (nat_le len most_bytes && nat_le feeds most_feeds) }
+    ensures { result ≡ (nat_le len most_head_bytes && nat_le feeds most_feeds) }
 {
     len <= MOST_BYTES && feeds <= MOST_FEEDS
 }
@@ -87,7 +87,7 @@ fn read_window(alloc: Global, bytes: &[u8], len: usize, feeds: usize) -> Result<
 
 /// The reading of a window as the step.
 fn step_of(reading: Reading) -> Step
-    ensures { result ≡ step_of reading }
+    ensures { result ≡ reading_step reading }
 {
     match reading {
         Reading::Taken(head, size) => Step::Taken(head, size),

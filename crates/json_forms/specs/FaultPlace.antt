@@ -3,6 +3,6 @@ use Rattle.std.specs.Prelude.{ℕ}
 use Rattle.json_forms.specs.declared.list_fault.BadList.{BadList}
 use Rattle.json_forms.specs.declared.list_fault.BadList.TheVariants as bad
 
-abbrev pub place_of : BadList → ℕ
-place_of bad.NoMemory = 0
-place_of (bad.BadList place) = place
+abbrev pub fault_place : BadList → ℕ
+fault_place bad.NoMemory = 0
+fault_place (bad.BadList place) = place

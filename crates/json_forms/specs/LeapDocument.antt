@@ -13,17 +13,17 @@ use Rattle.catalogue.specs.declared.release.Leaps.{Leaps}
 use Rattle.catalogue.specs.declared.release.LeapStep.{LeapStep}
 
 -- the first moment of a day that is counted from 1970-01-01
-abbrev pub start_of : ℤ → ℤ
-start_of day = day *ℤ pos 86400
+abbrev pub start_of_day : ℤ → ℤ
+start_of_day day = day *ℤ pos 86400
 
 -- the date of the day, YYYY-MM-DD
-abbrev pub date_of : ℤ → List ℕ
-date_of day = take 10 (text_of (start_of day))
+abbrev pub date_text_of : ℤ → List ℕ
+date_text_of day = take 10 (text_of (start_of_day day))
 
 -- a step: the difference of TAI and UTC in seconds, from this date on
 unfoldable pub step_data : LeapStep → Data
 step_data step =
-    object (member (codes "onset") (string (date_of step.day))
+    object (member (codes "onset") (string (date_text_of step.day))
     (member (codes "utc-offset") (number (of_integer step.offset)) no_members))
 
 -- the table, with the release that it is of
@@ -40,7 +40,7 @@ leap_document leaps publisher version = compact_text (leap_data leaps publisher 
 
 -- the start of the day has a text
 abbrev pub IsDatedStep : LeapStep → Type 0
-IsDatedStep step = IsWithinBounds (start_of step.day)
+IsDatedStep step = IsWithinBounds (start_of_day step.day)
 
 -- the date of expiry is plain, and the start of each step's day has a text
 pub record IsPlainTable (leaps : Leaps) : Type 0 where

@@ -115,12 +115,12 @@ zone_in d = record {
   aliases = texts_of (unwrap_or (array_member (codes "aliases") d) no_items);
 }
 
-abbrev pub zones_of : Items → List ListZone
-zones_of no_items = []
-zones_of (item d ds) = zone_in d ∷ zones_of ds
+abbrev pub zones_read : Items → List ListZone
+zones_read no_items = []
+zones_read (item d ds) = zone_in d ∷ zones_read ds
 
 unfoldable pub list_of : Data → ListDoc
-list_of d = record { token = text_in (codes "synctoken") d; zones = zones_of (entries d) }
+list_of d = record { token = text_in (codes "synctoken") d; zones = zones_read (entries d) }
 
 -- the bytes are this list
 pub record IsListText (text : List ℕ) (doc : ListDoc) : Type 0 where

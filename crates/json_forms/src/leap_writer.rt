@@ -5,7 +5,7 @@ ghost use Rattle.serde_json.specs.Data.{array};
 ghost use Rattle.serde_json.specs.View.{items_of};
 ghost use Rattle.td_base.specs.Names.{IsPlain};
 ghost use Rattle.td_civil.specs.Bounds.{IsWithinBounds};
-ghost use Rattle.json_forms.specs.LeapDocument.{start_of, date_of, step_data, leap_data};
+ghost use Rattle.json_forms.specs.LeapDocument.{start_of_day, date_text_of, step_data, leap_data};
 ghost use Rattle.json_forms.specs.LeapDocument.{leap_document, IsDatedStep, IsPlainTable};
 ghost use Rattle.json_forms.specs.TreeTokens.{tree_tokens};
 
@@ -109,9 +109,9 @@ fn put_step(out: &mut Writer, step: LeapStep) -> Result<(), NoMemory>
 /// Writes a member whose value is the date of a day that is counted from 1970-01-01.
 #[tactic(auto, using(crate::proofs::lemmas::PlainStamps::date_is_plain))]
 fn put_date(out: &mut Writer, name: &str, day: i64) -> Result<(), NoMemory>
-    requires { IsWithinBounds (start_of day) }
-    ensures tokens { OnOk result
-        (out.new.tokens ≡ out.old.tokens ++ key_token name.now ∷ string_token (date_of day) ∷ []) }
+    requires { IsWithinBounds (start_of_day day) }
+    ensures tokens { OnOk result (out.new.tokens
+        ≡ out.old.tokens ++ key_token name.now ∷ string_token (date_text_of day) ∷ []) }
     ensures before { out.new.before ≡ out.old.before }
 {
     let start = Moment {

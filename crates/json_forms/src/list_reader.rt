@@ -2,7 +2,7 @@ ghost use Rattle.std.specs.Prelude.{◌≡◌, ◌≢◌, codes, pos, IfOk, IfEr
 ghost use Rattle.serde_json.specs.Data.{no_items};
 ghost use Rattle.serde_json.specs.View.{view, items_view};
 ghost use Rattle.td_civil.specs.Reading.{moment_in as moment_meant};
-ghost use Rattle.json_forms.specs.FaultPlace.{place_of};
+ghost use Rattle.json_forms.specs.FaultPlace.{fault_place};
 ghost use Rattle.json_forms.specs.ListReading as reading;
 ghost use Rattle.json_forms.specs.declared.list_fault.BadList.TheVariants as bad;
 
@@ -20,7 +20,7 @@ use td_civil::{Moment, moment_of};
 pub fn read_list(alloc: Global, bytes: &[u8]) -> Result<ListDoc, BadList>
     ensures found { IfOk result (λ list. reading.IsListText bytes.now list) }
     ensures bad { IfErr result
-        (λ e. e ≢ bad.NoMemory → reading.text_fault bytes.now ≡ Some (place_of e)) }
+        (λ e. e ≢ bad.NoMemory → reading.text_fault bytes.now ≡ Some (fault_place e)) }
 {
     match read_value(alloc, bytes)? {
         Some(value) => list_in(alloc, &value),
@@ -33,7 +33,7 @@ fn list_in(alloc: Global, value: &Value) -> Result<ListDoc, BadList>
     ensures sound { IfOk result (λ _. reading.list_fault (view value.now) ≡ None) }
     ensures is { IfOk result (λ list. list ≡ reading.list_of (view value.now)) }
     ensures bad { IfErr result
-        (λ e. e ≢ bad.NoMemory → reading.list_fault (view value.now) ≡ Some (place_of e)) }
+        (λ e. e ≢ bad.NoMemory → reading.list_fault (view value.now) ≡ Some (fault_place e)) }
 {
     match list_fault(value) {
         Some(place) => Err(BadList::BadList(place)),
@@ -53,7 +53,7 @@ fn list_of(alloc: Global, value: &Value) -> Result<ListDoc, NoMemory>
 }
 
 fn entries_of(alloc: Global, value: &Value) -> Result<Items<ListZone>, NoMemory>
-    ensures { IfOk result (λ zones. zones ≡ reading.zones_of (reading.entries (view value.now))) }
+    ensures { IfOk result (λ zones. zones ≡ reading.zones_read (reading.entries (view value.now))) }
 {
     match array_member(value, "timezones") {
         Some(entries) => zones_of(alloc, entries),
@@ -62,7 +62,7 @@ fn entries_of(alloc: Global, value: &Value) -> Result<Items<ListZone>, NoMemory>
 }
 
 fn zones_of(alloc: Global, entries: &[Value]) -> Result<Items<ListZone>, NoMemory>
-    ensures { IfOk result (λ zones. zones ≡ reading.zones_of (items_view entries.now)) }
+    ensures { IfOk result (λ zones. zones ≡ reading.zones_read (items_view entries.now)) }
 {
     let mut zones = Items::new(alloc);
     for entry in entries {

@@ -6,7 +6,7 @@ ghost use Rattle.json_forms.specs.AliasTokens.{alias_tokens};
 ghost use Rattle.json_forms.specs.Begun.{IsListBegun};
 ghost use Rattle.json_forms.specs.ListDocument.{zone_data, list_document};
 ghost use Rattle.json_forms.specs.PlainTexts.{IsPlainZone};
-ghost use Rattle.json_forms.specs.ToldZone.{told};
+ghost use Rattle.json_forms.specs.ToldZone.{told_zone};
 ghost use Rattle.json_forms.specs.TreeTokens.{tree_tokens};
 
 use crate::tree_writer::{put_member, put_moment, put_texts};
@@ -47,10 +47,10 @@ impl ListWriter {
 
     /// Writes one more zone.
     pub fn zone(&mut self, zone: &ZoneTexts<'_>) -> Result<(), NoMemory>
-        requires { IsPlainZone (told zone.now) }
+        requires { IsPlainZone (told_zone zone.now) }
         ensures { (before token : List ℕ) (zones : List ListZone)
             → IsListBegun before token zones self.old
-            → OnOk result (IsListBegun before token (zones ++ told zone.now ∷ []) self.new) }
+            → OnOk result (IsListBegun before token (zones ++ told_zone zone.now ∷ []) self.new) }
     {
         put_zone(&mut self.out, zone)?;
         Ok(())
@@ -102,9 +102,9 @@ fn list_of(alloc: Global, token: &[u8], zones: &[ListZone]) -> Result<Bytes, NoM
 /// Writes one zone.
 #[tactic(auto, unfolding(crate::specs::ListDocument::zone_data))]
 fn put_zone(out: &mut Writer, zone: &ZoneTexts<'_>) -> Result<(), NoMemory>
-    requires { IsPlainZone (told zone.now) }
+    requires { IsPlainZone (told_zone zone.now) }
     ensures tokens { OnOk result
-        (out.new.tokens ≡ out.old.tokens ++ tree_tokens (zone_data (told zone.now))) }
+        (out.new.tokens ≡ out.old.tokens ++ tree_tokens (zone_data (told_zone zone.now))) }
     ensures before { out.new.before ≡ out.old.before }
 {
     out.begin_object()?;

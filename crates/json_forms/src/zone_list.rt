@@ -39,11 +39,11 @@ pub struct ZoneTexts<'a> {
 }
 
 impl ListZone {
-    ghost use Rattle.json_forms.specs.ToldZone.{told};
+    ghost use Rattle.json_forms.specs.ToldZone.{told_zone};
 
     /// The zone, with its texts lying in this one.
     pub fn texts(&self) -> ZoneTexts<'_>
-        ensures { told result ≡ self.now }
+        ensures { told_zone result ≡ self.now }
     {
         ZoneTexts {
             tzid: self.tzid.as_slice(),

@@ -14,7 +14,7 @@ use Rattle.td_civil.proofs.lemmas.DateText.{judged_date}
 use Rattle.catalogue.specs.declared.release.LeapStep.{LeapStep}
 use Rattle.tzif_reader.specs.LeapSteps.{line_at, line_before, second_of, is_expiry, is_no_line, cause_of, step_of, leap_fault, leap_steps}
 use Rattle.tzif_reader.specs.declared.zone_file.LeapLine.{LeapLine}
-use Rattle.leap_table.specs.Steps.{HasRisen, pairs_of}
+use Rattle.leap_table.specs.Steps.{HasRisen, step_pairs}
 use Rattle.leap_table.proofs.Rising.{has_risen, none_risen, is_second}
 use Rattle.leap_table.proofs.Tables.{step_of_line}
 
@@ -55,11 +55,11 @@ table_steps lines none =
       line_steps lines 0 (length lines) (omega arith) (λ j lt. least_clear (is_no_line lines) j (length lines) lt clear) (none_risen lines),
     )
 
-unpaired : (steps : List LeapStep) → AllByRecursion IsDated (pairs_of steps) → AllByRecursion (λ s. IsWithinBounds (s.day *ℤ pos 86400)) steps
+unpaired : (steps : List LeapStep) → AllByRecursion IsDated (step_pairs steps) → AllByRecursion (λ s. IsWithinBounds (s.day *ℤ pos 86400)) steps
 unpaired [] h = tt
 unpaired (s ∷ ss) h = (h.0, unpaired ss h.1)
 
-pub dated_steps : (lines : List LeapLine) (steps : List LeapStep) → leap_fault lines ≡ None → pairs_of steps ≡ leap_steps lines
+pub dated_steps : (lines : List LeapLine) (steps : List LeapStep) → leap_fault lines ≡ None → step_pairs steps ≡ leap_steps lines
     → AllByRecursion (λ s. IsWithinBounds (s.day *ℤ pos 86400)) steps
 dated_steps lines steps none is =
     unpaired steps (subst (λ (xs : List (ℤ × ℤ)). AllByRecursion IsDated xs) (sym is) (table_steps lines none))

@@ -6,10 +6,10 @@ use Rattle.tzif_reader.specs.declared.zone_file.LeapLine.{LeapLine}
 use Rattle.leap_table.specs.declared.leap_fault.LeapFault.{LeapFault}
 use Rattle.leap_table.specs.declared.leap_fault.LeapFault.TheVariants as fault
 
-abbrev pub of_cause : LeapCause → LeapFault
-of_cause (Step line) = fault.Step line
-of_cause (Midnight line) = fault.Midnight line
+abbrev pub table_cause : LeapCause → LeapFault
+table_cause (Step line) = fault.Step line
+table_cause (Midnight line) = fault.Midnight line
 
 -- the fault of the first line that does not fit
 abbrev pub table_fault : List LeapLine → Option LeapFault
-table_fault lines = option_map of_cause (leap_fault lines)
+table_fault lines = option_map table_cause (leap_fault lines)

@@ -4,8 +4,8 @@ use Rattle.catalogue.specs.declared.release.LeapStep.{LeapStep}
 use Rattle.tzif_reader.specs.declared.zone_file.LeapLine.{LeapLine}
 
 -- days, each with its offset
-abbrev pub pairs_of : List LeapStep → List (ℤ × ℤ)
-pairs_of steps = map (λ s. (s.day, s.offset)) steps
+abbrev pub step_pairs : List LeapStep → List (ℤ × ℤ)
+step_pairs steps = map (λ s. (s.day, s.offset)) steps
 
 -- the line before line i has a correction from 0 to i, and comes i seconds or more after 1972 began
 pub record HasRisen (before : LeapLine) (i : ℕ) : Type 0 where

@@ -5,7 +5,7 @@ ghost use Rattle.td_base.specs.Names.{IsPlain};
 ghost use Rattle.td_civil.specs.Bounds.{IsWithinBounds};
 ghost use Rattle.td_civil.specs.Reading.{is_date_text};
 ghost use Rattle.catalogue.specs.declared.release.LeapStep.{LeapStep as Step};
-ghost use Rattle.leap_table.specs.Steps.{pairs_of};
+ghost use Rattle.leap_table.specs.Steps.{step_pairs};
 ghost use Rattle.tzif_reader.specs.LeapSteps.{leap_fault, leap_steps};
 ghost use Rattle.tzif_reader.specs.declared.zone_file.LeapLine.{LeapLine as Line};
 
@@ -13,7 +13,7 @@ ghost use Rattle.tzif_reader.specs.declared.zone_file.LeapLine.{LeapLine as Line
 #[tactic(auto, using(crate::proofs::Dated::dated_steps))]
 pub fn steps_are_dated()
     ensures { (lines : List Line) (steps : List Step) → leap_fault lines ≡ None
-        → pairs_of steps ≡ leap_steps lines
+        → step_pairs steps ≡ leap_steps lines
         → AllByRecursion (λ s. IsWithinBounds (s.day *ℤ pos 86400)) steps }
 {}
 

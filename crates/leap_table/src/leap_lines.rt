@@ -3,8 +3,8 @@ ghost use Rattle.std.specs.Prelude.{◌≡◌, ◌<◌, ◌≤◌, [], ◌∷◌
 ghost use Rattle.std.specs.Prelude.{false, true, length, IfOk, IfErr, OnOk, option_to_list};
 ghost use Rattle.std.specs.Int.{int_div_euclid};
 ghost use Rattle.std.specs.Ordering.{int_eq};
-ghost use Rattle.leap_table.specs.Faults.{of_cause};
-ghost use Rattle.leap_table.specs.Steps.{HasRisen, pairs_of};
+ghost use Rattle.leap_table.specs.Faults.{table_cause};
+ghost use Rattle.leap_table.specs.Steps.{HasRisen, step_pairs};
 ghost use Rattle.tzif_reader.specs.LeapSteps as spec;
 
 use crate::LeapFault;
@@ -97,7 +97,7 @@ fn begins_day(second: i64) -> bool
 /// The step of a correction that begins at a second of UTC.
 fn step_from(second: i64, correction: i32) -> LeapStep
     requires { correction ≤ℤ pos 65536 }
-    ensures { pairs_of (result ∷ [])
+    ensures { step_pairs (result ∷ [])
         ≡ (int_div_euclid second (pos 86400), pos 10 +ℤ correction) ∷ [] }
 {
     LeapStep {
@@ -113,10 +113,10 @@ pub fn step_at(lines: &[LeapLine], number: usize) -> Result<Option<LeapStep>, Le
     requires few { length lines.now ≤ 65536 }
     requires risen { HasRisen (spec.line_before lines.now number) number }
     ensures step { IfOk result (λ step.
-        pairs_of (option_to_list step) ≡ spec.step_of lines.now number) }
+        step_pairs (option_to_list step) ≡ spec.step_of lines.now number) }
     ensures fits { OnOk result (spec.is_no_line lines.now number ≡ false) }
     ensures no_line { IfErr result (λ e. spec.is_no_line lines.now number ≡ true) }
-    ensures cause { IfErr result (λ e. e ≡ of_cause (spec.cause_of lines.now number)) }
+    ensures cause { IfErr result (λ e. e ≡ table_cause (spec.cause_of lines.now number)) }
 {
     if !is_step(lines, number) {
         return Err(LeapFault::Step(number));

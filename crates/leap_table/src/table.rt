@@ -2,8 +2,8 @@
 ghost use Rattle.std.specs.Prelude.{◌≡◌, ◌≢◌, ◌<◌, ◌≤◌, ◌++◌, false, true, length, IfOk, IfErr};
 ghost use Rattle.std.specs.Prelude.{OnOk};
 ghost use Rattle.td_base.specs.FirstFault.{Judges};
-ghost use Rattle.leap_table.specs.Faults.{of_cause, table_fault};
-ghost use Rattle.leap_table.specs.Steps.{HasRisen, pairs_of};
+ghost use Rattle.leap_table.specs.Faults.{table_cause, table_fault};
+ghost use Rattle.leap_table.specs.Steps.{HasRisen, step_pairs};
 ghost use Rattle.tzif_reader.specs.LeapSteps.{cause_of, is_no_line, leap_steps, line_before};
 ghost use Rattle.tzif_reader.specs.LeapSteps.{step_of};
 ghost use Rattle.tzif_reader.specs.declared.zone_file.TheConstants.{MOST_BYTES};
@@ -27,7 +27,7 @@ pub fn from_file(
     requires few { length file.now.leaps ≤ MOST_BYTES }
     ensures file { IfOk result (λ table. table.file ≡ bytes.now) }
     ensures expires { IfOk result (λ table. table.expires ≡ expires.now) }
-    ensures steps { IfOk result (λ table. pairs_of table.steps ≡ leap_steps file.now.leaps) }
+    ensures steps { IfOk result (λ table. step_pairs table.steps ≡ leap_steps file.now.leaps) }
     ensures fault { Judges LeapFault.NoMemory (table_fault file.now.leaps) result }
 {
     let steps = steps_of(alloc, file.leaps.as_slice())?;
@@ -41,7 +41,7 @@ pub fn from_file(
 /// The steps of lines: 1972-01-01, when the difference was 10 seconds, and then those of the lines.
 fn steps_of(alloc: Global, lines: &[LeapLine]) -> Result<Items<LeapStep>, LeapFault>
     requires few { length lines.now ≤ MOST_BYTES }
-    ensures steps { IfOk result (λ steps. pairs_of steps ≡ leap_steps lines.now) }
+    ensures steps { IfOk result (λ steps. step_pairs steps ≡ leap_steps lines.now) }
     ensures fault { Judges LeapFault.NoMemory (table_fault lines.now) result }
 {
     let mut steps = Items::new(alloc);
@@ -61,12 +61,12 @@ fn add_step(steps: &mut Items<LeapStep>, lines: &[LeapLine], number: usize) -> R
     requires few { length lines.now ≤ 65536 }
     requires risen { HasRisen (line_before lines.now number) number }
     ensures step { OnOk result
-        (pairs_of steps.new ≡ pairs_of steps.old ++ step_of lines.now number) }
+        (step_pairs steps.new ≡ step_pairs steps.old ++ step_of lines.now number) }
     ensures fits { OnOk result (is_no_line lines.now number ≡ false) }
     ensures no_line { IfErr result (λ e. e ≢ LeapFault.NoMemory
         → is_no_line lines.now number ≡ true) }
     ensures cause { IfErr result (λ e. e ≢ LeapFault.NoMemory
-        → e ≡ of_cause (cause_of lines.now number)) }
+        → e ≡ table_cause (cause_of lines.now number)) }
 {
     let step = step_at(lines, number)?;
     if let Some(step) = step {

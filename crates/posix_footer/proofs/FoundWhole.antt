@@ -9,7 +9,8 @@ use Rattle.posix_footer.specs.declared.rule_types.Footer.{Footer}
 use Rattle.posix_footer.specs.declared.footer_fault.FooterFault.{FooterFault}
 use Rattle.posix_footer.specs.declared.footer_fault.FooterFault.TheVariants as fault
 use Rattle.posix_footer.specs.Items.{begins, behind, name_at, offset_at, daylight_offset_at, day_at}
-use Rattle.posix_footer.specs.Grammar.{◌>>=◌, place, time_behind, date_at, standard_at, daylight_at, dates_behind, rule_at, rule_in, footer_at, footer_in}
+use Rattle.td_base.specs.FirstFault.{◌>>=◌}
+use Rattle.posix_footer.specs.Grammar.{place, time_behind, date_at, standard_at, daylight_at, dates_behind, rule_at, rule_in, footer_at, footer_in}
 use Rattle.posix_footer.specs.Spelling.{IsName, IsOffset, IsStandard, IsDaylight, IsDay, IsSignedNumber, IsTime, IsTwo, IsDate, IsRuleIfAny, SpellsFooter}
 use Rattle.posix_footer.proofs.Runs.{Reads}
 use Rattle.posix_footer.proofs.Found.{chosen, first_is, behind_found, joined, name_found, offset_found, IsDaylightOffset, daylight_offset_found, day_found, time_found}

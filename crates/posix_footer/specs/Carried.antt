@@ -63,11 +63,11 @@ unfoldable pub is_steady : Date → Bool
 is_steady date = not (is_by_number date.day) && (is_early date || is_late date)
 
 -- the second row begins three days after the first ends, or later
-abbrev pub is_before : Date → Date → ℤ → Bool
-is_before a b y = int_le (moved_last a y +ℤ pos 3) (moved_first b y)
+abbrev pub is_sooner : Date → Date → ℤ → Bool
+is_sooner a b y = int_le (moved_last a y +ℤ pos 3) (moved_first b y)
 
 unfoldable pub comes_before : Date → Date → Bool
-comes_before a b = is_before a b (pos 2001) && is_before a b (pos 2004)
+comes_before a b = is_sooner a b (pos 2001) && is_sooner a b (pos 2004)
 
 unfoldable pub are_apart : Date → Date → Bool
 are_apart a b = comes_before a b || comes_before b a

@@ -3,6 +3,7 @@
 -- with its place: that of the item which is faulty or missing.
 use Rattle.std.specs.Prelude.{ℕ, ◌-◌, List, length, drop, true, false, ◌==◌, if◌then◌else◌, ℤ, pos}
 use Rattle.std.specs.Prelude.{None, Some, Result, Ok, Err, ok_or}
+use Rattle.td_base.specs.FirstFault.{◌>>=◌}
 use Rattle.td_civil.specs.declared.local_time.Local.{Local}
 use Rattle.posix_footer.specs.declared.rule_types.Date.{Date}
 use Rattle.posix_footer.specs.declared.rule_types.DstRule.{DstRule}
@@ -11,12 +12,6 @@ use Rattle.posix_footer.specs.declared.footer_fault.FooterFault.{FooterFault}
 use Rattle.posix_footer.specs.declared.footer_fault.FooterFault.TheVariants as fault
 use Rattle.posix_footer.specs.Items.{begins, behind, name_at, offset_at, daylight_offset_at, day_at}
 use Rattle.posix_footer.specs.Items.{time_at}
-
-infixl 10 ◌>>=◌
-abbrev pub ◌>>=◌ : {A B : Type 0} → Result A FooterFault → (A → Result B FooterFault)
-    → Result B FooterFault
-(Ok x) >>= f = f x
-(Err e) >>= f = Err e
 
 -- where the rest of a text of so many bytes begins
 abbrev pub place : ℕ → List ℕ → ℕ

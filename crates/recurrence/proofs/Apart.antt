@@ -4,10 +4,10 @@ use Rattle.std.proofs.lemmas.Bool.{and_from, or_left, or_right}
 use Rattle.jiff_core.specs.Calendar.{IsYear}
 use Rattle.jiff_core.proofs.SignedLemmas.{signed_arith}
 use Rattle.posix_footer.specs.declared.rule_types.Date.{Date}
-use Rattle.posix_footer.specs.Carried.{moved_by, moved_first, moved_last, is_steady, is_before, comes_before, are_apart}
+use Rattle.posix_footer.specs.Carried.{moved_by, moved_first, moved_last, is_steady, is_sooner, comes_before, are_apart}
 use Rattle.posix_footer.specs.Onset.{more_places}
 use Rattle.posix_footer.specs.Lawful.{IsLawfulDate}
-use Rattle.recurrence.specs.RuleOfDate.{place_of}
+use Rattle.recurrence.specs.RuleOfDate.{row_place}
 use Rattle.recurrence.specs.SameDates.{AreApart}
 use Rattle.recurrence.proofs.Carrying.{moved_is}
 use Rattle.recurrence.proofs.lemmas.InYear.{Gap, places_apart, gap_is}
@@ -21,7 +21,7 @@ from_gap : (a b : Date) (y : ℤ) → IsLawfulDate a → IsLawfulDate b → is_s
 from_gap a b y ha hb ea eb gap =
     let p = moved_is a y ha.day (steady_is a ea) in
     let q = moved_is b y hb.day (steady_is b eb) in
-    let apart = places_apart y (place_of a.day (moved_by a.time)) (place_of b.day (moved_by b.time)) p.place q.place
+    let apart = places_apart y (row_place a.day (moved_by a.time)) (row_place b.day (moved_by b.time)) p.place q.place
     (more_places a.day) (more_places b.day) p.keeps q.keeps (omega (arith, signed_arith, p.common, q.common, gap)) in
     omega (arith, signed_arith, apart, p.is, q.is)
 
@@ -37,14 +37,14 @@ near_date : (a : Date) → IsLawfulDate a → is_steady a ≡ true
 near_date a h e =
     let p = moved_is a (pos 2001) h.day (steady_is a e) in
     let q = moved_is a (pos 2004) h.day (steady_is a e) in
-    let by_a_day = near (place_of a.day (moved_by a.time)) p.place q.place (more_places a.day) p.keeps q.keeps in
+    let by_a_day = near (row_place a.day (moved_by a.time)) p.place q.place (more_places a.day) p.keeps q.keeps in
     (omega (arith, signed_arith, by_a_day, p.is, q.is), omega (arith, signed_arith, by_a_day, p.is, q.is))
 
 in_both : (a b : Date) → (moved_last a (pos 2001) +ℤ pos 3) ≤ℤ moved_first b (pos 2001)
     → (moved_last a (pos 2004) +ℤ pos 3) ≤ℤ moved_first b (pos 2004) → comes_before a b ≡ true
 unfolding comes_before
 in_both a b common leap =
-    and_from (is_before a b (pos 2001)) (is_before a b (pos 2004))
+    and_from (is_sooner a b (pos 2001)) (is_sooner a b (pos 2004))
     (most_true (moved_last a (pos 2001) +ℤ pos 3) (moved_first b (pos 2001)) common)
     (most_true (moved_last a (pos 2004) +ℤ pos 3) (moved_first b (pos 2004)) leap)
 

@@ -17,7 +17,7 @@ use Rattle.recurrence.specs.Falls.{Falls, IsOfYear, IsWeekday}
 use Rattle.recurrence.specs.Valid.{IsValidForm}
 use Rattle.posix_footer.specs.Carried.{moved_by, is_by_number}
 use Rattle.posix_footer.specs.Onset.{first_place, more_places}
-use Rattle.recurrence.specs.RuleOfDate.{place_of, form_of, turned}
+use Rattle.recurrence.specs.RuleOfDate.{row_place, form_of, turned}
 use Rattle.posix_footer.proofs.lemmas.OnsetLemmas.{month_day_is, named}
 use Rattle.recurrence.proofs.Places.{first_early, first_late}
 use Rattle.recurrence.proofs.Rows.{Keeps, IsRowOf, IsSpotOf, spot_of, row_of, nth_of}
@@ -28,22 +28,22 @@ use Rattle.recurrence.proofs.Windows.{row_falls}
 pub record IsMoved (d : DayForm) (k y : ℤ) : Type 0 where
   pub place : ℕ
   pub is : pos place ≡ pos (first_place d y) +ℤ k
-  pub keeps : Keeps y (place_of d k) place (more_places d)
+  pub keeps : Keeps y (row_place d k) place (more_places d)
   pub inside : place + more_places d < days_in_year y
-  pub common : pos (place_of d k) ≡ pos (first_place d (pos 2001)) +ℤ k
+  pub common : pos (row_place d k) ≡ pos (first_place d (pos 2001)) +ℤ k
   pub low : 2 ≤ place
   pub high : place + more_places d + 3 ≤ days_in_year y
 
-place_is : (d : DayForm) (k : ℤ) → pos 0 ≤ℤ (pos (first_place d (pos 2001)) +ℤ k) → pos (place_of d k) ≡ pos (first_place d (pos 2001)) +ℤ k
+place_is : (d : DayForm) (k : ℤ) → pos 0 ≤ℤ (pos (first_place d (pos 2001)) +ℤ k) → pos (row_place d k) ≡ pos (first_place d (pos 2001)) +ℤ k
 place_is d k h = omega (arith, signed_arith, one_part (pos (first_place d (pos 2001)) +ℤ k))
 
 moved_early : (date : Date) (y : ℤ) → IsLawfulDay date.day → IsEarly date → IsMoved date.day (moved_by date.time) y
 moved_early date y h early =
     let first = first_early date.day y h early.same (omega (arith, early.last)) in
     let common = place_is date.day (moved_by date.time) (omega (arith, signed_arith, early.moved_first)) in
-    let last : place_of date.day (moved_by date.time) + more_places date.day ≤ 58 = omega (arith, signed_arith, common, early.moved_last) in
+    let last : row_place date.day (moved_by date.time) + more_places date.day ≤ 58 = omega (arith, signed_arith, common, early.moved_last) in
     record {
-      place = place_of date.day (moved_by date.time);
+      place = row_place date.day (moved_by date.time);
       is = common ∙ ap (λ p. pos p +ℤ moved_by date.time) (sym first);
       keeps = inl (last, refl);
       inside = omega (arith, last, days_in_year-leap_day y);
@@ -56,10 +56,10 @@ moved_late : (date : Date) (y : ℤ) → IsLawfulDay date.day → IsLate date �
 moved_late date y h late =
     let first = first_late date.day y h late.same late.first in
     let common = place_is date.day (moved_by date.time) (omega (arith, signed_arith, late.moved_first)) in
-    let low : 59 ≤ place_of date.day (moved_by date.time) = omega (arith, signed_arith, common, late.moved_first) in
-    let last : place_of date.day (moved_by date.time) + more_places date.day ≤ 362 = omega (arith, signed_arith, common, late.moved_last) in
+    let low : 59 ≤ row_place date.day (moved_by date.time) = omega (arith, signed_arith, common, late.moved_first) in
+    let last : row_place date.day (moved_by date.time) + more_places date.day ≤ 362 = omega (arith, signed_arith, common, late.moved_last) in
     record {
-      place = place_of date.day (moved_by date.time) + leap_day y;
+      place = row_place date.day (moved_by date.time) + leap_day y;
       is = omega (arith, signed_arith, common, first);
       keeps = inr (low, omega (arith, last), refl);
       inside = omega (arith, last, days_in_year-leap_day y);
@@ -108,7 +108,7 @@ pub rule_day : (d : DayForm) (k y : ℤ) → IsLawfulDay d → IsYear y → is_b
 rule_day (day.Julian n) k y h year steady moved =
     let name = named (day.Julian n) y h in
     let number = moved_number (day.Julian n) k y moved name in
-    let spot = spot_of y (place_of (day.Julian n) k) moved.place moved.keeps in
+    let spot = spot_of y (row_place (day.Julian n) k) moved.place moved.keeps in
     spot_day _ y _ moved.place year spot (omega (arith, moved.inside)) (omega (arith, signed_arith, number, name.among))
 rule_day (day.YearDay n) k y h year steady moved = absurd (true≢false steady)
 rule_day (day.Week m week w) k y h year steady moved =
@@ -124,4 +124,4 @@ rule_day (day.Week m week w) k y h year steady moved =
     row_day _ y _ (first_place (day.Week m week w) y) w name.after year row (omega (arith, moved.inside, same)) name.among (subst (IsWeekday w) stays is.0)
     (omega (arith, signed_arith, number, same)))
     (λ moves. row_day _ y _ moved.place (turned w k) name.after year
-    (row_of y (place_of (day.Week m week w) k) moved.place (turned w k) turn.1 moved.keeps) moved.inside name.among turn.0 number)
+    (row_of y (row_place (day.Week m week w) k) moved.place (turned w k) turn.1 moved.keeps) moved.inside name.among turn.0 number)

@@ -11,7 +11,7 @@ use Rattle.posix_footer.specs.declared.rule_types.Date.{Date}
 use Rattle.posix_footer.specs.Lawful.{IsLawfulDay, IsLawfulDate}
 use Rattle.posix_footer.specs.Carried.{moved_by, moved_first, moved_last, keeps_early, keeps_late, is_early, is_late, is_steady, is_by_number}
 use Rattle.posix_footer.specs.Onset.{first_place, more_places}
-use Rattle.recurrence.specs.RuleOfDate.{place_of, common_date}
+use Rattle.recurrence.specs.RuleOfDate.{row_place, common_date}
 use Rattle.recurrence.specs.SameDates.{possible_day, IsOneDate, IsInside, HasSameDates}
 use Rattle.recurrence.proofs.Months.{leap_2004, months_early, months_late, months_late_bound, common_date_is}
 use Rattle.recurrence.proofs.Places.{first_early, first_late}
@@ -60,7 +60,7 @@ keeps_before d y h steady = elim (steady.side) [
 ]
 
 moved_bounds : (d : Date) → IsLawfulDay d.day → IsSteady d
-    → (2 ≤ place_of d.day (moved_by d.time)) × (place_of d.day (moved_by d.time) + more_places d.day ≤ 362)
+    → (2 ≤ row_place d.day (moved_by d.time)) × (row_place d.day (moved_by d.time) + more_places d.day ≤ 362)
 moved_bounds d h steady =
     let moved = moved_is d (pos 2001) h steady in
     elim (steady.side) [
@@ -73,7 +73,7 @@ unfolding one_date
 same_dates d h e =
     let steady = steady_is d e in
     let bounds = moved_bounds d h.day steady in
-    let common = place_of d.day (moved_by d.time) in
+    let common = row_place d.day (moved_by d.time) in
     record {
       not_by_number = steady.not_by_number;
       before = λ i le. one_date d.day (pos 0) i (first_place d.day (pos 2001)) (first_place d.day) le

@@ -20,8 +20,8 @@ use Rattle.recurrence.specs.declared.rule_types.Carried.{Carried}
 use Rattle.recurrence.specs.declared.rule_types.Carried.TheVariants as carried
 
 -- the second of the day that is left of a time
-abbrev pub second_of : ℤ → ℕ
-second_of time = unsigned_abs (int_rem_euclid time (pos 86400))
+abbrev pub second_in_day : ℤ → ℕ
+second_in_day time = unsigned_abs (int_rem_euclid time (pos 86400))
 
 -- the date at a place of a year of 365 days, by counting: 1 January 2001 is 730851 days after 1
 -- January of the year 0
@@ -43,8 +43,8 @@ row_form place weekday =
     else form.YearDays (pos place -ℤ pos 365) weekday
 
 -- the place, in a year of 365 days, of the first day that the form can name, k days later
-abbrev pub place_of : DayForm → ℤ → ℕ
-place_of d k = unsigned_abs (pos (first_place d (pos 2001)) +ℤ k)
+abbrev pub row_place : DayForm → ℤ → ℕ
+row_place d k = unsigned_abs (pos (first_place d (pos 2001)) +ℤ k)
 
 -- the place of a week among those of a month, -1 for the last
 abbrev pub nth_of : ℕ → ℤ
@@ -54,12 +54,15 @@ nth_of week = if week == 5 then negsuc 0 else pos week
 abbrev pub form_of : DayForm → ℤ → Form
 form_of (day.Week month week weekday) k =
     if int_eq k (pos 0) then form.NthDay month (nth_of week) weekday
-    else row_form (place_of (day.Week month week weekday) k) (turned weekday k)
-form_of d k = form.FixedDate (common_date (place_of d k)).month (common_date (place_of d k)).day
+    else row_form (row_place (day.Week month week weekday) k) (turned weekday k)
+form_of d k = form.FixedDate (common_date (row_place d k)).month (common_date (row_place d k)).day
 
 -- the date's time moves it by whole days, and what is left of it is the second of the day
 abbrev pub rule_of : Date → Rule
-rule_of date = record { form = form_of date.day (moved_by date.time); second = second_of date.time }
+rule_of date = record {
+  form = form_of date.day (moved_by date.time);
+  second = second_in_day date.time;
+}
 
 abbrev pub carried_if_any : Local → Option DstRule → Carried
 carried_if_any std None = carried.Constant std

@@ -28,7 +28,7 @@ pub(crate) fn rule_of(date: Date) -> Rule
 fn form_of(form: DayForm, days: i32, place: u16) -> Form
     requires form { IsLawfulDay form }
     requires days { IsBetween (neg_ℤ (pos 7)) (pos 6) days }
-    requires place { place ≡ rules.place_of form days }
+    requires place { place ≡ rules.row_place form days }
     requires bound { place + onset.more_places form < 365 }
     ensures { result ≡ rules.form_of form days }
 {
@@ -62,7 +62,7 @@ fn form_of(form: DayForm, days: i32, place: u16) -> Form
 fn place_of(date: Date) -> u16
     requires lawful { IsLawfulDate date }
     requires steady { carried.is_steady date ≡ true }
-    ensures value { result ≡ rules.place_of date.day (carried.moved_by date.time) }
+    ensures value { result ≡ rules.row_place date.day (carried.moved_by date.time) }
     ensures bound { result + onset.more_places date.day < 365 }
 {
     moved_first(date, 2001) as u16

@@ -78,7 +78,7 @@ fn is_before(a: Date, b: Date, year: u16) -> bool
     requires a { IsLawfulDate a }
     requires b { IsLawfulDate b }
     requires year { (1800 ≤ year) × (year ≤ 9999) }
-    ensures { result ≡ carried.is_before a b (pos year) }
+    ensures { result ≡ carried.is_sooner a b (pos year) }
 {
     moved_last(a, year) + 3 <= moved_first(b, year)
 }

@@ -5,7 +5,8 @@ use Rattle.td_base.specs.Files.{File, file_at}
 use Rattle.catalogue.specs.Releases.{ContentData, content_data}
 use Rattle.catalogue.specs.declared.release.Content.{Content}
 use Rattle.release_manifest.specs.declared.manifest_type.ManifestZone.{ManifestZone}
-use Rattle.release_check.specs.Folder.{◌>>=◌, content_from, content_in, content_with, contents_in, unless}
+use Rattle.td_base.specs.FirstFault.{◌>>=◌}
+use Rattle.release_check.specs.Folder.{content_from, content_in, content_with, contents_in, unless}
 use Rattle.release_check.specs.Found.{IsFile, IsZoneIn, AreZonesIn, IsOf, AreOf}
 use Rattle.release_check.specs.Paths.{path_in}
 use Rattle.release_check.specs.ZoneFaults.{file_fault}

@@ -32,10 +32,10 @@ use Rattle.release_manifest.specs.Reading.{IsManifestText}
 use Rattle.release_manifest.specs.declared.manifest_type.Manifest.{Manifest}
 use Rattle.release_manifest.specs.declared.manifest_type.ManifestZone.{ManifestZone}
 use Rattle.zone_meaning.specs.Sound.{IsSound, IsSoundFile, IsSoundLeaps}
-use Rattle.td_base.specs.FirstFault.{◌or_else◌, when}
-use Rattle.release_check.specs.Folder.{◌>>=◌, contents_in, release_with, release_in, table_in, unless}
+use Rattle.td_base.specs.FirstFault.{◌>>=◌, ◌or_else◌, when}
+use Rattle.release_check.specs.Folder.{contents_in, release_with, release_in, table_in, unless}
 use Rattle.release_check.specs.Found.{AreOf}
-use Rattle.release_check.specs.ManifestFaults.{names_in, limit_fault, identifier_fault, duplicate_fault, manifest_fault, text_fault, has_date, form_fault, IsFormed}
+use Rattle.release_check.specs.ManifestFaults.{names_in, limit_fault, identifier_fault, duplicate_fault, manifest_fault, form_text_fault, has_date, form_fault, IsFormed}
 use Rattle.release_check.specs.declared.check_fault.CheckFault.{CheckFault}
 use Rattle.release_check.specs.declared.check_fault.CheckFault.TheVariants as fault
 use Rattle.release_check.specs.declared.check_fault.Limited.TheVariants as limited
@@ -299,10 +299,10 @@ held false f h = absurd cc
 pub formed_judged : (m : Manifest) → form_fault m ≡ None → IsFormed m
 unfolding form_fault
 formed_judged m none =
-    let publisher = text_fault (is_label m.publisher) path.Publisher in
-    let version = text_fault (is_label m.version) path.Version in
-    let stamp = text_fault (has_meaning m.stamp.seconds) path.Stamp in
-    let expires = text_fault (has_date m.leaps) path.Expires in
+    let publisher = form_text_fault (is_label m.publisher) path.Publisher in
+    let version = form_text_fault (is_label m.version) path.Version in
+    let stamp = form_text_fault (has_meaning m.stamp.seconds) path.Stamp in
+    let expires = form_text_fault (has_date m.leaps) path.Expires in
     let first = both_none publisher (version or_else stamp or_else expires) none in
     let second = both_none version (stamp or_else expires) first.1 in
     let third = both_none stamp expires second.1 in

@@ -14,8 +14,8 @@ use Rattle.tzif_reader.specs.declared.tzif_fault.TzifFault.TheVariants as tzif
 use Rattle.tzif_reader.specs.declared.zone_file.ZoneFile.{ZoneFile}
 use Rattle.catalogue.specs.declared.release.LeapStep.{LeapStep}
 use Rattle.catalogue.specs.declared.release.Leaps.{Leaps}
-use Rattle.leap_table.specs.Faults.{table_fault, of_cause as table_cause}
-use Rattle.leap_table.specs.Steps.{pairs_of}
+use Rattle.leap_table.specs.Faults.{table_fault, table_cause}
+use Rattle.leap_table.specs.Steps.{step_pairs}
 use Rattle.leap_table.specs.declared.leap_fault.LeapFault.{LeapFault}
 use Rattle.leap_table.specs.declared.leap_fault.LeapFault.TheVariants as table
 use Rattle.release_manifest.specs.declared.manifest_type.ManifestLeaps.{ManifestLeaps}
@@ -23,7 +23,7 @@ use Rattle.zone_meaning.specs.Sound.{IsSoundLeaps}
 use Rattle.release_check.specs.Folder.{table_from, table_in, unless}
 use Rattle.release_check.specs.Found.{IsFile, IsTableIn}
 use Rattle.release_check.specs.Judged.{of_leap_reader, of_table}
-use Rattle.release_check.specs.LeapFile.{of_file, of_cause, leap_file_fault, step_of, table_of}
+use Rattle.release_check.specs.LeapFile.{of_file, of_cause, leap_file_fault, step_of_pair, table_of}
 use Rattle.release_check.specs.ManifestFaults.{has_date}
 use Rattle.release_check.specs.Paths.{path_in}
 use Rattle.release_check.specs.declared.check_fault.CheckFault.{CheckFault}
@@ -73,11 +73,11 @@ pub clear_table : (bytes : List ℕ) (lists : ZoneFile) → first_fault bytes �
 clear_table bytes lists none is h =
     leap_file_fault-is bytes None None none (ap (λ (z : ZoneFile). leap_fault z.leaps) (sym is) ∙ unmapped table_cause (leap_fault lists.leaps) h)
 
-again : (steps : List LeapStep) → map step_of (pairs_of steps) ≡ steps
+again : (steps : List LeapStep) → map step_of_pair (step_pairs steps) ≡ steps
 again [] = refl
 again (s ∷ ss) = ap (λ xs. s ∷ xs) (again ss)
 
-pairs_again : (pairs : List (ℤ × ℤ)) → map (λ s. (s.day, s.offset)) (map step_of pairs) ≡ pairs
+pairs_again : (pairs : List (ℤ × ℤ)) → map (λ s. (s.day, s.offset)) (map step_of_pair pairs) ≡ pairs
 pairs_again [] = refl
 pairs_again (p ∷ ps) = ap (λ xs. p ∷ xs) (pairs_again ps)
 
@@ -85,11 +85,11 @@ made : List ℕ → List ℕ → List LeapStep → Leaps
 made file expires steps = record { file = file; expires = expires; steps = steps }
 
 pub table_made : (bytes expires : List ℕ) (lists : ZoneFile) (t : Leaps) → lists ≡ lists_of bytes → t.file ≡ bytes → t.expires ≡ expires
-    → pairs_of t.steps ≡ leap_steps lists.leaps → t ≡ table_of bytes expires
+    → step_pairs t.steps ≡ leap_steps lists.leaps → t ≡ table_of bytes expires
 unfolding table_of made
 table_made bytes expires lists t is file expiry steps =
-    let these : t.steps ≡ map step_of (leap_steps (lists_of bytes).leaps) =
-    sym (again t.steps) ∙ ap (map step_of) (steps ∙ ap (λ (z : ZoneFile). leap_steps z.leaps) is) in
+    let these : t.steps ≡ map step_of_pair (leap_steps (lists_of bytes).leaps) =
+    sym (again t.steps) ∙ ap (map step_of_pair) (steps ∙ ap (λ (z : ZoneFile). leap_steps z.leaps) is) in
     ap (λ f. made f t.expires t.steps) file ∙ ap (λ e. made bytes e t.steps) expiry ∙ ap (made bytes expires) these
 
 -- of the file no more is read than one byte past its limit

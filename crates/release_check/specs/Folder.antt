@@ -1,6 +1,7 @@
 -- Which release the files under a directory give, or which fault is the first.
 use Rattle.std.specs.Prelude.{◌≡◌, ℕ, ◌+◌, List, [], ◌∷◌, Option, None, Some, Result, Ok, Err}
 use Rattle.td_base.specs.Files.{File, file_at}
+use Rattle.td_base.specs.FirstFault.{◌>>=◌}
 use Rattle.catalogue.specs.Order.{rising_by}
 use Rattle.catalogue.specs.Releases.{ContentData, ReleaseData}
 use Rattle.catalogue.specs.declared.release.Leaps.{Leaps}
@@ -21,13 +22,6 @@ use Rattle.release_check.specs.declared.check_fault.CheckFault.TheVariants as fa
 abbrev pub unless : {A : Type 0} → Option CheckFault → Result A CheckFault → Result A CheckFault
 unless (Some f) r = Err f
 unless None r = r
-
--- the second step, where the first gave a value
-infixl 10 ◌>>=◌
-abbrev pub ◌>>=◌ : {A B : Type 0}
-    → Result A CheckFault → (A → Result B CheckFault) → Result B CheckFault
-(Ok x) >>= f = f x
-(Err e) >>= f = Err e
 
 -- a zone of a manifest, with the bytes of its file
 abbrev pub content_with : ManifestZone → List ℕ → ContentData

@@ -28,12 +28,12 @@ leap_file_fault bytes =
     or_else option_map of_cause (leap_fault (lists_of bytes).leaps)
 
 -- the table of the file, which holds up to a date
-abbrev pub step_of : ℤ × ℤ → LeapStep
-step_of step = record { day = step.0; offset = step.1 }
+abbrev pub step_of_pair : ℤ × ℤ → LeapStep
+step_of_pair step = record { day = step.0; offset = step.1 }
 
 unfoldable pub table_of : List ℕ → List ℕ → Leaps
 table_of bytes expires = record {
   file = bytes;
   expires = expires;
-  steps = map step_of (leap_steps (lists_of bytes).leaps);
+  steps = map step_of_pair (leap_steps (lists_of bytes).leaps);
 }

@@ -57,8 +57,8 @@ manifest_fault before m =
     or_else place_fault before.count
 
 -- a text of a manifest that has not its form; a manifest that was read from a text has none
-abbrev pub text_fault : Bool → Path → Option CheckFault
-text_fault fits at = when (not fits) (fault.Manifest (manifest.Text at))
+abbrev pub form_text_fault : Bool → Path → Option CheckFault
+form_text_fault fits at = when (not fits) (fault.Manifest (manifest.Text at))
 
 abbrev pub has_date : Option ManifestLeaps → Bool
 has_date None = true
@@ -67,10 +67,10 @@ has_date (Some leaps) = is_date_text leaps.expires
 -- the first of the texts of a manifest value that has not its form
 unfoldable pub form_fault : Manifest → Option CheckFault
 form_fault m =
-    text_fault (is_label m.publisher) path.Publisher
-    or_else text_fault (is_label m.version) path.Version
-    or_else text_fault (has_meaning m.stamp.seconds) path.Stamp
-    or_else text_fault (has_date m.leaps) path.Expires
+    form_text_fault (is_label m.publisher) path.Publisher
+    or_else form_text_fault (is_label m.version) path.Version
+    or_else form_text_fault (has_meaning m.stamp.seconds) path.Stamp
+    or_else form_text_fault (has_date m.leaps) path.Expires
 
 -- each of these texts has its form
 pub record IsFormed (m : Manifest) : Type 0 where

@@ -1,6 +1,6 @@
 ghost use Rattle.std.specs.Prelude.{◌≡◌, map};
 ghost use Rattle.std.specs.List.{list_all};
-ghost use Rattle.zone_meaning.specs.Names.{footer_names, has_printable_names, is_name_byte};
+ghost use Rattle.zone_meaning.specs.Names.{footer_names, has_printable_names, is_designation_byte};
 ghost use Rattle.zone_meaning.specs.Names.{is_printable_name};
 
 use posix_footer::Footer;
@@ -52,7 +52,7 @@ fn is_printable(name: &Name) -> bool
 
 /// Whether a name may have each of the bytes.
 fn are_name_bytes(bytes: &[u8]) -> bool
-    ensures { result ≡ list_all is_name_byte bytes.now }
+    ensures { result ≡ list_all is_designation_byte bytes.now }
 {
     for byte in bytes {
         if !is_name_byte(*byte) {
@@ -64,7 +64,7 @@ fn are_name_bytes(bytes: &[u8]) -> bool
 
 /// Whether a name may have the byte.
 fn is_name_byte(byte: u8) -> bool
-    ensures { result ≡ is_name_byte byte }
+    ensures { result ≡ is_designation_byte byte }
 {
     byte.is_ascii_alphanumeric() || byte == b'+' || byte == b'-'
 }

@@ -18,7 +18,7 @@ use Rattle.release_manifest.specs.declared.manifest_fault.ManifestFault.{Manifes
 use Rattle.release_manifest.specs.declared.manifest_type.Manifest.{Manifest}
 use Rattle.release_manifest.specs.declared.manifest_type.ManifestZone.{ManifestZone}
 use Rattle.release_manifest.specs.declared.manifest_type.ManifestLeaps.{ManifestLeaps}
-use Rattle.release_manifest.specs.Checks.{Check, first_failing, text_of, is_stamp_text, object_checks, text_checks, form_checks, each_checks, alias_checks, zone_checks, zones_checks, leap_checks, manifest_checks, first_fault}
+use Rattle.release_manifest.specs.Checks.{Check, first_failing, text_if_any, is_stamp_text, object_checks, text_checks, form_checks, each_checks, alias_checks, zone_checks, zones_checks, leap_checks, manifest_checks, document_fault}
 use Rattle.release_manifest.specs.Meaning.{IsForm, IsStampOf, AllAre, IsText, AreAliases, IsZone, AreZonesOf, IsLeaps, AreLeaps, IsManifest}
 use Rattle.release_manifest.proofs.CheckLemmas.{first_failing-append}
 
@@ -63,7 +63,7 @@ spelled (Some m) h = (m, refl, h)
 -- ---- members
 
 -- what has a text as a member is an object
-object_passes : (at : Path) (d : Data) (name text : List ℕ) → text_of (get name d) ≡ Some text
+object_passes : (at : Path) (d : Data) (name text : List ℕ) → text_if_any (get name d) ≡ Some text
     → first_failing (object_checks at d) ≡ None
 unfolding object_checks
 object_passes at null name text is = cc
@@ -73,15 +73,15 @@ object_passes at (string s) name text is = cc
 object_passes at (array ds) name text is = cc
 object_passes at (object ms) name text is = refl
 
-text_passes : (at : Path) (member : Option Data) (text : List ℕ) → text_of member ≡ Some text
+text_passes : (at : Path) (member : Option Data) (text : List ℕ) → text_if_any member ≡ Some text
     → first_failing (text_checks at member) ≡ None
 unfolding text_checks
 text_passes at member text is = rw is
 
 text_there : (at : Path) (member : Option Data) → first_failing (text_checks at member) ≡ None
-    → (text : List ℕ) × (text_of member ≡ Some text)
+    → (text : List ℕ) × (text_if_any member ≡ Some text)
 unfolding text_checks
-text_there at member h = there (text_of member) (cond_none _ _ _ h).0
+text_there at member h = there (text_if_any member) (cond_none _ _ _ h).0
 
 form_passes : (form : List ℕ → Bool) (at : Path) (member : Option Data) (text : List ℕ) → IsForm form member text
     → first_failing (form_checks form at member) ≡ None
@@ -93,8 +93,8 @@ form_there : (form : List ℕ → Bool) (at : Path) (member : Option Data) → f
 unfolding form_checks
 form_there form at member h =
     let parts = cond_none _ _ _ h in
-    let found = there (text_of member) parts.0 in
-    let fits : form (unwrap_or (text_of member) []) ≡ true = (cond_none _ _ _ parts.1).0 in
+    let found = there (text_if_any member) parts.0 in
+    let fits : form (unwrap_or (text_if_any member) []) ≡ true = (cond_none _ _ _ parts.1).0 in
     (found.0, record { is = found.1; fits = rw found.1 at fits })
 
 form_one : (form : List ℕ → Bool) (member : Option Data) (a b : List ℕ) → IsForm form member a → IsForm form member b → a ≡ b
@@ -301,8 +301,8 @@ stamp_one member a b p q =
 
 -- ---- the whole
 
-pub no_fault : (d : Data) (m : Manifest) → IsManifest d m → first_fault d ≡ None
-unfolding first_fault manifest_checks
+pub no_fault : (d : Data) (m : Manifest) → IsManifest d m → document_fault d ≡ None
+unfolding document_fault manifest_checks
 no_fault d m is =
     simp (
       first_failing-append,
@@ -314,8 +314,8 @@ no_fault d m is =
       leaps_pass (get (codes "leapseconds") d) m.leaps is.leaps,
     )
 
-pub has_manifest : (d : Data) → first_fault d ≡ None → (m : Manifest) × IsManifest d m
-unfolding first_fault manifest_checks
+pub has_manifest : (d : Data) → document_fault d ≡ None → (m : Manifest) × IsManifest d m
+unfolding document_fault manifest_checks
 has_manifest d h =
     let last = none_of_both
     (object_checks path.Whole d ++ form_checks is_label path.Publisher (get (codes "publisher") d)

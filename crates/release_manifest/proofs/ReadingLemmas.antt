@@ -4,7 +4,7 @@ use Rattle.std.proofs.lemmas.Str.{IsUtf8-from_is_utf8, is_utf8-from_IsUtf8}
 use Rattle.std.proofs.lemmas.Option.{same_Some}
 use Rattle.serde_json.specs.Data.{Data}
 use Rattle.serde_json.specs.Read.{read as read_text}
-use Rattle.release_manifest.specs.Checks.{first_fault, manifest_checks}
+use Rattle.release_manifest.specs.Checks.{document_fault, manifest_checks}
 use Rattle.release_manifest.specs.Reading.{value_in, value_fault, manifest_text_fault, JudgesChecks, IsManifestText}
 use Rattle.release_manifest.specs.Meaning.{IsManifest}
 use Rattle.release_manifest.specs.declared.manifest_type.Manifest.{Manifest}
@@ -33,7 +33,7 @@ pub no_value : (text : List ℕ) → length text ≤ MOST_BYTES → value_in tex
 unfolding manifest_text_fault
 no_value text h none = let e : nat_le (length text) MOST_BYTES ≡ true = grind arith in rw (e, none)
 
-pub of_value : (text : List ℕ) (d : Data) → length text ≤ MOST_BYTES → value_in text ≡ Some d → manifest_text_fault text ≡ first_fault d
+pub of_value : (text : List ℕ) (d : Data) → length text ≤ MOST_BYTES → value_in text ≡ Some d → manifest_text_fault text ≡ document_fault d
 unfolding manifest_text_fault
 of_value text d h some = let e : nat_le (length text) MOST_BYTES ≡ true = grind arith in rw (e, some)
 
@@ -55,7 +55,7 @@ syntax_fault text e fits refused n =
 
 pub member_fault : {T : Type 0} (text : List ℕ) (d : Data) (r : Result T ManifestFault) → length text ≤ MOST_BYTES
     → value_in text ≡ Some d → JudgesChecks r (manifest_checks d) → IfErr r (IsFaultOf text)
-unfolding first_fault
+unfolding document_fault
 member_fault text d (Ok x) fits some judged = tt
 member_fault text d (Err e) fits some judged = λ n. of_value text d fits some ∙ judged n
 
@@ -102,7 +102,7 @@ refused_unless text (Err e) ok err f has = elim (memory_or e) [
   | inr n ↦ inl (ap Err (same_Some e f (sym (err n) ∙ has)))
 ]
 
-fault_free : (o : Option Data) → value_fault o ≡ None → (d : Data) × (o ≡ Some d) × (first_fault d ≡ None)
+fault_free : (o : Option Data) → value_fault o ≡ None → (d : Data) × (o ≡ Some d) × (document_fault d ≡ None)
 fault_free None h = cc
 fault_free (Some d) h = (d, refl, h)
 

@@ -23,8 +23,8 @@ first_failing [] = None
 first_failing (c ∷ cs) = if c.passes then first_failing cs else Some c.fault
 
 -- the text that a member is, if it is there and is one
-abbrev pub text_of : Option Data → Option (List ℕ)
-text_of member = option_and_then as_str member
+abbrev pub text_if_any : Option Data → Option (List ℕ)
+text_if_any member = option_and_then as_str member
 
 -- whether a text spells such a moment
 unfoldable pub is_stamp_text : List ℕ → Bool
@@ -36,13 +36,14 @@ object_checks at d = record { fault = fault.Field at; passes = is_some (as_objec
 
 -- a member that is to be a text
 unfoldable pub text_checks : Path → Option Data → List Check
-text_checks at member = record { fault = fault.Field at; passes = is_some (text_of member) } ∷ []
+text_checks at member =
+    record { fault = fault.Field at; passes = is_some (text_if_any member) } ∷ []
 
 -- a member that is to be a text of some form
 unfoldable pub form_checks : (List ℕ → Bool) → Path → Option Data → List Check
 form_checks form at member =
-    record { fault = fault.Field at; passes = is_some (text_of member) }
-    ∷ record { fault = fault.Text at; passes = form (unwrap_or (text_of member) []) } ∷ []
+    record { fault = fault.Field at; passes = is_some (text_if_any member) }
+    ∷ record { fault = fault.Text at; passes = form (unwrap_or (text_if_any member) []) } ∷ []
 
 -- each of the items, by its number
 unfoldable pub each_checks : (ℕ → Data → List Check) → ℕ → Items → List Check
@@ -90,5 +91,5 @@ manifest_checks d =
     ++ leap_checks (get (codes "leapseconds") d)
 
 -- the first fault of a value, as a manifest
-unfoldable pub first_fault : Data → Option ManifestFault
-first_fault d = first_failing (manifest_checks d)
+unfoldable pub document_fault : Data → Option ManifestFault
+document_fault d = first_failing (manifest_checks d)

@@ -4,7 +4,7 @@ use Rattle.std.specs.Prelude.{Result, Ok, Err, ◌≢◌}
 use Rattle.std.specs.Str.{is_utf8}
 use Rattle.serde_json.specs.Data.{Data}
 use Rattle.serde_json.specs.Read.{read as read_text}
-use Rattle.release_manifest.specs.Checks.{Check, first_failing, first_fault}
+use Rattle.release_manifest.specs.Checks.{Check, first_failing, document_fault}
 use Rattle.release_manifest.specs.Meaning.{IsManifest}
 use Rattle.release_manifest.specs.declared.manifest_fault.ManifestFault.{ManifestFault}
 use Rattle.release_manifest.specs.declared.manifest_fault.ManifestFault.TheVariants as fault
@@ -18,7 +18,7 @@ value_in text = if is_utf8 text then read_text text else None
 -- the fault of a text without a value, or the first of its value
 abbrev pub value_fault : Option Data → Option ManifestFault
 value_fault None = Some fault.Syntax
-value_fault (Some d) = first_fault d
+value_fault (Some d) = document_fault d
 
 -- why a text is no manifest
 unfoldable pub manifest_text_fault : List ℕ → Option ManifestFault

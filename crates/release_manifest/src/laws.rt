@@ -1,14 +1,14 @@
 ghost use Rattle.std.specs.Prelude.{◌≡◌, ℕ, List, None};
 ghost use Rattle.serde_json.specs.Data.{Data};
 ghost use Rattle.release_manifest.specs.declared.manifest_type.Manifest.{Manifest};
-ghost use Rattle.release_manifest.specs.Checks.{first_fault};
+ghost use Rattle.release_manifest.specs.Checks.{document_fault};
 ghost use Rattle.release_manifest.specs.Meaning.{IsManifest};
 ghost use Rattle.release_manifest.specs.Reading.{IsManifestText, manifest_text_fault};
 
 /// A JSON value is a manifest exactly where it has no fault, and is one alone.
 pub fn one_meaning()
-    ensures found { (d : Data) → first_fault d ≡ None → (m : Manifest) × IsManifest d m }
-    ensures sound { (d : Data) (m : Manifest) → IsManifest d m → first_fault d ≡ None }
+    ensures found { (d : Data) → document_fault d ≡ None → (m : Manifest) × IsManifest d m }
+    ensures sound { (d : Data) (m : Manifest) → IsManifest d m → document_fault d ≡ None }
     ensures one { (d : Data) (m n : Manifest) → IsManifest d m → IsManifest d n → m ≡ n }
 {}
 

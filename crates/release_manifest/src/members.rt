@@ -5,8 +5,8 @@ ghost use Rattle.td_base.specs.Names.{is_label as has_label_form};
 ghost use Rattle.td_base.specs.Names.{is_file_name as has_file_name_form};
 ghost use Rattle.td_civil.specs.Reading.{is_date_text};
 ghost use Rattle.release_manifest.specs.declared.manifest_fault.Path.TheVariants as path;
-ghost use Rattle.release_manifest.specs.Checks.{text_of, object_checks, text_checks, form_checks};
-ghost use Rattle.release_manifest.specs.Checks.{is_stamp_text};
+ghost use Rattle.release_manifest.specs.Checks.{form_checks, is_stamp_text, object_checks};
+ghost use Rattle.release_manifest.specs.Checks.{text_checks, text_if_any};
 ghost use Rattle.release_manifest.specs.Meaning.{IsForm, IsStampOf};
 ghost use Rattle.release_manifest.specs.Reading.{JudgesChecks};
 
@@ -35,8 +35,9 @@ pub(crate) fn text_member<'v>(
     path: Path,
 ) -> Result<&'v str, ManifestFault>
     ensures { MatchResult result
-        (λ t. text_of (get name.now (view object.now)) ≡ Some t.now)
-        (λ e. (e ≡ ManifestFault.Field path) × (text_of (get name.now (view object.now)) ≡ None)) }
+        (λ t. text_if_any (get name.now (view object.now)) ≡ Some t.now)
+        (λ e. (e ≡ ManifestFault.Field path)
+        × (text_if_any (get name.now (view object.now)) ≡ None)) }
 {
     match object.get(name).and_then(Value::as_str) {
         Some(text) => Ok(text),
@@ -52,7 +53,7 @@ pub(crate) fn read_text(
     name: &str,
     path: Path,
 ) -> Result<Bytes, ManifestFault>
-    ensures is { IfOk result (λ b. text_of (get name.now (view object.now)) ≡ Some b) }
+    ensures is { IfOk result (λ b. text_if_any (get name.now (view object.now)) ≡ Some b) }
     ensures judged { JudgesChecks result (text_checks path (get name.now (view object.now))) }
 {
     let text = text_member(object, name, path)?;

@@ -12,8 +12,8 @@ use Rattle.std.specs.Str.{bytes_eq}
 use Rattle.std.proofs.lemmas.Map.Text.{is_eq-slice_cmp}
 use Rattle.std.proofs.Math.Seq.{drop-cons}
 use Rattle.json_forms.specs.declared.zone_list.ListZone.{ListZone}
-use Rattle.sync_core.specs.Keeping.{by_name, has_name}
-use Rattle.sync_core.specs.Mirrors.{MirrorState, ZoneFile, entry_name, file_name, files_in}
+use Rattle.sync_core.specs.Keeping.{by_name, has_listed_name}
+use Rattle.sync_core.specs.Mirrors.{MirrorState, ZoneFile, entry_name, file_name, files_kept}
 use Rattle.sync_core.specs.Names.{put_in, put_all, at_text}
 use Rattle.sync_core.specs.Published.{bytes_of}
 use Rattle.sync_core.specs.Steps.{after_file, is_alias, kept_entries, kept_files, rising_zones, with_changes}
@@ -51,9 +51,9 @@ one_file e = record { tzid = e.0; bytes = e.1 }
 
 -- a file put into the map
 pub file_put : (tzid bytes : List ℕ) (es : List (List ℕ × List ℕ))
-    → files_in (insert_entry (slice_cmp nat_cmp) es tzid bytes) ≡ put_in file_name (record { tzid = tzid; bytes = bytes }) (files_in es)
+    → files_kept (insert_entry (slice_cmp nat_cmp) es tzid bytes) ≡ put_in file_name (record { tzid = tzid; bytes = bytes }) (files_kept es)
 file_put tzid bytes es =
-    ap files_in (entry_put tzid bytes es)
+    ap files_kept (entry_put tzid bytes es)
     ∙ map-put one_file file_name (tzid, bytes) es
 
 -- a zone put into the map
@@ -71,8 +71,8 @@ keys_by_name (z ∷ zs) = ap (λ l. z.tzid ∷ l) (keys_by_name zs)
 
 -- ---- sets
 
-pub has_put : (name k : List ℕ) (ks : List (List ℕ)) → has_name (insert_key (slice_cmp nat_cmp) ks k) name ≡ (bytes_eq name k || has_name ks name)
-unfolding has_name
+pub has_put : (name k : List ℕ) (ks : List (List ℕ)) → has_listed_name (insert_key (slice_cmp nat_cmp) ks k) name ≡ (bytes_eq name k || has_listed_name ks name)
+unfolding has_listed_name
 has_put name k [] = refl
 has_put name k (x ∷ xs) = by (slice_cmp nat_cmp k x) refl (has_put name k xs)
   where
@@ -93,8 +93,8 @@ has_put name k (x ∷ xs) = by (slice_cmp nat_cmp k x) refl (has_put name k xs)
     by Equal is again = rw (same_text k x is) (twice (bytes_eq name x) (list_any (bytes_eq name) xs))
     by Greater is again = ap (λ b. bytes_eq name x || b) again ∙ other (bytes_eq name k) (bytes_eq name x) (list_any (bytes_eq name) xs)
 
-pub is_among : (name : List ℕ) (ks : List (List ℕ)) → list_any (is_at (slice_cmp nat_cmp name)) ks ≡ has_name ks name
-unfolding has_name
+pub is_among : (name : List ℕ) (ks : List (List ℕ)) → list_any (is_at (slice_cmp nat_cmp name)) ks ≡ has_listed_name ks name
+unfolding has_listed_name
 is_among name [] = refl
 is_among name (k ∷ ks) = rw (is_eq-slice_cmp name k) (ap (λ b. bytes_eq name k || b) (is_among name ks))
 
@@ -103,12 +103,12 @@ is_among name (k ∷ ks) = rw (is_eq-slice_cmp name k) (ap (λ b. bytes_eq name 
 -- the file of the first identifier that is pending
 pub file_heard : (token coming : Option (List ℕ)) (entries : List ListZone) (es fs : List (List ℕ × List ℕ)) (ps qs : List (List ℕ)) (front tzid bytes : List ℕ)
     → front ≡ slice_index_or ps 0 front → tzid ≡ front → 0 < length ps → qs ≡ drop 1 ps → fs ≡ insert_entry (slice_cmp nat_cmp) es tzid bytes
-    → state token coming entries (files_in fs) qs ≡ after_file ps (state token coming entries (files_in es) ps) bytes
+    → state token coming entries (files_kept fs) qs ≡ after_file ps (state token coming entries (files_kept es) ps) bytes
 file_heard token coming entries es fs [] qs front tzid bytes first same some rest is = absurd (omega arith)
 file_heard token coming entries es fs (p ∷ ps) qs front tzid bytes first same some rest is =
-    ap (λ (q : List (List ℕ)). state token coming entries (files_in fs) q) rest
-    ∙ ap (λ (f : List ZoneFile). state token coming entries f ps) (ap files_in is ∙ file_put tzid bytes es)
-    ∙ ap (λ (t : List ℕ). state token coming entries (put_in file_name (record { tzid = t; bytes = bytes }) (files_in es)) ps) (same ∙ first)
+    ap (λ (q : List (List ℕ)). state token coming entries (files_kept fs) q) rest
+    ∙ ap (λ (f : List ZoneFile). state token coming entries f ps) (ap files_kept is ∙ file_put tzid bytes es)
+    ∙ ap (λ (t : List ℕ). state token coming entries (put_in file_name (record { tzid = t; bytes = bytes }) (files_kept es)) ps) (same ∙ first)
 
 -- ---- aliases
 
@@ -117,16 +117,16 @@ one_more i = omega arith
 
 pub alias_put : (name : List ℕ) (xs : List (List ℕ)) (i : ℕ) (x k : List ℕ) (ks ls : List (List ℕ)) (whole : Bool) → i < length xs
     → x ≡ slice_index_or xs i x → k ≡ x
-    → ls ≡ insert_key (slice_cmp nat_cmp) ks k → (list_any (bytes_eq name) (drop i xs) || has_name ks name) ≡ whole
-    → (list_any (bytes_eq name) (drop (i + 1) xs) || has_name ls name) ≡ whole
+    → ls ≡ insert_key (slice_cmp nat_cmp) ks k → (list_any (bytes_eq name) (drop i xs) || has_listed_name ks name) ≡ whole
+    → (list_any (bytes_eq name) (drop (i + 1) xs) || has_listed_name ls name) ≡ whole
 alias_put name xs i x k ks ls whole within item same is before =
     let front : drop i xs ≡ k ∷ drop (i + 1) xs =
     drop-cons xs i x within ∙ ap (λ (y : List ℕ). y ∷ drop (suc i) xs) (sym item) ∙ ap (λ n. x ∷ drop n xs) (one_more i)
     ∙ ap (λ (y : List ℕ). y ∷ drop (i + 1) xs) (sym same) in
-    ap (λ (l : List (List ℕ)). list_any (bytes_eq name) (drop (i + 1) xs) || has_name l name) is
+    ap (λ (l : List (List ℕ)). list_any (bytes_eq name) (drop (i + 1) xs) || has_listed_name l name) is
     ∙ ap (λ b. list_any (bytes_eq name) (drop (i + 1) xs) || b) (has_put name k ks)
-    ∙ exchanged (list_any (bytes_eq name) (drop (i + 1) xs)) (bytes_eq name k) (has_name ks name)
-    ∙ sym (ap (λ (l : List (List ℕ)). list_any (bytes_eq name) l || has_name ks name) front) ∙ before
+    ∙ exchanged (list_any (bytes_eq name) (drop (i + 1) xs)) (bytes_eq name k) (has_listed_name ks name)
+    ∙ sym (ap (λ (l : List (List ℕ)). list_any (bytes_eq name) l || has_listed_name ks name) front) ∙ before
   where
     exchanged : (a b c : Bool) → (a || (b || c)) ≡ ((b || a) || c)
     exchanged true true c = refl
@@ -134,8 +134,8 @@ alias_put name xs i x k ks ls whole within item same is before =
     exchanged false true c = refl
     exchanged false false c = refl
 
-pub none_put : (zones : List ListZone) (ks : List (List ℕ)) (name : List ℕ) → ks ≡ [] → (is_alias zones name || has_name ks name) ≡ is_alias zones name
-unfolding has_name
+pub none_put : (zones : List ListZone) (ks : List (List ℕ)) (name : List ℕ) → ks ≡ [] → (is_alias zones name || has_listed_name ks name) ≡ is_alias zones name
+unfolding has_listed_name
 none_put zones ks name none = rw none (by (is_alias zones name))
   where
     by : (b : Bool) → (b || false) ≡ b
@@ -143,14 +143,14 @@ none_put zones ks name none = rw none (by (is_alias zones name))
     by false = refl
 
 pub aliases_put : (name : List ℕ) (zs : List ListZone) (i : ℕ) (z : ListZone) (ks ls : List (List ℕ)) (whole : Bool) → i < length zs → z ≡ slice_index_or zs i z
-    → has_name ls name ≡ (list_any (bytes_eq name) z.aliases || has_name ks name) → (is_alias (drop i zs) name || has_name ks name) ≡ whole
-    → (is_alias (drop (i + 1) zs) name || has_name ls name) ≡ whole
+    → has_listed_name ls name ≡ (list_any (bytes_eq name) z.aliases || has_listed_name ks name) → (is_alias (drop i zs) name || has_listed_name ks name) ≡ whole
+    → (is_alias (drop (i + 1) zs) name || has_listed_name ls name) ≡ whole
 aliases_put name zs i z ks ls whole within item is before =
     let front : drop i zs ≡ z ∷ drop (i + 1) zs = drop-cons zs i z within ∙ ap (λ (x : ListZone). x ∷ drop (suc i) zs) (sym item)
     ∙ ap (λ n. z ∷ drop n zs) (one_more i) in
     ap (λ b. is_alias (drop (i + 1) zs) name || b) is
-    ∙ exchanged (is_alias (drop (i + 1) zs) name) (list_any (bytes_eq name) z.aliases) (has_name ks name)
-    ∙ sym (ap (λ (l : List ListZone). is_alias l name || has_name ks name) front) ∙ before
+    ∙ exchanged (is_alias (drop (i + 1) zs) name) (list_any (bytes_eq name) z.aliases) (has_listed_name ks name)
+    ∙ sym (ap (λ (l : List ListZone). is_alias l name || has_listed_name ks name) front) ∙ before
   where
     exchanged : (a b c : Bool) → (a || (b || c)) ≡ ((b || a) || c)
     exchanged true true c = refl
@@ -181,9 +181,9 @@ pub names_begun : (done : List (List ℕ)) (zs : List ListZone) (es : List (List
 names_begun done zs es none is = ap (λ (l : List (List ℕ)). l ++ keys_of es) none ∙ ap keys_of is ∙ keys_by_name zs
 
 -- the entries that stay rise
-pub kept_rises : (ks : List (List ℕ)) (entries kept : List ListZone) → kept ≡ filter (λ z. not (has_name ks z.tzid)) entries → Rising entry_name entries
+pub kept_rises : (ks : List (List ℕ)) (entries kept : List ListZone) → kept ≡ filter (λ z. not (has_listed_name ks z.tzid)) entries → Rising entry_name entries
     → Rising entry_name kept
-kept_rises ks entries kept is r = subst (Rising entry_name) (sym is) (rising_filter entry_name (λ z. not (has_name ks z.tzid)) entries r)
+kept_rises ks entries kept is r = subst (Rising entry_name) (sym is) (rising_filter entry_name (λ z. not (has_listed_name ks z.tzid)) entries r)
 
 pub listed_rises : (zones listed : List ListZone) → listed ≡ rising_zones zones → Rising entry_name listed
 listed_rises zones listed is = subst (Rising entry_name) (sym is) (rising_put_all entry_name zones [] tt)
@@ -192,45 +192,45 @@ same_filter : {X : Type 0} (p q : X → Bool) → ((x : X) → p x ≡ q x) → 
 same_filter p q h [] = refl
 same_filter p q h (x ∷ xs) = ap (λ b. cond b (x ∷ filter p xs) (filter p xs)) (h x) ∙ ap (λ l. cond (q x) (x ∷ l) l) (same_filter p q h xs)
 
-filter_files : (p : List ℕ → Bool) (es : List (List ℕ × List ℕ)) → files_in (filter (λ e. p e.0) es) ≡ filter (λ f. p f.tzid) (files_in es)
+filter_files : (p : List ℕ → Bool) (es : List (List ℕ × List ℕ)) → files_kept (filter (λ e. p e.0) es) ≡ filter (λ f. p f.tzid) (files_kept es)
 filter_files p [] = refl
 filter_files p (e ∷ es) = by (p e.0) (filter_files p es)
   where
-    by : (b : Bool) → files_in (filter (λ (e : List ℕ × List ℕ). p e.0) es) ≡ filter (λ (f : ZoneFile). p f.tzid) (files_in es)
-        → files_in (cond b (e ∷ filter (λ (e : List ℕ × List ℕ). p e.0) es) (filter (λ (e : List ℕ × List ℕ). p e.0) es))
-        ≡ cond b (one_file e ∷ filter (λ (f : ZoneFile). p f.tzid) (files_in es)) (filter (λ (f : ZoneFile). p f.tzid) (files_in es))
+    by : (b : Bool) → files_kept (filter (λ (e : List ℕ × List ℕ). p e.0) es) ≡ filter (λ (f : ZoneFile). p f.tzid) (files_kept es)
+        → files_kept (cond b (e ∷ filter (λ (e : List ℕ × List ℕ). p e.0) es) (filter (λ (e : List ℕ × List ℕ). p e.0) es))
+        ≡ cond b (one_file e ∷ filter (λ (f : ZoneFile). p f.tzid) (files_kept es)) (filter (λ (f : ZoneFile). p f.tzid) (files_kept es))
     by true again = ap (λ l. one_file e ∷ l) again
     by false again = again
 
 -- zones that changed
 pub changes_heard : (token coming : Option (List ℕ)) (entries kept listed merged zones : List ListZone) (es fs : List (List ℕ × List ℕ))
     (ps names ks : List (List ℕ)) (new : List ℕ)
-    → Rising entry_name entries → ((name : List ℕ) → has_name ks name ≡ is_alias zones name) → kept ≡ filter (λ z. not (has_name ks z.tzid)) entries
-    → fs ≡ filter (λ e. not (has_name ks e.0)) es → listed ≡ rising_zones zones → merged ≡ put_all entry_name listed kept
+    → Rising entry_name entries → ((name : List ℕ) → has_listed_name ks name ≡ is_alias zones name) → kept ≡ filter (λ z. not (has_listed_name ks z.tzid)) entries
+    → fs ≡ filter (λ e. not (has_listed_name ks e.0)) es → listed ≡ rising_zones zones → merged ≡ put_all entry_name listed kept
     → names ≡ map entry_name (rising_zones zones)
-    → state token (Some new) merged (files_in fs) names ≡ with_changes (state token coming entries (files_in es) ps) new zones
+    → state token (Some new) merged (files_kept fs) names ≡ with_changes (state token coming entries (files_kept es) ps) new zones
 changes_heard token coming entries kept listed merged zones es fs ps names ks new rises aliases stay left sorted are named =
     let known : kept ≡ kept_entries zones entries = stay
-    ∙ same_filter (λ z. not (has_name ks z.tzid)) (λ z. not (is_alias zones z.tzid)) (λ z. ap not (aliases z.tzid)) entries in
+    ∙ same_filter (λ z. not (has_listed_name ks z.tzid)) (λ z. not (is_alias zones z.tzid)) (λ z. ap not (aliases z.tzid)) entries in
     let put : merged ≡ put_all entry_name zones (kept_entries zones entries) =
     are ∙ ap (λ l. put_all entry_name l kept) sorted ∙ put_rising entry_name zones kept (kept_rises ks entries kept stay rises)
     ∙ ap (put_all entry_name zones) known in
-    let files : files_in fs ≡ kept_files zones (files_in es) =
-    ap files_in left ∙ filter_files (λ n. not (has_name ks n)) es
-    ∙ same_filter (λ (f : ZoneFile). not (has_name ks f.tzid)) (λ f. not (is_alias zones f.tzid)) (λ f. ap not (aliases f.tzid)) (files_in es) in
-    ap (λ m. state token (Some new) m (files_in fs) names) put
+    let files : files_kept fs ≡ kept_files zones (files_kept es) =
+    ap files_kept left ∙ filter_files (λ n. not (has_listed_name ks n)) es
+    ∙ same_filter (λ (f : ZoneFile). not (has_listed_name ks f.tzid)) (λ f. not (is_alias zones f.tzid)) (λ f. ap not (aliases f.tzid)) (files_kept es) in
+    ap (λ m. state token (Some new) m (files_kept fs) names) put
     ∙ ap (λ (f : List ZoneFile). state token (Some new) (put_all entry_name zones (kept_entries zones entries)) f names) files
-    ∙ ap (λ (n : List (List ℕ)). state token (Some new) (put_all entry_name zones (kept_entries zones entries)) (kept_files zones (files_in es)) n) named
+    ∙ ap (λ (n : List (List ℕ)). state token (Some new) (put_all entry_name zones (kept_entries zones entries)) (kept_files zones (files_kept es)) n) named
 
 -- a file put into the store
 pub file_stored : (path name bytes n b : List ℕ) (left rest : List (List ℕ × List ℕ)) (old new : List File) (whole : Option (List ℕ))
     → left ≡ rest ++ (name, bytes) ∷ []
     → n ≡ name → b ≡ bytes → file_at new path ≡ (if bytes_eq n path then Some b else file_at old path)
-    → option_or (option_map bytes_of (at_text file_name (files_in left) path)) (file_at old path) ≡ whole
-    → option_or (option_map bytes_of (at_text file_name (files_in rest) path)) (file_at new path) ≡ whole
+    → option_or (option_map bytes_of (at_text file_name (files_kept left) path)) (file_at old path) ≡ whole
+    → option_or (option_map bytes_of (at_text file_name (files_kept rest) path)) (file_at new path) ≡ whole
 file_stored path name bytes n b left rest old new whole is same bytes_are put before =
-    ap (option_or (option_map bytes_of (at_text file_name (files_in rest) path))) (put ∙ rw (same, bytes_are, nat_list_eq_equiv.symm name path) refl)
-    ∙ more rest ∙ sym (ap (λ l. option_or (option_map bytes_of (at_text file_name (files_in l) path)) (file_at old path)) is) ∙ before
+    ap (option_or (option_map bytes_of (at_text file_name (files_kept rest) path))) (put ∙ rw (same, bytes_are, nat_list_eq_equiv.symm name path) refl)
+    ∙ more rest ∙ sym (ap (λ l. option_or (option_map bytes_of (at_text file_name (files_kept l) path)) (file_at old path)) is) ∙ before
   where
     last : (t : Bool) → cond t (Some bytes) (file_at old path) ≡ option_or (option_map bytes_of (cond t (Some (one_file (name, bytes))) None))
         (file_at old path)
@@ -244,10 +244,10 @@ file_stored path name bytes n b left rest old new whole is same bytes_are put be
     step false e o p f h = h
 
     more : (es : List (List ℕ × List ℕ))
-        → option_or (option_map bytes_of (at_text file_name (files_in es) path)) (if bytes_eq path name then Some bytes else file_at old path)
-        ≡ option_or (option_map bytes_of (at_text file_name (files_in (es ++ (name, bytes) ∷ [])) path)) (file_at old path)
+        → option_or (option_map bytes_of (at_text file_name (files_kept es) path)) (if bytes_eq path name then Some bytes else file_at old path)
+        ≡ option_or (option_map bytes_of (at_text file_name (files_kept (es ++ (name, bytes) ∷ [])) path)) (file_at old path)
     more [] = last (bytes_eq path name)
-    more (e ∷ es) = step (bytes_eq path e.0) e (at_text file_name (files_in es) path) (at_text file_name (files_in (es ++ (name, bytes) ∷ [])) path)
+    more (e ∷ es) = step (bytes_eq path e.0) e (at_text file_name (files_kept es) path) (at_text file_name (files_kept (es ++ (name, bytes) ∷ [])) path)
         (if bytes_eq path name then Some bytes else file_at old path) (more es)
 
 pub merged_rises : (listed kept merged : List ListZone) → Rising entry_name kept → merged ≡ put_all entry_name listed kept → Rising entry_name merged

@@ -14,8 +14,8 @@ abbrev pub by_name : List ListZone → List (List ℕ × ListZone)
 by_name zones = map (λ z. (z.tzid, z)) zones
 
 -- whether a name is among the names
-unfoldable pub has_name : List (List ℕ) → List ℕ → Bool
-has_name names name = list_any (bytes_eq name) names
+unfoldable pub has_listed_name : List (List ℕ) → List ℕ → Bool
+has_listed_name names name = list_any (bytes_eq name) names
 
 -- which of two rising lists has the zone that comes first; where one has none, the other does
 abbrev pub order_of : List ListZone → List ListZone → Ordering

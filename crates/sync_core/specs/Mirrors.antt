@@ -38,5 +38,5 @@ abbrev pub ask_of : MirrorState → Ask
 ask_of s = ask_for s.pending s.token
 
 -- the files that a map keeps
-abbrev pub files_in : List (List ℕ × List ℕ) → List ZoneFile
-files_in entries = map (λ e. record { tzid = e.0; bytes = e.1 }) entries
+abbrev pub files_kept : List (List ℕ × List ℕ) → List ZoneFile
+files_kept entries = map (λ e. record { tzid = e.0; bytes = e.1 }) entries

@@ -29,7 +29,7 @@ pub struct Mirror {
 impl Model for Mirror {
     ghost use Rattle.std.specs.Prelude.{map};
     ghost use Rattle.catalogue.specs.Order.{IsRising};
-    ghost use Rattle.sync_core.specs.Mirrors.{MirrorState, entry_name, files_in};
+    ghost use Rattle.sync_core.specs.Mirrors.{MirrorState, entry_name, files_kept};
 
     ghost Value = { MirrorState };
 
@@ -37,7 +37,7 @@ impl Model for Mirror {
       token = m.token;
       coming = m.coming;
       entries = m.entries.items;
-      files = files_in m.files.entries;
+      files = files_kept m.files.entries;
       pending = m.pending.items;
     } };
 

@@ -1,6 +1,6 @@
 ghost use Rattle.std.specs.Prelude.{◌≡◌, map, IfOk, option_copied};
 ghost use Rattle.sync_core.specs.Keeping.{later_of};
-ghost use Rattle.sync_core.specs.Mirrors.{files_in};
+ghost use Rattle.sync_core.specs.Mirrors.{files_kept};
 ghost use Rattle.sync_core.specs.Published.{HasFiles, manifest_with, manifest_zone};
 ghost use Rattle.sync_core.specs.Published.{newest as newest_of};
 
@@ -82,7 +82,7 @@ fn copies(alloc: Global, texts: &[Bytes]) -> Result<Items<Bytes>, NoMemory>
 
 /// A store with the files, by their names.
 pub fn store(alloc: Global, files: &BTreeMap<Bytes, Bytes>) -> Result<MemoryStore, NoMemory>
-    ensures { IfOk result (λ stored. HasFiles stored (files_in files.now.entries)) }
+    ensures { IfOk result (λ stored. HasFiles stored (files_kept files.now.entries)) }
 {
     let mut stored = MemoryStore::new(alloc);
     let mut rest = files.iter();

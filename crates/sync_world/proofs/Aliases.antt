@@ -10,7 +10,7 @@ use Rattle.json_forms.specs.declared.zone_list.ListZone.{ListZone}
 use Rattle.sync_world.proofs.Looks.{known, joined, unless}
 use Rattle.sync_core.specs.Steps.{is_alias}
 use Rattle.std.specs.Option.{option_or}
-use Rattle.sync_world.specs.Primaries.{list_of, changes_of, IsPlace}
+use Rattle.sync_world.specs.Primaries.{list_told, changes_of, IsPlace}
 use Rattle.catalogue.specs.Lookups.{zone_at}
 use Rattle.sync_world.proofs.Zones.{has_text, aliased, absent, role, Role, a_zone, an_alias, no_name, IsZone, IsAlias, IsNone, among_at, among_alias, listed_by, changed_by, known_none, known_some, alias_none, alias_some}
 use Rattle.sync_world.proofs.Changes.{stays, changes, end, ends_distinct, starts_distinct, still_named, at_change, changes_are, known_is, same_listed}
@@ -35,7 +35,7 @@ zone_named cs t c h = by (has_text (names_of cs) t) refl
 
 module _ (sound : ReleaseData → Type 0) (A : List ReleaseData) (x : ReleaseData) (X : List ReleaseData) (h : IsHistory sound (A ++ x ∷ X)) where
   abbrev before : List ℕ → Option ListZone
-  before = known (list_of (A ++ x ∷ []))
+  before = known (list_told (A ++ x ∷ []))
 
   abbrev releases : ContentData → ReleaseData
   releases = at_change (A ++ x ∷ X) (end x X)
@@ -113,7 +113,7 @@ module _ (sound : ReleaseData → Type 0) (A : List ReleaseData) (x : ReleaseDat
   by_role t (an_alias c is) = of_alias t c is
   by_role t (no_name is) = of_none t is
 
-  pub joined_split : (t : List ℕ) → joined (known (list_of (A ++ x ∷ []))) (changes_of (A ++ x ∷ X) (length A + 1)) t ≡ known (list_of (A ++ x ∷ X)) t
+  pub joined_split : (t : List ℕ) → joined (known (list_told (A ++ x ∷ []))) (changes_of (A ++ x ∷ X) (length A + 1)) t ≡ known (list_told (A ++ x ∷ X)) t
   joined_split t =
       ap (λ zones. joined before zones t) (changes_are A x X (length A + 1))
       ∙ by_role t (role (end x X).contents t (ends_distinct sound A x X h)) ∙ sym (known_is A x X t)
@@ -150,13 +150,13 @@ cut H m p = by (drop (m - 1) H) refl
 
 joined_cut : (sound : ReleaseData → Type 0) (H T : List ReleaseData) (m : ℕ) (A : List ReleaseData) (x : ReleaseData) (X : List ReleaseData)
     → H ≡ A ++ x ∷ X → T ≡ A ++ x ∷ [] → m ≡ length A + 1 → IsHistory sound H
-    → (t : List ℕ) → joined (known (list_of T)) (changes_of H m) t ≡ known (list_of H) t
+    → (t : List ℕ) → joined (known (list_told T)) (changes_of H m) t ≡ known (list_told H) t
 joined_cut sound H T m A x X whole front place h t =
     let k = joined_split sound A x X (subst (IsHistory sound) whole h) t in
     rw (whole, front, place) k
 
 pub joined_at : (sound : ReleaseData → Type 0) (H : List ReleaseData) (m : ℕ) → IsHistory sound H → IsPlace H m
-    → (t : List ℕ) → joined (known (list_of (take m H))) (changes_of H m) t ≡ known (list_of H) t
+    → (t : List ℕ) → joined (known (list_told (take m H))) (changes_of H m) t ≡ known (list_told H) t
 joined_at sound H m h p t =
     let c = cut H m p in
     joined_cut sound H (take m H) m c.A c.x c.X c.whole c.front c.place h t

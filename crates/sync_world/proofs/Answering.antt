@@ -22,11 +22,11 @@ use Rattle.zone_meaning.specs.Lengths.{sound_labels, sound_lengths}
 use Rattle.zone_meaning.specs.Sound.{IsSound}
 use Rattle.actions.specs.Action.{action, answer_for}
 use Rattle.actions.specs.Getting.{get_answer, got, got_as}
-use Rattle.actions.specs.Listing.{listed, list_of as list_text, change_list, changes_since, list_answer}
+use Rattle.actions.specs.Listing.{listed, list_text, change_list, changes_since, list_answer}
 use Rattle.actions.proofs.lemmas.Chosen.{listed_is_plain}
 use Rattle.sync_core.specs.declared.heard_type.Heard.{Heard}
-use Rattle.sync_world.specs.Hearing.{HearsIn, IsHeadOf, action_service, asked_by, file_bytes}
-use Rattle.sync_world.specs.Primaries.{file_told, told, list_at, list_of, changes_at, changes_of}
+use Rattle.sync_world.specs.Hearing.{HearsIn, IsHeadOf, action_service, action_asked, file_bytes}
+use Rattle.sync_world.specs.Primaries.{file_told, told_by, list_at, list_told, changes_at, changes_of}
 use Rattle.sync_world.proofs.Names.{content_at, entry_named}
 use Rattle.sync_world.proofs.Reading.{list, list_back}
 use Rattle.sync_world.proofs.SoundLists.{AreGood, IsGoodZone, filtered_good, meta_good, no_list_fault}
@@ -72,8 +72,8 @@ module _ (H : List ReleaseData) (history : IsHistory IsSound H) (some : 1 ≤ le
         is = sym (list_back token (map listed es) (each_stamped es all));
       }
 
-  full_heard : HearsIn (ask.List None) (list_answer H param.Absent) (list_at H (list_of H))
-  unfolding list_answer list_text list_of token
+  full_heard : HearsIn (ask.List None) (list_answer H param.Absent) (list_at H (list_told H))
+  unfolding list_answer list_text list_told token
   full_heard =
       let es = filter (λ _. true) (meta H) in (
         refl,
@@ -86,10 +86,10 @@ module _ (H : List ReleaseData) (history : IsHistory IsSound H) (some : 1 ≤ le
   since_heard since (Some n) = (refl, text_of_part (delta H n) (each_filtered IsPlainEntry _ (meta H) plain) (filtered_good _ (meta H) (meta_good H history)))
   since_heard since None = (refl, problem_found InvalidChangedsince)
 
-  list_heard : (since : Option (List ℕ)) (head : Head) (h : Heard) → told action_service H (ask.List since) ≡ Some h
-      → HearsIn (ask.List since) (answer_for H Primary head (asked_by (ask.List since))) h
+  list_heard : (since : Option (List ℕ)) (head : Head) (h : Heard) → told_by action_service H (ask.List since) ≡ Some h
+      → HearsIn (ask.List since) (answer_for H Primary head (action_asked (ask.List since))) h
   unfolding list_answer
-  list_heard None head h e = let one : list_at H (list_of H) ≡ h = cc in subst (HearsIn (ask.List None) (list_answer H param.Absent)) one full_heard
+  list_heard None head h e = let one : list_at H (list_told H) ≡ h = cc in subst (HearsIn (ask.List None) (list_answer H param.Absent)) one full_heard
   list_heard (Some since) head h e =
       let one : changes_at H (place_of H since) ≡ h = cc in
       subst (HearsIn (ask.List (Some since)) (changes_since H (place_of H since))) one (since_heard since (place_of H since))
@@ -104,7 +104,7 @@ got_heard name (Some e) h is =
     (refl, refl))
 
 file_heard : (H : List ReleaseData) (name : List ℕ) (head : Head) (h : Heard) → head.accept ≡ Some (codes "application/tzif") → head.none_match ≡ None
-    → told action_service H (ask.Get name) ≡ Some h → HearsIn (ask.Get name) (answer_for H Primary head (asked_by (ask.Get name))) h
+    → told_by action_service H (ask.Get name) ≡ Some h → HearsIn (ask.Get name) (answer_for H Primary head (action_asked (ask.Get name))) h
 unfolding get_answer
 file_heard H name head h accept held e =
     let o = option_and_then (slice_get (meta H)) (place_named H name) in
@@ -113,11 +113,11 @@ file_heard H name head h accept held e =
     subst (λ a. HearsIn (ask.Get name) (got name o a head.none_match param.Absent param.Absent) h) (sym accept) one
 
 answer_heard : (H : List ReleaseData) (a : Ask) (head : Head) (h : Heard) → IsHistory IsSound H → 1 ≤ length H → IsHeadOf a head
-    → told action_service H a ≡ Some h
-    → HearsIn a (answer_for H Primary head (asked_by a)) h
+    → told_by action_service H a ≡ Some h
+    → HearsIn a (answer_for H Primary head (action_asked a)) h
 answer_heard H (ask.List since) head h history some k e = list_heard H history some since head h e
 answer_heard H (ask.Get name) head h history some k e = file_heard H name head h k.accept k.none_match e
 
 pub told_is_heard : (H : List ReleaseData) (a : Ask) (head : Head) (h : Heard) → IsHistory IsSound H → 1 ≤ length H → IsHeadOf a head
-    → told action_service H a ≡ Some h → HearsIn a (action H Primary head) h
+    → told_by action_service H a ≡ Some h → HearsIn a (action H Primary head) h
 told_is_heard H a head h history some k e = subst (λ answer. HearsIn a answer h) (sym (action_is H a head k)) (answer_heard H a head h history some k e)

@@ -11,7 +11,7 @@ use Rattle.catalogue.specs.Histories.{IsHistory, EntryData, entry_from, entries_
 use Rattle.sync_world.proofs.Looks.{known}
 use Rattle.actions.specs.Listing.{listed}
 use Rattle.catalogue.specs.Lookups.{delta, zone_at}
-use Rattle.sync_world.specs.Primaries.{list_of, changes_of}
+use Rattle.sync_world.specs.Primaries.{list_told, changes_of}
 use Rattle.sync_core.proofs.lemmas.Puts.{bytes_same}
 use Rattle.sync_world.proofs.Zones.{Distinct, has_text, entries_by, listed_by, changed_by, known_all}
 
@@ -146,8 +146,8 @@ abbrev pub at_change : List ReleaseData → ReleaseData → ContentData → Rele
 at_change H last c = get_or H (last_change H c - 1) last
 
 pub list_is : (A : List ReleaseData) (x : ReleaseData) (X : List ReleaseData)
-    → list_of (A ++ x ∷ X) ≡ map listed (entries_by (at_change (A ++ x ∷ X) (end x X)) (last_change (A ++ x ∷ X)) (end x X).contents)
-unfolding list_of meta
+    → list_told (A ++ x ∷ X) ≡ map listed (entries_by (at_change (A ++ x ∷ X) (end x X)) (last_change (A ++ x ∷ X)) (end x X).contents)
+unfolding list_told meta
 list_is A x X = ap (λ o. map listed (entries_of (A ++ x ∷ X) o)) (last_is A None x X)
 
 pub changes_are : (A : List ReleaseData) (x : ReleaseData) (X : List ReleaseData) (n : ℕ)
@@ -158,7 +158,7 @@ changes_are A x X n =
 
 -- what the list of a whole history says of a name
 pub known_is : (A : List ReleaseData) (x : ReleaseData) (X : List ReleaseData) (t : List ℕ)
-    → known (list_of (A ++ x ∷ X)) t ≡ option_map (listed_by (at_change (A ++ x ∷ X) (end x X)) (last_change (A ++ x ∷ X))) (zone_at (end x X).contents t)
+    → known (list_told (A ++ x ∷ X)) t ≡ option_map (listed_by (at_change (A ++ x ∷ X) (end x X)) (last_change (A ++ x ∷ X))) (zone_at (end x X).contents t)
 known_is A x X t =
     ap (λ zones. known zones t) (list_is A x X)
     ∙ known_all (at_change (A ++ x ∷ X) (end x X)) (last_change (A ++ x ∷ X)) (end x X).contents t

@@ -15,7 +15,7 @@ use Rattle.sync_core.specs.Mirrors.{entry_name}
 use Rattle.sync_core.specs.Steps.{rising_zones}
 use Rattle.actions.specs.Listing.{listed}
 use Rattle.catalogue.specs.Order.{IsRising}
-use Rattle.sync_world.specs.Primaries.{list_of}
+use Rattle.sync_world.specs.Primaries.{list_told}
 use Rattle.sync_core.specs.Steps.{is_alias}
 use Rattle.catalogue.specs.Lookups.{named, zone_at, zones_of, contents_of}
 use Rattle.sync_world.proofs.Zones.{Distinct, has_text, aliased, role, Role, a_zone, an_alias, no_name, IsZone, IsAlias, IsNone, among_at, among_alias, entries_by, listed_by, changed_by, known_some, alias_none, alias_some}
@@ -159,12 +159,12 @@ listed_texts : (f : ContentData → ReleaseData) (g : ContentData → ℕ) (cs :
 listed_texts f g [] = refl
 listed_texts f g (c ∷ cs) = ap (λ ts. c.tzid ∷ ts) (listed_texts f g cs)
 
-pub list_rises : (sound : ReleaseData → Type 0) (G : List ReleaseData) → IsHistory sound G → 1 ≤ length G → Rising entry_name (list_of G)
+pub list_rises : (sound : ReleaseData → Type 0) (G : List ReleaseData) → IsHistory sound G → 1 ≤ length G → Rising entry_name (list_told G)
 list_rises sound G h long =
     let c = cut G (length G) (long, omega arith) in
-    subst (λ F. Rising entry_name (list_of F)) (sym c.whole) (by c.A c.x c.X (subst (IsHistory sound) c.whole h))
+    subst (λ F. Rising entry_name (list_told F)) (sym c.whole) (by c.A c.x c.X (subst (IsHistory sound) c.whole h))
   where
-    by : (A : List ReleaseData) (x : ReleaseData) (X : List ReleaseData) → IsHistory sound (A ++ x ∷ X) → Rising entry_name (list_of (A ++ x ∷ X))
+    by : (A : List ReleaseData) (x : ReleaseData) (X : List ReleaseData) → IsHistory sound (A ++ x ∷ X) → Rising entry_name (list_told (A ++ x ∷ X))
     by A x X h =
         subst (Rising entry_name) (sym (list_is A x X))
         (subst IsRising (sym (listed_texts (at_change (A ++ x ∷ X) (end x X)) (last_change (A ++ x ∷ X)) (end x X).contents)) (ends_rising sound A x X h))

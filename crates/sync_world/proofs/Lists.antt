@@ -9,7 +9,7 @@ use Rattle.sync_core.specs.Mirrors.{MirrorState, ZoneFile, entry_name, file_name
 use Rattle.sync_core.specs.Names.{at_text}
 use Rattle.sync_core.proofs.lemmas.Puts.{Rising, found_text, one_list}
 use Rattle.sync_world.specs.Holding.{HoldsLast, file_of}
-use Rattle.sync_world.specs.Primaries.{Service, list_of, served_for}
+use Rattle.sync_world.specs.Primaries.{Service, list_told, served_for}
 use Rattle.sync_world.proofs.Aliases.{cut}
 use Rattle.sync_world.proofs.Changes.{end}
 use Rattle.sync_world.proofs.Files.{zones_are, ends_rising, list_rises}
@@ -69,7 +69,7 @@ pub exactly : (P : Service) (sound : ReleaseData → Type 0) (G : List ReleaseDa
     → HoldsState P (looked_up m) G → HoldsLast P m G
 exactly P sound G m h long r k = record {
   token = k.token;
-  entries = one_list entry_name m.entries (list_of G) r.entries (list_rises sound G h long) k.entries;
+  entries = one_list entry_name m.entries (list_told G) r.entries (list_rises sound G h long) k.entries;
   files = one_list file_name m.files (map (file_of P) (zones_of G)) r.files (files_rise P sound G h long)
       (λ t. same_found P m.files (zones_of G) t (k.files t));
   pending = k.pending;

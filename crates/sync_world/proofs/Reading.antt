@@ -46,10 +46,10 @@ zone_back z h =
     members_back z.aliases z
     ∙ ap (λ (o : Option ℤ). zone z (unwrap_or o (pos 0)) z.aliases) (reads_back_lem z.stamp.seconds (has_text z.stamp.seconds h))
 
-zones_back : (zones : List ListZone) → AllByRecursion HasStamp zones → reading.zones_of (items_of (map zone_data zones)) ≡ zones
+zones_back : (zones : List ListZone) → AllByRecursion HasStamp zones → reading.zones_read (items_of (map zone_data zones)) ≡ zones
 zones_back [] h = refl
 zones_back (z ∷ zs) h =
-    ap (λ (y : ListZone). y ∷ reading.zones_of (items_of (map zone_data zs))) (zone_back z h.0) ∙ ap (λ (ys : List ListZone). z ∷ ys) (zones_back zs h.1)
+    ap (λ (y : ListZone). y ∷ reading.zones_read (items_of (map zone_data zs))) (zone_back z h.0) ∙ ap (λ (ys : List ListZone). z ∷ ys) (zones_back zs h.1)
 
 abbrev pub list : List ℕ → List ListZone → ListDoc
 list token zones = record { token = token; zones = zones }

@@ -11,8 +11,8 @@ use Rattle.actions.specs.Action.{action}
 use Rattle.sync_core.specs.declared.heard_type.Heard.{Heard}
 use Rattle.sync_core.specs.declared.heard_type.Heard.TheVariants as heard
 use Rattle.sync_world.specs.Hearing.{HearsIn, IsHeadOf, IsHeardOver, action_service}
-use Rattle.sync_world.specs.Primaries.{told}
-use Rattle.sync_world.specs.Worlds.{Leads, Sent, Step, SyncWorld, begun}
+use Rattle.sync_world.specs.Primaries.{told_by}
+use Rattle.sync_world.specs.Worlds.{Leads, Sent, Step, SyncWorld, world_begun}
 use Rattle.sync_world.proofs.Answered.{answered}
 use Rattle.sync_world.proofs.Answering.{told_is_heard}
 use Rattle.sync_world.proofs.Files.{history_front}
@@ -22,7 +22,7 @@ use Rattle.sync_world.proofs.Telling.{tells_so}
 use Rattle.sync_world.proofs.Tokens.{few_places, finds, finds_no_other}
 
 pub heard_exactly : (H : List ReleaseData) (a : Ask) (head : Head) (h : Heard) → IsHistory IsSound H → 1 ≤ length H → IsHeadOf a head
-    → (told action_service H a ≡ Some h) ↔ HearsIn a (action H Primary head) h
+    → (told_by action_service H a ≡ Some h) ↔ HearsIn a (action H Primary head) h
 heard_exactly H a head h history some k =
     (told_is_heard H a head h history some k, λ hears. tells_so H a h history some (record { head = head; asks_so = k; hears = hears }))
 
@@ -31,14 +31,14 @@ some_of Q None k = absurd k
 some_of Q (Some x) k = (x, refl, k)
 
 pub requested : (H : List ReleaseData) (xs : List Step) (w : SyncWorld) (sent : Sent) (n : ℕ) (head : Head) → IsHistory IsSound H → 1 ≤ length H
-    → Leads IsSound IsHeardOver (begun H) xs w
+    → Leads IsSound IsHeardOver (world_begun H) xs w
     → w.sent ≡ Some sent → sent.since ≤ n → n ≤ length w.history → IsHeadOf sent.ask head
     → (h : Heard) × HearsIn sent.ask (action (take n w.history) Primary head) h × (h ≡ heard.BadToken → ⊥)
 requested H xs w sent n head h some leads out from upto k =
     let i = always action_service IsSound IsHeardOver tells_so finds finds_no_other H xs w h some leads in
     let stands = subst (SentStands action_service w.history (looked_up w.mirror)) out i.state in
     let low : 1 ≤ sent.since = stands.1 in
-    let answer = some_of _ (told action_service (take n w.history) sent.ask)
+    let answer = some_of _ (told_by action_service (take n w.history) sent.ask)
     (answered action_service IsSound IsHeardOver tells_so finds finds_no_other H xs w sent n h some leads out from upto) in (
       answer.0,
       told_is_heard (take n w.history) sent.ask head answer.0 (history_front IsSound w.history n i.history) (omega (arith, length-take n w.history)) k answer.1,

@@ -10,9 +10,9 @@ use Rattle.json_forms.specs.declared.zone_list.ListDoc.{ListDoc}
 use Rattle.sync_core.specs.Mirrors.{MirrorState, ask_for}
 use Rattle.sync_core.specs.declared.heard_type.Heard.{Heard}
 use Rattle.sync_core.specs.declared.heard_type.Heard.TheVariants as heard
-use Rattle.sync_world.specs.Primaries.{HeardIsTold, FindsPlaces, FindsNoOther, Service, served_for, told, list_at, list_of, changes_of, changes_at, IsPlace}
+use Rattle.sync_world.specs.Primaries.{HeardIsTold, FindsPlaces, FindsNoOther, Service, served_for, told_by, list_at, list_told, changes_of, changes_at, IsPlace}
 use Rattle.sync_world.specs.Worlds as world
-use Rattle.sync_world.specs.Worlds.{SyncWorld, Sent, Step, IsAnswer, LeadsTo, Leads, after, begun, sent_then}
+use Rattle.sync_world.specs.Worlds.{SyncWorld, Sent, Step, IsAnswer, LeadsTo, Leads, world_after, world_begun, sent_then}
 use Rattle.sync_world.proofs.Aliases.{cut}
 use Rattle.sync_world.proofs.Changes.{end, ends_distinct}
 use Rattle.sync_world.proofs.Files.{zones_are, named_of_zone, history_front}
@@ -57,12 +57,12 @@ module _ (P : Service) (sound : ReleaseData → Type 0) (finds : FindsPlaces sou
           let other : ask.List (Some token) ≡ ask.Get t = e ∙ ap (λ p. ask_for p s.token) some in
           absurd (cc)
 
-  answered : (n : ℕ) (sent : Sent) (h' : Heard) → SentStands P H s (Some sent) → sent.since ≤ n → n ≤ length H → told P (take n H) sent.ask ≡ Some h'
+  answered : (n : ℕ) (sent : Sent) (h' : Heard) → SentStands P H s (Some sent) → sent.since ≤ n → n ≤ length H → told_by P (take n H) sent.ask ≡ Some h'
       → Invariant P H (length H) (state_after s h')
   answered n sent h' i from upto e =
       let low : 1 ≤ sent.since = i.1 in
       let g = good P sound finds no_other H sent.since n h (omega arith, upto) from s i.3 in
-      let same : Some g.said ≡ Some h' = sym g.is ∙ ap (told P (take n H)) (sym i.0) ∙ e in
+      let same : Some g.said ≡ Some h' = sym g.is ∙ ap (told_by P (take n H)) (sym i.0) ∙ e in
       let one : g.said ≡ h' = cc in
       later P H n (length H) (state_after s h') upto (omega arith) (subst (λ x. Invariant P H n (state_after s x)) one g.next)
 
@@ -74,11 +74,11 @@ asked P H m some (Some sent) i = i
 module _ (P : Service) (sound : ReleaseData → Type 0) (hears : List ReleaseData → Ask → Heard → Type 0) (so : HeardIsTold sound hears P)
     (finds : FindsPlaces sound P) (no_other : FindsNoOther sound P) where
   pub told_so : (H : List ReleaseData) (n : ℕ) (a : Ask) (h : Heard) → IsHistory sound H → 1 ≤ n → n ≤ length H → hears (take n H) a h
-      → told P (take n H) a ≡ Some h
+      → told_by P (take n H) a ≡ Some h
   told_so H n a h history low upto is = so (take n H) a h (history_front sound H n history) (omega (arith, length-take n H)) is
 
   taken : (w : SyncWorld) (h : Heard) → WorldStands P sound w → Invariant P w.history (length w.history) (state_after (looked_up w.mirror) h)
-      → WorldStands P sound (after w h)
+      → WorldStands P sound (world_after w h)
   taken w h i k = record {
     history = i.history;
     some = i.some;
@@ -128,14 +128,14 @@ module _ (P : Service) (sound : ReleaseData → Type 0) (hears : List ReleaseDat
   steps w [] v i is = subst (WorldStands P sound) (sym is) i
   steps w (x ∷ xs) v i is = steps is.0 xs v (step w x is.0 i is.1) is.2
 
-  pub always : (H : List ReleaseData) (xs : List Step) (w : SyncWorld) → IsHistory sound H → 1 ≤ length H → Leads sound hears (begun H) xs w → WorldStands P sound w
+  pub always : (H : List ReleaseData) (xs : List Step) (w : SyncWorld) → IsHistory sound H → 1 ≤ length H → Leads sound hears (world_begun H) xs w → WorldStands P sound w
   always H xs w h some is =
-      steps (begun H) xs w (record { history = h; some = some; state = fresh (record { token = refl; coming = refl; pending = refl }); rises = none_rise }) is
+      steps (world_begun H) xs w (record { history = h; some = some; state = fresh (record { token = refl; coming = refl; pending = refl }); rises = none_rise }) is
 
 -- the state by look-ups holds the last release
 pub record HoldsState (P : Service) (s : StateData) (H : List ReleaseData) : Type 0 where
   pub token : s.token ≡ Some (token_of H (length H))
-  pub entries : (t : List ℕ) → s.entries t ≡ known (list_of H) t
+  pub entries : (t : List ℕ) → s.entries t ≡ known (list_told H) t
   pub files : (t : List ℕ) → s.files t ≡ served_for P t (zone_at (zones_of H) t)
   pub pending : s.pending ≡ []
 
@@ -179,7 +179,7 @@ module _ (P : Service) (sound : ReleaseData → Type 0) (finds : FindsPlaces sou
     (h : IsHistory sound H) (some : 1 ≤ length H)
     (n since : ℕ) (token : List ℕ) (doc : ListDoc) (from : since ≤ n) (place : IsPlace H n) (empty : doc.zones ≡ [])
     (asked_so : ask.List (Some token) ≡ state_ask s)
-    (answer_is : told P (take n H) (ask.List (Some token)) ≡ Some (heard.List doc)) where
+    (answer_is : told_by P (take n H) (ask.List (Some token)) ≡ Some (heard.List doc)) where
   pub settled_holds : Invariant P H since s → HoldsState P (state_after s (heard.List doc)) (take n H)
   settled_holds (fresh f) =
       let other : ask.List (Some token) ≡ ask.List None = asked_so ∙ ap (λ p. ask_for p s.token) f.pending ∙ ap ask.List f.token in
@@ -194,7 +194,7 @@ module _ (P : Service) (sound : ReleaseData → Type 0) (finds : FindsPlaces sou
           let ask_is : ask.List (Some token) ≡ ask.List s.token = asked_so ∙ ap (λ p. ask_for p s.token) none in
           let token_is : s.token ≡ Some token = cc in
           let same : Some (changes_at (take n H) (P.place (take n H) (token_of H m))) ≡ Some (heard.List doc) =
-          sym (changes_answer P sound finds no_other H m since n h place from s k none) ∙ ap (told P (take n H)) (sym asked_so) ∙ answer_is in
+          sym (changes_answer P sound finds no_other H m since n h place from s k none) ∙ ap (told_by P (take n H)) (sym asked_so) ∙ answer_is in
           let one : changes_at (take n H) (P.place (take n H) (token_of H m)) ≡ heard.List doc = cc in
           elim (own_or_none P sound finds no_other H m since n h place from s k) [
             | inl found ↦

@@ -8,7 +8,7 @@ use Rattle.catalogue.specs.Histories.{IsHistory, token_of}
 use Rattle.sync_world.proofs.Looks.{StateData, state_ask, known, pending_of, token_then, coming_then, settled, after_all, after_list, state_after}
 use Rattle.sync_core.specs.declared.heard_type.Heard.{Heard}
 use Rattle.sync_core.specs.declared.heard_type.Heard.TheVariants as heard
-use Rattle.sync_world.specs.Primaries.{told, list_at, list_of, Service, served_for, IsPlace}
+use Rattle.sync_world.specs.Primaries.{told_by, list_at, list_told, Service, served_for, IsPlace}
 use Rattle.catalogue.specs.Lookups.{named, zone_at, zones_of}
 use Rattle.sync_world.proofs.Places.{token_of_take}
 use Rattle.sync_world.proofs.Zones.{has_text}
@@ -38,7 +38,7 @@ pub record Stands (P : Service) (H : List ReleaseData) (m l : ℕ) (s : StateDat
   pub within : m ≤ l
   pub high : l ≤ length H
   pub tokens : TokensStand H m s.pending s.token s.coming
-  pub entries : (t : List ℕ) → s.entries t ≡ known (list_of (take m H)) t
+  pub entries : (t : List ℕ) → s.entries t ≡ known (list_told (take m H)) t
   pub files : (t : List ℕ) → FileStands P H m l s.pending t (s.files t) (zone_at (zones_of (take m H)) t)
   pub pending : AllByRecursion (λ t. is_some (zone_at (zones_of (take m H)) t) ≡ true) s.pending
 
@@ -96,7 +96,7 @@ grown P H X l s (stands m k) =
       within = k.within;
       high = omega (arith, length-append H X);
       tokens = tokens_grown s.pending token k.tokens;
-      entries = λ t. k.entries t ∙ ap (λ G. known (list_of G) t) (sym same);
+      entries = λ t. k.entries t ∙ ap (λ G. known (list_told G) t) (sym same);
       files = λ t. subst (λ G. FileStands P (H ++ X) m l s.pending t (s.files t) (zone_at (zones_of G) t)) (sym same)
           (file_grown P H X m l s.pending t (s.files t) (zone_at (zones_of (take m H)) t) h (k.files t));
       pending = subst (λ G. AllByRecursion (λ t. is_some (zone_at (zones_of G) t) ≡ true) s.pending) (sym same) k.pending;
@@ -110,7 +110,7 @@ grown P H X l s (stands m k) =
 -- what is answered at place n, and that the invariant holds there
 pub record IsGood (P : Service) (H : List ReleaseData) (n : ℕ) (s : StateData) : Type 0 where
   pub said : Heard
-  pub is : told P (take n H) (state_ask s) ≡ Some said
+  pub is : told_by P (take n H) (state_ask s) ≡ Some said
   pub known_token : length H ≤ P.kept → said ≡ heard.BadToken → ⊥
   pub next : Invariant P H n (state_after s said)
 
@@ -121,17 +121,17 @@ settles H n (t ∷ ts) token = refl
 
 -- a list knows the identifiers of its place's zones
 pub known_zone : (sound : ReleaseData → Type 0) (G : List ReleaseData) (t : List ℕ) → 1 ≤ length G
-    → is_some (known (list_of G) t) ≡ is_some (zone_at (zones_of G) t)
+    → is_some (known (list_told G) t) ≡ is_some (zone_at (zones_of G) t)
 known_zone sound G t long =
     let c = cut G (length G) (long, omega arith) in
-    subst (λ F. is_some (known (list_of F) t) ≡ is_some (zone_at (zones_of F) t)) (sym c.whole) (by c.A c.x c.X)
+    subst (λ F. is_some (known (list_told F) t) ≡ is_some (zone_at (zones_of F) t)) (sym c.whole) (by c.A c.x c.X)
   where
     some_map : {B : Type 0} (f : ContentData → B) (o : Option ContentData) → is_some (option_map f o) ≡ is_some o
     some_map f None = refl
     some_map f (Some c) = refl
 
     by : (A : List ReleaseData) (x : ReleaseData) (X : List ReleaseData)
-        → is_some (known (list_of (A ++ x ∷ X)) t) ≡ is_some (zone_at (zones_of (A ++ x ∷ X)) t)
+        → is_some (known (list_told (A ++ x ∷ X)) t) ≡ is_some (zone_at (zones_of (A ++ x ∷ X)) t)
     by A x X = ap is_some (known_is A x X t) ∙ some_map _ (zone_at (end x X).contents t) ∙ ap (λ cs. is_some (zone_at cs t)) (sym (zones_are A x X))
 
 module _ (P : Service) (sound : ReleaseData → Type 0) (H : List ReleaseData) (n : ℕ) (h : IsHistory sound H) (place : IsPlace H n) where
@@ -145,27 +145,27 @@ module _ (P : Service) (sound : ReleaseData → Type 0) (H : List ReleaseData) (
   own_token = ap (token_of (take n H)) long ∙ token_of_take H n n (omega arith)
 
   -- after the whole list
-  all_files : (t : List ℕ) (o : Option ContentData) → zone_at (zones_of (take n H)) t ≡ o → FileStands P H n n (pending_of (list_of (take n H))) t None o
+  all_files : (t : List ℕ) (o : Option ContentData) → zone_at (zones_of (take n H)) t ≡ o → FileStands P H n n (pending_of (list_told (take n H))) t None o
   all_files t None e = refl
   all_files t (Some c) e =
       let low : 1 ≤ n = place.0 in
-      inl (known_pending (list_of (take n H)) t (list_rises sound (take n H) (history_front sound H n h) (omega (arith, long)))
+      inl (known_pending (list_told (take n H)) t (list_rises sound (take n H) (history_front sound H n h) (omega (arith, long)))
       (known_zone sound (take n H) t (omega (arith, long)) ∙ ap is_some e))
 
-  pub whole_list : (s : StateData) → s.token ≡ None → Stands P H n n (state_after s (list_at (take n H) (list_of (take n H))))
+  pub whole_list : (s : StateData) → s.token ≡ None → Stands P H n n (state_after s (list_at (take n H) (list_told (take n H))))
   whole_list s none =
       let low : 1 ≤ n = place.0 in
       let rises = list_rises sound (take n H) (history_front sound H n h) (omega (arith, long)) in
-      let after : Stands P H n n (settled (after_all s (record { token = token_of (take n H) (length (take n H)); zones = list_of (take n H) }))) =
+      let after : Stands P H n n (settled (after_all s (record { token = token_of (take n H) (length (take n H)); zones = list_told (take n H) }))) =
       record {
         low = place.0;
         within = omega arith;
         high = place.1;
-        tokens = rw own_token (settles H n (pending_of (list_of (take n H))) s.token);
-        entries = λ t. known_put (list_of (take n H)) t rises;
+        tokens = rw own_token (settles H n (pending_of (list_told (take n H))) s.token);
+        entries = λ t. known_put (list_told (take n H)) t rises;
         files = λ t. all_files t (zone_at (zones_of (take n H)) t) refl;
-        pending = each_pending (list_of (take n H)) (λ t. is_some (zone_at (zones_of (take n H)) t) ≡ true) rises
+        pending = each_pending (list_told (take n H)) (λ t. is_some (zone_at (zones_of (take n H)) t) ≡ true) rises
             (λ t k. sym (known_zone sound (take n H) t (omega (arith, long))) ∙ k);
       } in
-      subst (λ o. Stands P H n n (settled (after_list o s (record { token = token_of (take n H) (length (take n H)); zones = list_of (take n H) }))))
+      subst (λ o. Stands P H n n (settled (after_list o s (record { token = token_of (take n H) (length (take n H)); zones = list_told (take n H) }))))
       (sym none) after

@@ -12,7 +12,7 @@ use Rattle.sync_core.specs.Mirrors.{ask_for, entry_name}
 use Rattle.sync_core.specs.declared.heard_type.Heard.TheVariants as heard
 use Rattle.sync_core.specs.Steps.{is_alias}
 use Rattle.std.specs.Option.{option_or}
-use Rattle.sync_world.specs.Primaries.{FindsPlaces, FindsNoOther, file_told, told, changes_at, list_at, list_of, changes_of, Service, served_for, IsPlace}
+use Rattle.sync_world.specs.Primaries.{FindsPlaces, FindsNoOther, file_told, told_by, changes_at, list_at, list_told, changes_of, Service, served_for, IsPlace}
 use Rattle.catalogue.specs.Lookups.{named, zone_at, zones_of}
 use Rattle.sync_core.proofs.lemmas.Puts.{Rising, bytes_same}
 use Rattle.sync_world.proofs.Zones.{has_text, Role, a_zone, an_alias, no_name, IsZone, role, known_none}
@@ -83,7 +83,7 @@ some_known sound A x X h t k = by (zone_at (end x X).contents t) refl
 
 -- what stands of entries, files and pending names after a list of changes Z
 record AfterChanges (P : Service) (H : List ReleaseData) (n : ℕ) (s : StateData) (Z : List ListZone) : Type 0 where
-  entries : (t : List ℕ) → joined s.entries Z t ≡ known (list_of (take n H)) t
+  entries : (t : List ℕ) → joined s.entries Z t ≡ known (list_told (take n H)) t
   files : (t : List ℕ) → FileStands P H n n (pending_of Z) t (kept s.files Z t) (zone_at (zones_of (take n H)) t)
   pending : AllByRecursion (λ t. is_some (zone_at (zones_of (take n H)) t) ≡ true) (pending_of Z)
   rises : Rising entry_name Z
@@ -129,7 +129,7 @@ module _ (P : Service) (sound : ReleaseData → Type 0) (finds : FindsPlaces sou
       record {
         entries = λ t.
             ap (λ o. option_or (known (changes_of (take n H) m) t) (unless (is_alias (changes_of (take n H) m) t) o))
-            (k.entries t ∙ ap (λ F. known (list_of F) t) (sym front_same))
+            (k.entries t ∙ ap (λ F. known (list_told F) t) (sym front_same))
             ∙ joined_at sound (take n H) m g in_front t;
         files = both.0;
         pending = both.1;
@@ -237,7 +237,7 @@ module _ (P : Service) (sound : ReleaseData → Type 0) (finds : FindsPlaces sou
       } in
       record {
         said = heard.Zone (P.served t z.zone);
-        is = subst (λ p. told P (take n H) (ask_for p s.token) ≡ Some (heard.Zone (P.served t z.zone))) (sym e)
+        is = subst (λ p. told_by P (take n H) (ask_for p s.token) ≡ Some (heard.Zone (P.served t z.zone))) (sym e)
             (ap (λ o. option_map file_told (served_for P t o)) z.is);
         known_token = λ wide no. cc;
         next = stands m (subst (λ p. Stands P H m n (settled (after_file p s (P.served t z.zone)))) (sym e) after);
@@ -249,7 +249,7 @@ module _ (P : Service) (sound : ReleaseData → Type 0) (finds : FindsPlaces sou
       case u v some false other = inr other
 
   -- what a list with the token of place m is answered with
-  pub changes_answer : s.pending ≡ [] → told P (take n H) (state_ask s) ≡ Some (changes_at (take n H) (P.place (take n H) (token_of H m)))
+  pub changes_answer : s.pending ≡ [] → told_by P (take n H) (state_ask s) ≡ Some (changes_at (take n H) (P.place (take n H) (token_of H m)))
   changes_answer none =
       let tokens : TokensStand H m [] s.token s.coming = subst (λ p. TokensStand H m p s.token s.coming) none k.tokens in
       rw (none, tokens.0)
@@ -294,7 +294,7 @@ pub good : (P : Service) (sound : ReleaseData → Type 0) → FindsPlaces sound 
     → (H : List ReleaseData) (l n : ℕ) (h : IsHistory sound H) (place : IsPlace H n) (le : l ≤ n) (s : StateData)
     → Invariant P H l s → IsGood P H n s
 good P sound finds no_other H l n h place le s (fresh f) = record {
-  said = list_at (take n H) (list_of (take n H));
+  said = list_at (take n H) (list_told (take n H));
   is = rw (f.pending, f.token);
   known_token = λ wide no. cc;
   next = stands n (whole_list P sound H n h place s f.token);

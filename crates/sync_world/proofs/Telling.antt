@@ -20,11 +20,11 @@ use Rattle.zone_meaning.specs.Lengths.{sound_labels, sound_lengths}
 use Rattle.zone_meaning.specs.Sound.{IsSound}
 use Rattle.actions.specs.Action.{action, answer_for}
 use Rattle.actions.specs.Getting.{get_answer, got, got_as}
-use Rattle.actions.specs.Listing.{listed, list_of as list_text, change_list, changes_since, list_answer}
+use Rattle.actions.specs.Listing.{listed, list_text, change_list, changes_since, list_answer}
 use Rattle.sync_core.specs.declared.heard_type.Heard.{Heard}
 use Rattle.sync_core.specs.declared.heard_type.Heard.TheVariants as heard
-use Rattle.sync_world.specs.Hearing.{HearsIn, IsHeadOf, IsHeardOver, action_service, asked_by, file_bytes}
-use Rattle.sync_world.specs.Primaries.{file_told, told, list_of, changes_at, changes_of}
+use Rattle.sync_world.specs.Hearing.{HearsIn, IsHeadOf, IsHeardOver, action_service, action_asked, file_bytes}
+use Rattle.sync_world.specs.Primaries.{file_told, told_by, list_told, changes_at, changes_of}
 use Rattle.sync_world.proofs.Names.{content_at, entry_named}
 use Rattle.sync_world.proofs.Reading.{HasStamp, list, list_read}
 
@@ -66,8 +66,8 @@ module _ (H : List ReleaseData) (history : IsHistory IsSound H) where
 
   -- ---- what is heard was told
 
-  full_so : (h : Heard) → HearsIn (ask.List None) (list_answer H param.Absent) h → told action_service H (ask.List None) ≡ Some h
-  unfolding list_answer list_text list_of token
+  full_so : (h : Heard) → HearsIn (ask.List None) (list_answer H param.Absent) h → told_by action_service H (ask.List None) ≡ Some h
+  unfolding list_answer list_text list_told token
   full_so (heard.List doc) k =
       let is = list_read token (map listed (filter (λ _. true) (meta H))) doc
       (each_stamped (filter (λ _. true) (meta H)) (each_filtered IsPlainEntry (λ _. true) (meta H) plain)) k.1 in
@@ -87,8 +87,8 @@ module _ (H : List ReleaseData) (history : IsHistory IsSound H) where
   since_so since None (heard.Zone bytes) k = absurd k
   since_so since None heard.BadToken k = refl
 
-  list_so : (since : Option (List ℕ)) (head : Head) (h : Heard) → HearsIn (ask.List since) (answer_for H Primary head (asked_by (ask.List since))) h
-      → told action_service H (ask.List since) ≡ Some h
+  list_so : (since : Option (List ℕ)) (head : Head) (h : Heard) → HearsIn (ask.List since) (answer_for H Primary head (action_asked (ask.List since))) h
+      → told_by action_service H (ask.List since) ≡ Some h
   unfolding list_answer
   list_so None head h k = full_so h k
   list_so (Some since) head h k = since_so since (place_of H since) h k
@@ -104,7 +104,7 @@ got_so name (Some e) (heard.Zone bytes) k =
     ap (λ (b : List ℕ). Some (heard.Zone b)) file.1
 
 file_so : (H : List ReleaseData) (name : List ℕ) (head : Head) (h : Heard) → head.accept ≡ Some (codes "application/tzif") → head.none_match ≡ None
-    → HearsIn (ask.Get name) (answer_for H Primary head (asked_by (ask.Get name))) h → told action_service H (ask.Get name) ≡ Some h
+    → HearsIn (ask.Get name) (answer_for H Primary head (action_asked (ask.Get name))) h → told_by action_service H (ask.Get name) ≡ Some h
 unfolding get_answer
 file_so H name head h accept held k =
     let o = option_and_then (slice_get (meta H)) (place_named H name) in
@@ -113,14 +113,14 @@ file_so H name head h accept held k =
     ap (λ z. option_map file_told (option_map (file_bytes name) z)) (sym (entry_named H name)) ∙ got_so name o h two
 
 answer_so : (H : List ReleaseData) (a : Ask) (head : Head) (h : Heard) → IsHistory IsSound H → IsHeadOf a head
-    → HearsIn a (answer_for H Primary head (asked_by a)) h → told action_service H a ≡ Some h
+    → HearsIn a (answer_for H Primary head (action_asked a)) h → told_by action_service H a ≡ Some h
 answer_so H (ask.List since) head h history k heard_it = list_so H history since head h heard_it
 answer_so H (ask.Get name) head h history k heard_it = file_so H name head h k.accept k.none_match heard_it
 
-pub action_is : (H : List ReleaseData) (a : Ask) (head : Head) → IsHeadOf a head → action H Primary head ≡ answer_for H Primary head (asked_by a)
+pub action_is : (H : List ReleaseData) (a : Ask) (head : Head) → IsHeadOf a head → action H Primary head ≡ answer_for H Primary head (action_asked a)
 unfolding action
 action_is H a head k = ap (answer_for H Primary head) k.target
 
-pub tells_so : (H : List ReleaseData) (a : Ask) (h : Heard) → IsHistory IsSound H → 1 ≤ length H → IsHeardOver H a h → told action_service H a ≡ Some h
+pub tells_so : (H : List ReleaseData) (a : Ask) (h : Heard) → IsHistory IsSound H → 1 ≤ length H → IsHeardOver H a h → told_by action_service H a ≡ Some h
 tells_so H a h history some k =
     answer_so H a k.head h history k.asks_so (subst (λ answer. HearsIn a answer h) (action_is H a k.head k.asks_so) k.hears)

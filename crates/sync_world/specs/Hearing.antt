@@ -21,10 +21,10 @@ use Rattle.sync_core.specs.declared.heard_type.Heard.TheVariants as heard
 use Rattle.sync_world.specs.Primaries.{Service}
 
 -- what a request asks for: a list, since a token where there is one, or the whole data of a zone
-abbrev pub asked_by : Ask → Asked
-asked_by (ask.List None) = asked.List param.Absent
-asked_by (ask.List (Some token)) = asked.List (param.Once token)
-asked_by (ask.Get name) = asked.Get name param.Absent param.Absent
+abbrev pub action_asked : Ask → Asked
+action_asked (ask.List None) = asked.List param.Absent
+action_asked (ask.List (Some token)) = asked.List (param.Once token)
+action_asked (ask.Get name) = asked.Get name param.Absent param.Absent
 
 -- lists are JSON, and zones TZif files (RFC 9636, section 9)
 abbrev pub accepted : Ask → List ℕ
@@ -33,7 +33,7 @@ accepted (ask.Get name) = codes "application/tzif"
 
 -- the head is one of a request that asks so
 pub record IsHeadOf (a : Ask) (head : Head) : Type 0 where
-  pub target : asks head.target ≡ asked_by a
+  pub target : asks head.target ≡ action_asked a
   pub accept : head.accept ≡ Some (accepted a)
   pub none_match : head.none_match ≡ None
 

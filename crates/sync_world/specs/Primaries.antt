@@ -17,8 +17,8 @@ IsPlace H n = (1 ≤ n) × (n ≤ length H)
 
 -- the zones of the last release as a list shows them, and those whose content last changed after a
 -- place
-unfoldable pub list_of : List ReleaseData → List ListZone
-list_of H = map listed (meta H)
+unfoldable pub list_told : List ReleaseData → List ListZone
+list_told H = map listed (meta H)
 
 unfoldable pub changes_of : List ReleaseData → ℕ → List ListZone
 changes_of H n = map listed (delta H n)
@@ -46,10 +46,10 @@ abbrev pub file_told : List ℕ → Heard
 file_told bytes = heard.Zone bytes
 
 -- what is told over a history: nothing where no zone has the name of a file that is asked for
-abbrev pub told : Service → List ReleaseData → Ask → Option Heard
-told P H (ask.List None) = Some (list_at H (list_of H))
-told P H (ask.List (Some token)) = Some (changes_at H (P.place H token))
-told P H (ask.Get name) = option_map file_told (served_for P name (named (zones_of H) name))
+abbrev pub told_by : Service → List ReleaseData → Ask → Option Heard
+told_by P H (ask.List None) = Some (list_at H (list_told H))
+told_by P H (ask.List (Some token)) = Some (changes_at H (P.place H token))
+told_by P H (ask.Get name) = option_map file_told (served_for P name (named (zones_of H) name))
 
 -- the token of a place, at a later time, finds that place while it is one of the last, and
 -- otherwise finds it or none
@@ -66,7 +66,7 @@ FindsNoOther sound P = (H : List ReleaseData) (m n : ℕ) → IsHistory sound H 
 abbrev pub HeardIsTold : (ReleaseData → Type 0) → (List ReleaseData → Ask → Heard → Type 0)
     → Service → Type 0
 HeardIsTold sound hears P = (H : List ReleaseData) (a : Ask) (h : Heard) → IsHistory sound H
-    → 1 ≤ length H → hears H a h → told P H a ≡ Some h
+    → 1 ≤ length H → hears H a h → told_by P H a ≡ Some h
 
 -- a primary serves so
 pub record ServesSo (sound : ReleaseData → Type 0) (hears : List ReleaseData → Ask → Heard → Type 0)
@@ -84,4 +84,4 @@ pub record IsTokenOf (P : Service) (H : List ReleaseData) (since : ℕ) (token :
   pub by_then : place ≤ since
   pub is : token ≡ token_of H place
   pub known : (n : ℕ) → since ≤ n → n ≤ length H → n < place + P.kept
-      → told P (take n H) (ask.List (Some token)) ≢ Some heard.BadToken
+      → told_by P (take n H) (ask.List (Some token)) ≢ Some heard.BadToken

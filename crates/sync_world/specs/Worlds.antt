@@ -21,8 +21,8 @@ pub record SyncWorld : Type 0 where
   pub sent : Option Sent
 
 -- a primary, and a mirror that has heard nothing
-abbrev pub begun : List ReleaseData → SyncWorld
-begun H = record { history = H; mirror = empty_mirror; sent = None }
+abbrev pub world_begun : List ReleaseData → SyncWorld
+world_begun H = record { history = H; mirror = empty_mirror; sent = None }
 
 pub data Step : Type 0 where
   -- the primary installs a release
@@ -45,8 +45,8 @@ sent_then None mirror n = record { ask = ask_of mirror; since = n }
 sent_then (Some sent) mirror n = sent
 
 -- what the world is after the mirror took this
-abbrev pub after : SyncWorld → Heard → SyncWorld
-after w h = record { history = w.history; mirror = sync_step w.mirror h; sent = None }
+abbrev pub world_after : SyncWorld → Heard → SyncWorld
+world_after w h = record { history = w.history; mirror = sync_step w.mirror h; sent = None }
 
 -- the mirror takes what is heard of the primary over its first n releases, no fewer than it had
 -- when the ask was first sent
@@ -56,12 +56,12 @@ pub record IsAnswer (hears : List ReleaseData → Ask → Heard → Type 0) (w :
   pub from : sent.since ≤ n
   pub upto : n ≤ length w.history
   pub is_heard : hears (take n w.history) sent.ask h
-  pub is_taken : v ≡ after w h
+  pub is_taken : v ≡ world_after w h
 
 -- the token of the outstanding ask is refused
 pub record IsTokenRefused (w v : SyncWorld) (since : ℕ) (token : List ℕ) : Type 0 where
   pub outstanding : w.sent ≡ Some (record { ask = ask.List (Some token); since = since })
-  pub is_taken : v ≡ after w heard.BadToken
+  pub is_taken : v ≡ world_after w heard.BadToken
 
 module _ (sound : ReleaseData → Type 0) (hears : List ReleaseData → Ask → Heard → Type 0) where
   -- one step leads from a world to another

@@ -17,8 +17,8 @@ ghost use Rattle.sync_core.specs.declared.heard_type.Heard.TheVariants as heard;
 ghost use Rattle.sync_world.specs.Hearing.{HearsIn, IsHeadOf, IsHeardOver, action_service};
 ghost use Rattle.sync_world.specs.Holding.{HoldsLast, SaysHolds};
 ghost use Rattle.sync_world.specs.Primaries.{IsPlace, IsTokenOf, ServesSo};
-ghost use Rattle.sync_world.specs.Primaries.{changes_of, list_of, told};
-ghost use Rattle.sync_world.specs.Worlds.{Sent, Step, SyncWorld, IsAnswer, Leads, begun};
+ghost use Rattle.sync_world.specs.Primaries.{changes_of, list_told, told_by};
+ghost use Rattle.sync_world.specs.Worlds.{Sent, Step, SyncWorld, IsAnswer, Leads, world_begun};
 
 use crate::Primary;
 use catalogue::ZoneData;
@@ -28,7 +28,7 @@ use catalogue::ZoneData;
 pub fn answers_are_heard()
     ensures { (H : List ReleaseData) (a : Ask) (head : Head) (h : Heard) → IsHistory IsSound H
         → 1 ≤ length H → IsHeadOf a head
-        → (told action_service H a ≡ Some h) ↔ HearsIn a (action H Primary head) h }
+        → (told_by action_service H a ≡ Some h) ↔ HearsIn a (action H Primary head) h }
 {}
 
 /// Each request for what is outstanding is answered, at each place from the one on at which it was
@@ -36,7 +36,7 @@ pub fn answers_are_heard()
 pub fn requests_are_answered()
     ensures { (H : List ReleaseData) (steps : List Step) (w : SyncWorld) (sent : Sent)
         (n : ℕ) (head : Head)
-        → IsHistory IsSound H → 1 ≤ length H → Leads IsSound IsHeardOver (begun H) steps w
+        → IsHistory IsSound H → 1 ≤ length H → Leads IsSound IsHeardOver (world_begun H) steps w
         → w.sent ≡ Some sent → sent.since ≤ n → n ≤ length w.history → IsHeadOf sent.ask head
         → (h : Heard) × HearsIn sent.ask (action (take n w.history) Primary head) h
         × (h ≢ heard.BadToken) }
@@ -55,7 +55,7 @@ pub fn actions_serve()
 pub fn mirrors_hold_releases()
     ensures { (H : List ReleaseData) (steps : List Step) (w v : SyncWorld) (n : ℕ)
         (sent : Sent) (h : Heard)
-        → IsHistory IsSound H → 1 ≤ length H → Leads IsSound IsHeardOver (begun H) steps w
+        → IsHistory IsSound H → 1 ≤ length H → Leads IsSound IsHeardOver (world_begun H) steps w
         → IsAnswer IsHeardOver w n v sent h → SaysHolds w.mirror h
         → HoldsLast action_service v.mirror (take n w.history) }
 {}
@@ -65,7 +65,7 @@ pub fn mirrors_hold<P: Primary>()
     ensures { (H : List ReleaseData) (steps : List Step) (w v : SyncWorld) (n : ℕ)
         (sent : Sent) (h : Heard)
         → ServesSo P.sound P.hears P.service → IsHistory P.sound H → 1 ≤ length H
-        → Leads P.sound P.hears (begun H) steps w
+        → Leads P.sound P.hears (world_begun H) steps w
         → IsAnswer P.hears w n v sent h → SaysHolds w.mirror h
         → HoldsLast P.service v.mirror (take n w.history) }
 {}
@@ -75,9 +75,9 @@ pub fn mirrors_hold<P: Primary>()
 pub fn asks_are_answered<P: Primary>()
     ensures { (H : List ReleaseData) (steps : List Step) (w : SyncWorld) (sent : Sent) (n : ℕ)
         → ServesSo P.sound P.hears P.service → IsHistory P.sound H → 1 ≤ length H
-        → Leads P.sound P.hears (begun H) steps w
+        → Leads P.sound P.hears (world_begun H) steps w
         → w.sent ≡ Some sent → sent.since ≤ n → n ≤ length w.history
-        → IsSomeAnd (told P.service (take n w.history) sent.ask)
+        → IsSomeAnd (told_by P.service (take n w.history) sent.ask)
         (λ h. length w.history ≤ P.service.kept → h ≢ heard.BadToken) }
 {}
 
@@ -87,7 +87,7 @@ pub fn tokens_are_refused_late<P: Primary>()
     ensures { (H : List ReleaseData) (steps : List Step) (w : SyncWorld) (since : ℕ)
         (token : List ℕ)
         → ServesSo P.sound P.hears P.service → IsHistory P.sound H → 1 ≤ length H
-        → Leads P.sound P.hears (begun H) steps w
+        → Leads P.sound P.hears (world_begun H) steps w
         → w.sent ≡ Some (record { ask = ask.List (Some token); since = since })
         → IsTokenOf P.service w.history since token }
 {}
@@ -96,6 +96,6 @@ pub fn tokens_are_refused_late<P: Primary>()
 /// place. What became an alias goes with the change of the zone whose alias it became.
 pub fn aliases_follow<Z: ZoneData>()
     ensures { (H : List ReleaseData) (n : ℕ) → IsHistory Z.sound H → IsPlace H n
-        → put_all entry_name (changes_of H n) (kept_entries (changes_of H n) (list_of (take n H)))
-        ≡ list_of H }
+        → put_all entry_name (changes_of H n) (kept_entries (changes_of H n) (list_told (take n H)))
+        ≡ list_told H }
 {}

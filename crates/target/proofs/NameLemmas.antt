@@ -16,8 +16,8 @@ use Rattle.percent_encoding.proofs.AsciiSetLemmas.{escaped_from_inside}
 use Rattle.percent_encoding.proofs.PercentLemmas.{IsEscapeByte, All-percent_encode, round_trip}
 use Rattle.form_urlencoded.proofs.FormLemmas.{raw_pairs-nil}
 use Rattle.target.specs.Paths.{is_slash, is_question_mark, path_and_query, path_of, query_of, raw_segments, decode_segment, decode_segments}
-use Rattle.target.specs.Parameters.{values, param_with, parameter}
-use Rattle.target.specs.Actions.{action, action_of, asks}
+use Rattle.target.specs.Parameters.{parameter_values, param_with, parameter}
+use Rattle.target.specs.Actions.{asked_action, action_of, asks}
 use Rattle.target.specs.Names.{zone_target, has_marks, IsUtf8Name}
 use Rattle.target.specs.declared.asked_types.Param.TheVariants as param
 use Rattle.target.specs.declared.asked_types.Asked.TheVariants as ask
@@ -82,11 +82,11 @@ decoded name tzid e = rw (root_is, zones_is, e) refl
 
 -- ---- what they ask for
 absent : (name : List ℕ) → parameter name [] ≡ param.Absent
-unfolding parameter values
-absent name = ap (λ pairs. param_with (values name pairs)) raw_pairs-nil
+unfolding parameter parameter_values
+absent name = ap (λ pairs. param_with (parameter_values name pairs)) raw_pairs-nil
 
-asked : (tzid : List ℕ) → 0 < length tzid → action (codes "tzdist" ∷ codes "zones" ∷ tzid ∷ []) [] ≡ ask.Get tzid param.Absent param.Absent
-unfolding action
+asked : (tzid : List ℕ) → 0 < length tzid → asked_action (codes "tzdist" ∷ codes "zones" ∷ tzid ∷ []) [] ≡ ask.Get tzid param.Absent param.Absent
+unfolding asked_action
 asked tzid some =
     let e : (length tzid == 0) ≡ false = ne_eqb (length tzid) 0 (λ z. omega arith) in
     rw (e, absent (codes "start"), absent (codes "end")) refl

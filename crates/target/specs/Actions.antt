@@ -47,16 +47,16 @@ observances root zones tzid last query =
     else ask.Unknown
 
 -- what the decoded segments ask for, with the parameters of the query
-unfoldable pub action : List (List ℕ) → List ℕ → Asked
-action (root ∷ name ∷ []) query = document root name query
-action (root ∷ zones ∷ tzid ∷ []) query = zone root zones tzid query
-action (root ∷ zones ∷ tzid ∷ last ∷ []) query = observances root zones tzid last query
-action segments query = ask.Unknown
+unfoldable pub asked_action : List (List ℕ) → List ℕ → Asked
+asked_action (root ∷ name ∷ []) query = document root name query
+asked_action (root ∷ zones ∷ tzid ∷ []) query = zone root zones tzid query
+asked_action (root ∷ zones ∷ tzid ∷ last ∷ []) query = observances root zones tzid last query
+asked_action segments query = ask.Unknown
 
 -- a segment that is not UTF-8 asks for nothing
 abbrev pub action_of : Option (List (List ℕ)) → List ℕ → Asked
 action_of None query = ask.Unknown
-action_of (Some segments) query = action segments query
+action_of (Some segments) query = asked_action segments query
 
 -- what a target asks for
 unfoldable pub asks : List ℕ → Asked

@@ -6,14 +6,15 @@ use Rattle.target.specs.declared.asked_types.Param.{Param}
 use Rattle.target.specs.declared.asked_types.Param.TheVariants as param
 
 -- what a name or a value stands for, with U+FFFD for what is not UTF-8
-unfoldable pub text_of : List ℕ → List ℕ
-text_of bytes = utf8_lossy (decode bytes)
+unfoldable pub decoded_text : List ℕ → List ℕ
+decoded_text bytes = utf8_lossy (decode bytes)
 
 -- the values under this name
-unfoldable pub values : List ℕ → List (List ℕ × List ℕ) → List (List ℕ)
-values name [] = []
-values name (pair ∷ pairs) =
-    if bytes_eq (text_of pair.0) name then text_of pair.1 ∷ values name pairs else values name pairs
+unfoldable pub parameter_values : List ℕ → List (List ℕ × List ℕ) → List (List ℕ)
+parameter_values name [] = []
+parameter_values name (pair ∷ pairs) =
+    if bytes_eq (decoded_text pair.0) name then decoded_text pair.1 ∷ parameter_values name pairs
+    else parameter_values name pairs
 
 -- the parameter with these values
 abbrev pub param_with : List (List ℕ) → Param
@@ -23,7 +24,7 @@ param_with (first ∷ second ∷ others) = param.Repeated
 
 -- the parameter of this name in a query
 unfoldable pub parameter : List ℕ → List ℕ → Param
-parameter name query = param_with (values name (raw_pairs query))
+parameter name query = param_with (parameter_values name (raw_pairs query))
 
 -- the parameter with one more value
 abbrev pub with_value : Param → List ℕ → Param

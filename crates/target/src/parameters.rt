@@ -8,7 +8,7 @@ use std::alloc::Global;
 use td_base::{Bytes, NoMemory};
 
 /// The parameter of this name.
-#[tactic(auto, unfolding(crate::specs::Parameters::parameter, crate::specs::Parameters::values))]
+#[tactic(auto, unfolding(crate::specs::Parameters::parameter, crate::specs::Parameters::parameter_values))]
 pub fn parameter(alloc: Global, query: &[u8], wanted: &[u8]) -> Result<Param, NoMemory>
     ensures { IfOk result (λ found. found ≡ parameters.parameter wanted.now query.now) }
 {
@@ -22,19 +22,19 @@ pub fn parameter(alloc: Global, query: &[u8], wanted: &[u8]) -> Result<Param, No
 }
 
 /// Whether an encoded name stands for this one.
-#[tactic(auto, unfolding(crate::specs::Parameters::text_of))]
+#[tactic(auto, unfolding(crate::specs::Parameters::decoded_text))]
 fn is_named(alloc: Global, name: &[u8], wanted: &[u8]) -> Result<bool, NoMemory>
-    ensures { IfOk result (λ is. is ≡ bytes_eq (parameters.text_of name.now) wanted.now) }
+    ensures { IfOk result (λ is. is ≡ bytes_eq (parameters.decoded_text name.now) wanted.now) }
 {
     let text = decode(alloc, name)?;
     Ok(text.as_bytes() == wanted)
 }
 
 /// The parameter with one more value.
-#[tactic(auto, unfolding(crate::specs::Parameters::text_of))]
+#[tactic(auto, unfolding(crate::specs::Parameters::decoded_text))]
 fn with_value(alloc: Global, found: Param, value: &[u8]) -> Result<Param, NoMemory>
     ensures { IfOk result
-        (λ param. param ≡ parameters.with_value found (parameters.text_of value.now)) }
+        (λ param. param ≡ parameters.with_value found (parameters.decoded_text value.now)) }
 {
     match found {
         Param::Absent => {

@@ -26,9 +26,9 @@ pub fn read(alloc: Global, target: &[u8]) -> Result<Asked, NoMemory>
 }
 
 /// What the segments ask for.
-#[tactic(auto, unfolding(crate::specs::Actions::action))]
+#[tactic(auto, unfolding(crate::specs::Actions::asked_action))]
 fn ask(alloc: Global, segments: &[Bytes], query: &[u8]) -> Result<Asked, NoMemory>
-    ensures { IfOk result (λ asked. asked ≡ actions.action segments.now query.now) }
+    ensures { IfOk result (λ asked. asked ≡ actions.asked_action segments.now query.now) }
 {
     match segments {
         [root, name] => ask_document(alloc, root.as_slice(), name.as_slice(), query),

@@ -14,6 +14,12 @@ infixr 4 ◌or_else◌
 abbrev pub ◌or_else◌ : {A : Type 0} → Option A → Option A → Option A
 a or_else b = option_or a b
 
+-- the second step, where the first gave a value
+infixl 10 ◌>>=◌
+abbrev pub ◌>>=◌ : {A B F : Type 0} → Result A F → (A → Result B F) → Result B F
+(Ok x) >>= f = f x
+(Err e) >>= f = Err e
+
 -- the least number below n with a property
 abbrev pub least : ℕ → (ℕ → Bool) → Option ℕ
 least n test = find test (range_with_len 0 n)

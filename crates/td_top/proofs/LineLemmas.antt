@@ -29,7 +29,7 @@ use Rattle.zone_meaning.specs.Sound.{IsSound}
 use Rattle.zone_meaning.specs.ZoneHistories.{HasZoneHistory}
 use Rattle.td_top.specs.Folders.{GivesAfter}
 use Rattle.td_top.specs.Sessions.{AnswersLine, LaterSession, SaysRefused, SaysWhy, StandsAt}
-use Rattle.td_top.specs.Talk.{GetsAnswer, IsUnknown, Talk, TakesMemory, installed, joined, last_token, no_memory, once_more, quit, refused, shown_to, status, unknown, unread}
+use Rattle.td_top.specs.Talk.{GetsAnswer, IsUnknown, Talk, TakesMemory, installed, with_release, last_token, no_memory, once_more, quit, refused, shown_to, status, unknown, unread}
 use Rattle.td_top.specs.Turns.{IsSaidRefusal, TellsAnswer}
 use Rattle.td_top.specs.declared.session.Session.{Session}
 use Rattle.td_top.proofs.Installing.{blames, gives, kept_gives}
@@ -132,7 +132,7 @@ is_installed s t old new dir answer history a installs same grows later knows sa
       let now : history_of new.installer.list ≡ talk.published ++ grows.release ∷ [] =
       grows.now_is ∙ ap (λ (K : List ReleaseData). K ++ grows.release ∷ []) (sym stands.published) in
       let size = ap length now in (
-        joined talk grows.release,
+        with_release talk grows.release,
         record {
           store = store_trans start s t stands.store installs.later;
           published = sym now;

@@ -17,7 +17,7 @@ use Rattle.td_top.specs.Outside.{Later, Outside, outside}
 use Rattle.td_top.specs.RunEnds.{RunEndsLater, alone, opened}
 use Rattle.td_top.specs.Server.{OpenedEnds, OpensDoors, no_network, served as served_opened, not_started as not_started_opened, out_of_memory as out_of_memory_opened}
 use Rattle.td_top.specs.Serving.{ServesBeside, ServesOpened}
-use Rattle.td_top.specs.Talk.{Talks, begun}
+use Rattle.td_top.specs.Talk.{Talks, talk_begun}
 use Rattle.td_top.specs.Talking.{AnswersOperator, EndsBy}
 use Rattle.td_top.specs.Tells.{EndsLater}
 use Rattle.td_top.specs.Works.{AreWorks, WorksEnd, not_started, out_of_memory, served}
@@ -98,7 +98,7 @@ operated_from opening whole s t i o now ended store h = record {
   told = h.told;
   last = h.last;
   reads = h.reads;
-  talks = subst (λ (files : Option (List File)). Talks files whole (begun opening) h.asked h.told h.last) store.kept h.talks;
+  talks = subst (λ (files : Option (List File)). Talks files whole (talk_begun opening) h.asked h.told h.last) store.kept h.talks;
   published = h.published;
   unread = rose_by_earlier h.last.unread s.faults t.faults now.store.faults h.unread store.later;
   written = h.written;

@@ -24,7 +24,7 @@ use Rattle.console.specs.declared.said.Said.TheVariants as said
 use Rattle.td_base.proofs.lemmas.Beginnings.{prefix_trans}
 use Rattle.td_top.specs.Outside.{outside}
 use Rattle.td_top.specs.Sessions.{AnswersLine, BeginsWhole, LaterSession}
-use Rattle.td_top.specs.Talk.{GoesOn, begun, last_token, more, none}
+use Rattle.td_top.specs.Talk.{GoesOn, talk_begun, last_token, more, none}
 use Rattle.td_top.specs.Talking.{ComesTo, IsAt, LaterScene, Scene, TalksOver, scene, talk_text}
 use Rattle.td_top.specs.Turns.{FeedsHeld, FeedsTalk, HasNone, IsNextLine, Reaches, SaysBye, SaysText}
 use Rattle.td_top.specs.declared.talking.Turn.{Turn}
@@ -85,14 +85,14 @@ nothing_asked : (s : StoreView) (i : SourceView) (o p : SinkView) (x : Session) 
 nothing_asked s i o p x knows sink = record {
   later = record { outside = record { store = store_refl s; input = source_refl i; output = sink }; session = session_refl x };
   talks = λ whole begins. (
-    begun (history_of x.installer.list),
+    talk_begun (history_of x.installer.list),
     record {
       store = store_refl s;
       published = refl;
       least = omega (arith, history_length x.installer.list, knows);
       unread = omega arith;
     },
-    none (begun (history_of x.installer.list)),
+    none (talk_begun (history_of x.installer.list)),
   );
 }
 
@@ -217,7 +217,7 @@ over_more start s t i o p x y asked told next a goes sink over answers = record 
       let after = answers.answers whole start.outside.store before.0 begins before.1 in (
         after.0,
         after.1,
-        more (begun (history_of start.session.installer.list)) before.0 after.0 asked told next a before.2 goes after.2,
+        more (talk_begun (history_of start.session.installer.list)) before.0 after.0 asked told next a before.2 goes after.2,
       );
 }
 

@@ -11,7 +11,7 @@ use Rattle.td_top.specs.Checks.{Checks}
 use Rattle.td_top.specs.Grammar.{Asked, answer, check, at, serve as serve_doors}
 use Rattle.td_top.specs.Outside.{Outside}
 use Rattle.td_top.specs.Served.{ServesStreams}
-use Rattle.td_top.specs.Statuses.{status_of}
+use Rattle.td_top.specs.Statuses.{end_status}
 use Rattle.td_top.specs.declared.status.Status.{Status}
 use Rattle.td_top.specs.declared.status.Status.TheVariants as status
 
@@ -41,7 +41,7 @@ pub data Ends (asked : Option Asked) (before after : Outside) : Status → Type 
       → Ends asked before after end
   -- by the end of the connection that is called for
   served : (H : List ReleaseData) (end : End) → CallsFor before.store.files asked (serve H)
-      → ServesStreams H before after end → Ends asked before after (status_of end)
+      → ServesStreams H before after end → Ends asked before after (end_status end)
   -- by the folders that are checked; the input is left alone
   checked : (dirs : List (List ℕ)) (end : Status) → asked ≡ Some (check dirs)
       → Checks dirs before.store after.store before.output after.output end

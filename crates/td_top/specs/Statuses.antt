@@ -25,8 +25,8 @@ status_for talk.NotRead worn = status.NotRead
 status_for talk.NotWritten worn = status.NotWritten
 
 -- the status for the end of the one connection of a run
-abbrev pub status_of : End → Status
-status_of end.Closed = status.Done
-status_of end.ReadFault = status.NotRead
-status_of end.WriteFault = status.NotWritten
-status_of end.NoMemory = status.NoMemory
+abbrev pub end_status : End → Status
+end_status end.Closed = status.Done
+end_status end.ReadFault = status.NotRead
+end_status end.WriteFault = status.NotWritten
+end_status end.NoMemory = status.NoMemory

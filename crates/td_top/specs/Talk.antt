@@ -28,12 +28,12 @@ pub record Talk : Type 0 where
   pub unread : ℕ
 
 -- the server is ready, over these releases
-abbrev pub begun : List ReleaseData → Talk
-begun H = record { published = H; least = length H; unread = 0 }
+abbrev pub talk_begun : List ReleaseData → Talk
+talk_begun H = record { published = H; least = length H; unread = 0 }
 
 -- a release joined the history
-abbrev pub joined : Talk → ReleaseData → Talk
-joined t r = record {
+abbrev pub with_release : Talk → ReleaseData → Talk
+with_release t r = record {
   published = t.published ++ r ∷ [];
   least = length t.published + 1;
   unread = t.unread;
@@ -70,7 +70,7 @@ pub data GetsAnswer (files : Option (List File)) (whole : List ReleaseData) (t :
   -- the folder gives a release after those published, which joins them
   installed : (dir : List ℕ) (r : ReleaseData) → asked ≡ line.Install dir
       → GivesAfter files t.published dir (Ok r)
-      → answer ≡ said.Installed (last_token (t.published ++ r ∷ [])) → u ≡ joined t r
+      → answer ≡ said.Installed (last_token (t.published ++ r ∷ [])) → u ≡ with_release t r
       → GetsAnswer files whole t asked answer u
   -- the folder is refused
   refused : (dir : List ℕ) (f : CheckFault) → asked ≡ line.Install dir

@@ -18,7 +18,7 @@ use Rattle.console.specs.declared.said.Said.TheVariants as said
 use Rattle.catalogue.specs.Holdings.{history_of}
 use Rattle.td_top.specs.Outside.{Later, Outside}
 use Rattle.td_top.specs.Sessions.{BeginsWhole, LaterSession, StandsAt}
-use Rattle.td_top.specs.Talk.{GoesOn, Talk, Talks, begun, last_token}
+use Rattle.td_top.specs.Talk.{GoesOn, Talk, Talks, talk_begun, last_token}
 use Rattle.td_top.specs.declared.session.Session.{Session}
 use Rattle.td_top.specs.declared.talking.TalkEnd.{TalkEnd}
 use Rattle.td_top.specs.declared.talking.TalkEnd.TheVariants as end
@@ -45,8 +45,8 @@ pub record TalksOver (before now : Scene) (asked : List Line) (told : List Said)
   pub later : LaterScene before now
   pub talks : (whole : List ReleaseData) → BeginsWhole now.session whole
       → (t : Talk) × StandsAt before.outside.store now.outside.store now.session t
-      × Talks before.outside.store.files whole (begun (history_of before.session.installer.list))
-      asked told t
+      × Talks before.outside.store.files whole
+      (talk_begun (history_of before.session.installer.list)) asked told t
 
 -- the first of the lines in the bytes that were read
 abbrev pub ReadsLines : SourceView → SourceView → List ℕ → List Line → List Line → Type 0
@@ -109,7 +109,7 @@ pub record AnswersOperator (opening whole : List ReleaseData) (before now : Outs
   pub told : List Said
   pub last : Talk
   pub reads : ReadsLines before.input now.input read asked ignored
-  pub talks : Talks before.store.files whole (begun opening) asked told last
+  pub talks : Talks before.store.files whole (talk_begun opening) asked told last
   pub published : last.published ≡ whole
   pub unread : RoseBy last.unread before.store.faults now.store.faults
   pub written : WritesAll before.output now.output (talk_text opening told) (how_written ended)

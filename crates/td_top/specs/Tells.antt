@@ -18,7 +18,7 @@ use Rattle.td_top.specs.Grammar.{Asked}
 use Rattle.td_top.specs.Lines.{refused_line, state_line}
 use Rattle.td_top.specs.Outside.{Outside, Later, outside}
 use Rattle.td_top.specs.Served.{ServesStreams}
-use Rattle.td_top.specs.Statuses.{status_of}
+use Rattle.td_top.specs.Statuses.{end_status}
 use Rattle.td_top.specs.declared.status.Status.{Status}
 use Rattle.td_top.specs.declared.status.Status.TheVariants as status
 
@@ -39,7 +39,7 @@ pub record ServesLater (H : List ReleaseData) (i j : SourceView) (old new : Sink
 abbrev pub ServesLast : List ReleaseData → SourceView → SourceView → SinkView → SinkView → Status
     → Type 0
 ServesLast H i j old new end =
-    ((how : End) × (end ≡ status_of how) × ServesLater H i j old new how)
+    ((how : End) × (end ≡ end_status how) × ServesLater H i j old new how)
     ⊎ ((end ≡ status.NoMemory) × ((j ≡ i) × (new ≡ old)))
 
 -- a text that may end a run with this status

@@ -58,9 +58,9 @@ FeedsTalk before now held new (turn.End end.NotWritten) = ⊥
 FeedsTalk before now held new turn.NoMemory = ⊤
 
 -- a reply as it is written
-abbrev pub text_of : Reply → List ℕ
-text_of (reply.Short text) = text
-text_of (reply.Long text) = text
+abbrev pub reply_bytes : Reply → List ℕ
+reply_bytes (reply.Short text) = text
+reply_bytes (reply.Long text) = text
 
 abbrev pub IsSaidRefusal : Said → Type 0
 IsSaidRefusal (said.Refused fault) = ⊤

@@ -1,5 +1,5 @@
 ghost use Rattle.std.specs.Prelude.{◌≡◌, if◌then◌else◌};
-ghost use Rattle.td_top.specs.Statuses.{number_of, status_for, status_of};
+ghost use Rattle.td_top.specs.Statuses.{number_of, status_for, end_status};
 
 use crate::talking::TalkEnd;
 use td_base::End;
@@ -45,7 +45,7 @@ impl Status {
 
 /// The status for the end of the one connection of a run.
 pub fn status_of(end: End) -> Status
-    ensures { result ≡ status_of end }
+    ensures { result ≡ end_status end }
 {
     match end {
         End::Closed => Status::Done,

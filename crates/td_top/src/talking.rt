@@ -4,7 +4,7 @@ ghost use Rattle.td_top.specs.Outside.{outside};
 ghost use Rattle.td_top.specs.Talk.{is_quit};
 ghost use Rattle.td_top.specs.Talking.{ComesTo, scene};
 ghost use Rattle.td_top.specs.Turns.{FeedsTalk, IsSaidRefusal, SaysBye, SaysText, TakesLine};
-ghost use Rattle.td_top.specs.Turns.{TalksOn, TellsAnswer, Turns, text_of};
+ghost use Rattle.td_top.specs.Turns.{TalksOn, TellsAnswer, Turns, reply_bytes};
 
 use crate::operator::{answer_line, newest};
 use crate::session::Session;
@@ -61,7 +61,7 @@ pub enum Reply {
 impl Reply {
     /// The bytes to write.
     fn as_slice(&self) -> &[u8]
-        ensures { result.now ≡ text_of self.now }
+        ensures { result.now ≡ reply_bytes self.now }
     {
         match self {
             Reply::Short(line) => line.as_slice(),
@@ -187,7 +187,7 @@ fn feed<C: Source>(lines: &mut Lines, input: &mut C) -> Turn
 
 /// The reply for what is said. A refusal takes memory; where there is none, that is said.
 fn reply_for(alloc: Global, said: &Said) -> Reply
-    ensures { TellsAnswer said.now (text_of result) }
+    ensures { TellsAnswer said.now (reply_bytes result) }
 {
     match said {
         Said::Refused(_) => refusal_for(alloc, said),
@@ -198,7 +198,7 @@ fn reply_for(alloc: Global, said: &Said) -> Reply
 /// The reply for a refusal.
 fn refusal_for(alloc: Global, said: &Said) -> Reply
     requires { IsSaidRefusal said.now }
-    ensures { TellsAnswer said.now (text_of result) }
+    ensures { TellsAnswer said.now (reply_bytes result) }
 {
     let mut line = Bytes::new(alloc);
     match reply(&mut line, said) {

@@ -11,8 +11,8 @@ use Rattle.td_civil.specs.declared.moment_type.Moment.{Moment}
 use Rattle.td_civil.specs.declared.moment_type.TheConstants.{HI}
 use Rattle.tzif_reader.specs.declared.counts.Counts.{Counts}
 use Rattle.tzif_reader.specs.Layout.{AreCounts, AreRising, IsBlock, IsKind, IsLeapLine, IsMoment, second_block_size}
-use Rattle.tzif_reader.specs.Cut.{Parts, piece, items, long_at, parts_in, moment_at, flag_at, kind_at, leap_at, zone_from}
-use Rattle.tzif_reader.specs.Faults.{is_unordered, is_late}
+use Rattle.tzif_reader.specs.Cut.{Parts, piece, items, long_at, parts_in, transition_at, flag_at, kind_at, leap_at, zone_from}
+use Rattle.tzif_reader.specs.Faults.{is_unordered, is_too_late}
 use Rattle.tzif_reader.specs.Views.{AreSized}
 use Rattle.tzif_reader.proofs.lemmas.Joined.{cut_at, length_piece, joined_items}
 use Rattle.tzif_reader.proofs.Records.{kind_is, leap_is, moment_is}
@@ -66,23 +66,23 @@ rise times i h =
     let one : suc i - 1 ≡ i = omega arith in
     lt_from_test _ _ (subst (λ (k : ℕ). int_le (long_at (8 * suc i) times) (long_at (8 * k) times) ≡ false) one up)
 
-rising : (c : Counts) (times : List ℕ) → ((i : ℕ) → i < c.timecnt → is_unordered times i ≡ false) → AreRising (items c.timecnt (moment_at times))
+rising : (c : Counts) (times : List ℕ) → ((i : ℕ) → i < c.timecnt → is_unordered times i ≡ false) → AreRising (items c.timecnt (transition_at times))
 rising c times ordered i d lt =
-    let len = length-map-range_with_len (moment_at times) 0 c.timecnt in
-    let a : get_or (items c.timecnt (moment_at times)) i d ≡ moment_at times i = get_or-map-range_with_len (moment_at times) 0 c.timecnt i i d (omega arith) (omega arith) in
-    let b : get_or (items c.timecnt (moment_at times)) (suc i) d ≡ moment_at times (suc i) = get_or-map-range_with_len (moment_at times) 0 c.timecnt (suc i) (suc i) d (omega arith) (omega arith) in
+    let len = length-map-range_with_len (transition_at times) 0 c.timecnt in
+    let a : get_or (items c.timecnt (transition_at times)) i d ≡ transition_at times i = get_or-map-range_with_len (transition_at times) 0 c.timecnt i i d (omega arith) (omega arith) in
+    let b : get_or (items c.timecnt (transition_at times)) (suc i) d ≡ transition_at times (suc i) = get_or-map-range_with_len (transition_at times) 0 c.timecnt (suc i) (suc i) d (omega arith) (omega arith) in
     rw (a, b) (rise times i (ordered (suc i) (omega arith)))
 
 pub nothing : Moment
 nothing = record { seconds = pos 0 }
 
-ending : (c : Counts) (times : List ℕ) (moments : List Moment) → moments ≡ items c.timecnt (moment_at times) → length moments ≡ c.timecnt → is_late c.timecnt times ≡ false → IfSome (slice_get moments (length moments - 1)) (λ m. m.seconds <ℤ HI)
+ending : (c : Counts) (times : List ℕ) (moments : List Moment) → moments ≡ items c.timecnt (transition_at times) → length moments ≡ c.timecnt → is_too_late c.timecnt times ≡ false → IfSome (slice_get moments (length moments - 1)) (λ m. m.seconds <ℤ HI)
 ending c times moments same len early =
     elim (cases_lt 0 c.timecnt) [
       | inl lt ↦
           let late : int_le HI (long_at (8 * (c.timecnt - 1)) times) ≡ false = and_second (nat_lt 0 c.timecnt) _ (lt-ltb 0 c.timecnt lt) early in
-          let at : get_or moments (length moments - 1) nothing ≡ moment_at times (c.timecnt - 1) = ap (λ (ms : List Moment). get_or ms (length moments - 1) nothing) same ∙ get_or-map-range_with_len (moment_at times) 0 c.timecnt (length moments - 1) (c.timecnt - 1) nothing (omega arith) (omega arith) in
-          let some : slice_get moments (length moments - 1) ≡ Some (moment_at times (c.timecnt - 1)) = slice_get-get_or moments (length moments - 1) nothing (omega arith) ∙ ap (λ (m : Moment). Some m) at in
+          let at : get_or moments (length moments - 1) nothing ≡ transition_at times (c.timecnt - 1) = ap (λ (ms : List Moment). get_or ms (length moments - 1) nothing) same ∙ get_or-map-range_with_len (transition_at times) 0 c.timecnt (length moments - 1) (c.timecnt - 1) nothing (omega arith) (omega arith) in
+          let some : slice_get moments (length moments - 1) ≡ Some (transition_at times (c.timecnt - 1)) = slice_get-get_or moments (length moments - 1) nothing (omega arith) ∙ ap (λ (m : Moment). Some m) at in
           subst (λ (o : Option Moment). IfSome o (λ m. m.seconds <ℤ HI)) (sym some) (lt_from_test _ _ late)
       | inr le ↦ subst (λ (o : Option Moment). IfSome o (λ m. m.seconds <ℤ HI)) (sym (slice_get_past moments (length moments - 1) (omega arith))) tt
     ]
@@ -107,11 +107,11 @@ block_is c text footer len counts sound =
       standard = (parts_in c text).standard;
       ut = (parts_in c text).ut;
       whole = parts_join c text len;
-      moments_are = joined_items 8 IsMoment (moment_at (parts_in c text).times) (parts_in c text).times c.timecnt s.times (λ i lt. moment_is (parts_in c text).times i);
+      moments_are = joined_items 8 IsMoment (transition_at (parts_in c text).times) (parts_in c text).times c.timecnt s.times (λ i lt. moment_is (parts_in c text).times i);
       kinds_are = joined_items 6 (IsKind (parts_in c text).designations) (kind_at (parts_in c text).designations (parts_in c text).types) (parts_in c text).types c.typecnt s.types
           (λ i lt. kind_is (parts_in c text).designations (parts_in c text).types i (omega (arith, s.types)) (sound.are_named i lt) (ltb-false 1 _ (more i lt).0) (sound.within i lt));
       leaps_are = joined_items 12 IsLeapLine (leap_at (parts_in c text).leaps) (parts_in c text).leaps c.leapcnt s.leaps (λ i lt. leap_is (parts_in c text).leaps i (omega (arith, s.leaps)));
-      moment_count = length-map-range_with_len (moment_at (parts_in c text).times) 0 c.timecnt;
+      moment_count = length-map-range_with_len (transition_at (parts_in c text).times) 0 c.timecnt;
       number_count = s.numbers;
       kind_count = length-map-range_with_len (kind_at (parts_in c text).designations (parts_in c text).types) 0 c.typecnt;
       designation_count = s.designations;
@@ -122,5 +122,5 @@ block_is c text footer len counts sound =
       known = All-from_get_or (λ n. n < c.typecnt) (parts_in c text).numbers 0 (λ i lt. leb-false c.typecnt _ (sound.known i (omega (arith, s.numbers))));
       standard_flags = All-from_get_or (λ b. b ≤ 1) (parts_in c text).standard 0 (λ i lt. ltb-false 1 _ (more i (omega (arith, s.standard, std))).1);
       ut_flags = All-from_get_or (λ b. b ≤ 1) (parts_in c text).ut 0 (λ i lt. ltb-false 1 _ (flags i (omega (arith, s.ut, ut))).1);
-      ends = ending c (parts_in c text).times (items c.timecnt (moment_at (parts_in c text).times)) refl (length-map-range_with_len (moment_at (parts_in c text).times) 0 c.timecnt) sound.early;
+      ends = ending c (parts_in c text).times (items c.timecnt (transition_at (parts_in c text).times)) refl (length-map-range_with_len (transition_at (parts_in c text).times) 0 c.timecnt) sound.early;
     }

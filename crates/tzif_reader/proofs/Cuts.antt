@@ -13,8 +13,8 @@ use Rattle.tzif_reader.specs.declared.counts.Counts.{Counts}
 use Rattle.tzif_reader.specs.declared.zone_file.LeapLine.{LeapLine}
 use Rattle.tzif_reader.specs.declared.zone_file.ZoneFile.{ZoneFile}
 use Rattle.tzif_reader.specs.Layout.{IsBlock, IsKind, IsLeapLine, IsMoment, second_block_size}
-use Rattle.tzif_reader.specs.Cut.{Parts, piece, items, long_at, parts_in, moment_at, flag_at, kind_at, leap_at, zone_from}
-use Rattle.tzif_reader.specs.Faults.{is_unordered, is_late}
+use Rattle.tzif_reader.specs.Cut.{Parts, piece, items, long_at, parts_in, transition_at, flag_at, kind_at, leap_at, zone_from}
+use Rattle.tzif_reader.specs.Faults.{is_unordered, is_too_late}
 use Rattle.tzif_reader.proofs.lemmas.Joined.{field, joined_length, joined_at}
 use Rattle.tzif_reader.proofs.Records.{CutsKind, kind_cuts, leap_cuts, moment_cuts}
 use Rattle.tzif_reader.proofs.Soundness.{AreSound}
@@ -89,7 +89,7 @@ some_local = record { offset = pos 0; dst = false; name = [] }
 some_line : LeapLine
 some_line = record { at = pos 0; correction = pos 0 }
 
-moment_here : (text : List ℕ) (c : Counts) (z : ZoneFile) (is : IsBlock text c z) (i : ℕ) (d : Moment) → i < c.timecnt → get_or z.moments i d ≡ moment_at is.times i
+moment_here : (text : List ℕ) (c : Counts) (z : ZoneFile) (is : IsBlock text c z) (i : ℕ) (d : Moment) → i < c.timecnt → get_or z.moments i d ≡ transition_at is.times i
 moment_here text c z is i d lt = moment_cuts is.times i (get_or z.moments i d) (joined_at 8 IsMoment is.times z.moments i d is.moments_are (omega (arith, is.moment_count)))
 
 kind_here : (text : List ℕ) (c : Counts) (z : ZoneFile) (is : IsBlock text c z) (i : ℕ) (d : Local) → i < c.typecnt → CutsKind is.designations is.types i (get_or z.kinds i d)
@@ -103,8 +103,8 @@ same_zone z m k l a b c = rw (← a, ← b, ← c) refl
 
 laid_zone : (text : List ℕ) (c : Counts) (z : ZoneFile) (is : IsBlock text c z) → z ≡ zone_from c (laid text c z is) z.footer
 laid_zone text c z is =
-    same_zone z (items c.timecnt (moment_at is.times)) (items c.typecnt (kind_at is.designations is.types)) (items c.leapcnt (leap_at is.leaps))
-    (fill_by_all (moment_at is.times) z.moments c.timecnt nothing is.moment_count (λ k lt. moment_here text c z is k nothing lt))
+    same_zone z (items c.timecnt (transition_at is.times)) (items c.typecnt (kind_at is.designations is.types)) (items c.leapcnt (leap_at is.leaps))
+    (fill_by_all (transition_at is.times) z.moments c.timecnt nothing is.moment_count (λ k lt. moment_here text c z is k nothing lt))
     (fill_by_all (kind_at is.designations is.types) z.kinds c.typecnt some_local is.kind_count (λ k lt. (kind_here text c z is k some_local lt).kind_is))
     (fill_by_all (leap_at is.leaps) z.leaps c.leapcnt some_line is.leap_count (λ k lt. leap_here text c z is k some_line lt))
 
@@ -134,7 +134,7 @@ low_flag flags i all =
       | inr le ↦ rw (get_or_past flags i 0 le) refl
     ]
 
-laid_early : (text : List ℕ) (c : Counts) (z : ZoneFile) (is : IsBlock text c z) → is_late c.timecnt is.times ≡ false
+laid_early : (text : List ℕ) (c : Counts) (z : ZoneFile) (is : IsBlock text c z) → is_too_late c.timecnt is.times ≡ false
 laid_early text c z is =
     elim (cases_lt 0 c.timecnt) [
       | inl lt ↦

@@ -10,7 +10,7 @@ use Rattle.std.proofs.lemmas.Slice.Eq.{starts_is}
 use Rattle.tzif_reader.specs.declared.counts.Counts.{Counts}
 use Rattle.tzif_reader.specs.declared.tzif_fault.TzifFault.{TzifFault}
 use Rattle.tzif_reader.specs.declared.tzif_fault.TzifFault.TheVariants.{Magic, Short}
-use Rattle.tzif_reader.specs.Layout.{IsUnsigned, IsHeader, magic, listed}
+use Rattle.tzif_reader.specs.Layout.{IsUnsigned, IsHeader, magic, counts_listed}
 use Rattle.tzif_reader.specs.Cut.{piece, unsigned_at, version_in, counts_in}
 use Rattle.td_base.specs.FirstFault.{when}
 use Rattle.tzif_reader.specs.Faults.{room_fault, header_fault}
@@ -68,9 +68,9 @@ same_counts h c e0 e1 e2 e3 e4 e5 = rw (e0, e1, e2, e3, e4, e5) refl
 
 pub header_cuts : (h : List ℕ) (v : ℕ) (c : Counts) → IsHeader h v c → CutsHeader h v c
 header_cuts h v c is =
-    let len = joined_length 4 (IsUnsigned w32) is.numbers (listed c) is.six in
+    let len = joined_length 4 (IsUnsigned w32) is.numbers (counts_listed c) is.six in
     let rest : drop 20 h ≡ is.numbers = ap (drop 20) is.whole ∙ drop_at is.reserved is.numbers 15 is.reserved_size in
-    let at = λ (i : ℕ) (lt : i < 6). joined_at 4 (IsUnsigned w32) is.numbers (listed c) i 0 is.six lt in
+    let at = λ (i : ℕ) (lt : i < 6). joined_at 4 (IsUnsigned w32) is.numbers (counts_listed c) i 0 is.six lt in
     record {
       size = omega (arith, ap length is.whole, length-append is.reserved is.numbers, is.reserved_size, len);
       starts = (starts_is decides h magic (starts_with nat_eq h magic) refl).1 (v ∷ (is.reserved ++ is.numbers)) is.whole;

@@ -11,7 +11,7 @@ use Rattle.td_civil.specs.declared.local_time.Local.{Local}
 use Rattle.td_civil.specs.declared.moment_type.Moment.{Moment}
 use Rattle.tzif_reader.specs.declared.zone_file.LeapLine.{LeapLine}
 use Rattle.tzif_reader.specs.Layout.{IsKind, IsLeapLine, IsMoment}
-use Rattle.tzif_reader.specs.Cut.{piece, short_at, long_at, before, moment_at, offset_at, flag_at, index_at, name_at, kind_at, leap_at}
+use Rattle.tzif_reader.specs.Cut.{piece, short_at, long_at, before, transition_at, type_offset_at, flag_at, index_at, designation_at, kind_at, leap_at}
 use Rattle.tzif_reader.proofs.lemmas.Joined.{length_piece}
 use Rattle.tzif_reader.specs.Faults.{is_no_name, is_unnamed, is_beyond}
 
@@ -98,12 +98,12 @@ piece_is types i dst room flag =
     cells ∙ (ap (λ (f : List ℕ). f ++ (get_or (piece (6 * i) 6 types) 4 0 ∷ get_or (piece (6 * i) 6 types) 5 0 ∷ [])) front ∙ (ap (λ (n : ℕ). piece (6 * i) 4 types ++ (n ∷ get_or (piece (6 * i) 6 types) 5 0 ∷ [])) four ∙ ap (λ (n : ℕ). piece (6 * i) 4 types ++ (from_bool dst ∷ n ∷ [])) five))
 
 pub kind_is : (designations types : List ℕ) (i : ℕ) → 6 * i + 6 ≤ length types → is_unnamed designations types i ≡ false → flag_at types i ≤ 1 → is_beyond types i ≡ false → IsKind designations (piece (6 * i) 6 types) (kind_at designations types i)
-unfolding short_at name_at
+unfolding short_at designation_at
 kind_is designations types i room is_named low_flag within =
-    let n = named_some (name_at designations types i) is_named in
-    let name : List ℕ = unwrap_or (name_at designations types i) [] in
-    let m = before_marks 0 (drop (index_at types i) designations) (unwrap_or (name_at designations types i) []) n.0 in
-    let range = or_parts (int_lt (offset_at types i) (negsuc 86398)) (int_lt (pos 86399) (offset_at types i)) within in
+    let n = named_some (designation_at designations types i) is_named in
+    let name : List ℕ = unwrap_or (designation_at designations types i) [] in
+    let m = before_marks 0 (drop (index_at types i) designations) (unwrap_or (designation_at designations types i) []) n.0 in
+    let range = or_parts (int_lt (type_offset_at types i) (negsuc 86398)) (int_lt (pos 86399) (type_offset_at types i)) within in
     record {
       offset = piece (6 * i) 4 types;
       index = index_at types i;
@@ -112,9 +112,9 @@ kind_is designations types i room is_named low_flag within =
       whole = piece_is types i (eqb (flag_at types i) 1) room (flag_is (flag_at types i) low_flag);
       offset_size = length_piece (6 * i) 4 types (omega arith);
       offset_is = refl;
-      low = le_from_test (offset_at types i) (negsuc 86398) range.0;
-      high = le_from_test (pos 86399) (offset_at types i) range.1;
-      name_place = omega (arith, length-take (index_at types i) designations, length-drop (index_at types i) designations, ap length m.whole, length-append (unwrap_or (name_at designations types i) []) (0 ∷ m.after));
+      low = le_from_test (type_offset_at types i) (negsuc 86398) range.0;
+      high = le_from_test (pos 86399) (type_offset_at types i) range.1;
+      name_place = omega (arith, length-take (index_at types i) designations, length-drop (index_at types i) designations, ap length m.whole, length-append (unwrap_or (designation_at designations types i) []) (0 ∷ m.after));
       name_is = sym (take-append-drop (index_at types i) designations) ∙ ap (λ (r : List ℕ). take (index_at types i) designations ++ r) m.whole;
       name_ends = m.clear;
       name_size = n.1;
@@ -134,16 +134,16 @@ same_local : (o p : ℤ) (d e : Bool) (n m : List ℕ) (k : Local) → k ≡ rec
 same_local o p d e n m k h a b c = rw (← a, ← b, ← c) h
 
 pub kind_cuts : (designations types : List ℕ) (i : ℕ) (k : Local) → IsKind designations (piece (6 * i) 6 types) k → CutsKind designations types i k
-unfolding short_at name_at
+unfolding short_at designation_at
 kind_cuts designations types i k is =
     let flag : flag_at types i ≡ from_bool k.dst = sym (piece_cell (6 * i) 6 4 types (omega arith)) ∙ (ap (λ (p : List ℕ). get_or p 4 0) is.whole ∙ cell_of is.offset (from_bool k.dst ∷ is.index ∷ []) 0 is.offset_size) in
     let index : index_at types i ≡ is.index = sym (piece_cell (6 * i) 6 5 types (omega arith)) ∙ (ap (λ (p : List ℕ). get_or p 5 0) is.whole ∙ cell_of is.offset (from_bool k.dst ∷ is.index ∷ []) 1 is.offset_size) in
     let bytes : is.offset ≡ piece (6 * i) 4 types = sym (sym (piece_front (6 * i) 6 4 types (omega arith)) ∙ (ap (take 4) is.whole ∙ take_at is.offset (from_bool k.dst ∷ is.index ∷ []) 4 is.offset_size)) in
-    let offset : k.offset ≡ offset_at types i = is.offset_is ∙ ap (λ (p : List ℕ). cast_signed w32 (from_be_bytes w32 p)) bytes in
+    let offset : k.offset ≡ type_offset_at types i = is.offset_is ∙ ap (λ (p : List ℕ). cast_signed w32 (from_be_bytes w32 p)) bytes in
     let text : drop (index_at types i) designations ≡ k.name ++ 0 ∷ is.after = ap (λ (n : ℕ). drop n designations) index ∙ (ap (drop is.index) is.name_is ∙ drop_at is.before (k.name ++ 0 ∷ is.after) is.index is.name_place) in
-    let name : name_at designations types i ≡ Some k.name = marks_before 0 (drop (index_at types i) designations) k.name is.after text is.name_ends in
+    let name : designation_at designations types i ≡ Some k.name = marks_before 0 (drop (index_at types i) designations) k.name is.after text is.name_ends in
     record {
-      kind_is = same_local k.offset (offset_at types i) k.dst (eqb (flag_at types i) 1) k.name (unwrap_or (name_at designations types i) []) k refl offset (flag_of k.dst ∙ ap (λ (n : ℕ). eqb n 1) (sym flag)) (sym (ap (λ (o : Option (List ℕ)). unwrap_or o []) name));
+      kind_is = same_local k.offset (type_offset_at types i) k.dst (eqb (flag_at types i) 1) k.name (unwrap_or (designation_at designations types i) []) k refl offset (flag_of k.dst ∙ ap (λ (n : ℕ). eqb n 1) (sym flag)) (sym (ap (λ (o : Option (List ℕ)). unwrap_or o []) name));
       is_named = ap is_no_name name ∙ le-ltb 32 (length k.name) is.name_size;
       flag = subst (λ (n : ℕ). n ≤ 1) (sym flag) (flag_low k.dst);
       within = subst (λ (o : ℤ). (int_lt o (negsuc 86398) || int_lt (pos 86399) o) ≡ false) offset (or_from _ _ (test_from_le k.offset (negsuc 86398) is.low) (test_from_le (pos 86399) k.offset is.high));
@@ -177,10 +177,10 @@ leap_cuts leaps i line is =
 abbrev moment : ℤ → Moment
 moment s = record { seconds = s }
 
-pub moment_is : (times : List ℕ) (i : ℕ) → IsMoment (piece (8 * i) 8 times) (moment_at times i)
+pub moment_is : (times : List ℕ) (i : ℕ) → IsMoment (piece (8 * i) 8 times) (transition_at times i)
 unfolding long_at
 moment_is times i = refl
 
-pub moment_cuts : (times : List ℕ) (i : ℕ) (m : Moment) → IsMoment (piece (8 * i) 8 times) m → m ≡ moment_at times i
+pub moment_cuts : (times : List ℕ) (i : ℕ) (m : Moment) → IsMoment (piece (8 * i) 8 times) m → m ≡ transition_at times i
 unfolding long_at
 moment_cuts times i m is = ap (λ (s : ℤ). moment s) is

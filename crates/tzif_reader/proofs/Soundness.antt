@@ -6,7 +6,7 @@ use Rattle.tzif_reader.specs.declared.tzif_fault.TzifFault.{TzifFault}
 use Rattle.tzif_reader.specs.declared.tzif_fault.TzifFault.TheVariants.{Order, TypeNumber, Designation, Indicator, OffsetBeyond, TooLate}
 use Rattle.tzif_reader.specs.Cut.{Parts}
 use Rattle.td_base.specs.FirstFault.{least}
-use Rattle.tzif_reader.specs.Faults.{contents_fault, is_unordered, is_unknown, is_unnamed, is_unflagged, is_beyond, is_late}
+use Rattle.tzif_reader.specs.Faults.{contents_fault, is_unordered, is_unknown, is_unnamed, is_unflagged, is_beyond, is_too_late}
 use Rattle.td_base.proofs.lemmas.FaultLemmas.{first, second, neither, unmapped}
 use Rattle.td_base.proofs.lemmas.LeastLemmas.{least_clear, none_least}
 use Rattle.tzif_reader.proofs.Headers.{when_none, none_when}
@@ -18,7 +18,7 @@ pub record AreSound (c : Counts) (p : Parts) : Type 0 where
   pub are_named : (i : ℕ) → i < c.typecnt → is_unnamed p.designations p.types i ≡ false
   pub flagged : (i : ℕ) → i < c.typecnt → is_unflagged p i ≡ false
   pub within : (i : ℕ) → i < c.typecnt → is_beyond p.types i ≡ false
-  pub early : is_late c.timecnt p.times ≡ false
+  pub early : is_too_late c.timecnt p.times ≡ false
 
 pub contents_none : (c : Counts) (p : Parts) → contents_fault c p ≡ None → AreSound c p
 unfolding contents_fault
@@ -34,7 +34,7 @@ contents_none c p h =
       are_named = λ i lt. least_clear (is_unnamed p.designations p.types) i c.typecnt lt (unmapped Designation _ (first _ _ b));
       flagged = λ i lt. least_clear (is_unflagged p) i c.typecnt lt (unmapped Indicator _ (first _ _ d));
       within = λ i lt. least_clear (is_beyond p.types) i c.typecnt lt (unmapped OffsetBeyond _ (first _ _ e));
-      early = when_none (is_late c.timecnt p.times) TooLate f;
+      early = when_none (is_too_late c.timecnt p.times) TooLate f;
     }
 
 mapped : (f : ℕ → TzifFault) (a : Option ℕ) → a ≡ None → option_map f a ≡ None
@@ -48,4 +48,4 @@ none_contents c p s =
     (neither _ _ (mapped Designation _ (none_least (is_unnamed p.designations p.types) c.typecnt s.are_named))
     (neither _ _ (mapped Indicator _ (none_least (is_unflagged p) c.typecnt s.flagged))
     (neither _ _ (mapped OffsetBeyond _ (none_least (is_beyond p.types) c.typecnt s.within))
-    (none_when (is_late c.timecnt p.times) TooLate s.early)))))
+    (none_when (is_too_late c.timecnt p.times) TooLate s.early)))))

@@ -77,12 +77,12 @@ parts_in c block = record {
 }
 
 -- transition i
-abbrev pub moment_at : List ℕ → ℕ → Moment
-moment_at times i = record { seconds = long_at (8 * i) times }
+abbrev pub transition_at : List ℕ → ℕ → Moment
+transition_at times i = record { seconds = long_at (8 * i) times }
 
 -- type record i: its offset, its flag, and where its name begins
-abbrev pub offset_at : List ℕ → ℕ → ℤ
-offset_at types i = short_at (6 * i) types
+abbrev pub type_offset_at : List ℕ → ℕ → ℤ
+type_offset_at types i = short_at (6 * i) types
 
 abbrev pub flag_at : List ℕ → ℕ → ℕ
 flag_at types i = slice_index types (6 * i + 4)
@@ -91,14 +91,14 @@ abbrev pub index_at : List ℕ → ℕ → ℕ
 index_at types i = slice_index types (6 * i + 5)
 
 -- the name of type i, if a NUL ends it
-unfoldable pub name_at : List ℕ → List ℕ → ℕ → Option (List ℕ)
-name_at designations types i = before 0 (drop (index_at types i) designations)
+unfoldable pub designation_at : List ℕ → List ℕ → ℕ → Option (List ℕ)
+designation_at designations types i = before 0 (drop (index_at types i) designations)
 
 abbrev pub kind_at : List ℕ → List ℕ → ℕ → Local
 kind_at designations types i = record {
-  offset = offset_at types i;
+  offset = type_offset_at types i;
   dst = flag_at types i == 1;
-  name = unwrap_or (name_at designations types i) [];
+  name = unwrap_or (designation_at designations types i) [];
 }
 
 -- leap line i
@@ -141,7 +141,7 @@ footer_of bytes = text_between (drop (footer_place bytes) bytes)
 -- the zone of a file that has no fault
 abbrev pub zone_from : Counts → Parts → List ℕ → ZoneFile
 zone_from c p footer = record {
-  moments = items c.timecnt (moment_at p.times);
+  moments = items c.timecnt (transition_at p.times);
   numbers = p.numbers;
   kinds = items c.typecnt (kind_at p.designations p.types);
   leaps = items c.leapcnt (leap_at p.leaps);

@@ -17,8 +17,8 @@ use Rattle.tzif_reader.specs.declared.tzif_fault.TzifFault.TheVariants.{FooterFr
 use Rattle.tzif_reader.specs.declared.counts.Counts.{Counts}
 use Rattle.tzif_reader.specs.declared.zone_file.TheConstants.{MOST_BYTES, MOST_TRANSITIONS}
 use Rattle.tzif_reader.specs.Layout.{magic, first_block_size, second_block_size}
-use Rattle.tzif_reader.specs.Cut.{Parts, version_in, counts_in, long_at, offset_at, flag_at}
-use Rattle.tzif_reader.specs.Cut.{name_at, piece, first_header, second_place, second_header}
+use Rattle.tzif_reader.specs.Cut.{Parts, version_in, counts_in, long_at, type_offset_at, flag_at}
+use Rattle.tzif_reader.specs.Cut.{designation_at, piece, first_header, second_place, second_header}
 use Rattle.tzif_reader.specs.Cut.{counts_of, block_place, parts_of, footer_place, footer_of}
 
 -- ---- frame
@@ -70,7 +70,7 @@ is_no_name None = true
 is_no_name (Some name) = nat_lt 32 (length name)
 
 abbrev pub is_unnamed : List ℕ → List ℕ → ℕ → Bool
-is_unnamed designations types i = is_no_name (name_at designations types i)
+is_unnamed designations types i = is_no_name (designation_at designations types i)
 
 -- a flag of type i is neither 0 nor 1; an indicator that is not there reads as 0
 abbrev pub is_unflagged : Parts → ℕ → Bool
@@ -81,11 +81,11 @@ is_unflagged p i =
 -- the offset of type i is a day or more
 abbrev pub is_beyond : List ℕ → ℕ → Bool
 is_beyond types i =
-    int_lt (offset_at types i) (negsuc 86398) || int_lt (pos 86399) (offset_at types i)
+    int_lt (type_offset_at types i) (negsuc 86398) || int_lt (pos 86399) (type_offset_at types i)
 
 -- the last transition is at the end of the moments that have a meaning, or after it
-abbrev pub is_late : ℕ → List ℕ → Bool
-is_late timecnt times = nat_lt 0 timecnt && int_le HI (long_at (8 * (timecnt - 1)) times)
+abbrev pub is_too_late : ℕ → List ℕ → Bool
+is_too_late timecnt times = nat_lt 0 timecnt && int_le HI (long_at (8 * (timecnt - 1)) times)
 
 unfoldable pub contents_fault : Counts → Parts → Option TzifFault
 contents_fault c p =
@@ -94,7 +94,7 @@ contents_fault c p =
     or_else option_map Designation (least c.typecnt (is_unnamed p.designations p.types))
     or_else option_map Indicator (least c.typecnt (is_unflagged p))
     or_else option_map OffsetBeyond (least c.typecnt (is_beyond p.types))
-    or_else when (is_late c.timecnt p.times) TooLate
+    or_else when (is_too_late c.timecnt p.times) TooLate
 
 -- ---- footer
 

@@ -29,8 +29,8 @@ IsSigned w piece z = z ≡ cast_signed w (from_be_bytes w piece)
 -- ---- headers (section 3.1)
 
 -- the six counts of a header, in the order of the file
-abbrev pub listed : Counts → List ℕ
-listed c = c.isutcnt ∷ c.isstdcnt ∷ c.leapcnt ∷ c.timecnt ∷ c.typecnt ∷ c.charcnt ∷ []
+abbrev pub counts_listed : Counts → List ℕ
+counts_listed c = c.isutcnt ∷ c.isstdcnt ∷ c.leapcnt ∷ c.timecnt ∷ c.typecnt ∷ c.charcnt ∷ []
 
 -- "TZif"
 abbrev pub magic : List ℕ
@@ -42,7 +42,7 @@ pub record IsHeader (text : List ℕ) (version : ℕ) (counts : Counts) : Type 0
   pub numbers : List ℕ
   pub whole : text ≡ magic ++ (version ∷ (reserved ++ numbers))
   pub reserved_size : length reserved ≡ 15
-  pub six : AreJoined 4 (IsUnsigned w32) numbers (listed counts)
+  pub six : AreJoined 4 (IsUnsigned w32) numbers (counts_listed counts)
 
 -- '2', '3' or '4'
 abbrev pub IsVersion : ℕ → Type 0

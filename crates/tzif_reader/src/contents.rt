@@ -3,10 +3,10 @@
 ghost use Rattle.std.specs.Prelude.{◌≡◌, ◌*◌, ◌+◌, ◌<◌, ◌≤◌, length, OnOk, IfErr, None, Some};
 ghost use Rattle.std.specs.Prelude.{nat_lt, slice_index};
 ghost use Rattle.std.specs.Option.{option_copied};
-ghost use Rattle.tzif_reader.specs.Cut.{name_at};
+ghost use Rattle.tzif_reader.specs.Cut.{designation_at};
 ghost use Rattle.td_base.specs.FirstFault.{least};
 ghost use Rattle.tzif_reader.specs.Faults.{is_unordered, is_unknown, is_unnamed, is_unflagged};
-ghost use Rattle.tzif_reader.specs.Faults.{is_beyond, is_late, contents_fault};
+ghost use Rattle.tzif_reader.specs.Faults.{is_beyond, is_too_late, contents_fault};
 ghost use Rattle.tzif_reader.specs.Views.{parts_view, AreSized};
 
 use crate::TzifFault;
@@ -23,10 +23,10 @@ const LONGEST_NAME: usize = 32;
 const GREATEST_OFFSET: i32 = 86_399;
 
 /// The name of type `i`, where a NUL ends it.
-#[tactic(auto, unfolding(crate::specs::Cut::name_at))]
+#[tactic(auto, unfolding(crate::specs::Cut::designation_at))]
 pub fn name_of<'a>(designations: &'a [u8], types: &[u8], i: usize) -> Option<&'a [u8]>
     requires { 6 * i + 6 ≤ length types.now }
-    ensures { option_copied result ≡ name_at designations.now types.now i }
+    ensures { option_copied result ≡ designation_at designations.now types.now i }
 {
     let index = types[6 * i + 5] as usize;
     let (_, text) = designations.split_at(index.min(designations.len()));
@@ -138,7 +138,7 @@ fn first_beyond(types: &[u8], typecnt: usize) -> Option<usize>
 
 fn is_late(times: &[u8], timecnt: usize) -> bool
     requires { length times.now ≡ 8 * timecnt }
-    ensures { result ≡ is_late timecnt times.now }
+    ensures { result ≡ is_too_late timecnt times.now }
 {
     timecnt > 0 && long_at(times, 8 * (timecnt - 1)) >= HI
 }

@@ -1,7 +1,7 @@
 //! The zone of a block without fault.
 
 ghost use Rattle.std.specs.Prelude.{◌≡◌, ◌*◌, ◌+◌, ◌≤◌, length, IfOk, false, None};
-ghost use Rattle.tzif_reader.specs.Cut.{items, moment_at, kind_at, leap_at, zone_from};
+ghost use Rattle.tzif_reader.specs.Cut.{items, transition_at, kind_at, leap_at, zone_from};
 ghost use Rattle.td_base.specs.FirstFault.{least};
 ghost use Rattle.tzif_reader.specs.Faults.{is_unnamed};
 ghost use Rattle.tzif_reader.specs.Views.{parts_view, AreSized};
@@ -18,7 +18,7 @@ use td_civil::{Local, Moment};
 #[tactic(auto, using(crate::proofs::Items::items_more))]
 fn moments_of(alloc: Global, times: &[u8], timecnt: usize) -> Result<Items<Moment>, NoMemory>
     requires { length times.now ≡ 8 * timecnt }
-    ensures { IfOk result (λ found. found ≡ items timecnt (moment_at times.now)) }
+    ensures { IfOk result (λ found. found ≡ items timecnt (transition_at times.now)) }
 {
     let mut moments = Items::new(alloc);
     for i in 0..timecnt {

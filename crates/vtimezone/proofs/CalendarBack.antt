@@ -21,7 +21,7 @@ use Rattle.recurrence.specs.declared.rule_types.Rule.{Rule}
 use Rattle.vtimezone.specs.CalendarText.{line, kind_of, start_line, change_lines, rule_lines, part_lines, head_lines, alias_lines, end_lines, tail_lines, calendar_lines, calendar, IsLineText, IsReadable}
 use Rattle.vtimezone.specs.Cutting.{Named, cut_first, all_read, put_before}
 use Rattle.vtimezone.specs.ReadRules.{Recur, recur_in}
-use Rattle.vtimezone.specs.ReadValues.{is_safe, local_in, offset_in, text_in}
+use Rattle.vtimezone.specs.ReadValues.{is_safe, local_in, offset_in, text_value}
 use Rattle.vtimezone.specs.Spellable.{IsSafe, IsSpellable}
 use Rattle.vtimezone.specs.Spelled.{shown_at, second_of_day, part_with, part_of_lines, is_line, parts_among, after_begin, before_end, inside, zone_lines, spelled_by, spelled}
 use Rattle.vtimezone.specs.Values.{offset_text, utc_basic, rule_text}
@@ -88,7 +88,7 @@ same_number a b e = cc
 
 change_back : (dst : Bool) (start : Moment) (from to : ℤ) (name : List ℕ) (o : Option (Option Recur)) (rule : Option Rule) (until : Option Moment)
     → IsSpellable (part_by dst start from to name rule until)
-    → part_with dst (local_in (local_text_of start.seconds from)) (offset_in (offset_text from)) (offset_in (offset_text to)) (text_in name) o
+    → part_with dst (local_in (local_text_of start.seconds from)) (offset_in (offset_text from)) (offset_in (offset_text to)) (text_value name) o
     ≡ part_with dst (Some (stamp_of (start.seconds +ℤ from))) (Some from) (Some to) (Some name) o
 change_back dst start from to name o rule until h =
     let w = h.writable in

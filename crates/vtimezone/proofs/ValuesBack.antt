@@ -24,7 +24,7 @@ use Rattle.td_civil.proofs.lemmas.Shown.{stamp_of_valid, stamp_of_moment}
 use Rattle.td_civil.proofs.lemmas.Spelled.{stamp_from}
 use Rattle.vtimezone.specs.Cutting.{put_before}
 use Rattle.vtimezone.specs.ReadRules.{is_number, number_in, weekday_in}
-use Rattle.vtimezone.specs.ReadValues.{fields_in, is_date_time, local_in, utc_in, is_hours, size_in, signed_by, offset_in, is_safe, text_after, text_in}
+use Rattle.vtimezone.specs.ReadValues.{fields_in, is_date_time, local_in, utc_in, is_hours, size_in, signed_by, offset_in, is_safe, text_after, text_value}
 use Rattle.vtimezone.specs.Spellable.{IsSafe}
 use Rattle.vtimezone.specs.Values.{sign_of, seconds_text, offset_text, utc_basic, weekday_name}
 
@@ -149,7 +149,7 @@ offset_back (negsuc n) h =
 safe_clean : (b : ℕ) → is_safe b ≡ true → (b == 92) ≡ false
 safe_clean b h = grind (arith, nat_tests)
 
-pub text_back : (t : List ℕ) → IsSafe t → text_in t ≡ Some t
+pub text_back : (t : List ℕ) → IsSafe t → text_value t ≡ Some t
 unfolding text_after
 text_back [] h = refl
 text_back (b ∷ bs) h =

@@ -31,8 +31,8 @@ use Rattle.recurrence.specs.declared.part_types.Range.{Range}
 use Rattle.recurrence.proofs.lemmas.InYear.{onset_in_year}
 use Rattle.recurrence.proofs.lemmas.Onsets.{keeps_onsets}
 use Rattle.vtimezone.specs.CalendarText.{IsWritable}
-use Rattle.vtimezone.specs.PartsOf.{single_of, last_before, rule_part, part_until, rule_part_if, rule_parts, rules_if_any, rules_of, end_of, parts_from, IsEndOf}
-use Rattle.vtimezone.specs.ZoneParts.{end_in, rule_year, parts_of}
+use Rattle.vtimezone.specs.PartsOf.{single_of, last_before, rule_part, part_until, rule_part_if, rule_parts, rules_if_any, rules_of, part_end, parts_from, IsEndOf}
+use Rattle.vtimezone.specs.ZoneParts.{end_in, rule_year, range_parts}
 use Rattle.vtimezone.proofs.InForce.{first_not_later}
 use Rattle.vtimezone.proofs.LastBefore.{lt_is}
 use Rattle.vtimezone.proofs.PartsMean.{end_after, end_most}
@@ -186,8 +186,8 @@ zone_offsets file t h lawful =
     state_offset (lists_of file) (footer_meant (lists_of file).footer) t (has_types file h) (lawful_if_some (footer_meant (lists_of file).footer) lawful)
 
 pub parts_writable : (file : List ℕ) (range : Range) → zone_fault file ≡ None → IsCarriedIfAny (footer_meant (lists_of file).footer)
-    → HasMeaning range.from.seconds → IsEndOf range.from.seconds (end_in range) → All IsWritable (parts_of file range)
-unfolding parts_of parts_from
+    → HasMeaning range.from.seconds → IsEndOf range.from.seconds (end_in range) → All IsWritable (range_parts file range)
+unfolding range_parts parts_from
 parts_writable file range h carried meaning end =
     let a = range.from.seconds in
     let b = end_in range in
@@ -195,7 +195,7 @@ parts_writable file range h carried meaning end =
     let is = zone_range file a b h meaning end in
     let year0 = is.year0 in
     let turn = days_from_civil (rule_year file a) 1 1 *ℤ pos 86400 in
-    let e = end_of turn b in
+    let e = part_end turn b in
     let from = is.from in
     let before = is.turn in
     let after : a <ℤ e = end_after turn a b (omega (arith, signed_arith)) end in

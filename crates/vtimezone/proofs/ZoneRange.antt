@@ -35,7 +35,7 @@ use Rattle.posix_footer.specs.declared.footer_fault.FooterFault.{FooterFault}
 use Rattle.posix_footer.proofs.lemmas.Lawfulness.{read_lawful}
 use Rattle.std.specs.Result.{result_ok}
 use Rattle.vtimezone.proofs.PartsMean.{parts_from_mean}
-use Rattle.vtimezone.specs.ZoneParts.{latest, rule_year, end_in, parts_of}
+use Rattle.vtimezone.specs.ZoneParts.{latest, rule_year, end_in, range_parts}
 
 -- where one type or the footer gives the state from a moment on, it goes on from there
 by_one : (state : ℤ → Local) (z : ZoneFile) (footer : Option Footer) (last : ℤ) (number : ℕ)
@@ -114,8 +114,8 @@ lawful_footer (b ∷ bs) carried = lawful_result (b ∷ bs) (footer_in (b ∷ bs
 
 pub zone_parts_mean : (file : List ℕ) (range : Range) → zone_fault file ≡ None → IsCarriedIfAny (footer_meant (lists_of file).footer)
     → HasMeaning range.from.seconds → IsEndOf range.from.seconds (end_in range) → (t : ℤ) → IsAmong range.from.seconds (end_in range) t
-    → GivesState (parts_of file range) t (zone_state file t)
-unfolding parts_of
+    → GivesState (range_parts file range) t (zone_state file t)
+unfolding range_parts
 zone_parts_mean file range h carried meaning end t among =
     let a = range.from.seconds in
     let b = end_in range in

@@ -22,7 +22,7 @@ use Rattle.posix_footer.specs.Carried.{is_all_year, is_carried_rule, beyond_if_a
 use Rattle.posix_footer.specs.Lawful.{IsLawfulRule, IsLawfulIfAny}
 use Rattle.posix_footer.specs.Onset.{onset_of}
 use Rattle.zone_meaning.specs.Faults.{zone_fault}
-use Rattle.zone_meaning.specs.Names.{is_name_byte, is_printable_name, rule_names, footer_names, has_printable_names}
+use Rattle.zone_meaning.specs.Names.{is_designation_byte, is_printable_name, rule_names, footer_names, has_printable_names}
 use Rattle.zone_meaning.specs.Observed.{observed}
 use Rattle.zone_meaning.specs.State.{zone_state, footer_meant}
 use Rattle.zone_meaning.proofs.lemmas.Members.{member_first, member_later}
@@ -33,11 +33,11 @@ use Rattle.recurrence.specs.declared.part_types.Range.{Range}
 use Rattle.recurrence.specs.declared.rule_types.Rule.{Rule}
 use Rattle.recurrence.proofs.lemmas.Onsets.{keeps_onsets}
 use Rattle.vtimezone.specs.CalendarText.{IsWritable, calendar, IsLineText}
-use Rattle.vtimezone.specs.PartsOf.{single_of, last_before, rule_part, part_until, rule_part_if, rule_parts, rules_if_any, rules_of, end_of, parts_from, IsEndOf}
+use Rattle.vtimezone.specs.PartsOf.{single_of, last_before, rule_part, part_until, rule_part_if, rule_parts, rules_if_any, rules_of, part_end, parts_from, IsEndOf}
 use Rattle.vtimezone.specs.ReadValues.{is_safe}
 use Rattle.vtimezone.specs.Spellable.{IsSafe, HasTime, IsSpellable}
 use Rattle.vtimezone.specs.Spelled.{spelled}
-use Rattle.vtimezone.specs.ZoneParts.{end_in, rule_year, parts_of}
+use Rattle.vtimezone.specs.ZoneParts.{end_in, rule_year, range_parts}
 use Rattle.vtimezone.proofs.CalendarBack.{calendar_spelled}
 use Rattle.vtimezone.proofs.PartsMean.{end_after}
 use Rattle.vtimezone.proofs.Whole.{IsLawfulAndCarried}
@@ -46,13 +46,13 @@ use Rattle.vtimezone.proofs.ZoneRange.{zone_range, lawful_footer}
 
 -- ---- names
 
-name_byte_safe : (b : ℕ) → is_name_byte b ≡ true → is_safe b ≡ true
+name_byte_safe : (b : ℕ) → is_designation_byte b ≡ true → is_safe b ≡ true
 name_byte_safe b h = grind (arith, nat_tests)
 
-bytes_safe : (bs : List ℕ) → list_all is_name_byte bs ≡ true → IsSafe bs
+bytes_safe : (bs : List ℕ) → list_all is_designation_byte bs ≡ true → IsSafe bs
 bytes_safe [] h = refl
 bytes_safe (b ∷ bs) h =
-    let both = and_parts (is_name_byte b) (list_all is_name_byte bs) h in
+    let both = and_parts (is_designation_byte b) (list_all is_designation_byte bs) h in
     and_from (is_safe b) (list_all is_safe bs) (name_byte_safe b both.0) (bytes_safe bs both.1)
 
 name_safe : (name : List ℕ) → is_printable_name name ≡ true → IsSafe name
@@ -137,8 +137,8 @@ names_of_footer file names =
     (and_parts (list_all is_printable_name kinds) (list_all is_printable_name last) (sym (list_all-append is_printable_name kinds last) ∙ names)).1
 
 parts_told : (file : List ℕ) (range : Range) → zone_fault file ≡ None → has_printable_names file ≡ true → IsCarriedIfAny (footer_meant (lists_of file).footer)
-    → HasMeaning range.from.seconds → IsEndOf range.from.seconds (end_in range) → All IsTold (parts_of file range)
-unfolding parts_of parts_from
+    → HasMeaning range.from.seconds → IsEndOf range.from.seconds (end_in range) → All IsTold (range_parts file range)
+unfolding range_parts parts_from
 parts_told file range h names carried meaning end =
     let a = range.from.seconds in
     let b = end_in range in
@@ -147,9 +147,9 @@ parts_told file range h names carried meaning end =
     let turn = days_from_civil (rule_year file a) 1 1 *ℤ pos 86400 in
     let before = is.turn in
     let from = is.from in
-    let after : a <ℤ end_of turn b = end_after turn a b (omega (arith, signed_arith)) end in
-    All-append IsTold (map single_of (observed (zone_state file) a (end_of turn b))) (rules_of (footer_meant (lists_of file).footer) (rule_year file a) b)
-    (map_told (observed (zone_state file) a (end_of turn b)) (λ o there. observance_name file a (end_of turn b) o h names after there))
+    let after : a <ℤ part_end turn b = end_after turn a b (omega (arith, signed_arith)) end in
+    All-append IsTold (map single_of (observed (zone_state file) a (part_end turn b))) (rules_of (footer_meant (lists_of file).footer) (rule_year file a) b)
+    (map_told (observed (zone_state file) a (part_end turn b)) (λ o there. observance_name file a (part_end turn b) o h names after there))
     (rules_told (footer_meant (lists_of file).footer) (rule_year file a) b lawful is.year0 (names_of_footer file names))
 
 each_spellable : (ps : List Part) → All IsWritable ps → All IsTold ps → AllByRecursion IsSpellable ps
@@ -162,7 +162,7 @@ each_spellable (p ∷ ps) h k =
 
 pub zone_spelled : (file : List ℕ) (range : Range) (tzid : List ℕ) (alias_of : Option (List ℕ)) → zone_fault file ≡ None → IsTrue (has_printable_names file)
     → IsCarriedIfAny (footer_meant (lists_of file).footer) → HasMeaning range.from.seconds → IsEndOf range.from.seconds (end_in range)
-    → IsLineText tzid → IfSome alias_of IsLineText → spelled (calendar tzid alias_of (parts_of file range) range.until) ≡ Some (parts_of file range)
+    → IsLineText tzid → IfSome alias_of IsLineText → spelled (calendar tzid alias_of (range_parts file range) range.until) ≡ Some (range_parts file range)
 zone_spelled file range tzid alias_of h names carried meaning end id also =
-    calendar_spelled tzid alias_of (parts_of file range) range.until id also
-    (each_spellable (parts_of file range) (parts_writable file range h carried meaning end) (parts_told file range h names carried meaning end))
+    calendar_spelled tzid alias_of (range_parts file range) range.until id also
+    (each_spellable (range_parts file range) (parts_writable file range h carried meaning end) (parts_told file range h names carried meaning end))

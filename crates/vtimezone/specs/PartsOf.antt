@@ -22,8 +22,8 @@ use Rattle.recurrence.specs.declared.part_types.Part.{Part}
 use Rattle.recurrence.specs.RuleOfDate.{rule_of}
 
 -- the moment at which a year begins in UTC
-abbrev pub begin_of : ℤ → ℤ
-begin_of year = days_from_civil year 1 1 *ℤ pos 86400
+abbrev pub part_begin : ℤ → ℤ
+part_begin year = days_from_civil year 1 1 *ℤ pos 86400
 
 -- the part of one change
 abbrev pub single_of : Observance → Part
@@ -97,14 +97,14 @@ rules_of (Some footer) y0 b = rules_if_any footer.std footer.dst y0 b
 
 -- where the single parts end: at the turn of a year, or at the end of the range where that comes
 -- first
-abbrev pub end_of : ℤ → Option ℤ → ℤ
-end_of turn None = turn
-end_of turn (Some b) = if int_lt b turn then b else turn
+abbrev pub part_end : ℤ → Option ℤ → ℤ
+part_end turn None = turn
+part_end turn (Some b) = if int_lt b turn then b else turn
 
 -- the parts for a range from a to b: single ones before the year y0, and rules from that year on
 unfoldable pub parts_from : (ℤ → Local) → Option Footer → ℤ → Option ℤ → ℤ → List Part
 parts_from state footer a b y0 =
-    map single_of (observed state a (end_of (begin_of y0) b)) ++ rules_of footer y0 b
+    map single_of (observed state a (part_end (part_begin y0) b)) ++ rules_of footer y0 b
 
 -- the end of a range, if there is one, comes after its start, and not after the moments that have a
 -- meaning

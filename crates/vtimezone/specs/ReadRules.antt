@@ -97,17 +97,17 @@ abbrev pub form_without : Option (List ℤ) → Option (List ℤ) → Option (Li
 form_without (Some (pos month ∷ [])) (Some (pos day ∷ [])) None = Some (form.FixedDate month day)
 form_without months month_days year_days = None
 
-abbrev pub form_of : Option (List ℤ) → Option (List ℤ) → Option (List ℤ) → Option (List Day)
+abbrev pub form_of_fields : Option (List ℤ) → Option (List ℤ) → Option (List ℤ) → Option (List Day)
     → Option Form
-form_of months month_days year_days None = form_without months month_days year_days
-form_of months month_days year_days (Some (d ∷ [])) =
+form_of_fields months month_days year_days None = form_without months month_days year_days
+form_of_fields months month_days year_days (Some (d ∷ [])) =
     form_on months month_days year_days d.nth d.weekday
-form_of months month_days year_days (Some days) = None
+form_of_fields months month_days year_days (Some days) = None
 
 abbrev pub form_read : Option (Option (List ℤ)) → Option (Option (List ℤ))
     → Option (Option (List ℤ)) → Option (Option (List Day)) → Option Form
 form_read (Some months) (Some month_days) (Some year_days) (Some days) =
-    form_of months month_days year_days days
+    form_of_fields months month_days year_days days
 form_read months month_days year_days days = None
 
 abbrev pub form_in : List Named → Option Form

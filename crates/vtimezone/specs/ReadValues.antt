@@ -80,5 +80,5 @@ text_after false (b ∷ bs) =
     else put_before (if is_safe b then Some b else None) (text_after false bs)
 text_after true (b ∷ bs) = put_before (escaped b) (text_after false bs)
 
-abbrev pub text_in : List ℕ → Option (List ℕ)
-text_in text = text_after false text
+abbrev pub text_value : List ℕ → Option (List ℕ)
+text_value text = text_after false text

@@ -16,7 +16,7 @@ use Rattle.recurrence.specs.declared.rule_types.Rule.{Rule}
 use Rattle.vtimezone.specs.Cutting.{Named, cut_first, put_before, all_read, values_of, one_read}
 use Rattle.vtimezone.specs.Cutting.{one_if_any}
 use Rattle.vtimezone.specs.ReadRules.{Recur, recur_in}
-use Rattle.vtimezone.specs.ReadValues.{local_in, offset_in, text_in}
+use Rattle.vtimezone.specs.ReadValues.{local_in, offset_in, text_value}
 
 -- the names of the lines of a group
 abbrev pub is_part_line : Named → Bool
@@ -33,8 +33,8 @@ shown_at s offset = record { seconds = moment_at s -ℤ offset }
 abbrev pub second_of_day : Stamp → ℕ
 second_of_day s = 3600 * s.hour + 60 * s.minute + s.second
 
-abbrev pub rule_at : Stamp → Recur → Rule
-rule_at s r = record { form = r.form; second = second_of_day s }
+abbrev pub rule_spelled_at : Stamp → Recur → Rule
+rule_spelled_at s r = record { form = r.form; second = second_of_day s }
 
 -- the start is shown by the clocks before it, and a rule has its time of day from it
 abbrev pub part_with : Bool → Option Stamp → Option ℤ → Option ℤ → Option (List ℕ)
@@ -45,7 +45,7 @@ part_with dst (Some start) (Some from) (Some to) (Some name) (Some recur) = Some
   from = from;
   to = to;
   name = name;
-  rule = option_map (rule_at start) recur;
+  rule = option_map (rule_spelled_at start) recur;
   until = option_and_then (λ r. r.until) recur;
 })
 part_with dst start from to name recur = None
@@ -57,7 +57,7 @@ part_of_lines dst lines =
     then part_with dst (one_read local_in (values_of (codes "DTSTART") lines))
     (one_read offset_in (values_of (codes "TZOFFSETFROM") lines))
     (one_read offset_in (values_of (codes "TZOFFSETTO") lines))
-    (one_read text_in (values_of (codes "TZNAME") lines))
+    (one_read text_value (values_of (codes "TZNAME") lines))
     (one_if_any recur_in (values_of (codes "RRULE") lines))
     else None
 

@@ -24,8 +24,8 @@ rule_year file a = pos (stamp_of (latest a (lists_of file).moments)).year +ℤ p
 abbrev pub end_in : Range → Option ℤ
 end_in range = seconds_if_any range.until
 
-unfoldable pub parts_of : List ℕ → Range → List Part
-parts_of file range =
+unfoldable pub range_parts : List ℕ → Range → List Part
+range_parts file range =
     let a = range.from.seconds in
     parts_from (zone_state file) (footer_meant (lists_of file).footer) a (end_in range)
     (rule_year file a)

@@ -16,7 +16,7 @@ ghost use Rattle.vtimezone.specs.CalendarText.{calendar, calendar_lines, IsLineT
 ghost use Rattle.vtimezone.specs.PartsOf.{IsEndOf, IsAmong};
 ghost use Rattle.vtimezone.specs.Spellable.{IsSpellable};
 ghost use Rattle.vtimezone.specs.Spelled.{spelled};
-ghost use Rattle.vtimezone.specs.ZoneParts.{end_in, parts_of};
+ghost use Rattle.vtimezone.specs.ZoneParts.{end_in, range_parts};
 
 /// At each moment of a range, the part in force has the offset, the flag and the name of the zone
 /// file's state.
@@ -25,7 +25,7 @@ pub fn parts_mean()
         → IsCarriedIfAny (footer_meant (lists_of file).footer)
         → HasMeaning range.from.seconds → IsEndOf range.from.seconds (end_in range)
         → (t : ℤ) → IsAmong range.from.seconds (end_in range) t
-        → GivesState (parts_of file range) t (zone_state file t) }
+        → GivesState (range_parts file range) t (zone_state file t) }
 {}
 
 /// At most one part is in force.
@@ -61,6 +61,6 @@ pub fn zone_calendar_spells()
         → IsCarriedIfAny (footer_meant (lists_of file).footer)
         → HasMeaning range.from.seconds → IsEndOf range.from.seconds (end_in range)
         → IsLineText tzid → IfSome alias_of IsLineText
-        → spelled (calendar tzid alias_of (parts_of file range) range.until)
-        ≡ Some (parts_of file range) }
+        → spelled (calendar tzid alias_of (range_parts file range) range.until)
+        ≡ Some (range_parts file range) }
 {}

@@ -26,7 +26,7 @@ pub fn parts(alloc: Global, zone: &Zone, range: Range) -> Result<Items<Part>, No
     requires from { HasMeaning range.from.seconds }
     requires until { spec.IsEndOf range.from.seconds (zone_spec.end_in range) }
     requires carried { IsCarriedIfAny (footer_meant (cut.lists_of zone.now).footer) }
-    ensures exact { IfOk result (λ parts. parts ≡ zone_spec.parts_of zone.now range) }
+    ensures exact { IfOk result (λ parts. parts ≡ zone_spec.range_parts zone.now range) }
     ensures means { IfOk result (zone_spec.MeansZone zone.now range) }
     ensures writable { IfOk result (λ parts. All IsWritable parts) }
 {
@@ -35,12 +35,12 @@ pub fn parts(alloc: Global, zone: &Zone, range: Range) -> Result<Items<Part>, No
 }
 
 /// The parts of the changes, and after them those of the footer's rules.
-#[tactic(auto, unfolding(crate::specs::ZoneParts::parts_of, crate::specs::PartsOf::parts_from))]
+#[tactic(auto, unfolding(crate::specs::ZoneParts::range_parts, crate::specs::PartsOf::parts_from))]
 fn listed(alloc: Global, zone: &Zone, range: Range) -> Result<Items<Part>, NoMemory>
     requires from { HasMeaning range.from.seconds }
     requires until { spec.IsEndOf range.from.seconds (zone_spec.end_in range) }
     requires carried { IsCarriedIfAny (footer_meant (cut.lists_of zone.now).footer) }
-    ensures exact { IfOk result (λ parts. parts ≡ zone_spec.parts_of zone.now range) }
+    ensures exact { IfOk result (λ parts. parts ≡ zone_spec.range_parts zone.now range) }
     ensures no_fault { OnOk result (zone_fault zone.now ≡ None) }
 {
     let year = rule_year(zone, range.from);
@@ -55,7 +55,7 @@ fn rule_year(zone: &Zone, from: Moment) -> i32
     requires { HasMeaning from.seconds }
     ensures year { result ≡ zone_spec.rule_year zone.now from.seconds }
     ensures bound { IsBetween (pos 1801) (pos 9999) result }
-    ensures after { from.seconds <ℤ spec.begin_of result }
+    ensures after { from.seconds <ℤ spec.part_begin result }
 {
     year_of(last_moment(zone, from)) + 1
 }
@@ -89,7 +89,7 @@ fn latest(moments: &[Moment], from: Moment) -> Moment
 /// Where the parts without rules end: where a year begins, or at the end of the range.
 fn single_end(year: i32, until: Option<Moment>) -> Moment
     requires { IsBetween (pos 1801) (pos 9999) year }
-    ensures { result.seconds ≡ spec.end_of (spec.begin_of year) (spec.seconds_if_any until) }
+    ensures { result.seconds ≡ spec.part_end (spec.part_begin year) (spec.seconds_if_any until) }
 {
     let turn = begin_of(year);
     match until {
@@ -101,7 +101,7 @@ fn single_end(year: i32, until: Option<Moment>) -> Moment
 /// The moment at which a year begins in UTC.
 fn begin_of(year: i32) -> Moment
     requires { IsBetween (pos 1801) (pos 9999) year }
-    ensures { result.seconds ≡ spec.begin_of year }
+    ensures { result.seconds ≡ spec.part_begin year }
 {
     Moment {
         seconds: first_day(year as i16) * 86_400,

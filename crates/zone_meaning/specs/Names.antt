@@ -9,13 +9,13 @@ use Rattle.posix_footer.specs.declared.rule_types.DstRule.{DstRule}
 use Rattle.zone_meaning.specs.State.{footer_meant}
 
 -- a letter, a digit, `+` or `-`
-abbrev pub is_name_byte : ℕ → Bool
-is_name_byte b = is_ascii_alphanumeric b || (b == 43) || (b == 45)
+abbrev pub is_designation_byte : ℕ → Bool
+is_designation_byte b = is_ascii_alphanumeric b || (b == 43) || (b == 45)
 
 -- at least one such byte
 abbrev pub is_printable_name : List ℕ → Bool
 is_printable_name [] = false
-is_printable_name (b ∷ bs) = list_all is_name_byte (b ∷ bs)
+is_printable_name (b ∷ bs) = list_all is_designation_byte (b ∷ bs)
 
 -- the names that a footer gives
 abbrev pub rule_names : Option DstRule → List (List ℕ)

@@ -28,6 +28,6 @@ HandsOut old None new = old ≡ new
 HandsOut old (Some o) new = old ≡ o ∷ new
 
 -- an observance, if there is one, and a list behind it
-abbrev pub with_first : Option Observance → List Observance → List Observance
-with_first None rest = rest
-with_first (Some o) rest = o ∷ rest
+abbrev pub with_first_if_any : Option Observance → List Observance → List Observance
+with_first_if_any None rest = rest
+with_first_if_any (Some o) rest = o ∷ rest

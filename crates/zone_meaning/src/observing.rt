@@ -27,9 +27,9 @@ impl<'a> Model for Changes<'a> {
 
     ghost Value = { List Observance };
 
-    ghost use Rattle.zone_meaning.specs.WalkLeft.{left, with_first, IsSoundWalk};
+    ghost use Rattle.zone_meaning.specs.WalkLeft.{left, with_first_if_any, IsSoundWalk};
 
-    ghost view = { λ o. with_first o.first (left o.walk) };
+    ghost view = { λ o. with_first_if_any o.first (left o.walk) };
 
     ghost invariant = { λ o. IsSoundWalk o.walk };
 }

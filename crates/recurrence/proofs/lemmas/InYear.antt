@@ -11,9 +11,9 @@ use Rattle.posix_footer.specs.declared.rule_types.Date.{Date}
 use Rattle.posix_footer.specs.declared.rule_types.DstRule.{DstRule}
 use Rattle.posix_footer.specs.Lawful.{IsLawfulDate, IsLawfulOffset, IsLawfulRule}
 use Rattle.posix_footer.specs.Onset.{day_number, moment_on, onset_of}
-use Rattle.posix_footer.specs.Carried.{moved_by, is_steady, is_carried_rule, are_apart, comes_before, is_before, moved_first, moved_last}
+use Rattle.posix_footer.specs.Carried.{moved_by, is_steady, is_carried_rule, are_apart, comes_before, is_sooner, moved_first, moved_last}
 use Rattle.posix_footer.specs.Onset.{first_place, more_places}
-use Rattle.recurrence.specs.RuleOfDate.{second_of, place_of}
+use Rattle.recurrence.specs.RuleOfDate.{second_in_day, row_place}
 use Rattle.recurrence.proofs.Rows.{Keeps}
 use Rattle.recurrence.proofs.Steady.{steady_is}
 use Rattle.recurrence.proofs.Carrying.{moved_is, moved_number}
@@ -25,8 +25,8 @@ pub record IsPlaced (date : Date) (y : ℤ) : Type 0 where
   pub first : ℕ
   pub after : ℕ
   pub among : after ≤ more_places date.day
-  pub keeps : Keeps y (place_of date.day (moved_by date.time)) first (more_places date.day)
-  pub common : pos (place_of date.day (moved_by date.time)) ≡ pos (first_place date.day (pos 2001)) +ℤ moved_by date.time
+  pub keeps : Keeps y (row_place date.day (moved_by date.time)) first (more_places date.day)
+  pub common : pos (row_place date.day (moved_by date.time)) ≡ pos (first_place date.day (pos 2001)) +ℤ moved_by date.time
   pub low : 2 ≤ first
   pub high : first + more_places date.day + 3 ≤ days_in_year y
   pub number : day_number date.day y +ℤ moved_by date.time ≡ days_from_civil y 1 1 +ℤ pos (first + after)
@@ -48,7 +48,7 @@ placed date y h e =
 
 -- and its moment
 pub placed_moment : (date : Date) (offset y : ℤ) → (p : IsPlaced date y)
-    → moment_on date offset y ≡ ((days_from_civil y 1 1 *ℤ pos 86400) +ℤ pos (86400 * (p.first + p.after) + second_of date.time)) -ℤ offset
+    → moment_on date offset y ≡ ((days_from_civil y 1 1 *ℤ pos 86400) +ℤ pos (86400 * (p.first + p.after) + second_in_day date.time)) -ℤ offset
 placed_moment date offset y p = omega (arith, signed_arith, p.number, time_is date.time)
 
 pub moment_in_year : (date : Date) (offset y : ℤ) → IsLawfulDate date → IsLawfulOffset offset → IsYear y → is_steady date ≡ true
@@ -81,7 +81,7 @@ pub moments_ordered : (a b : Date) (oa ob y : ℤ) → IsLawfulDate a → IsLawf
 moments_ordered a b oa ob y ha hb ka kb ea eb gap =
     let p = placed a y ha ea in
     let q = placed b y hb eb in
-    let apart = places_apart y (place_of a.day (moved_by a.time)) (place_of b.day (moved_by b.time)) p.first q.first (more_places a.day)
+    let apart = places_apart y (row_place a.day (moved_by a.time)) (row_place b.day (moved_by b.time)) p.first q.first (more_places a.day)
     (more_places b.day) p.keeps q.keeps (omega (arith, signed_arith, p.common, q.common, gap)) in
     let early = placed_moment a oa y p in
     let late = placed_moment b ob y q in
@@ -97,7 +97,7 @@ at_most x y e = omega (arith, signed_arith)
 pub before_is : (a b : Date) → comes_before a b ≡ true → Gap a b
 unfolding comes_before
 before_is a b e =
-    at_most (moved_last a (pos 2001) +ℤ pos 3) (moved_first b (pos 2001)) (and_parts (is_before a b (pos 2001)) (is_before a b (pos 2004)) e).0
+    at_most (moved_last a (pos 2001) +ℤ pos 3) (moved_first b (pos 2001)) (and_parts (is_sooner a b (pos 2001)) (is_sooner a b (pos 2004)) e).0
 
 pub gap_is : (a b : Date) → are_apart a b ≡ true → Gap a b ⊎ Gap b a
 unfolding are_apart

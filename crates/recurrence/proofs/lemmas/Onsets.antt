@@ -7,17 +7,17 @@ use Rattle.posix_footer.specs.declared.rule_types.DstRule.{DstRule}
 use Rattle.posix_footer.specs.Lawful.{IsLawfulDate, IsLawfulRule}
 use Rattle.posix_footer.specs.Onset.{day_number, moment_on}
 use Rattle.posix_footer.specs.Carried.{moved_by, is_steady, is_carried_rule, are_apart}
-use Rattle.recurrence.specs.RuleOfDate.{second_of, rule_of}
+use Rattle.recurrence.specs.RuleOfDate.{second_in_day, rule_of}
 use Rattle.recurrence.specs.Occurs.{FallsAt, AreRulesOf}
 use Rattle.recurrence.specs.Valid.{IsValid}
 use Rattle.recurrence.proofs.Steady.{steady_is, three}
 use Rattle.recurrence.proofs.Carrying.{IsRuleDay, moved_is, rule_day}
 use Rattle.recurrence.proofs.Windows.{falls_once}
 
-pub second_below : (time : ℤ) → second_of time < 86400
+pub second_below : (time : ℤ) → second_in_day time < 86400
 second_below time = omega (arith, signed_arith)
 
-pub time_is : (time : ℤ) → (moved_by time *ℤ pos 86400) +ℤ pos (second_of time) ≡ time
+pub time_is : (time : ℤ) → (moved_by time *ℤ pos 86400) +ℤ pos (second_in_day time) ≡ time
 time_is time = omega (arith, signed_arith)
 
 date_day : (date : Date) (y : ℤ) → IsLawfulDate date → IsYear y → is_steady date ≡ true

@@ -4,7 +4,7 @@ use Rattle.catalogue.specs.Histories.{meta, token_of}
 use Rattle.json_forms.specs.Begun.{IsListBegun}
 use Rattle.json_forms.specs.ListDocument.{list_document}
 use Rattle.json_forms.specs.declared.zone_list.ListZone.{ListZone}
-use Rattle.actions.specs.Listing.{list_of}
+use Rattle.actions.specs.Listing.{list_text}
 use Rattle.actions.proofs.lemmas.Chosen.{chosen, next_chosen}
 use Rattle.actions.proofs.listing.listing.Goals as goal
 
@@ -16,7 +16,7 @@ loop-place-preserved g c =
     (c.in_ok-put_chosen.ensures [] (token_of H (length H)) _ (c.loop-place.invariant H stands))
 
 pub returns : goal.returns
-unfolding list_of
+unfolding list_text
 returns g c =
     λ H stands.
     subst (λ (zones : List ListZone). IfOk c.end.result (λ text. text ≡ list_document (token_of H (length H)) zones))

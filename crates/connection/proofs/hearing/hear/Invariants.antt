@@ -1,5 +1,5 @@
 use Rattle.std.proofs.Common.{length, ◌-◌}
-use Rattle.http_request.specs.Ends.{most_bytes}
+use Rattle.http_request.specs.Ends.{most_head_bytes}
 use Rattle.connection.proofs.HearLemmas.{Listens}
 use Rattle.connection.proofs.hearing.hear.Given as goal
 
@@ -7,4 +7,4 @@ abbrev pub invariant-pieces : goal.invariant-pieces
 invariant-pieces g l = Listens (g.C.Conn.seen l.fn.conn) (g.C.Conn.seen l.conn) l.fn.heads l.heads
 
 abbrev pub decreases-pieces : goal.decreases-pieces
-decreases-pieces g l = most_bytes - length l.heads
+decreases-pieces g l = most_head_bytes - length l.heads
