@@ -44,7 +44,8 @@ name_is_plain (b ∷ bs) printable = bytes_are_plain (b ∷ bs) printable
 
 -- ---- onsets
 
-onset_within : (state : ℤ → Local) (a b : ℤ) (o : Observance) → IsRange a b → (o ≡ first_at state a) ⊎ IsChangeBetween state a b o → IsWithinBounds o.onset.seconds
+onset_within : (state : ℤ → Local) (a b : ℤ) (o : Observance) → IsRange a b → (o ≡ first_at state a) ⊎ IsChangeBetween state a b o
+    → IsWithinBounds o.onset.seconds
 onset_within state a b o range (inl first) =
     let low : LO ≤ℤ a = range.0 in
     let mid : a <ℤ b = range.1 in
@@ -89,10 +90,12 @@ one_more all until rest o left old new is w begun = record {
   plain = (subst (AllByRecursion IsPlainObservance) is w.plain).1;
 }
 
-pub first_left : (rest : List Observance) (o : Observance) (left : List Observance) → rest ≡ o ∷ left → AllByRecursion IsPlainObservance rest → IsPlainObservance o
+pub first_left : (rest : List Observance) (o : Observance) (left : List Observance) → rest ≡ o ∷ left → AllByRecursion IsPlainObservance rest
+    → IsPlainObservance o
 first_left rest o left is plain = (subst (AllByRecursion IsPlainObservance) is plain).0
 
-pub all_written : (all : List Observance) (until : ℤ) (rest : List Observance) (w : Written) → rest ≡ [] → IsWritten all until rest w → IsExpansionBegun [] until all w
+pub all_written : (all : List Observance) (until : ℤ) (rest : List Observance) (w : Written) → rest ≡ [] → IsWritten all until rest w
+    → IsExpansionBegun [] until all w
 all_written all until rest w none h =
     subst (λ xs. IsExpansionBegun [] until xs w)
     (sym (h.whole ∙ (ap (λ ys. h.done ++ ys) none ∙ append-nil h.done))) h.begun

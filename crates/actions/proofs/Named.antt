@@ -1,5 +1,6 @@
 -- The zone that a name finds.
-use Rattle.std.proofs.Common.{◌≡◌, ℕ, zero, suc, ◌+◌, ◌≤◌, List, [], ◌∷◌, map, Bool, true, false, ◌||◌, Option, None, Some, Result, Ok, Err, IfOk, cond, refl, ap, sym, subst, ◌∙◌, arith, ◌⊎◌, inl, inr}
+use Rattle.std.proofs.Common.{◌≡◌, ℕ, zero, suc, ◌+◌, ◌≤◌, List, [], ◌∷◌, map, Bool, true, false, ◌||◌, Option, None, Some, Result, Ok, Err, IfOk, cond, refl}
+use Rattle.std.proofs.Common.{ap, sym, subst, ◌∙◌, arith, ◌⊎◌, inl, inr}
 use Rattle.std.proofs.lemmas.Slice.Eq.{bytes_eq-Decides}
 use Rattle.std.specs.List.{AllByRecursion, list_any, position_from, slice_get}
 use Rattle.std.specs.Str.{bytes_eq}
@@ -60,7 +61,8 @@ member_is_plain name (text ∷ texts) all h =
       | inr rest ↦ member_is_plain name texts all.1 rest
     ]
 
-pub name_is_plain : (H : List ReleaseData) (name : List ℕ) (place : ℕ) (e : EntryData) → Some place ≡ place_named H name → slice_get (meta H) place ≡ Some e → IsPlainEntry e → IsPlain name
+pub name_is_plain : (H : List ReleaseData) (name : List ℕ) (place : ℕ) (e : EntryData) → Some place ≡ place_named H name → slice_get (meta H) place ≡ Some e
+    → IsPlainEntry e → IsPlain name
 unfolding place_named
 name_is_plain H name place e found there plain =
     let is : position_from (λ x. is_name_of name x.content) 0 (meta H) ≡ Some (0 + place) = sym found ∙ ap Some (omega arith) in

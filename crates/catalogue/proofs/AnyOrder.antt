@@ -1,5 +1,6 @@
 -- Whether a release fits does not depend on the order in which its zones and their aliases stand.
-use Rattle.std.proofs.Common.{◌≡◌, ℕ, ◌≤◌, ◌+◌, Bool, true, false, ◌&&◌, ◌||◌, if◌then◌else◌, Option, None, Some, IfSome, IsTrue, List, [], ◌∷◌, ◌++◌, length, refl, sym, ◌∙◌, subst, map, arith, length-append, append_assoc}
+use Rattle.std.proofs.Common.{◌≡◌, ℕ, ◌≤◌, ◌+◌, Bool, true, false, ◌&&◌, ◌||◌, if◌then◌else◌, Option, None, Some, IfSome, IsTrue, List, [], ◌∷◌, ◌++◌, length}
+use Rattle.std.proofs.Common.{refl, sym, ◌∙◌, subst, map, arith, length-append, append_assoc}
 use Rattle.std.specs.List.{AllByRecursion, IsDistinct, list_all, list_any}
 use Rattle.std.specs.Str.{bytes_eq}
 use Rattle.std.proofs.lemmas.List.{length-map}
@@ -215,7 +216,8 @@ kept_names None r s f h = h
 kept_names (Some last) r s f h = still_there (has_name r) (has_name s) (names_of last.contents) f h
 
 -- a release that fits with its zones and aliases as they stand, fits in rising order
-pub fits_in_any_order : {Z : Type 0} (bytes : Z → List ℕ) (H : List ReleaseData) (r : Release Z) → Fits H (release_as_is bytes r) → Fits H (release_data bytes r)
+pub fits_in_any_order : {Z : Type 0} (bytes : Z → List ℕ) (H : List ReleaseData) (r : Release Z) → Fits H (release_as_is bytes r)
+    → Fits H (release_data bytes r)
 fits_in_any_order bytes H r fits = record {
   identifiers = in_any_order bytes (λ names. list_all is_identifier names ≡ true) (all_exchanges is_identifier) r.zones fits.identifiers;
   distinct = in_any_order bytes (IsDistinct bytes_eq) distinct_exchanges r.zones fits.distinct;

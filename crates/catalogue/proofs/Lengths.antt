@@ -23,22 +23,28 @@ short_identifier text h =
 
 short_aliases : (texts : List (List ℕ)) → list_all is_identifier texts ≡ true → AllByRecursion (λ a. length a < 2 ^ 32) texts
 short_aliases [] h = tt
-short_aliases (x ∷ xs) h =
-    (short_identifier x (and-left (is_identifier x) (list_all is_identifier xs) h), short_aliases xs (and-right (is_identifier x) (list_all is_identifier xs) h))
+short_aliases (x ∷ xs) h = (
+  short_identifier x (and-left (is_identifier x) (list_all is_identifier xs) h),
+  short_aliases xs
+      (and-right (is_identifier x) (list_all is_identifier xs) h),
+)
 
 pub short_contents : (cs : List ContentData) → list_all is_identifier (names_of cs) ≡ true → length (names_of cs) ≤ 4096
     → AllByRecursion (λ c. length c.file < 2 ^ 32) cs → AllByRecursion IsShort cs
 short_contents [] h few files = tt
 short_contents (c ∷ cs) h few files =
-    let rest : list_all is_identifier (c.aliases ++ names_of cs) ≡ true = and-right (is_identifier c.tzid) (list_all is_identifier (c.aliases ++ names_of cs)) h in
-    let both : (list_all is_identifier c.aliases && list_all is_identifier (names_of cs)) ≡ true = sym (list_all-append is_identifier c.aliases (names_of cs)) ∙ rest in (
+    let rest : list_all is_identifier (c.aliases ++ names_of cs) ≡ true =
+    and-right (is_identifier c.tzid) (list_all is_identifier (c.aliases ++ names_of cs)) h in
+    let both : (list_all is_identifier c.aliases && list_all is_identifier (names_of cs)) ≡ true = sym (list_all-append is_identifier c.aliases (names_of cs))
+    ∙ rest in (
       record {
         tzid = short_identifier c.tzid (and-left (is_identifier c.tzid) (list_all is_identifier (c.aliases ++ names_of cs)) h);
         count = omega (arith, length-append c.aliases (names_of cs));
         aliases = short_aliases c.aliases (and-left (list_all is_identifier c.aliases) (list_all is_identifier (names_of cs)) both);
         file = files.0;
       },
-      short_contents cs (and-right (list_all is_identifier c.aliases) (list_all is_identifier (names_of cs)) both) (omega (arith, length-append c.aliases (names_of cs))) files.1,
+      short_contents cs (and-right (list_all is_identifier c.aliases) (list_all is_identifier (names_of cs)) both)
+          (omega (arith, length-append c.aliases (names_of cs))) files.1,
     )
 
 pub each_mapped : {X Y : Type 0} (f : X → Y) (P : Y → Type 0) (xs : List X) → AllByRecursion P (map f xs) → AllByRecursion (λ x. P (f x)) xs

@@ -108,7 +108,8 @@ not_earlier : {X : Type 0} (text : X → List ℕ) (x y : X) (ys rest : List X) 
     → filter (ties (earlier text) x) (y ∷ ys) ≡ x ∷ rest → earlier text x y ≡ false
 not_earlier text x y ys rest all e = by (ties (earlier text) x y) refl e
   where
-    by : (b : Bool) → ties (earlier text) x y ≡ b → cond b (y ∷ filter (ties (earlier text) x) ys) (filter (ties (earlier text) x) ys) ≡ x ∷ rest → earlier text x y ≡ false
+    by : (b : Bool) → ties (earlier text) x y ≡ b → cond b (y ∷ filter (ties (earlier text) x) ys) (filter (ties (earlier text) x) ys) ≡ x ∷ rest
+        → earlier text x y ≡ false
     by true t f = (and_nots (earlier text x y) (earlier text y x) t).0
     by false t f = one_of (ties (earlier text) x) (λ z. earlier text z y ≡ false) ys x rest f (unmapped text (λ t. is_before t (text y) ≡ false) ys all)
 

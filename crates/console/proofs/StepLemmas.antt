@@ -1,5 +1,6 @@
 -- One call, and what it is of all the bytes that were fed.
-use Rattle.std.proofs.Common.{◌≡◌, OnErr, true, false, ◌<◌, ◌+◌, ℕ, Result, Ok, Err, IfOk, Option, Some, None, List, [], ◌∷◌, ◌++◌, length, sym, ap, ◌∙◌, arith, append_assoc, length-drop}
+use Rattle.std.proofs.Common.{◌≡◌, OnErr, true, false, ◌<◌, ◌+◌, ℕ, Result, Ok, Err, IfOk, Option, Some, None, List, [], ◌∷◌, ◌++◌, length, sym, ap, ◌∙◌, arith}
+use Rattle.std.proofs.Common.{append_assoc, length-drop}
 use Rattle.std.specs.List.{before_first, after_first, position_or_len}
 use Rattle.std.proofs.lemmas.List.{append-nil, length-take}
 use Rattle.td_base.specs.declared.no_memory.NoMemory.{NoMemory}

@@ -7,7 +7,8 @@ use Rattle.http_request.specs.declared.head.Next.{Next}
 use Rattle.http_request.specs.declared.head.Next.TheVariants as next
 use Rattle.http_request.specs.Steps.{Taken, Refused, Waiting, IsStep, Steps}
 use Rattle.http_request.specs.Asks.{Ending, Bad, Rest, Asks, Gives, IsPrefixOf, Continues}
-use Rattle.http_request.proofs.lemmas.StepLemmas.{one_step, step_stays, taken≢waiting, refused≢waiting, refused≢taken, same_status, same_len, same_head, taken_within}
+use Rattle.http_request.proofs.lemmas.StepLemmas.{one_step, step_stays, taken≢waiting, refused≢waiting, refused≢taken, same_status, same_len, same_head}
+use Rattle.http_request.proofs.lemmas.StepLemmas.{taken_within}
 
 -- the list grows
 pub gives_feed : (bytes piece : List ℕ) (heads : List Head) (held : List ℕ) → Gives bytes heads held → Gives (bytes ++ piece) heads (held ++ piece)

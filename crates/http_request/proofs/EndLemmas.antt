@@ -1,5 +1,6 @@
 -- A decision on a prefix is the decision on the whole.
-use Rattle.std.proofs.Common.{◌≡◌, ◌≢◌, ℕ, suc, ◌+◌, ◌<◌, ◌≤◌, ◌⊎◌, inl, inr, List, [], ◌∷◌, ◌++◌, length, take, drop, take-append-drop, length-append, Bool, true, false, not, ◌&&◌, ◌||◌, Some, None, refl, sym, ap, ◌∙◌, arith, add-one}
+use Rattle.std.proofs.Common.{◌≡◌, ◌≢◌, ℕ, suc, ◌+◌, ◌<◌, ◌≤◌, ◌⊎◌, inl, inr, List, [], ◌∷◌, ◌++◌, length, take, drop, take-append-drop, length-append, Bool}
+use Rattle.std.proofs.Common.{true, false, not, ◌&&◌, ◌||◌, Some, None, refl, sym, ap, ◌∙◌, arith, add-one}
 use Rattle.std.proofs.lemmas.Bool.{cases_Bool, cases_eq, ne_eqb}
 use Rattle.std.proofs.lemmas.Option.{none-some, same_Some}
 use Rattle.http_request.specs.Ends.{head_lines_from, end_among, end_of_head, is_blank_line, feeds}
@@ -40,7 +41,8 @@ pub record Stops (begun : Bool) (line : List ℕ) (at b : ℕ) : Type 0 where
 pub one_byte : (begun : Bool) (line : List ℕ) (at b : ℕ) → Stops begun line at b ⊎ GoesOn begun line at b
 one_byte begun line at b = at_feed (cases_eq b 10) (cases_Bool (begun && is_blank_line line))
   where
-    at_feed : (b ≡ 10) ⊎ (b ≢ 10) → ((begun && is_blank_line line) ≡ true) ⊎ ((begun && is_blank_line line) ≡ false) → Stops begun line at b ⊎ GoesOn begun line at b
+    at_feed : (b ≡ 10) ⊎ (b ≢ 10) → ((begun && is_blank_line line) ≡ true) ⊎ ((begun && is_blank_line line) ≡ false)
+        → Stops begun line at b ⊎ GoesOn begun line at b
     at_feed (inl e) (inl h) = inl (record { feed = e; same = λ bs. end_last begun line at b bs e h })
     at_feed (inl e) (inr h) = inr (record { begun_after = begun || not (is_blank_line line); line_after = []; same = λ bs. end_line begun line at b bs e h })
     at_feed (inr n) h = inr (record { begun_after = begun; line_after = line ++ b ∷ []; same = λ bs. end_within begun line at b bs n })

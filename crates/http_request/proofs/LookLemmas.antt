@@ -1,5 +1,6 @@
 -- What the limits and the reading of a window say of the step.
-use Rattle.std.proofs.Common.{◌≡◌, ℕ, ◌≤◌, inl, inr, List, length, take, true, false, ◌&&◌, ◌||◌, nat_le, cond, Result, Ok, Err, OnErr, Option, Some, None, refl, sym, ap, ◌∙◌, subst, arith}
+use Rattle.std.proofs.Common.{◌≡◌, ℕ, ◌≤◌, inl, inr, List, length, take, true, false, ◌&&◌, ◌||◌, nat_le, cond, Result, Ok, Err, OnErr, Option, Some, None}
+use Rattle.std.proofs.Common.{refl, sym, ap, ◌∙◌, subst, arith}
 use Rattle.std.proofs.lemmas.Bool.Decides.{nat_tests}
 use Rattle.std.proofs.lemmas.List.{take_all}
 use Rattle.httparse.specs.Grammar.{RequestHead, print_request}

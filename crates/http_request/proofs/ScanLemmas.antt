@@ -1,5 +1,6 @@
 -- The search keeps what the definition needs.
-use Rattle.std.proofs.Common.{◌≡◌, ◌≢◌, ℕ, ◌+◌, ◌<◌, ◌≤◌, List, [], ◌∷◌, ◌++◌, ◌==◌, ◌⊎◌, inl, inr, length, take, drop, get_or, Bool, true, false, not, ◌&&◌, ◌||◌, None, refl, sym, ap, ◌∙◌, arith, append_assoc, take-append-drop, length-take-le}
+use Rattle.std.proofs.Common.{◌≡◌, ◌≢◌, ℕ, ◌+◌, ◌<◌, ◌≤◌, List, [], ◌∷◌, ◌++◌, ◌==◌, ◌⊎◌, inl, inr, length, take, drop, get_or, Bool, true, false, not, ◌&&◌}
+use Rattle.std.proofs.Common.{◌||◌, None, refl, sym, ap, ◌∙◌, arith, append_assoc, take-append-drop, length-take-le}
 use Rattle.std.proofs.lemmas.Bool.{eq-eqb, eqb-true, cases_eq, ne_eqb, and_parts}
 use Rattle.std.proofs.lemmas.List.{take_more, drop_more, take_all, append-nil}
 use Rattle.http_request.specs.Ends.{is_blank_line, feeds}

@@ -1,5 +1,6 @@
 -- What one call of `next` answers and leaves.
-use Rattle.std.proofs.Common.{◌≡◌, ℕ, inl, inr, ◌<◌, List, drop, length, length-drop, Bool, true, false, ◌&&◌, ◌==◌, not, cond, codes, nat_le, ◌||◌, Option, Some, None, Result, Ok, Err, IfOk, OnErr, refl, sym, ap, ◌∙◌, subst, arith}
+use Rattle.std.proofs.Common.{◌≡◌, ℕ, inl, inr, ◌<◌, List, drop, length, length-drop, Bool, true, false, ◌&&◌, ◌==◌, not, cond, codes, nat_le, ◌||◌, Option}
+use Rattle.std.proofs.Common.{Some, None, Result, Ok, Err, IfOk, OnErr, refl, sym, ap, ◌∙◌, subst, arith}
 use Rattle.std.proofs.lemmas.Bool.Decides.{nat_tests}
 use Rattle.std.proofs.lemmas.Option.{none-some, same_Some}
 use Rattle.std.specs.List.{list_all}
@@ -13,7 +14,8 @@ use Rattle.http_request.specs.Taking.{HasForm, HasStatus, IsRefusal, LeavesFewer
 use Rattle.http_request.specs.declared.head.Head.{Head}
 use Rattle.http_request.specs.declared.head.Next.{Next}
 use Rattle.http_request.specs.declared.head.Next.TheVariants as next
-use Rattle.http_request.proofs.lemmas.StepLemmas.{one_step, taken≢waiting, refused≢taken, refused≢waiting, same_status, same_head, taken_within, taken_some, verdict_waits}
+use Rattle.http_request.proofs.lemmas.StepLemmas.{one_step, taken≢waiting, refused≢taken, refused≢waiting, same_status, same_head, taken_within, taken_some}
+use Rattle.http_request.proofs.lemmas.StepLemmas.{verdict_waits}
 
 -- where a refusal stands, nothing else is answered
 pub only_bad : (old : List ℕ) (n : Next) (new : List ℕ) (status : ℕ) → Steps old n new → IsStep old (Refused status) → n ≡ next.Bad status

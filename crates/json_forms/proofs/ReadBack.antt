@@ -7,7 +7,8 @@ use Rattle.json.specs.Tree as tree
 use Rattle.json.specs.Tree.{HasNumbers, ItemsHaveNumbers}
 use Rattle.json.proofs.Printed.Tokens.{tokens-print}
 use Rattle.json.proofs.Printed.Trees.{value-json_tokens, ArePrintable-json_tokens}
-use Rattle.serde_json.specs.Data.{Data, null, boolean, number, string, array, object, Items, no_items, item, Members, no_members, member, depth, items_depth, members_depth}
+use Rattle.serde_json.specs.Data.{Data, null, boolean, number, string, array, object, Items, no_items, item, Members, no_members, member, depth, items_depth}
+use Rattle.serde_json.specs.Data.{members_depth}
 use Rattle.serde_json.specs.Read.{read, of_json, of_items, max_depth}
 use Rattle.serde_json.specs.View.{items_of}
 use Rattle.serde_json.specs.Written.{outline, items_outline, members_outline, compact_text}

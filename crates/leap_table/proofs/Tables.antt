@@ -1,7 +1,8 @@
 -- The steps of a table, line after line.
 use Rattle.std.specs.Prelude.{find}
 use Rattle.std.specs.List.{range_with_len, flat_map}
-use Rattle.std.proofs.Common.{◌≡◌, ℕ, suc, ◌+◌, ◌-◌, ◌<◌, ◌≤◌, Bool, true, false, not, ◌&&◌, ◌||◌, List, [], ◌∷◌, ◌++◌, length, ℤ, pos, None, Some, refl, sym, ap, ◌∙◌, arith, append_assoc, append-nil}
+use Rattle.std.proofs.Common.{◌≡◌, ℕ, suc, ◌+◌, ◌-◌, ◌<◌, ◌≤◌, Bool, true, false, not, ◌&&◌, ◌||◌, List, [], ◌∷◌, ◌++◌, length, ℤ, pos, None, Some, refl, sym}
+use Rattle.std.proofs.Common.{ap, ◌∙◌, arith, append_assoc, append-nil}
 use Rattle.td_base.proofs.lemmas.LeastLemmas.{least_step, least_found, least_none}
 use Rattle.td_base.specs.FirstFault.{least}
 use Rattle.catalogue.specs.declared.release.LeapStep.{LeapStep}

@@ -1,13 +1,16 @@
 -- What is spelled as an item reads as that item, whatever stands behind it that does not go on with it.
-use Rattle.std.proofs.Common.{◌≡◌, ℕ, ◌+◌, ◌*◌, ◌≤◌, inl, inr, List, [], ◌∷◌, ◌++◌, length, Bool, true, false, ◌&&◌, Some, refl, ap, sym, ◌∙◌, subst, arith, nat_lt, append_assoc, ◌==◌, ℤ, pos, neg_ℤ, ◌+ℤ◌, ◌<ℤ◌, unsigned_abs, int_lt}
+use Rattle.std.proofs.Common.{◌≡◌, ℕ, ◌+◌, ◌*◌, ◌≤◌, inl, inr, List, [], ◌∷◌, ◌++◌, length, Bool, true, false, ◌&&◌, Some, refl, ap, sym, ◌∙◌, subst, arith}
+use Rattle.std.proofs.Common.{nat_lt, append_assoc, ◌==◌, ℤ, pos, neg_ℤ, ◌+ℤ◌, ◌<ℤ◌, unsigned_abs, int_lt}
 use Rattle.std.specs.List.{list_all}
 use Rattle.std.specs.Char.{is_ascii_alphabetic, is_ascii_digit}
 use Rattle.std.proofs.lemmas.Bool.Decides.{nat_tests}
 use Rattle.std.proofs.lemmas.Int.{ints}
 use Rattle.posix_footer.specs.declared.rule_types.DayForm.{DayForm}
 use Rattle.posix_footer.specs.declared.rule_types.DayForm.TheVariants as day
-use Rattle.posix_footer.specs.Items.{begins, begins_as, behind, is_sign, is_quotable, quoted_at, name_at, part_at, clock_at, signed_at, offset_at, ahead_at, daylight_offset_at, begins_offset, time_at, week_at, julian_at, year_day_at, day_at}
-use Rattle.posix_footer.specs.Spelling.{IsRun, IsUnquoted, IsQuoted, IsName, IsNumber, IsClockPart, IsBehindHours, IsClock, HasSign, IsSignedNumber, IsOffset, IsDay}
+use Rattle.posix_footer.specs.Items.{begins, begins_as, behind, is_sign, is_quotable, quoted_at, name_at, part_at, clock_at, signed_at, offset_at, ahead_at}
+use Rattle.posix_footer.specs.Items.{daylight_offset_at, begins_offset, time_at, week_at, julian_at, year_day_at, day_at}
+use Rattle.posix_footer.specs.Spelling.{IsRun, IsUnquoted, IsQuoted, IsName, IsNumber, IsClockPart, IsBehindHours, IsClock, HasSign, IsSignedNumber, IsOffset}
+use Rattle.posix_footer.specs.Spelling.{IsDay}
 use Rattle.posix_footer.proofs.Runs.{run_again, number_again}
 use Rattle.posix_footer.proofs.Found.{IsDaylightOffset}
 
@@ -122,7 +125,8 @@ digit_no_minus : (b : ℕ) → is_ascii_digit b ≡ true → (b == 45) ≡ false
 digit_no_minus b h = grind (arith, nat_tests)
 
 -- what a clock begins with
-pub clock_begins : (other : ℕ → Bool) (answer : Bool) (digits greatest : ℕ) (text : List ℕ) (seconds : ℕ) (rest : List ℕ) → IsClock digits greatest text seconds →
+pub clock_begins : (other : ℕ → Bool) (answer : Bool) (digits greatest : ℕ) (text : List ℕ) (seconds : ℕ) (rest : List ℕ)
+    → IsClock digits greatest text seconds →
     ((b : ℕ) → is_ascii_digit b ≡ true → other b ≡ answer) → begins_as other (text ++ rest) ≡ answer
 clock_begins other answer digits greatest text seconds rest is each =
     ap (λ t. begins_as other t) (ap (λ t. t ++ rest) is.text_is ∙ append_assoc is.hour_text is.behind_text rest)
@@ -149,11 +153,14 @@ minus_text digits greatest text n rest is end = rw (clock_again digits greatest 
 signed_text : (digits greatest : ℕ) (sign text : List ℕ) (n : ℕ) (z : ℤ) (rest : List ℕ) → HasSign sign n z → IsClock digits greatest text n → IsEnd rest →
     signed_at digits greatest (sign ++ (text ++ rest)) ≡ Some (z, rest)
 signed_text digits greatest sign text n z rest (inl plus) is end = elim plus.sign_is [
-  | inl none ↦ ap (λ s. signed_at digits greatest (s ++ (text ++ rest))) none ∙ unsigned_text digits greatest text n rest is end ∙ ap (λ y. Some (y, rest)) (sym plus.value)
-  | inr some ↦ ap (λ s. signed_at digits greatest (s ++ (text ++ rest))) some ∙ plus_text digits greatest text n rest is end ∙ ap (λ y. Some (y, rest)) (sym plus.value)
+  | inl none ↦ ap (λ s. signed_at digits greatest (s ++ (text ++ rest))) none ∙ unsigned_text digits greatest text n rest is end
+      ∙ ap (λ y. Some (y, rest)) (sym plus.value)
+  | inr some ↦ ap (λ s. signed_at digits greatest (s ++ (text ++ rest))) some ∙ plus_text digits greatest text n rest is end
+      ∙ ap (λ y. Some (y, rest)) (sym plus.value)
 ]
 signed_text digits greatest sign text n z rest (inr minus) is end =
-    ap (λ s. signed_at digits greatest (s ++ (text ++ rest))) minus.sign_is ∙ minus_text digits greatest text n rest is end ∙ ap (λ y. Some (y, rest)) (sym minus.value)
+    ap (λ s. signed_at digits greatest (s ++ (text ++ rest))) minus.sign_is ∙ minus_text digits greatest text n rest is end
+    ∙ ap (λ y. Some (y, rest)) (sym minus.value)
 
 signed_again : (digits greatest : ℕ) (text : List ℕ) (z : ℤ) (rest : List ℕ) → IsSignedNumber digits greatest text z → IsEnd rest →
     signed_at digits greatest (text ++ rest) ≡ Some (z, rest)

@@ -1,5 +1,6 @@
 -- A text that spells a footer reads as that footer.
-use Rattle.std.proofs.Common.{◌≡◌, ℕ, suc, ◌⊎◌, inl, inr, List, [], ◌∷◌, ◌++◌, length, Bool, true, false, Option, None, Some, Ok, refl, ap, sym, ◌∙◌, arith, append_assoc, append-nil, ◌==◌, ℤ, pos}
+use Rattle.std.proofs.Common.{◌≡◌, ℕ, suc, ◌⊎◌, inl, inr, List, [], ◌∷◌, ◌++◌, length, Bool, true, false, Option, None, Some, Ok, refl, ap, sym, ◌∙◌, arith}
+use Rattle.std.proofs.Common.{append_assoc, append-nil, ◌==◌, ℤ, pos}
 use Rattle.std.specs.Char.{is_ascii_alphabetic, is_ascii_digit}
 use Rattle.std.proofs.lemmas.Bool.Decides.{nat_tests}
 use Rattle.td_civil.specs.declared.local_time.Local.{Local}
@@ -8,7 +9,8 @@ use Rattle.posix_footer.specs.declared.rule_types.DstRule.{DstRule}
 use Rattle.posix_footer.specs.declared.rule_types.Footer.{Footer}
 use Rattle.posix_footer.specs.Items.{begins, begins_as, behind}
 use Rattle.posix_footer.specs.Grammar.{time_behind, date_at, standard_at, daylight_at, dates_behind, rule_at, rule_in, footer_at, footer_in}
-use Rattle.posix_footer.specs.Spelling.{IsName, IsOffset, IsStandard, IsDaylight, IsDay, IsSignedNumber, IsTime, IsTwo, IsDate, IsRule, IsRuleIfAny, SpellsFooter}
+use Rattle.posix_footer.specs.Spelling.{IsName, IsOffset, IsStandard, IsDaylight, IsDay, IsSignedNumber, IsTime, IsTwo, IsDate, IsRule, IsRuleIfAny}
+use Rattle.posix_footer.specs.Spelling.{SpellsFooter}
 use Rattle.posix_footer.proofs.Again.{first_of_run, IsEnd, name_again, offset_again, offset_no_letter, daylight_offset_again, day_again, time_again}
 use Rattle.posix_footer.proofs.Found.{IsDaylightOffset}
 
@@ -65,7 +67,8 @@ no_time : (size : ℕ) (z : ℤ) (rest : List ℕ) → z ≡ pos 7200 → begins
 unfolding time_behind
 no_time size z rest value slash = rw slash (ap (λ y. Ok (y, rest)) (sym value))
 
-with_time : (size : ℕ) (text : List ℕ) (z : ℤ) (rest : List ℕ) → IsSignedNumber 3 167 text z → IsEnd rest → time_behind size (47 ∷ (text ++ rest)) ≡ Ok (z, rest)
+with_time : (size : ℕ) (text : List ℕ) (z : ℤ) (rest : List ℕ) → IsSignedNumber 3 167 text z → IsEnd rest
+    → time_behind size (47 ∷ (text ++ rest)) ≡ Ok (z, rest)
 unfolding time_behind
 with_time size text z rest is end = rw (time_again text z rest is end) refl
 
@@ -130,14 +133,16 @@ letter_no_colon b h = grind (arith, nat_tests)
 name_begins : (other : ℕ → Bool) (text name rest : List ℕ) → IsName text name → ((b : ℕ) → is_ascii_alphabetic b ≡ true → other b ≡ false) →
     other 60 ≡ false → begins_as other (text ++ rest) ≡ false
 name_begins other text name rest (inl is) each quote =
-    ap (λ t. begins_as other (t ++ rest)) is.text_is ∙ first_of_run is_ascii_alphabetic other false name rest each is.letters.all (omega (arith, is.letters.at_least))
+    ap (λ t. begins_as other (t ++ rest)) is.text_is
+    ∙ first_of_run is_ascii_alphabetic other false name rest each is.letters.all (omega (arith, is.letters.at_least))
 name_begins other text name rest (inr is) each quote = ap (λ t. begins_as other (t ++ rest)) is.text_is ∙ quote
 
 -- a rule begins with a name, and so with neither a digit nor `:`
 rule_begins : (other : ℕ → Bool) (std : ℤ) (text : List ℕ) (rule : DstRule) → IsRule std text rule →
     ((b : ℕ) → is_ascii_alphabetic b ≡ true → other b ≡ false) → other 60 ≡ false → begins_as other text ≡ false
 rule_begins other std text rule is each quote =
-    ap (λ t. begins_as other t) (is.text_is ∙ ap (λ t. t ++ (44 ∷ (is.start_text ++ 44 ∷ is.end_text))) is.dst.text_is ∙ append_assoc is.dst.name_text is.dst.offset_text _)
+    ap (λ t. begins_as other t) (is.text_is ∙ ap (λ t. t ++ (44 ∷ (is.start_text ++ 44 ∷ is.end_text))) is.dst.text_is
+    ∙ append_assoc is.dst.name_text is.dst.offset_text _)
     ∙ name_begins other is.dst.name_text rule.dst.name (is.dst.offset_text ++ (44 ∷ (is.start_text ++ 44 ∷ is.end_text))) is.dst.name each quote
 
 not_empty : (first rest : List ℕ) (byte : ℕ) → (length (first ++ (byte ∷ rest)) == 0) ≡ false

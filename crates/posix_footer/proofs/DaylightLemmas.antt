@@ -1,5 +1,6 @@
 -- The test over all years, from the greatest start and the greatest end not after the moment.
-use Rattle.std.proofs.Common.{◌≡◌, ℕ, zero, suc, ◌+◌, ◌<◌, Bool, true, false, not, ◌&&◌, inl, inr, refl, sym, ap, ◌∙◌, arith, ℤ, pos, ◌-ℤ◌, ◌<ℤ◌, ◌≤ℤ◌, ◌≢◌, int_lt, int_le, if◌then◌else◌, unsigned_abs}
+use Rattle.std.proofs.Common.{◌≡◌, ℕ, zero, suc, ◌+◌, ◌<◌, Bool, true, false, not, ◌&&◌, inl, inr, refl, sym, ap, ◌∙◌, arith, ℤ, pos, ◌-ℤ◌, ◌<ℤ◌, ◌≤ℤ◌, ◌≢◌}
+use Rattle.std.proofs.Common.{int_lt, int_le, if◌then◌else◌, unsigned_abs}
 use Rattle.std.specs.List.{list_any}
 use Rattle.std.proofs.Math.Bool.{or-true}
 use Rattle.std.proofs.lemmas.Bool.{cases_order}
@@ -74,27 +75,32 @@ not_begun_or m t ended h =
     by_lt_z t m (λ late. grind (arith, ints)) (λ begun. rw (h begun) (grind (arith, ints)))
 
 -- where the greatest end does not lie after the greatest start, it is daylight saving time
-pub daylight_holds : (rule : DstRule) (std t started ended : ℤ) → IsLatest rule std edge.Start t started → IsLatest rule std edge.End t ended → ended ≤ℤ started → is_daylight rule std t ≡ true
+pub daylight_holds : (rule : DstRule) (std t started ended : ℤ) → IsLatest rule std edge.Start t started → IsLatest rule std edge.End t ended
+    → ended ≤ℤ started → is_daylight rule std t ≡ true
 unfolding is_daylight
 daylight_holds rule std t started ended start end h =
-    some_year _ start.year start.year_in (rw (← start.onset_is) (begun_and started t (has_ended rule std started t) start.begun (not_ended rule std t ended started end h)))
+    some_year _ start.year start.year_in (rw (← start.onset_is)
+    (begun_and started t (has_ended rule std started t) start.begun (not_ended rule std t ended started end h)))
 
 -- and else it is not
-pub standard_holds : (rule : DstRule) (std t started ended : ℤ) → IsLatest rule std edge.Start t started → IsLatest rule std edge.End t ended → started <ℤ ended → is_daylight rule std t ≡ false
+pub standard_holds : (rule : DstRule) (std t started ended : ℤ) → IsLatest rule std edge.Start t started → IsLatest rule std edge.End t ended
+    → started <ℤ ended → is_daylight rule std t ≡ false
 unfolding is_daylight
 standard_holds rule std t started ended start end h =
     no_year _ (λ year there. not_begun_or (onset_of rule std year edge.Start) t (has_ended rule std (onset_of rule std year edge.Start) t)
     (λ begun. let before = start.greatest year there begun in ended_by rule std t ended (onset_of rule std year edge.Start) end (omega (arith, signed_arith))))
 
 -- so comparing the two decides
-pub daylight_is : (rule : DstRule) (std t started ended : ℤ) → IsLatest rule std edge.Start t started → IsLatest rule std edge.End t ended → int_le ended started ≡ is_daylight rule std t
+pub daylight_is : (rule : DstRule) (std t started ended : ℤ) → IsLatest rule std edge.Start t started → IsLatest rule std edge.End t ended
+    → int_le ended started ≡ is_daylight rule std t
 daylight_is rule std t started ended start end =
     by_lt_z started ended
     (λ lt. let no = standard_holds rule std t started ended start end lt in rw no (grind (arith, ints)))
     (λ le. let yes = daylight_holds rule std t started ended start end le in rw yes (grind (arith, ints)))
 
 -- and tells which change was the last
-start_is_last : (rule : DstRule) (std t started ended : ℤ) → IsLatest rule std edge.Start t started → IsLatest rule std edge.End t ended → ended ≤ℤ started → IsLastChange rule std t edge.Start
+start_is_last : (rule : DstRule) (std t started ended : ℤ) → IsLatest rule std edge.Start t started → IsLatest rule std edge.End t ended → ended ≤ℤ started
+    → IsLastChange rule std t edge.Start
 start_is_last rule std t started ended start end h =
     let no_later : (other : ℤ) (at : Edge) → IsBetween (pos 1798) (pos 9999) other → onset_of rule std other at ≤ℤ t → onset_of rule std other at ≤ℤ started =
     λ other at. elim at as (λ a. IsBetween (pos 1798) (pos 9999) other → onset_of rule std other a ≤ℤ t → onset_of rule std other a ≤ℤ started) [
@@ -109,7 +115,8 @@ start_is_last rule std t started ended start end h =
       start_counts = λ e. cc;
     }
 
-end_is_last : (rule : DstRule) (std t started ended : ℤ) → IsLatest rule std edge.Start t started → IsLatest rule std edge.End t ended → started <ℤ ended → IsLastChange rule std t edge.End
+end_is_last : (rule : DstRule) (std t started ended : ℤ) → IsLatest rule std edge.Start t started → IsLatest rule std edge.End t ended → started <ℤ ended
+    → IsLastChange rule std t edge.End
 end_is_last rule std t started ended start end h =
     let no_later : (other : ℤ) (at : Edge) → IsBetween (pos 1798) (pos 9999) other → onset_of rule std other at ≤ℤ t → onset_of rule std other at ≤ℤ ended =
     λ other at. elim at as (λ a. IsBetween (pos 1798) (pos 9999) other → onset_of rule std other a ≤ℤ t → onset_of rule std other a ≤ℤ ended) [
@@ -129,7 +136,8 @@ end_is_last rule std t started ended start end h =
       start_counts = λ e. rw (← end.onset_is) apart;
     }
 
-pub last_change_is : (rule : DstRule) (std t started ended : ℤ) → IsLatest rule std edge.Start t started → IsLatest rule std edge.End t ended → IsLastChange rule std t (if int_le ended started then edge.Start else edge.End)
+pub last_change_is : (rule : DstRule) (std t started ended : ℤ) → IsLatest rule std edge.Start t started → IsLatest rule std edge.End t ended
+    → IsLastChange rule std t (if int_le ended started then edge.Start else edge.End)
 last_change_is rule std t started ended start end =
     by_lt_z started ended
     (λ lt. let no : int_le ended started ≡ false = grind (arith, ints) in rw no (end_is_last rule std t started ended start end lt))

@@ -1,11 +1,13 @@
 -- What reads as an item is spelled as one.
-use Rattle.std.proofs.Common.{◌≡◌, ℕ, ◌+◌, ◌*◌, ◌⊎◌, inl, inr, List, [], ◌∷◌, ◌++◌, drop, Bool, true, false, cond, Option, None, Some, refl, ap, sym, ◌∙◌, subst, arith, nat_lt, append_assoc, ◌==◌, ℤ, pos, neg_ℤ, ◌<ℤ◌, unsigned_abs, int_lt}
+use Rattle.std.proofs.Common.{◌≡◌, ℕ, ◌+◌, ◌*◌, ◌⊎◌, inl, inr, List, [], ◌∷◌, ◌++◌, drop, Bool, true, false, cond, Option, None, Some, refl, ap, sym, ◌∙◌}
+use Rattle.std.proofs.Common.{subst, arith, nat_lt, append_assoc, ◌==◌, ℤ, pos, neg_ℤ, ◌<ℤ◌, unsigned_abs, int_lt}
 use Rattle.std.proofs.lemmas.Bool.Decides.{nat_tests}
 use Rattle.std.proofs.lemmas.Int.{ints}
 use Rattle.std.proofs.lemmas.Option.{cond_some}
 use Rattle.posix_footer.specs.declared.rule_types.DayForm.{DayForm}
 use Rattle.posix_footer.specs.declared.rule_types.DayForm.TheVariants as day
-use Rattle.posix_footer.specs.Items.{begins, begins_as, behind, is_sign, is_quotable, run_at, quoted_at, name_at, number_at, part_at, clock_at, signed_at, offset_at, ahead_at, daylight_offset_at, begins_offset, time_at, week_at, julian_at, year_day_at, day_at}
+use Rattle.posix_footer.specs.Items.{begins, begins_as, behind, is_sign, is_quotable, run_at, quoted_at, name_at, number_at, part_at, clock_at, signed_at}
+use Rattle.posix_footer.specs.Items.{offset_at, ahead_at, daylight_offset_at, begins_offset, time_at, week_at, julian_at, year_day_at, day_at}
 use Rattle.posix_footer.specs.Spelling.{IsName, IsNumber, IsClockPart, IsBehindHours, IsClock, IsSignedNumber, IsOffset, IsHourAhead, IsDay}
 use Rattle.posix_footer.proofs.Runs.{Reads, between, IsRunOf, run_found, run_along, number_found}
 use Rattle.std.specs.Char.{is_ascii_alphabetic}
@@ -184,7 +186,8 @@ SignRead text = IsMinusRead text ⊎ (sign : List ℕ) × IsPlusRead text sign
 byte_read : (b : ℕ) (bs : List ℕ) (minus plus : Bool) → (b == 45) ≡ minus → (b == 43) ≡ plus → SignRead (b ∷ bs)
 byte_read b bs true true m p = let same : b ≡ 45 = grind (arith, nat_tests) in inl (record { first = m; text_is = rw (m, p) (ap (λ y. y ∷ bs) same) })
 byte_read b bs true false m p = let same : b ≡ 45 = grind (arith, nat_tests) in inl (record { first = m; text_is = rw (m, p) (ap (λ y. y ∷ bs) same) })
-byte_read b bs false true m p = let same : b ≡ 43 = grind (arith, nat_tests) in inr (43 ∷ [], record { first = m; sign_is = inr refl; text_is = rw (m, p) (ap (λ y. y ∷ bs) same) })
+byte_read b bs false true m p = let same : b ≡ 43 = grind (arith, nat_tests) in
+    inr (43 ∷ [], record { first = m; sign_is = inr refl; text_is = rw (m, p) (ap (λ y. y ∷ bs) same) })
 byte_read b bs false false m p = inr ([], record { first = m; sign_is = inl refl; text_is = rw (m, p) refl })
 
 sign_read : (text : List ℕ) → SignRead text

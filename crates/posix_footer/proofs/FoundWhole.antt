@@ -1,5 +1,6 @@
 -- A text that reads as a footer spells it.
-use Rattle.std.proofs.Common.{◌≡◌, ℕ, ◌⊎◌, inl, inr, List, [], ◌∷◌, ◌++◌, length, drop, true, false, cond, Option, None, Some, Result, Ok, Err, IfOk, ok_or, refl, ap, sym, ◌∙◌, subst, arith, ◌==◌, ℤ, pos, append-nil}
+use Rattle.std.proofs.Common.{◌≡◌, ℕ, ◌⊎◌, inl, inr, List, [], ◌∷◌, ◌++◌, length, drop, true, false, cond, Option, None, Some, Result, Ok, Err, IfOk, ok_or}
+use Rattle.std.proofs.Common.{refl, ap, sym, ◌∙◌, subst, arith, ◌==◌, ℤ, pos, append-nil}
 use Rattle.std.proofs.lemmas.Bool.Decides.{nat_tests}
 use Rattle.td_civil.specs.declared.local_time.Local.{Local}
 use Rattle.posix_footer.specs.declared.rule_types.DayForm.{DayForm}
@@ -13,7 +14,8 @@ use Rattle.td_base.specs.FirstFault.{◌>>=◌}
 use Rattle.posix_footer.specs.Grammar.{place, time_behind, date_at, standard_at, daylight_at, dates_behind, rule_at, rule_in, footer_at, footer_in}
 use Rattle.posix_footer.specs.Spelling.{IsName, IsOffset, IsStandard, IsDaylight, IsDay, IsSignedNumber, IsTime, IsTwo, IsDate, IsRuleIfAny, SpellsFooter}
 use Rattle.posix_footer.proofs.Runs.{Reads}
-use Rattle.posix_footer.proofs.Found.{chosen, first_is, behind_found, joined, name_found, offset_found, IsDaylightOffset, daylight_offset_found, day_found, time_found}
+use Rattle.posix_footer.proofs.Found.{chosen, first_is, behind_found, joined, name_found, offset_found, IsDaylightOffset, daylight_offset_found, day_found}
+use Rattle.posix_footer.proofs.Found.{time_found}
 
 record Between {A B : Type 0} (first : Result A FooterFault) (then : A → Result B FooterFault) (last : B) : Type 0 where
   pub value : A

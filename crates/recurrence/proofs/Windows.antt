@@ -4,7 +4,9 @@ use Rattle.std.proofs.lemmas.Bool.{cases_lt}
 use Rattle.std.proofs.lemmas.Int.{by_lt_z}
 use Rattle.jiff_core.specs.Calendar.{days_in_month, days_in_year, days_of_months, day_of_year, days_from_civil, IsYear}
 use Rattle.jiff_core.proofs.SignedLemmas.{signed_arith}
-use Rattle.jiff_core.proofs.CalendarLemmas.{days_from_civil-day_count, day_count-day_of_year, day_count-year_is, weekday_number-add, weekday_number-parts, weekday_number_bound, days_of_months-zero, days_of_months_more, days_of_months_mono, days_of_months_all, days_in_month_bounds, days_in_year_bounds}
+use Rattle.jiff_core.proofs.CalendarLemmas.{days_from_civil-day_count, day_count-day_of_year, day_count-year_is, weekday_number-add, weekday_number-parts}
+use Rattle.jiff_core.proofs.CalendarLemmas.{weekday_number_bound, days_of_months-zero, days_of_months_more, days_of_months_mono, days_of_months_all}
+use Rattle.jiff_core.proofs.CalendarLemmas.{days_in_month_bounds, days_in_year_bounds}
 use Rattle.recurrence.specs.declared.rule_types.Form.{Form}
 use Rattle.recurrence.specs.declared.rule_types.Form.TheVariants as form
 use Rattle.recurrence.specs.Falls.{Falls, HasDate, IsOfYear, IsWeekday}

@@ -1,5 +1,6 @@
 -- What reading the zones of a manifest comes to, one after another.
-use Rattle.std.proofs.Common.{◌≡◌, ◌≢◌, ℕ, ◌+◌, ◌<◌, List, [], ◌∷◌, ◌++◌, length, map, take, drop, get_or, Option, None, Some, Result, Ok, Err, ap, sym, ◌∙◌, refl, subst, append_assoc, append-nil}
+use Rattle.std.proofs.Common.{◌≡◌, ◌≢◌, ℕ, ◌+◌, ◌<◌, List, [], ◌∷◌, ◌++◌, length, map, take, drop, get_or, Option, None, Some, Result, Ok, Err, ap, sym, ◌∙◌}
+use Rattle.std.proofs.Common.{refl, subst, append_assoc, append-nil}
 use Rattle.std.proofs.lemmas.List.{at_drop_more, map-append, take_more}
 use Rattle.td_base.specs.Files.{File, file_at}
 use Rattle.catalogue.specs.Releases.{ContentData, content_data}
@@ -76,15 +77,18 @@ abbrev pub SoFar : List File → List ℕ → List ManifestZone → List (Conten
 SoFar files dir zones contents n =
     after_these (map (content_data (λ b. b)) contents) (contents_in files dir n (drop n zones)) ≡ contents_in files dir 0 zones
 
-pub so_far_more : (files : List File) (dir : List ℕ) (zones : List ManifestZone) (contents : List (Content (List ℕ))) (n : ℕ) (z : ManifestZone) (c : Content (List ℕ))
-    → n < length zones → z ≡ get_or zones n z → SoFar files dir zones contents n → IsZoneIn dir n z (Ok c) files → SoFar files dir zones (contents ++ c ∷ []) (n + 1)
+pub so_far_more : (files : List File) (dir : List ℕ) (zones : List ManifestZone) (contents : List (Content (List ℕ))) (n : ℕ) (z : ManifestZone)
+    (c : Content (List ℕ))
+    → n < length zones → z ≡ get_or zones n z → SoFar files dir zones contents n → IsZoneIn dir n z (Ok c) files
+    → SoFar files dir zones (contents ++ c ∷ []) (n + 1)
 so_far_more files dir zones contents n z c inside is so_far read =
     ap (λ before. after_these before (contents_in files dir (n + 1) (drop (n + 1) zones))) (map-append (content_data (λ b. b)) contents (c ∷ []))
     ∙ sym (contents_step files dir (map (content_data (λ b. b)) contents) n z (drop (n + 1) zones) (content_data (λ b. b) c) read)
     ∙ ap (λ rest. after_these (map (content_data (λ b. b)) contents) (contents_in files dir n rest)) (sym (next_zone zones n z inside is))
     ∙ so_far
 
-pub so_far_fault : (files : List File) (dir : List ℕ) (zones : List ManifestZone) (contents : List (Content (List ℕ))) (n : ℕ) (z : ManifestZone) (e : CheckFault)
+pub so_far_fault : (files : List File) (dir : List ℕ) (zones : List ManifestZone) (contents : List (Content (List ℕ))) (n : ℕ) (z : ManifestZone)
+    (e : CheckFault)
     → n < length zones → z ≡ get_or zones n z → SoFar files dir zones contents n → IsZoneIn dir n z (Err e) files → AreZonesIn dir zones (Err e) files
 so_far_fault files dir zones contents n z e inside is so_far read nm nr =
     sym so_far
@@ -110,7 +114,8 @@ pub of_next : (zones : List ManifestZone) (contents : List (Content (List ℕ)))
     → AreOf (take (n + 1) zones) (map (content_data (λ b. b)) (contents ++ c ∷ []))
 of_next zones contents n z c inside is of one =
     let next : take (n + 1) zones ≡ take n zones ++ z ∷ [] = take_more zones n z inside ∙ ap (λ x. take n zones ++ x ∷ []) (sym is) in
-    rw (next, map-append (content_data (λ b. b)) contents (c ∷ [])) (of_more (take n zones) (map (content_data (λ b. b)) contents) z (content_data (λ b. b) c) of one)
+    rw (next, map-append (content_data (λ b. b)) contents (c ∷ []))
+    (of_more (take n zones) (map (content_data (λ b. b)) contents) z (content_data (λ b. b) c) of one)
 
 -- a zone that the files give is of the manifest's
 content_of : (n : ℕ) (path : List ℕ) (z : ManifestZone) (found : Option (List ℕ)) (c : ContentData) → content_from n path z found ≡ Ok c → IsOf z c
@@ -138,7 +143,8 @@ zones_by files dir n z zs cs (Ok c) (Ok ds) is h rest =
     subst (λ (x : List ContentData). AreOf (z ∷ zs) x) same (zone_of_folder files dir n z c is, rest ds refl)
 
 -- and so are all of them
-pub zones_of_folder : (files : List File) (dir : List ℕ) (n : ℕ) (zs : List ManifestZone) (cs : List ContentData) → contents_in files dir n zs ≡ Ok cs → AreOf zs cs
+pub zones_of_folder : (files : List File) (dir : List ℕ) (n : ℕ) (zs : List ManifestZone) (cs : List ContentData) → contents_in files dir n zs ≡ Ok cs
+    → AreOf zs cs
 zones_of_folder files dir n [] [] h = tt
 zones_of_folder files dir n [] (c ∷ cs) h = absurd (cc)
 zones_of_folder files dir n (z ∷ zs) cs h =

@@ -1,5 +1,6 @@
 -- The release of a manifest and of the zones that its files gave.
-use Rattle.std.proofs.Common.{◌≡◌, ℕ, ◌+◌, ◌≤◌, ◌<◌, nat_lt, nat_le, ℤ, ◌≤ℤ◌, ◌<ℤ◌, IfSome, Bool, true, false, not, ◌||◌, if◌then◌else◌, List, [], ◌∷◌, ◌++◌, length, Option, None, Some, Result, Ok, Err, refl, ap, sym, ◌∙◌, subst, arith, IsPermutation}
+use Rattle.std.proofs.Common.{◌≡◌, ℕ, ◌+◌, ◌≤◌, ◌<◌, nat_lt, nat_le, ℤ, ◌≤ℤ◌, ◌<ℤ◌, IfSome, Bool, true, false, not, ◌||◌, if◌then◌else◌, List, [], ◌∷◌, ◌++◌}
+use Rattle.std.proofs.Common.{length, Option, None, Some, Result, Ok, Err, refl, ap, sym, ◌∙◌, subst, arith, IsPermutation}
 use Rattle.std.specs.List.{AllByRecursion, IsDistinct, list_all, list_any}
 use Rattle.std.specs.Cmp.Lexicographic.{nat_list_eq_equiv}
 use Rattle.std.specs.Str.{bytes_eq}
@@ -35,7 +36,8 @@ use Rattle.zone_meaning.specs.Sound.{IsSound, IsSoundFile, IsSoundLeaps}
 use Rattle.td_base.specs.FirstFault.{◌>>=◌, ◌or_else◌, when}
 use Rattle.release_check.specs.Folder.{contents_in, release_with, release_in, table_in, unless}
 use Rattle.release_check.specs.Found.{AreOf}
-use Rattle.release_check.specs.ManifestFaults.{names_in, limit_fault, identifier_fault, duplicate_fault, manifest_fault, form_text_fault, has_date, form_fault, IsFormed}
+use Rattle.release_check.specs.ManifestFaults.{names_in, limit_fault, identifier_fault, duplicate_fault, manifest_fault, form_text_fault, has_date, form_fault}
+use Rattle.release_check.specs.ManifestFaults.{IsFormed}
 use Rattle.release_check.specs.declared.check_fault.CheckFault.{CheckFault}
 use Rattle.release_check.specs.declared.check_fault.CheckFault.TheVariants as fault
 use Rattle.release_check.specs.declared.check_fault.Limited.TheVariants as limited

@@ -20,7 +20,8 @@ use Rattle.release_check.specs.Paths.{manifest_path}
 use Rattle.release_check.specs.declared.check_fault.CheckFault.{CheckFault}
 use Rattle.release_check.specs.declared.check_fault.CheckFault.TheVariants as fault
 use Rattle.release_check.proofs.Contents.{zones_of_folder}
-use Rattle.release_check.proofs.Fitting.{gave, follows, formed_read, release_told, release_refused_early, release_refused_late, release_refused_last, sound_release}
+use Rattle.release_check.proofs.Fitting.{gave, follows, formed_read, release_told, release_refused_early, release_refused_late, release_refused_last}
+use Rattle.release_check.proofs.Fitting.{sound_release}
 use Rattle.release_check.proofs.LeapFiles.{sound_table}
 use Rattle.release_check.proofs.lemmas.Prefixes.{manifest_text_fault-prefix, manifest-prefix}
 

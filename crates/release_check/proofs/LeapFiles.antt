@@ -1,5 +1,6 @@
 -- The table of leap seconds of a release, as its file gives it.
-use Rattle.std.proofs.Common.{◌≡◌, ◌≢◌, ℕ, ◌<◌, ◌≤◌, true, List, [], ◌∷◌, length, map, take, ℤ, Option, None, Some, Ok, Err, ⊎_elim, IfSome, refl, ap, sym, subst, ◌∙◌, arith}
+use Rattle.std.proofs.Common.{◌≡◌, ◌≢◌, ℕ, ◌<◌, ◌≤◌, true, List, [], ◌∷◌, length, map, take, ℤ, Option, None, Some, Ok, Err, ⊎_elim, IfSome, refl, ap, sym}
+use Rattle.std.proofs.Common.{subst, ◌∙◌, arith}
 use Rattle.std.specs.Option.{option_map}
 use Rattle.std.proofs.lemmas.List.{take_all, length-take-le}
 use Rattle.td_base.specs.FirstFault.{◌or_else◌}

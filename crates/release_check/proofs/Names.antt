@@ -1,7 +1,8 @@
 -- The names of a release are those of its zones as they stand, in another order.
 use Rattle.std.proofs.Common.{◌≡◌, ℕ, suc, Bool, true, false, if◌then◌else◌, List, [], ◌∷◌, ◌++◌, length, ap, refl, append_assoc, IsPermutation}
 use Rattle.std.specs.List.{list_all}
-use Rattle.std.proofs.lemmas.List.Sorted.{IsPermutation-refl, IsPermutation-cons, IsPermutation-trans, IsPermutation-append, IsPermutation-append_left, IsPermutation-append_right, IsPermutation-append_comm, IsPermutation-middle, All-permutation}
+use Rattle.std.proofs.lemmas.List.Sorted.{IsPermutation-refl, IsPermutation-cons, IsPermutation-trans, IsPermutation-append, IsPermutation-append_left}
+use Rattle.std.proofs.lemmas.List.Sorted.{IsPermutation-append_right, IsPermutation-append_comm, IsPermutation-middle, All-permutation}
 use Rattle.std.proofs.lemmas.List.Sums.{AllPass-from_list_all, list_all-from_AllPass}
 use Rattle.catalogue.specs.Order.{is_before, put_by, rising_by}
 use Rattle.catalogue.specs.Releases.{ContentData, names_of}
@@ -15,7 +16,8 @@ put_moves text x [] = IsPermutation-refl (x ∷ [])
 put_moves text x (y ∷ ys) = by (is_before (text y) (text x)) (put_moves text x ys)
   where
     by : (b : Bool) → IsPermutation (x ∷ ys) (put_by text x ys) → IsPermutation (x ∷ y ∷ ys) (if b then y ∷ put_by text x ys else x ∷ y ∷ ys)
-    by true later = IsPermutation-trans (x ∷ y ∷ ys) (y ∷ x ∷ ys) (y ∷ put_by text x ys) (IsPermutation-middle (x ∷ []) y ys) (IsPermutation-cons y (x ∷ ys) (put_by text x ys) later)
+    by true later = IsPermutation-trans (x ∷ y ∷ ys) (y ∷ x ∷ ys) (y ∷ put_by text x ys) (IsPermutation-middle (x ∷ []) y ys)
+        (IsPermutation-cons y (x ∷ ys) (put_by text x ys) later)
     by false later = IsPermutation-refl (x ∷ y ∷ ys)
 
 -- sorting only moves the items

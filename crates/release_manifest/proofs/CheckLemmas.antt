@@ -1,5 +1,6 @@
 -- Checks one after another.
-use Rattle.std.proofs.Common.{◌≡◌, ◌≢◌, ◌<◌, ℕ, ◌+◌, true, false, List, [], ◌∷◌, ◌++◌, length, drop, get_or, refl, sym, ap, ◌∙◌, append_assoc, add-one, drop-cons, cond, ◌≤◌, Option, None, Some, Result, Ok, Err, IsErrAnd}
+use Rattle.std.proofs.Common.{◌≡◌, ◌≢◌, ◌<◌, ℕ, ◌+◌, true, false, List, [], ◌∷◌, ◌++◌, length, drop, get_or, refl, sym, ap, ◌∙◌, append_assoc, add-one}
+use Rattle.std.proofs.Common.{drop-cons, cond, ◌≤◌, Option, None, Some, Result, Ok, Err, IsErrAnd}
 use Rattle.std.proofs.lemmas.List.{append-nil, drop_all}
 use Rattle.std.specs.Option.{option_or}
 use Rattle.serde_json.specs.Data.{Data, Items, item}
@@ -16,7 +17,8 @@ use Rattle.release_manifest.specs.declared.manifest_fault.ManifestFault.TheVaria
 pub first_failing-append : (a b : List Check) → first_failing (a ++ b) ≡ option_or (first_failing a) (first_failing b)
 first_failing-append [] b = refl
 first_failing-append (c ∷ cs) b =
-    elim c.passes as (λ p. cond p (first_failing (cs ++ b)) (Some c.fault) ≡ option_or (cond p (first_failing cs) (Some c.fault)) (first_failing b)) [ true ↦ first_failing-append cs b | false ↦ refl ]
+    elim c.passes as (λ p. cond p (first_failing (cs ++ b)) (Some c.fault) ≡ option_or (cond p (first_failing cs) (Some c.fault)) (first_failing b))
+    [ true ↦ first_failing-append cs b | false ↦ refl ]
 
 -- the next of the values of a list
 next_of : (vs : List Value) (i : ℕ) (v : Value) → i < length vs → drop i vs ≡ get_or vs i v ∷ drop (i + 1) vs

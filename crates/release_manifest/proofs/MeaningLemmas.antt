@@ -18,7 +18,8 @@ use Rattle.release_manifest.specs.declared.manifest_fault.ManifestFault.{Manifes
 use Rattle.release_manifest.specs.declared.manifest_type.Manifest.{Manifest}
 use Rattle.release_manifest.specs.declared.manifest_type.ManifestZone.{ManifestZone}
 use Rattle.release_manifest.specs.declared.manifest_type.ManifestLeaps.{ManifestLeaps}
-use Rattle.release_manifest.specs.Checks.{Check, first_failing, text_if_any, is_stamp_text, object_checks, text_checks, form_checks, each_checks, alias_checks, zone_checks, zones_checks, leap_checks, manifest_checks, document_fault}
+use Rattle.release_manifest.specs.Checks.{Check, first_failing, text_if_any, is_stamp_text, object_checks, text_checks, form_checks, each_checks, alias_checks}
+use Rattle.release_manifest.specs.Checks.{zone_checks, zones_checks, leap_checks, manifest_checks, document_fault}
 use Rattle.release_manifest.specs.Meaning.{IsForm, IsStampOf, AllAre, IsText, AreAliases, IsZone, AreZonesOf, IsLeaps, AreLeaps, IsManifest}
 use Rattle.release_manifest.proofs.CheckLemmas.{first_failing-append}
 

@@ -1,5 +1,6 @@
 -- From bytes to a manifest.
-use Rattle.std.proofs.Common.{◌≡◌, ◌≢◌, ◌<◌, ◌≤◌, ℕ, Bool, true, false, cond, List, length, refl, sym, ap, ◌∙◌, Option, None, Some, Result, Ok, Err, IfOk, IfErr, IsErrAnd, IsUtf8, nat_le, arith, subst, ◌⊎◌, inl, inr}
+use Rattle.std.proofs.Common.{◌≡◌, ◌≢◌, ◌<◌, ◌≤◌, ℕ, Bool, true, false, cond, List, length, refl, sym, ap, ◌∙◌, Option, None, Some, Result, Ok, Err, IfOk}
+use Rattle.std.proofs.Common.{IfErr, IsErrAnd, IsUtf8, nat_le, arith, subst, ◌⊎◌, inl, inr}
 use Rattle.std.proofs.lemmas.Str.{IsUtf8-from_is_utf8, is_utf8-from_IsUtf8}
 use Rattle.std.proofs.lemmas.Option.{same_Some}
 use Rattle.serde_json.specs.Data.{Data}

@@ -1,5 +1,6 @@
 -- What maps and sets keep, as rising lists.
-use Rattle.std.proofs.Common.{Ordering, Less, Equal, Greater, ◌≡◌, ℕ, suc, Bool, true, false, cond, Option, None, Some, List, [], ◌∷◌, ◌++◌, refl, sym, ap, ◌∙◌, map, slice_index_or, length, drop, ◌<◌, ◌+◌, arith, ◌||◌, not, subst, filter, if◌then◌else◌, option_map}
+use Rattle.std.proofs.Common.{Ordering, Less, Equal, Greater, ◌≡◌, ℕ, suc, Bool, true, false, cond, Option, None, Some, List, [], ◌∷◌, ◌++◌, refl, sym, ap, ◌∙◌}
+use Rattle.std.proofs.Common.{map, slice_index_or, length, drop, ◌<◌, ◌+◌, arith, ◌||◌, not, subst, filter, if◌then◌else◌, option_map}
 use Rattle.std.specs.List.{list_any}
 use Rattle.std.specs.BTreeMap.{insert_entry, is_at}
 use Rattle.std.specs.BTreeSet.{insert_key}
@@ -205,7 +206,8 @@ filter_files p (e ∷ es) = by (p e.0) (filter_files p es)
 -- zones that changed
 pub changes_heard : (token coming : Option (List ℕ)) (entries kept listed merged zones : List ListZone) (es fs : List (List ℕ × List ℕ))
     (ps names ks : List (List ℕ)) (new : List ℕ)
-    → Rising entry_name entries → ((name : List ℕ) → has_listed_name ks name ≡ is_alias zones name) → kept ≡ filter (λ z. not (has_listed_name ks z.tzid)) entries
+    → Rising entry_name entries → ((name : List ℕ) → has_listed_name ks name ≡ is_alias zones name)
+    → kept ≡ filter (λ z. not (has_listed_name ks z.tzid)) entries
     → fs ≡ filter (λ e. not (has_listed_name ks e.0)) es → listed ≡ rising_zones zones → merged ≡ put_all entry_name listed kept
     → names ≡ map entry_name (rising_zones zones)
     → state token (Some new) merged (files_kept fs) names ≡ with_changes (state token coming entries (files_kept es) ps) new zones

@@ -1,5 +1,6 @@
 -- Two rising lists that are merged, an item at a time.
-use Rattle.std.proofs.Common.{Less, Equal, Greater, ◌≡◌, ℕ, List, [], ◌∷◌, refl, sym, ap, ◌∙◌, map, subst, Option, None, Some, IsSome, MatchOption, ◌<◌, length, drop, slice_index_or, arith}
+use Rattle.std.proofs.Common.{Less, Equal, Greater, ◌≡◌, ℕ, List, [], ◌∷◌, refl, sym, ap, ◌∙◌, map, subst, Option, None, Some, IsSome, MatchOption, ◌<◌, length}
+use Rattle.std.proofs.Common.{drop, slice_index_or, arith}
 use Rattle.std.specs.Ordering.{nat_cmp, is_lt}
 use Rattle.std.specs.Cmp.Lexicographic.{slice_cmp}
 use Rattle.catalogue.specs.Order.{IsRising}

@@ -1,5 +1,6 @@
 -- A list of changes leads from the entries of an earlier place to those of the history's end.
-use Rattle.std.proofs.Common.{inl, inr, ◌≡◌, ℕ, ◌+◌, ◌-◌, ◌≤◌, Bool, true, false, ◌&&◌, Option, None, Some, List, [], ◌∷◌, ◌++◌, length, take, drop, refl, sym, ap, ◌∙◌, subst, arith, nat_lt, append_assoc, length-append, length-take, length-drop}
+use Rattle.std.proofs.Common.{inl, inr, ◌≡◌, ℕ, ◌+◌, ◌-◌, ◌≤◌, Bool, true, false, ◌&&◌, Option, None, Some, List, [], ◌∷◌, ◌++◌, length, take, drop, refl, sym}
+use Rattle.std.proofs.Common.{ap, ◌∙◌, subst, arith, nat_lt, append_assoc, length-append, length-take, length-drop}
 use Rattle.std.specs.Prelude.{option_map}
 use Rattle.std.specs.List.{list_all}
 use Rattle.std.proofs.lemmas.List.{take-append-drop, take-append-le, take_all}
@@ -12,7 +13,8 @@ use Rattle.sync_core.specs.Steps.{is_alias}
 use Rattle.std.specs.Option.{option_or}
 use Rattle.sync_world.specs.Primaries.{list_told, changes_of, IsPlace}
 use Rattle.catalogue.specs.Lookups.{zone_at}
-use Rattle.sync_world.proofs.Zones.{has_text, aliased, absent, role, Role, a_zone, an_alias, no_name, IsZone, IsAlias, IsNone, among_at, among_alias, listed_by, changed_by, known_none, known_some, alias_none, alias_some}
+use Rattle.sync_world.proofs.Zones.{has_text, aliased, absent, role, Role, a_zone, an_alias, no_name, IsZone, IsAlias, IsNone, among_at, among_alias, listed_by}
+use Rattle.sync_world.proofs.Zones.{changed_by, known_none, known_some, alias_none, alias_some}
 use Rattle.sync_world.proofs.Changes.{stays, changes, end, ends_distinct, starts_distinct, still_named, at_change, changes_are, known_is, same_listed}
 
 unless_none : {X : Type 0} (b : Bool) → unless {X = X} b None ≡ None

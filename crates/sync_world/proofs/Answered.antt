@@ -14,7 +14,8 @@ use Rattle.sync_world.proofs.Steps.{good}
 
 module _ (P : Service) (sound : ReleaseData → Type 0) (hears : List ReleaseData → Ask → Heard → Type 0) (so : HeardIsTold sound hears P)
     (finds : FindsPlaces sound P) (no_other : FindsNoOther sound P) where
-  pub answered : (H : List ReleaseData) (xs : List Step) (w : SyncWorld) (sent : Sent) (n : ℕ) → IsHistory sound H → 1 ≤ length H → Leads sound hears (world_begun H) xs w
+  pub answered : (H : List ReleaseData) (xs : List Step) (w : SyncWorld) (sent : Sent) (n : ℕ) → IsHistory sound H → 1 ≤ length H
+      → Leads sound hears (world_begun H) xs w
       → w.sent ≡ Some sent → sent.since ≤ n → n ≤ length w.history
       → IsSomeAnd (told_by P (take n w.history) sent.ask) (λ h. length w.history ≤ P.kept → h ≡ heard.BadToken → ⊥)
   answered H xs w sent n h some leads out from upto =

@@ -1,5 +1,6 @@
 -- What there is to be told is heard in the answers of the actions.
-use Rattle.std.proofs.Common.{◌≡◌, ℕ, ◌<◌, ◌≤◌, ◌^◌, true, Option, None, Some, List, [], ◌∷◌, length, refl, sym, ap, ◌∙◌, subst, map, arith, option_map, option_and_then, codes, filter}
+use Rattle.std.proofs.Common.{◌≡◌, ℕ, ◌<◌, ◌≤◌, ◌^◌, true, Option, None, Some, List, [], ◌∷◌, length, refl, sym, ap, ◌∙◌, subst, map, arith, option_map}
+use Rattle.std.proofs.Common.{option_and_then, codes, filter}
 use Rattle.std.specs.List.{AllByRecursion, slice_get}
 use Rattle.td_base.specs.declared.report.Ask.{Ask}
 use Rattle.td_base.specs.declared.report.Ask.TheVariants as ask

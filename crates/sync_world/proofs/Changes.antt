@@ -1,5 +1,6 @@
 -- From one place of a history to its end: when a content last changed, and which names stay.
-use Rattle.std.proofs.Common.{◌≡◌, ℕ, ◌+◌, ◌-◌, ◌<◌, ◌≤◌, Bool, true, false, cond, ◌&&◌, ◌||◌, Option, None, Some, IfSome, IsTrue, List, [], ◌∷◌, ◌++◌, length, get_or, refl, sym, ap, ◌∙◌, subst, map, arith, nat_lt, length-append, append_assoc}
+use Rattle.std.proofs.Common.{◌≡◌, ℕ, ◌+◌, ◌-◌, ◌<◌, ◌≤◌, Bool, true, false, cond, ◌&&◌, ◌||◌, Option, None, Some, IfSome, IsTrue, List, [], ◌∷◌, ◌++◌, length}
+use Rattle.std.proofs.Common.{get_or, refl, sym, ap, ◌∙◌, subst, map, arith, nat_lt, length-append, append_assoc}
 use Rattle.std.specs.Prelude.{reverse, option_map}
 use Rattle.std.specs.List.{list_all, list_any, last_or, prefix_len, suffix_len}
 use Rattle.std.specs.Str.{bytes_eq}

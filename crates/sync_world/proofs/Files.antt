@@ -1,5 +1,6 @@
 -- What a list of changes does to the files, and what a get of a file finds.
-use Rattle.std.proofs.Common.{inl, inr, ◌⊎◌, ◌≡◌, ℕ, suc, ◌+◌, Bool, true, false, cond, ◌&&◌, ◌||◌, Option, None, Some, List, [], ◌∷◌, ◌++◌, ◌≤◌, filter, length, take, drop, refl, sym, ap, ◌∙◌, subst, map, arith, nat_lt, append_assoc}
+use Rattle.std.proofs.Common.{inl, inr, ◌⊎◌, ◌≡◌, ℕ, suc, ◌+◌, Bool, true, false, cond, ◌&&◌, ◌||◌, Option, None, Some, List, [], ◌∷◌, ◌++◌, ◌≤◌, filter}
+use Rattle.std.proofs.Common.{length, take, drop, refl, sym, ap, ◌∙◌, subst, map, arith, nat_lt, append_assoc}
 use Rattle.std.specs.Prelude.{is_some}
 use Rattle.std.specs.List.{AllByRecursion, list_all}
 use Rattle.std.specs.Str.{bytes_eq}
@@ -18,7 +19,8 @@ use Rattle.catalogue.specs.Order.{IsRising}
 use Rattle.sync_world.specs.Primaries.{list_told}
 use Rattle.sync_core.specs.Steps.{is_alias}
 use Rattle.catalogue.specs.Lookups.{named, zone_at, zones_of, contents_of}
-use Rattle.sync_world.proofs.Zones.{Distinct, has_text, aliased, role, Role, a_zone, an_alias, no_name, IsZone, IsAlias, IsNone, among_at, among_alias, entries_by, listed_by, changed_by, known_some, alias_none, alias_some}
+use Rattle.sync_world.proofs.Zones.{Distinct, has_text, aliased, role, Role, a_zone, an_alias, no_name, IsZone, IsAlias, IsNone, among_at, among_alias}
+use Rattle.sync_world.proofs.Zones.{entries_by, listed_by, changed_by, known_some, alias_none, alias_some}
 use Rattle.sync_world.proofs.Changes.{changes, end, last_is, end_passes, ends_distinct, starts_distinct, still_named, moved, list_is, at_change}
 use Rattle.sync_world.proofs.Aliases.{zone_named, cut}
 

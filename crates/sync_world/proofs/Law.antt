@@ -77,4 +77,5 @@ module _ (P : Service) (sound : ReleaseData → Type 0) (hears : List ReleaseDat
       subst (λ s. HoldsState P s (take n w.history)) (ap (state_after (looked_up w.mirror)) (sym q.is) ∙ sym (shown w.mirror h)) state in
       let rises : IsRisingMirror (world_after w h).mirror = Rattle.sync_world.proofs.Shown.rising_after w.mirror h i.rises in
       subst (λ u. HoldsLast P u.mirror (take n w.history)) (sym a.is_taken)
-      (exactly P sound (take n w.history) (world_after w h).mirror (history_front sound w.history n i.history) (omega (arith, length-take n w.history)) rises shows)
+      (exactly P sound (take n w.history) (world_after w h).mirror (history_front sound w.history n i.history) (omega (arith, length-take n w.history)) rises
+      shows)

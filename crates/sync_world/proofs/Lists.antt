@@ -1,5 +1,6 @@
 -- A mirror whose look-ups hold a release holds its lists.
-use Rattle.std.proofs.Common.{◌≡◌, ℕ, ◌≤◌, Bool, true, false, cond, Option, None, Some, List, [], ◌∷◌, ◌++◌, length, refl, sym, ap, ◌∙◌, subst, map, arith, option_map}
+use Rattle.std.proofs.Common.{◌≡◌, ℕ, ◌≤◌, Bool, true, false, cond, Option, None, Some, List, [], ◌∷◌, ◌++◌, length, refl, sym, ap, ◌∙◌, subst, map, arith}
+use Rattle.std.proofs.Common.{option_map}
 use Rattle.std.specs.Str.{bytes_eq}
 use Rattle.catalogue.specs.Histories.{IsHistory}
 use Rattle.catalogue.specs.Lookups.{zone_at, zones_of}

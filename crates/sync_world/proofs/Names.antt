@@ -1,5 +1,6 @@
 -- The entry that a name finds is that of the zone that has the name.
-use Rattle.std.proofs.Common.{◌≡◌, ℕ, suc, ◌+◌, Bool, true, false, cond, Option, None, Some, List, [], ◌∷◌, refl, ap, ◌∙◌, map, option_map, option_and_then, arith}
+use Rattle.std.proofs.Common.{◌≡◌, ℕ, suc, ◌+◌, Bool, true, false, cond, Option, None, Some, List, [], ◌∷◌, refl, ap, ◌∙◌, map, option_map, option_and_then}
+use Rattle.std.proofs.Common.{arith}
 use Rattle.std.specs.List.{find, position_from, slice_get}
 use Rattle.catalogue.specs.Histories.{EntryData, entry_of, entries_of, last_release, meta}
 use Rattle.catalogue.specs.Lookups.{contents_of, is_name_of, named, place_named, zones_of}

@@ -42,9 +42,11 @@ module _ (P : Service) (sound : ReleaseData → Type 0) (finds : FindsPlaces sou
                 absurd (cc);
           }
 
-module _ (P : Service) (sound : ReleaseData → Type 0) (hears : List ReleaseData → Ask → Heard → Type 0) (so : HeardIsTold sound hears P) (finds : FindsPlaces sound P)
+module _ (P : Service) (sound : ReleaseData → Type 0) (hears : List ReleaseData → Ask → Heard → Type 0) (so : HeardIsTold sound hears P)
+    (finds : FindsPlaces sound P)
     (no_other : FindsNoOther sound P) where
-  pub token_is_of : (H : List ReleaseData) (xs : List Step) (w : SyncWorld) (since : ℕ) (token : List ℕ) → IsHistory sound H → 1 ≤ length H → Leads sound hears (world_begun H) xs w
+  pub token_is_of : (H : List ReleaseData) (xs : List Step) (w : SyncWorld) (since : ℕ) (token : List ℕ) → IsHistory sound H → 1 ≤ length H
+      → Leads sound hears (world_begun H) xs w
       → w.sent ≡ Some (record { ask = ask.List (Some token); since = since }) → IsTokenOf P w.history since token
   token_is_of H xs w since token h some leads out =
       let i = always P sound hears so finds no_other H xs w h some leads in

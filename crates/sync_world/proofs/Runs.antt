@@ -1,5 +1,6 @@
 -- The invariant over every list of steps, and the law.
-use Rattle.std.proofs.Common.{inl, inr, ◌≡◌, ℕ, ◌≤◌, Option, None, Some, List, [], ◌∷◌, ◌++◌, length, take, refl, sym, ap, ◌∙◌, subst, arith, length-append, length-take}
+use Rattle.std.proofs.Common.{inl, inr, ◌≡◌, ℕ, ◌≤◌, Option, None, Some, List, [], ◌∷◌, ◌++◌, length, take, refl, sym, ap, ◌∙◌, subst, arith, length-append}
+use Rattle.std.proofs.Common.{length-take}
 use Rattle.td_base.specs.declared.report.Ask.{Ask}
 use Rattle.td_base.specs.declared.report.Ask.TheVariants as ask
 use Rattle.catalogue.specs.Histories.{IsHistory, token_of}
@@ -10,7 +11,8 @@ use Rattle.json_forms.specs.declared.zone_list.ListDoc.{ListDoc}
 use Rattle.sync_core.specs.Mirrors.{MirrorState, ask_for}
 use Rattle.sync_core.specs.declared.heard_type.Heard.{Heard}
 use Rattle.sync_core.specs.declared.heard_type.Heard.TheVariants as heard
-use Rattle.sync_world.specs.Primaries.{HeardIsTold, FindsPlaces, FindsNoOther, Service, served_for, told_by, list_at, list_told, changes_of, changes_at, IsPlace}
+use Rattle.sync_world.specs.Primaries.{HeardIsTold, FindsPlaces, FindsNoOther, Service, served_for, told_by, list_at, list_told, changes_of, changes_at}
+use Rattle.sync_world.specs.Primaries.{IsPlace}
 use Rattle.sync_world.specs.Worlds as world
 use Rattle.sync_world.specs.Worlds.{SyncWorld, Sent, Step, IsAnswer, LeadsTo, Leads, world_after, world_begun, sent_then}
 use Rattle.sync_world.proofs.Aliases.{cut}
@@ -128,9 +130,16 @@ module _ (P : Service) (sound : ReleaseData → Type 0) (hears : List ReleaseDat
   steps w [] v i is = subst (WorldStands P sound) (sym is) i
   steps w (x ∷ xs) v i is = steps is.0 xs v (step w x is.0 i is.1) is.2
 
-  pub always : (H : List ReleaseData) (xs : List Step) (w : SyncWorld) → IsHistory sound H → 1 ≤ length H → Leads sound hears (world_begun H) xs w → WorldStands P sound w
+  pub always : (H : List ReleaseData) (xs : List Step) (w : SyncWorld) → IsHistory sound H → 1 ≤ length H → Leads sound hears (world_begun H) xs w
+      → WorldStands P sound w
   always H xs w h some is =
-      steps (world_begun H) xs w (record { history = h; some = some; state = fresh (record { token = refl; coming = refl; pending = refl }); rises = none_rise }) is
+      steps (world_begun H) xs w (record {
+        history = h;
+        some = some;
+        state = fresh (record { token = refl; coming = refl; pending = refl });
+        rises =
+            none_rise;
+      }) is
 
 -- the state by look-ups holds the last release
 pub record HoldsState (P : Service) (s : StateData) (H : List ReleaseData) : Type 0 where

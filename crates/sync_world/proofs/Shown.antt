@@ -13,7 +13,8 @@ use Rattle.sync_core.specs.Steps.{is_alias, rising_zones, kept_entries, kept_fil
 use Rattle.sync_core.specs.declared.heard_type.Heard.{Heard}
 use Rattle.sync_core.specs.declared.heard_type.Heard.TheVariants as heard
 use Rattle.sync_core.proofs.lemmas.Puts.{Rising, rising_put, rising_put_all, rising_filter, at_put, at_put_all, bytes_same}
-use Rattle.sync_world.proofs.Looks.{StateData, known, unless, kept, with_file, settled, after_changes, after_list, after_file, after_heard, state_after, bytes_found, looked_up, token_then, coming_then}
+use Rattle.sync_world.proofs.Looks.{StateData, known, unless, kept, with_file, settled, after_changes, after_list, after_file, after_heard, state_after}
+use Rattle.sync_world.proofs.Looks.{bytes_found, looked_up, token_then, coming_then}
 
 cond_none : {X : Type 0} (b : Bool) (o : Option X) → o ≡ None → o ≡ cond b o None
 cond_none true o e = refl

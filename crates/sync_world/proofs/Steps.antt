@@ -1,12 +1,14 @@
 -- One answer keeps the invariant.
-use Rattle.std.proofs.Common.{inl, inr, ◌⊎◌, ◌≡◌, ℕ, ◌+◌, ◌-◌, ◌≤◌, Bool, true, false, cond, ◌||◌, Option, None, Some, List, [], ◌∷◌, ◌++◌, length, take, refl, sym, ap, ◌∙◌, subst, arith, length-take}
+use Rattle.std.proofs.Common.{inl, inr, ◌⊎◌, ◌≡◌, ℕ, ◌+◌, ◌-◌, ◌≤◌, Bool, true, false, cond, ◌||◌, Option, None, Some, List, [], ◌∷◌, ◌++◌, length, take, refl}
+use Rattle.std.proofs.Common.{sym, ap, ◌∙◌, subst, arith, length-take}
 use Rattle.std.specs.Prelude.{option_map, is_some}
 use Rattle.std.specs.List.{AllByRecursion}
 use Rattle.std.specs.Str.{bytes_eq}
 use Rattle.std.proofs.lemmas.List.{take-take}
 use Rattle.catalogue.specs.Releases.{ContentData, ReleaseData, names_of}
 use Rattle.catalogue.specs.Histories.{IsHistory, last_change, token_of}
-use Rattle.sync_world.proofs.Looks.{StateData, state_ask, known, unless, joined, kept, with_file, pending_of, settled, after_changes, after_list, after_file, state_after}
+use Rattle.sync_world.proofs.Looks.{StateData, state_ask, known, unless, joined, kept, with_file, pending_of, settled, after_changes, after_list, after_file}
+use Rattle.sync_world.proofs.Looks.{state_after}
 use Rattle.json_forms.specs.declared.zone_list.ListZone.{ListZone}
 use Rattle.sync_core.specs.Mirrors.{ask_for, entry_name}
 use Rattle.sync_core.specs.declared.heard_type.Heard.TheVariants as heard
@@ -18,7 +20,8 @@ use Rattle.sync_core.proofs.lemmas.Puts.{Rising, bytes_same}
 use Rattle.sync_world.proofs.Zones.{has_text, Role, a_zone, an_alias, no_name, IsZone, role, known_none}
 use Rattle.sync_world.proofs.Changes.{end, ends_distinct, still_named, at_change, changes_are}
 use Rattle.sync_world.proofs.Aliases.{zone_named, stays_at, cut, joined_at}
-use Rattle.sync_world.proofs.Files.{zones_are, history_front, take_past, news, news_rises, known_put, alias_goes, none_before, IsKept, zone_kept, steady, known_pending, each_pending}
+use Rattle.sync_world.proofs.Files.{zones_are, history_front, take_past, news, news_rises, known_put, alias_goes, none_before, IsKept, zone_kept, steady}
+use Rattle.sync_world.proofs.Files.{known_pending, each_pending}
 use Rattle.sync_world.proofs.Standing.{IsGot, FileStands, TokensStand, Stands, IsFresh, Invariant, fresh, stands, IsGood, settles, own_token, whole_list}
 
 none_unless : {X : Type 0} (b : Bool) → unless {X = X} b None ≡ None

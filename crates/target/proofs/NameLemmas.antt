@@ -1,5 +1,6 @@
 -- A zone is asked for by its name.
-use Rattle.std.proofs.Common.{◌≡◌, ◌<◌, ℕ, ◌+◌, ◌==◌, Bool, true, false, ◌&&◌, List, [], ◌∷◌, ◌++◌, length, take, drop, All, Some, codes, refl, ap, ◌∙◌, arith, rules}
+use Rattle.std.proofs.Common.{◌≡◌, ◌<◌, ℕ, ◌+◌, ◌==◌, Bool, true, false, ◌&&◌, List, [], ◌∷◌, ◌++◌, length, take, drop, All, Some, codes, refl, ap, ◌∙◌, arith}
+use Rattle.std.proofs.Common.{rules}
 use Rattle.std.specs.List.{position_or_len}
 use Rattle.std.specs.Str.{IsUtf8}
 use Rattle.std.proofs.lemmas.Bool.{ne_eqb}
@@ -91,7 +92,8 @@ asked tzid some =
     let e : (length tzid == 0) ≡ false = ne_eqb (length tzid) 0 (λ z. omega arith) in
     rw (e, absent (codes "start"), absent (codes "end")) refl
 
-pub asks_by_name : (set : AsciiSet) (tzid : List ℕ) → has_marks set ≡ true → IsUtf8Name tzid → asks (zone_target set tzid) ≡ ask.Get tzid param.Absent param.Absent
+pub asks_by_name : (set : AsciiSet) (tzid : List ℕ) → has_marks set ≡ true → IsUtf8Name tzid
+    → asks (zone_target set tzid) ≡ ask.Get tzid param.Absent param.Absent
 unfolding asks
 asks_by_name set tzid marks is =
     let percent = both (contains set 37) (contains set 47 && contains set 63) marks in

@@ -28,7 +28,8 @@ module _ {D : Type 0} (seen : D → DoorView) where
         later = outside_refl before.scene.outside;
         starting = later;
         ends = λ given are.
-            unstarted seen (history_of before.scene.session.installer.list) given before.scene.outside before.scene.outside r r' doors is e none (refl, refl) rose;
+            unstarted seen (history_of before.scene.session.installer.list) given before.scene.outside before.scene.outside r r' doors is e none (refl, refl)
+            rose;
       })
 
   -- memory ran out
@@ -58,7 +59,8 @@ module _ {D : Type 0} (seen : D → DoorView) where
 
 module _ {D C : Type 0} (seen : D → DoorView) where
   -- the workers are done, and the talk is over
-  pub beside_done : (before mid now : ConsoleView) (ended : TalkEnd) (works : List WorkView) (dones : List (DoorDone D C)) (r r' : ℕ) (doors : List D) (is : Status)
+  pub beside_done : (before mid now : ConsoleView) (ended : TalkEnd) (works : List WorkView) (dones : List (DoorDone D C)) (r r' : ℕ) (doors : List D)
+      (is : Status)
       → Ran before mid → Halted mid now → now.end ≡ Some ended → r ≤ r' → DoesEach (Does seen) works dones
       → Concludes now.scene.session dones ended doors is
       → ServesBeside before.scene.session works before.scene.outside now.scene.outside r r' (map seen doors) is

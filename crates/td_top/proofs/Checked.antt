@@ -1,5 +1,6 @@
 -- How folders are checked: the lines of a history, one folder more, and the ends.
-use Rattle.std.proofs.Common.{◌≡◌, ◌≢◌, ℕ, ◌+◌, ◌<◌, List, [], ◌∷◌, ◌++◌, length, take, drop, get_or, Option, None, Some, IfSome, Result, Ok, Err, inl, inr, refl, sym, subst, ap, ◌∙◌, append_assoc, append-nil, arith}
+use Rattle.std.proofs.Common.{◌≡◌, ◌≢◌, ℕ, ◌+◌, ◌<◌, List, [], ◌∷◌, ◌++◌, length, take, drop, get_or, Option, None, Some, IfSome, Result, Ok, Err, inl, inr}
+use Rattle.std.proofs.Common.{refl, sym, subst, ap, ◌∙◌, append_assoc, append-nil, arith}
 use Rattle.std.proofs.KnownBytes.{Appends-nil, Appends-trans}
 use Rattle.std.specs.Io.KnownBytes.{Appends}
 use Rattle.std.proofs.lemmas.List.{take-append-drop}
@@ -42,7 +43,8 @@ unfolding ok_lines_after
 lines_more before [] r = rw (append-nil before) (append-nil (ok_line (before ++ r ∷ [])))
 lines_more before (x ∷ H) r =
     ap (λ (text : List ℕ). ok_line (before ++ x ∷ []) ++ text)
-    (lines_more (before ++ x ∷ []) H r ∙ ap (λ (h : List ReleaseData). ok_lines_after (before ++ x ∷ []) H ++ ok_line (h ++ r ∷ [])) (append_assoc before (x ∷ []) H))
+    (lines_more (before ++ x ∷ []) H r ∙ ap (λ (h : List ReleaseData). ok_lines_after (before ++ x ∷ []) H ++ ok_line (h ++ r ∷ []))
+    (append_assoc before (x ∷ []) H))
     ∙ sym (append_assoc (ok_line (before ++ x ∷ [])) (ok_lines_after (before ++ x ∷ []) H) (ok_line ((before ++ x ∷ H) ++ r ∷ [])))
 
 pub ok_lines_more : (H : List ReleaseData) (r : ReleaseData) → ok_lines (H ++ r ∷ []) ≡ ok_lines H ++ ok_line (H ++ r ∷ [])

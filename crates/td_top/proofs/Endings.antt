@@ -116,7 +116,8 @@ shows path bytes m s t i old new end (Some f) is of store h =
 pub ends_shown : (path bytes : List ℕ) (m : ℤ) (s t : StoreView) (i : SourceView) (old new : SinkView) (end : Status)
     → Looks s t path 65537 (looked.Found bytes) → Shows bytes m old new end → EndsLater (Some (at path m)) (outside s i old) (outside t i new) end
 ends_shown path bytes m s t i old new end looks h =
-    shows path bytes m s t i old new end (zone_fault bytes) refl (of_prefix path bytes s.files looks.told) (looks_later s t path 65537 (looked.Found bytes) looks) h
+    shows path bytes m s t i old new end (zone_fault bytes) refl (of_prefix path bytes s.files looks.told)
+    (looks_later s t path 65537 (looked.Found bytes) looks) h
 
 -- an absent file
 absent : (path : List ℕ) (files : Option (List File)) → FileTells files path 65537 looked.Absent → IfSome files (λ fs. file_at fs path ≡ None)

@@ -1,5 +1,6 @@
 -- How a row of folders is installed, one after another.
-use Rattle.std.proofs.Common.{◌≡◌, ◌≢◌, ℕ, ◌+◌, ◌-◌, ◌<◌, List, [], ◌∷◌, ◌++◌, length, take, drop, get_or, false, All, Option, None, Some, IfSome, IsErrOf, Result, Ok, Err, refl, sym, subst, ap, ◌∙◌, append_assoc, append-nil, arith}
+use Rattle.std.proofs.Common.{◌≡◌, ◌≢◌, ℕ, ◌+◌, ◌-◌, ◌<◌, List, [], ◌∷◌, ◌++◌, length, take, drop, get_or, false, All, Option, None, Some, IfSome, IsErrOf}
+use Rattle.std.proofs.Common.{Result, Ok, Err, refl, sym, subst, ap, ◌∙◌, append_assoc, append-nil, arith}
 use Rattle.std.proofs.lemmas.List.{length-append, take-append-drop, take_all}
 use Rattle.std.specs.Option.{option_to_list}
 use Rattle.std.proofs.lemmas.List.Elements.{All-pop, All-weaker}
@@ -92,12 +93,14 @@ installs_ok s t dir H h k a b same i = record {
   failed = λ e. cc;
 }
 
-err_told : {A B : Type 0} (o : Option (List File)) (dir : List ℕ) (H : List ReleaseData) (h : A → List ReleaseData) (k : B → List ReleaseData) (e : InstallFault)
+err_told : {A B : Type 0} (o : Option (List File)) (dir : List ℕ) (H : List ReleaseData) (h : A → List ReleaseData) (k : B → List ReleaseData)
+    (e : InstallFault)
     → IfSome o (λ files. Installed files dir H h (Err e)) → IfSome o (λ files. Installed files dir H k (Err e))
 err_told None dir H h k e told = tt
 err_told (Some fs) dir H h k e told = told
 
-pub installs_err : {A B : Type 0} (s t : StoreView) (dir : List ℕ) (H : List ReleaseData) (h : A → List ReleaseData) (k : B → List ReleaseData) (e : InstallFault)
+pub installs_err : {A B : Type 0} (s t : StoreView) (dir : List ℕ) (H : List ReleaseData) (h : A → List ReleaseData) (k : B → List ReleaseData)
+    (e : InstallFault)
     → Installs s t dir H h (Err e) → Installs s t dir H k (Err e)
 installs_err {A = A} {B = B} s t dir H h k e i = record {
   later = i.later;
@@ -108,7 +111,8 @@ installs_err {A = A} {B = B} s t dir H h k e i = record {
 -- ---- a row of folders
 
 pub stops_here : (files : Option (List File)) (first : List (List ℕ)) (dir : List ℕ) (rest dirs : List (List ℕ)) (H : List ReleaseData) (f : CheckFault)
-    → dirs ≡ first ++ dir ∷ rest → FoldersGive files first H → GivesAfter files H dir (Err f) → f ≢ fault.NoMemory → f ≢ fault.ReadFault → StopsWith files dirs H f
+    → dirs ≡ first ++ dir ∷ rest → FoldersGive files first H → GivesAfter files H dir (Err f) → f ≢ fault.NoMemory → f ≢ fault.ReadFault
+    → StopsWith files dirs H f
 stops_here files first dir rest dirs H f is give after memory read = record {
   first = first;
   dir = dir;
@@ -242,7 +246,8 @@ all_came s t u d rest dirs history a list end unit is h grows same others =
 -- ---- desks
 
 -- the desks that are left once one was taken off new ones
-pub parts_desks : (pair now : Book) (list : List (Catalogue (List ℕ))) (all first : List (DeskView (Catalogue (List ℕ)))) (last : Option (DeskView (Catalogue (List ℕ))))
+pub parts_desks : (pair now : Book) (list : List (Catalogue (List ℕ))) (all first : List (DeskView (Catalogue (List ℕ))))
+    (last : Option (DeskView (Catalogue (List ℕ))))
     (desk : DeskView (Catalogue (List ℕ))) (n : ℕ) → now ≡ pair → all ≡ first ++ option_to_list last → last ≡ Some desk → length all ≡ n + 1
     → All (IsNewDesk pair list false) all → (length first ≡ n) × All (λ d. d.pair ≡ now) first
 parts_desks pair now list all first last desk n same is some many new =

@@ -1,5 +1,6 @@
 -- What one line of an operator makes of a talk.
-use Rattle.std.proofs.Common.{◌≡◌, ◌≢◌, ℕ, ◌+◌, ◌≤◌, List, [], ◌∷◌, ◌++◌, length, ◌⊎◌, inl, inr, Option, Ok, Err, refl, sym, subst, ap, ◌∙◌, length-append, arith}
+use Rattle.std.proofs.Common.{◌≡◌, ◌≢◌, ℕ, ◌+◌, ◌≤◌, List, [], ◌∷◌, ◌++◌, length, ◌⊎◌, inl, inr, Option, Ok, Err, refl, sym, subst, ap, ◌∙◌, length-append}
+use Rattle.std.proofs.Common.{arith}
 use Rattle.std.proofs.lemmas.List.{length-map}
 use Rattle.td_base.specs.Cause.{Rose, RoseBy}
 use Rattle.td_base.specs.Files.{File}
@@ -29,7 +30,8 @@ use Rattle.zone_meaning.specs.Sound.{IsSound}
 use Rattle.zone_meaning.specs.ZoneHistories.{HasZoneHistory}
 use Rattle.td_top.specs.Folders.{GivesAfter}
 use Rattle.td_top.specs.Sessions.{AnswersLine, LaterSession, SaysRefused, SaysWhy, StandsAt}
-use Rattle.td_top.specs.Talk.{GetsAnswer, IsUnknown, Talk, TakesMemory, installed, with_release, last_token, no_memory, once_more, quit, refused, shown_to, status, unknown, unread}
+use Rattle.td_top.specs.Talk.{GetsAnswer, IsUnknown, Talk, TakesMemory, installed, with_release, last_token, no_memory, once_more, quit, refused, shown_to}
+use Rattle.td_top.specs.Talk.{status, unknown, unread}
 use Rattle.td_top.specs.Turns.{IsSaidRefusal, TellsAnswer}
 use Rattle.td_top.specs.declared.session.Session.{Session}
 use Rattle.td_top.proofs.Installing.{blames, gives, kept_gives}
@@ -211,8 +213,10 @@ starves : (files : Option (List File)) (whole : List ReleaseData) (t u : Talk) (
     → GetsAnswer files whole t asked answer u
     → (GetsAnswer files whole t asked said.NoMemory t) × ((u.published ≡ t.published) × (u.least ≡ t.least))
 starves files whole t u asked answer is (installed dir r a b e f) = absurd (subst IsSaidRefusal e is)
-starves files whole t u asked answer is (refused dir f a b c e g) = (no_memory (subst TakesMemory (sym a) tt) refl refl, (ap (λ (x : Talk). x.published) g, ap (λ (x : Talk). x.least) g))
-starves files whole t u asked answer is (unread dir a e g) = (no_memory (subst TakesMemory (sym a) tt) refl refl, (ap (λ (x : Talk). x.published) g, ap (λ (x : Talk). x.least) g))
+starves files whole t u asked answer is (refused dir f a b c e g) =
+    (no_memory (subst TakesMemory (sym a) tt) refl refl, (ap (λ (x : Talk). x.published) g, ap (λ (x : Talk). x.least) g))
+starves files whole t u asked answer is (unread dir a e g) =
+    (no_memory (subst TakesMemory (sym a) tt) refl refl, (ap (λ (x : Talk). x.published) g, ap (λ (x : Talk). x.least) g))
 starves files whole t u asked answer is (status shown a b c e g) = absurd (subst IsSaidRefusal e is)
 starves files whole t u asked answer is (quit a e g) = absurd (subst IsSaidRefusal e is)
 starves files whole t u asked answer is (unknown a e g) = absurd (subst IsSaidRefusal e is)

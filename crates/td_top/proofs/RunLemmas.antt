@@ -15,7 +15,8 @@ use Rattle.td_top.specs.Grammar.{Asked, serve}
 use Rattle.td_top.specs.Installed.{InstallsAll}
 use Rattle.td_top.specs.Outside.{Later, Outside, outside}
 use Rattle.td_top.specs.RunEnds.{RunEndsLater, alone, opened}
-use Rattle.td_top.specs.Server.{OpenedEnds, OpensDoors, no_network, served as served_opened, not_started as not_started_opened, out_of_memory as out_of_memory_opened}
+use Rattle.td_top.specs.Server.{OpenedEnds, OpensDoors, no_network, served as served_opened, not_started as not_started_opened}
+use Rattle.td_top.specs.Server.{out_of_memory as out_of_memory_opened}
 use Rattle.td_top.specs.Serving.{ServesBeside, ServesOpened}
 use Rattle.td_top.specs.Talk.{Talks, talk_begun}
 use Rattle.td_top.specs.Talking.{AnswersOperator, EndsBy}

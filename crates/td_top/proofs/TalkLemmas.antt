@@ -288,7 +288,8 @@ quit_by start s i o p x held new at is answers h = record {
   ignored = lines_of new;
   told = at.told ++ said.Bye ∷ [];
   reads = (at.consumed, lines_held at.read new (at.asked ++ line.Quit ∷ []) (is at.read at.asked at.gives));
-  over = over_more start s s i o p x x at.asked at.told line.Quit said.Bye at.goes_on (writes_all_later o p (reply_text said.Bye) written.Whole h) at.over answers;
+  over = over_more start s s i o p x x at.asked at.told line.Quit said.Bye at.goes_on (writes_all_later o p (reply_text said.Bye) written.Whole h) at.over
+      answers;
   written = said_whole start o p at.told said.Bye at.written h;
   ends = (at.asked, refl);
 }

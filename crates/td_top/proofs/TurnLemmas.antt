@@ -16,7 +16,8 @@ folder_of line.Quit is = absurd is
 folder_of line.Strange is = absurd is
 
 -- the line that was passed over installs a folder
-passed : (held new : List ℕ) → HasInstall held → ((all : List ℕ) (given : List Line) → GivesLines all given held → GivesLines all (given ++ first_line held ∷ []) new)
+passed : (held new : List ℕ) → HasInstall held
+    → ((all : List ℕ) (given : List Line) → GivesLines all given held → GivesLines all (given ++ first_line held ∷ []) new)
     → (dir : List ℕ) × IsNextLine held new (line.Install dir)
 passed held new has over =
     let folder = folder_of (first_line held) has.1 in

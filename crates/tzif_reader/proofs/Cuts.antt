@@ -1,5 +1,6 @@
 -- A block, as it is laid out and as it is cut.
-use Rattle.std.proofs.Common.{◌≡◌, ℕ, zero, suc, ◌+◌, ◌-◌, ◌*◌, ◌<◌, ◌≤◌, false, List, [], ◌++◌, length, All, get_or, take, drop, Option, Some, refl, sym, ap, subst, ◌∙◌, arith, inl, inr}
+use Rattle.std.proofs.Common.{◌≡◌, ℕ, zero, suc, ◌+◌, ◌-◌, ◌*◌, ◌<◌, ◌≤◌, false, List, [], ◌++◌, length, All, get_or, take, drop, Option, Some, refl, sym, ap}
+use Rattle.std.proofs.Common.{subst, ◌∙◌, arith, inl, inr}
 use Rattle.std.specs.Prelude.{ℤ, pos, int_le, nat_lt, ◌<ℤ◌, IfSome, slice_get}
 use Rattle.std.proofs.lemmas.Bool.{lt-leb, le-ltb, or_from, and_left, and_right, cases_lt}
 use Rattle.std.proofs.lemmas.Option.{slice_get-get_or}
@@ -32,9 +33,12 @@ laid text c z is = record {
   ut = is.ut;
 }
 
-same_parts : (c : Counts) (text times numbers types designations leaps standard ut : List ℕ) → piece 0 (8 * c.timecnt) text ≡ times → piece (8 * c.timecnt) c.timecnt text ≡ numbers → piece (8 * c.timecnt + c.timecnt) (6 * c.typecnt) text ≡ types
-    → piece (8 * c.timecnt + c.timecnt + 6 * c.typecnt) c.charcnt text ≡ designations → piece (8 * c.timecnt + c.timecnt + 6 * c.typecnt + c.charcnt) (12 * c.leapcnt) text ≡ leaps
-    → piece (8 * c.timecnt + c.timecnt + 6 * c.typecnt + c.charcnt + 12 * c.leapcnt) c.isstdcnt text ≡ standard → piece (8 * c.timecnt + c.timecnt + 6 * c.typecnt + c.charcnt + 12 * c.leapcnt + c.isstdcnt) c.isutcnt text ≡ ut
+same_parts : (c : Counts) (text times numbers types designations leaps standard ut : List ℕ) → piece 0 (8 * c.timecnt) text ≡ times
+    → piece (8 * c.timecnt) c.timecnt text ≡ numbers → piece (8 * c.timecnt + c.timecnt) (6 * c.typecnt) text ≡ types
+    → piece (8 * c.timecnt + c.timecnt + 6 * c.typecnt) c.charcnt text ≡ designations
+    → piece (8 * c.timecnt + c.timecnt + 6 * c.typecnt + c.charcnt) (12 * c.leapcnt) text ≡ leaps
+    → piece (8 * c.timecnt + c.timecnt + 6 * c.typecnt + c.charcnt + 12 * c.leapcnt) c.isstdcnt text ≡ standard
+    → piece (8 * c.timecnt + c.timecnt + 6 * c.typecnt + c.charcnt + 12 * c.leapcnt + c.isstdcnt) c.isutcnt text ≡ ut
     → parts_in c text ≡ record { times = times; numbers = numbers; types = types; designations = designations; leaps = leaps; standard = standard; ut = ut }
 unfolding parts_in
 same_parts c text times numbers types designations leaps standard ut e0 e1 e2 e3 e4 e5 e6 = cc
@@ -51,11 +55,14 @@ lengths_12 text c z is = joined_length 12 IsLeapLine is.leaps z.leaps is.leaps_a
 pub laid_parts : (text : List ℕ) (c : Counts) (z : ZoneFile) (is : IsBlock text c z) → parts_in c text ≡ laid text c z is
 laid_parts text c z is =
     let t = lengths_8 text c z is in
-    let r0 : drop (8 * c.timecnt) text ≡ z.numbers ++ (is.types ++ (is.designations ++ (is.leaps ++ (is.standard ++ is.ut)))) = ap (drop (8 * c.timecnt)) is.whole ∙ drop_at is.times _ (8 * c.timecnt) t in
+    let r0 : drop (8 * c.timecnt) text ≡ z.numbers ++ (is.types ++ (is.designations ++ (is.leaps ++ (is.standard ++ is.ut)))) =
+    ap (drop (8 * c.timecnt)) is.whole ∙ drop_at is.times _ (8 * c.timecnt) t in
     let f1 = field text z.numbers (is.types ++ (is.designations ++ (is.leaps ++ (is.standard ++ is.ut)))) (8 * c.timecnt) c.timecnt r0 is.number_count in
-    let f2 = field text is.types (is.designations ++ (is.leaps ++ (is.standard ++ is.ut))) (8 * c.timecnt + c.timecnt) (6 * c.typecnt) f1.1 (lengths_6 text c z is) in
+    let f2 = field text is.types (is.designations ++ (is.leaps ++ (is.standard ++ is.ut))) (8 * c.timecnt + c.timecnt) (6 * c.typecnt) f1.1
+    (lengths_6 text c z is) in
     let f3 = field text is.designations (is.leaps ++ (is.standard ++ is.ut)) (8 * c.timecnt + c.timecnt + 6 * c.typecnt) c.charcnt f2.1 is.designation_count in
-    let f4 = field text is.leaps (is.standard ++ is.ut) (8 * c.timecnt + c.timecnt + 6 * c.typecnt + c.charcnt) (12 * c.leapcnt) f3.1 (lengths_12 text c z is) in
+    let f4 = field text is.leaps (is.standard ++ is.ut) (8 * c.timecnt + c.timecnt + 6 * c.typecnt + c.charcnt) (12 * c.leapcnt) f3.1 (lengths_12 text c z is)
+    in
     let f5 = field text is.standard is.ut (8 * c.timecnt + c.timecnt + 6 * c.typecnt + c.charcnt + 12 * c.leapcnt) c.isstdcnt f4.1 is.standard_count in
     same_parts c text is.times z.numbers is.types is.designations is.leaps is.standard is.ut
     (ap (take (8 * c.timecnt)) is.whole ∙ take_at is.times _ (8 * c.timecnt) t) f1.0 f2.0 f3.0 f4.0 f5.0
@@ -89,16 +96,22 @@ some_local = record { offset = pos 0; dst = false; name = [] }
 some_line : LeapLine
 some_line = record { at = pos 0; correction = pos 0 }
 
-moment_here : (text : List ℕ) (c : Counts) (z : ZoneFile) (is : IsBlock text c z) (i : ℕ) (d : Moment) → i < c.timecnt → get_or z.moments i d ≡ transition_at is.times i
-moment_here text c z is i d lt = moment_cuts is.times i (get_or z.moments i d) (joined_at 8 IsMoment is.times z.moments i d is.moments_are (omega (arith, is.moment_count)))
+moment_here : (text : List ℕ) (c : Counts) (z : ZoneFile) (is : IsBlock text c z) (i : ℕ) (d : Moment) → i < c.timecnt
+    → get_or z.moments i d ≡ transition_at is.times i
+moment_here text c z is i d lt = moment_cuts is.times i (get_or z.moments i d)
+    (joined_at 8 IsMoment is.times z.moments i d is.moments_are (omega (arith, is.moment_count)))
 
-kind_here : (text : List ℕ) (c : Counts) (z : ZoneFile) (is : IsBlock text c z) (i : ℕ) (d : Local) → i < c.typecnt → CutsKind is.designations is.types i (get_or z.kinds i d)
-kind_here text c z is i d lt = kind_cuts is.designations is.types i (get_or z.kinds i d) (joined_at 6 (IsKind is.designations) is.types z.kinds i d is.kinds_are (omega (arith, is.kind_count)))
+kind_here : (text : List ℕ) (c : Counts) (z : ZoneFile) (is : IsBlock text c z) (i : ℕ) (d : Local) → i < c.typecnt
+    → CutsKind is.designations is.types i (get_or z.kinds i d)
+kind_here text c z is i d lt = kind_cuts is.designations is.types i (get_or z.kinds i d)
+    (joined_at 6 (IsKind is.designations) is.types z.kinds i d is.kinds_are (omega (arith, is.kind_count)))
 
 leap_here : (text : List ℕ) (c : Counts) (z : ZoneFile) (is : IsBlock text c z) (i : ℕ) (d : LeapLine) → i < c.leapcnt → get_or z.leaps i d ≡ leap_at is.leaps i
-leap_here text c z is i d lt = leap_cuts is.leaps i (get_or z.leaps i d) (joined_at 12 IsLeapLine is.leaps z.leaps i d is.leaps_are (omega (arith, is.leap_count)))
+leap_here text c z is i d lt = leap_cuts is.leaps i (get_or z.leaps i d)
+    (joined_at 12 IsLeapLine is.leaps z.leaps i d is.leaps_are (omega (arith, is.leap_count)))
 
-same_zone : (z : ZoneFile) (m : List Moment) (k : List Local) (l : List LeapLine) → z.moments ≡ m → z.kinds ≡ k → z.leaps ≡ l → z ≡ record { moments = m; numbers = z.numbers; kinds = k; leaps = l; footer = z.footer }
+same_zone : (z : ZoneFile) (m : List Moment) (k : List Local) (l : List LeapLine) → z.moments ≡ m → z.kinds ≡ k → z.leaps ≡ l
+    → z ≡ record { moments = m; numbers = z.numbers; kinds = k; leaps = l; footer = z.footer }
 same_zone z m k l a b c = rw (← a, ← b, ← c) refl
 
 laid_zone : (text : List ℕ) (c : Counts) (z : ZoneFile) (is : IsBlock text c z) → z ≡ zone_from c (laid text c z is) z.footer
@@ -113,7 +126,8 @@ block_zone text c z is = laid_zone text c z is ∙ ap (λ (p : Parts). zone_from
 
 -- ---- no faults
 
-seconds_here : (text : List ℕ) (c : Counts) (z : ZoneFile) (is : IsBlock text c z) (i : ℕ) → i < c.timecnt → (get_or z.moments i nothing).seconds ≡ long_at (8 * i) is.times
+seconds_here : (text : List ℕ) (c : Counts) (z : ZoneFile) (is : IsBlock text c z) (i : ℕ) → i < c.timecnt
+    → (get_or z.moments i nothing).seconds ≡ long_at (8 * i) is.times
 seconds_here text c z is i lt = ap (λ (m : Moment). m.seconds) (moment_here text c z is i nothing lt)
 
 laid_order : (text : List ℕ) (c : Counts) (z : ZoneFile) (is : IsBlock text c z) (i : ℕ) → i < c.timecnt → is_unordered is.times i ≡ false
@@ -123,7 +137,8 @@ laid_order text c z is (suc i) lt =
     let low = seconds_here text c z is i (omega arith) in
     let high = seconds_here text c z is (suc i) lt in
     let rise : (get_or z.moments i nothing).seconds <ℤ (get_or z.moments (suc i) nothing).seconds = is.rising i nothing (omega (arith, is.moment_count)) in
-    let up : long_at (8 * i) is.times <ℤ long_at (8 * suc i) is.times = subst (λ (s : ℤ). s <ℤ long_at (8 * suc i) is.times) low (subst (λ (s : ℤ). (get_or z.moments i nothing).seconds <ℤ s) high rise) in
+    let up : long_at (8 * i) is.times <ℤ long_at (8 * suc i) is.times =
+    subst (λ (s : ℤ). s <ℤ long_at (8 * suc i) is.times) low (subst (λ (s : ℤ). (get_or z.moments i nothing).seconds <ℤ s) high rise) in
     and_right _ _ (subst (λ (k : ℕ). int_le (long_at (8 * suc i) is.times) (long_at (8 * k) is.times) ≡ false) one (test_from_lt _ _ up))
 
 -- a flag of a list of flags, where there is one
@@ -138,11 +153,14 @@ laid_early : (text : List ℕ) (c : Counts) (z : ZoneFile) (is : IsBlock text c 
 laid_early text c z is =
     elim (cases_lt 0 c.timecnt) [
       | inl lt ↦
-          let last : slice_get z.moments (length z.moments - 1) ≡ Some (get_or z.moments (length z.moments - 1) nothing) = slice_get-get_or z.moments (length z.moments - 1) nothing (omega (arith, is.moment_count)) in
-          let before : (get_or z.moments (length z.moments - 1) nothing).seconds <ℤ HI = subst (λ (o : Option Moment). IfSome o (λ m. m.seconds <ℤ HI)) last is.ends in
+          let last : slice_get z.moments (length z.moments - 1) ≡ Some (get_or z.moments (length z.moments - 1) nothing) =
+          slice_get-get_or z.moments (length z.moments - 1) nothing (omega (arith, is.moment_count)) in
+          let before : (get_or z.moments (length z.moments - 1) nothing).seconds <ℤ HI =
+          subst (λ (o : Option Moment). IfSome o (λ m. m.seconds <ℤ HI)) last is.ends in
           let place : length z.moments - 1 ≡ c.timecnt - 1 = omega (arith, is.moment_count) in
           let here = seconds_here text c z is (c.timecnt - 1) (omega arith) in
-          let early : long_at (8 * (c.timecnt - 1)) is.times <ℤ HI = subst (λ (s : ℤ). s <ℤ HI) here (subst (λ (k : ℕ). (get_or z.moments k nothing).seconds <ℤ HI) place before) in
+          let early : long_at (8 * (c.timecnt - 1)) is.times <ℤ HI =
+          subst (λ (s : ℤ). s <ℤ HI) here (subst (λ (k : ℕ). (get_or z.moments k nothing).seconds <ℤ HI) place before) in
           and_right _ _ (test_from_lt _ _ early)
       | inr le ↦ and_left _ _ (le-ltb 0 c.timecnt le)
     ]
@@ -152,7 +170,8 @@ laid_sound text c z is = record {
   ordered = laid_order text c z is;
   known = λ i lt. lt-leb c.typecnt (get_or z.numbers i 0) (All-get_or (λ n. n < c.typecnt) z.numbers i 0 (omega (arith, is.number_count)) is.known);
   are_named = λ i lt. (kind_here text c z is i some_local lt).is_named;
-  flagged = λ i lt. or_from _ _ (or_from _ _ (le-ltb 1 (flag_at is.types i) (kind_here text c z is i some_local lt).flag) (low_flag is.standard i is.standard_flags)) (low_flag is.ut i is.ut_flags);
+  flagged = λ i lt. or_from _ _ (or_from _ _ (le-ltb 1 (flag_at is.types i) (kind_here text c z is i some_local lt).flag)
+      (low_flag is.standard i is.standard_flags)) (low_flag is.ut i is.ut_flags);
   within = λ i lt. (kind_here text c z is i some_local lt).within;
   early = laid_early text c z is;
 }

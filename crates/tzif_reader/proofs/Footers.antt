@@ -1,5 +1,6 @@
 -- A footer, as it is laid out and as it is cut.
-use Rattle.std.proofs.Common.{◌≡◌, ◌≢◌, ℕ, ◌+◌, ◌≤◌, Bool, true, false, cond, eqb, List, [], ◌∷◌, ◌++◌, length, All, drop, Option, Some, None, refl, ap, ◌∙◌, arith}
+use Rattle.std.proofs.Common.{◌≡◌, ◌≢◌, ℕ, ◌+◌, ◌≤◌, Bool, true, false, cond, eqb, List, [], ◌∷◌, ◌++◌, length, All, drop, Option, Some, None, refl, ap, ◌∙◌}
+use Rattle.std.proofs.Common.{arith}
 use Rattle.std.specs.Prelude.{nat_lt}
 use Rattle.std.specs.Option.{unwrap_or}
 use Rattle.std.proofs.lemmas.Bool.{ltb-false, le-ltb, eqb-true}
@@ -25,7 +26,8 @@ between : (rest text : List ℕ) → text_between rest ≡ Some text → Between
 between [] text h = absurd cc
 between (b ∷ bs) text h = between_case b bs text (eqb b 10) refl h
 
-ending_none : (size place : ℕ) (o : Option (List ℕ)) → ending_fault size place o ≡ None → (o ≡ Some (unwrap_or o [])) × (size ≤ place + length (unwrap_or o []) + 2)
+ending_none : (size place : ℕ) (o : Option (List ℕ)) → ending_fault size place o ≡ None → (o ≡ Some (unwrap_or o []))
+    × (size ≤ place + length (unwrap_or o []) + 2)
 ending_none size place None h = absurd cc
 ending_none size place (Some text) h = (refl, ltb-false _ _ (when_none (nat_lt (place + length text + 2) size) (Trailing (place + length text + 2)) h))
 
@@ -39,7 +41,8 @@ unfolding footer_fault footer_of
 footer_none bytes h =
     let e = ending_none (length bytes) (footer_place bytes) (footer_of bytes) h in
     let b = between (drop (footer_place bytes) bytes) (unwrap_or (footer_of bytes) []) e.0 in
-    let none : b.after ≡ [] = nil_from_length b.after (omega (arith, ap length b.whole, length-drop (footer_place bytes) bytes, length-append (unwrap_or (footer_of bytes) []) (10 ∷ b.after), e.1)) in
+    let none : b.after ≡ [] = nil_from_length b.after
+    (omega (arith, ap length b.whole, length-drop (footer_place bytes) bytes, length-append (unwrap_or (footer_of bytes) []) (10 ∷ b.after), e.1)) in
     record { whole = b.whole ∙ ap (λ (r : List ℕ). 10 ∷ (unwrap_or (footer_of bytes) [] ++ 10 ∷ r)) none; clear = b.clear }
 
 pub found_footer : (bytes footer : List ℕ) → EndsIn bytes footer → footer_of bytes ≡ Some footer
@@ -49,5 +52,7 @@ found_footer bytes footer ends = ap text_between ends.whole ∙ marks_before 10 
 pub none_footer : (bytes footer : List ℕ) → EndsIn bytes footer → footer_fault bytes ≡ None
 unfolding footer_fault
 none_footer bytes footer ends =
-    let room : length bytes ≤ footer_place bytes + length footer + 2 = omega (arith, ap length ends.whole, length-drop (footer_place bytes) bytes, length-append footer (10 ∷ [])) in
-    ap (ending_fault (length bytes) (footer_place bytes)) (found_footer bytes footer ends) ∙ none_when (nat_lt (footer_place bytes + length footer + 2) (length bytes)) (Trailing (footer_place bytes + length footer + 2)) (le-ltb _ _ room)
+    let room : length bytes ≤ footer_place bytes + length footer + 2 =
+    omega (arith, ap length ends.whole, length-drop (footer_place bytes) bytes, length-append footer (10 ∷ [])) in
+    ap (ending_fault (length bytes) (footer_place bytes)) (found_footer bytes footer ends)
+    ∙ none_when (nat_lt (footer_place bytes + length footer + 2) (length bytes)) (Trailing (footer_place bytes + length footer + 2)) (le-ltb _ _ room)

@@ -1,7 +1,8 @@
 -- What it means that no fault of the sizes, the headers and the counts comes.
 use Rattle.std.proofs.Common.{◌≡◌, ◌≢◌, ℕ, ◌+◌, ◌≤◌, Bool, true, eqb, List, length, None, arith, inl, inr, ◌⊎◌}
 use Rattle.std.specs.Prelude.{nat_lt, nat_le, not, ◌==◌, ◌&&◌, ◌||◌}
-use Rattle.std.proofs.lemmas.Bool.{ltb-false, le-ltb, eqb-true, eqb-false, eq-eqb, ne_eqb, leb-true, le-leb, not-false, not_from_true, and_parts, and_from, or_parts, or_from, or_cases, or_left, or_right}
+use Rattle.std.proofs.lemmas.Bool.{ltb-false, le-ltb, eqb-true, eqb-false, eq-eqb, ne_eqb, leb-true, le-leb, not-false, not_from_true, and_parts, and_from}
+use Rattle.std.proofs.lemmas.Bool.{or_parts, or_from, or_cases, or_left, or_right}
 use Rattle.tzif_reader.specs.declared.counts.Counts.{Counts}
 use Rattle.tzif_reader.specs.declared.tzif_fault.TzifFault.TheVariants.{Version, Counts as BadCounts, TooLarge}
 use Rattle.tzif_reader.specs.Layout.{AreCounts, IsVersion, first_block_size, second_block_size}
@@ -26,8 +27,10 @@ pub counts_none : (c : Counts) → counts_fault c ≡ None → AreCounts c
 unfolding counts_fault
 counts_none c h =
     let test : Bool = eqb c.typecnt 0 || eqb c.charcnt 0 || not (stands_for_all c.isutcnt c.typecnt) || not (stands_for_all c.isstdcnt c.typecnt) in
-    let large = second (when (eqb c.typecnt 0 || eqb c.charcnt 0 || not (stands_for_all c.isutcnt c.typecnt) || not (stands_for_all c.isstdcnt c.typecnt)) BadCounts) _ h in
-    let small = when_none (eqb c.typecnt 0 || eqb c.charcnt 0 || not (stands_for_all c.isutcnt c.typecnt) || not (stands_for_all c.isstdcnt c.typecnt)) BadCounts (first _ _ h) in
+    let large = second (when (eqb c.typecnt 0 || eqb c.charcnt 0 || not (stands_for_all c.isutcnt c.typecnt) || not (stands_for_all c.isstdcnt c.typecnt))
+    BadCounts) _ h in
+    let small = when_none (eqb c.typecnt 0 || eqb c.charcnt 0 || not (stands_for_all c.isutcnt c.typecnt) || not (stands_for_all c.isstdcnt c.typecnt))
+    BadCounts (first _ _ h) in
     let a = or_parts (eqb c.typecnt 0 || eqb c.charcnt 0 || not (stands_for_all c.isutcnt c.typecnt)) (not (stands_for_all c.isstdcnt c.typecnt)) small in
     let b = or_parts (eqb c.typecnt 0 || eqb c.charcnt 0) (not (stands_for_all c.isutcnt c.typecnt)) a.0 in
     let d = or_parts (eqb c.typecnt 0) (eqb c.charcnt 0) b.0 in
@@ -46,8 +49,10 @@ unfolding counts_fault
 none_counts c are =
     let types : c.typecnt ≢ 0 = λ e. absurd (omega (arith, are.types)) in
     let chars : c.charcnt ≢ 0 = λ e. absurd (omega (arith, are.designations)) in
-    neither (when (eqb c.typecnt 0 || eqb c.charcnt 0 || not (stands_for_all c.isutcnt c.typecnt) || not (stands_for_all c.isstdcnt c.typecnt)) BadCounts) (when (nat_lt 4096 c.timecnt) TooLarge)
-    (none_when _ BadCounts (or_from _ _ (or_from _ _ (or_from _ _ (ne_eqb c.typecnt 0 types) (ne_eqb c.charcnt 0 chars)) (not_from_true _ (stands_back c.isutcnt c.typecnt are.ut))) (not_from_true _ (stands_back c.isstdcnt c.typecnt are.standard))))
+    neither (when (eqb c.typecnt 0 || eqb c.charcnt 0 || not (stands_for_all c.isutcnt c.typecnt) || not (stands_for_all c.isstdcnt c.typecnt)) BadCounts)
+    (when (nat_lt 4096 c.timecnt) TooLarge)
+    (none_when _ BadCounts (or_from _ _ (or_from _ _ (or_from _ _ (ne_eqb c.typecnt 0 types) (ne_eqb c.charcnt 0 chars))
+    (not_from_true _ (stands_back c.isutcnt c.typecnt are.ut))) (not_from_true _ (stands_back c.isstdcnt c.typecnt are.standard))))
     (none_when _ TooLarge (le-ltb _ _ are.times))
 
 pub record IsFramed (bytes : List ℕ) : Type 0 where
@@ -90,7 +95,8 @@ unfolding frame_fault
 none_frame bytes is =
     neither _ _ (none_when (nat_lt 65536 (length bytes)) TooLarge (le-ltb _ _ is.size))
     (neither _ _ (none_header 0 bytes is.first_at.room is.first_at.starts)
-    (neither _ _ (none_when (is_no_version (version_in (first_header bytes))) Version (not_from_true _ (and_from _ _ (le-leb _ _ is.version.0) (le-leb _ _ is.version.1))))
+    (neither _ _ (none_when (is_no_version (version_in (first_header bytes))) Version
+    (not_from_true _ (and_from _ _ (le-leb _ _ is.version.0) (le-leb _ _ is.version.1))))
     (neither _ _ (none_room 44 (first_block_size (counts_in (first_header bytes))) bytes is.first_room)
     (neither _ _ (none_header (second_place bytes) bytes is.second_at.room is.second_at.starts)
     (neither _ _ (none_when (not (version_in (second_header bytes) == version_in (first_header bytes))) Version (not_from_true _ (eq-eqb _ _ is.same)))

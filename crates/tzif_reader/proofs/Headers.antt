@@ -44,7 +44,8 @@ header_is h len starts = record {
   whole = begins h starts ∙ ap (λ (r : List ℕ). magic ++ r) (drop_more h 4 0 (omega arith) ∙ ap (λ (r : List ℕ). version_in h ∷ r) (cut_at 5 15 h));
   reserved_size = length_piece 5 15 h (omega arith);
   six =
-      join_step 4 (IsUnsigned w32) h 20 (unsigned_at 20 h) (unsigned_at 24 h ∷ unsigned_at 28 h ∷ unsigned_at 32 h ∷ unsigned_at 36 h ∷ unsigned_at 40 h ∷ []) (omega arith) refl
+      join_step 4 (IsUnsigned w32) h 20 (unsigned_at 20 h) (unsigned_at 24 h ∷ unsigned_at 28 h ∷ unsigned_at 32 h ∷ unsigned_at 36 h ∷ unsigned_at 40 h ∷ [])
+      (omega arith) refl
       (join_step 4 (IsUnsigned w32) h 24 (unsigned_at 24 h) (unsigned_at 28 h ∷ unsigned_at 32 h ∷ unsigned_at 36 h ∷ unsigned_at 40 h ∷ []) (omega arith) refl
       (join_step 4 (IsUnsigned w32) h 28 (unsigned_at 28 h) (unsigned_at 32 h ∷ unsigned_at 36 h ∷ unsigned_at 40 h ∷ []) (omega arith) refl
       (join_step 4 (IsUnsigned w32) h 32 (unsigned_at 32 h) (unsigned_at 36 h ∷ unsigned_at 40 h ∷ []) (omega arith) refl
@@ -63,7 +64,8 @@ count_at : (h numbers : List ℕ) (k : ℕ) → drop 20 h ≡ numbers → from_b
 unfolding unsigned_at
 count_at h numbers k e = ap (λ (t : List ℕ). from_be_bytes w32 (take 4 t)) (ap (drop k) (sym e) ∙ drop-drop k 20 h)
 
-same_counts : (h : List ℕ) (c : Counts) → unsigned_at 20 h ≡ c.isutcnt → unsigned_at 24 h ≡ c.isstdcnt → unsigned_at 28 h ≡ c.leapcnt → unsigned_at 32 h ≡ c.timecnt → unsigned_at 36 h ≡ c.typecnt → unsigned_at 40 h ≡ c.charcnt → counts_in h ≡ c
+same_counts : (h : List ℕ) (c : Counts) → unsigned_at 20 h ≡ c.isutcnt → unsigned_at 24 h ≡ c.isstdcnt → unsigned_at 28 h ≡ c.leapcnt
+    → unsigned_at 32 h ≡ c.timecnt → unsigned_at 36 h ≡ c.typecnt → unsigned_at 40 h ≡ c.charcnt → counts_in h ≡ c
 same_counts h c e0 e1 e2 e3 e4 e5 = rw (e0, e1, e2, e3, e4, e5) refl
 
 pub header_cuts : (h : List ℕ) (v : ℕ) (c : Counts) → IsHeader h v c → CutsHeader h v c
@@ -96,7 +98,9 @@ header_none place bytes h =
     let m = when_none (not (starts_with nat_eq (piece place 44 bytes) magic)) Magic (second (room_fault place 44 bytes) _ h) in
     record { room = room_none place 44 bytes (first _ _ h); starts = not-false _ m }
 
-pub none_header : (place : ℕ) (bytes : List ℕ) → place + 44 ≤ length bytes → starts_with nat_eq (piece place 44 bytes) magic ≡ true → header_fault place bytes ≡ None
+pub none_header : (place : ℕ) (bytes : List ℕ) → place + 44 ≤ length bytes → starts_with nat_eq (piece place 44 bytes) magic ≡ true
+    → header_fault place bytes ≡ None
 unfolding header_fault
 none_header place bytes room starts =
-    neither (room_fault place 44 bytes) (when (not (starts_with nat_eq (piece place 44 bytes) magic)) Magic) (none_room place 44 bytes room) (none_when _ Magic (not_from_true _ starts))
+    neither (room_fault place 44 bytes) (when (not (starts_with nat_eq (piece place 44 bytes) magic)) Magic) (none_room place 44 bytes room)
+    (none_when _ Magic (not_from_true _ starts))

@@ -19,7 +19,9 @@ pub few_leap_lines : (bytes : List ℕ) (z : ZoneFile) → IsZoneFile bytes z �
 few_leap_lines bytes z is =
     let block = is.second_block_is in
     let leaps : length block.leaps ≡ 12 * length z.leaps = joined_length 12 IsLeapLine block.leaps z.leaps block.leaps_are in
-    let inside : length block.leaps ≤ length is.second_block = within block.times z.numbers block.types block.designations block.leaps (block.standard ++ block.ut) is.second_block block.whole in
-    let whole : length is.second_block ≤ length bytes = within is.first_header is.first_block is.second_header [] is.second_block (10 ∷ (z.footer ++ (10 ∷ []))) bytes is.whole in
+    let inside : length block.leaps ≤ length is.second_block =
+    within block.times z.numbers block.types block.designations block.leaps (block.standard ++ block.ut) is.second_block block.whole in
+    let whole : length is.second_block ≤ length bytes =
+    within is.first_header is.first_block is.second_header [] is.second_block (10 ∷ (z.footer ++ (10 ∷ []))) bytes is.whole in
     let size : length bytes ≤ 65536 = is.size in
     omega (arith, leaps, inside, whole, size)

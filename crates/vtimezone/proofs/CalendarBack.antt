@@ -1,5 +1,6 @@
 -- The text of a calendar spells its parts.
-use Rattle.std.proofs.Common.{◌≡◌, ℕ, Bool, true, false, not, refl, sym, ap, ◌∙◌, arith, append-nil, ℤ, pos, ◌+ℤ◌, ◌-ℤ◌, Option, None, Some, List, [], ◌∷◌, ◌++◌, codes}
+use Rattle.std.proofs.Common.{◌≡◌, ℕ, Bool, true, false, not, refl, sym, ap, ◌∙◌, arith, append-nil, ℤ, pos, ◌+ℤ◌, ◌-ℤ◌, Option, None, Some, List, [], ◌∷◌}
+use Rattle.std.proofs.Common.{◌++◌, codes}
 use Rattle.std.specs.Int.{int_rem_euclid}
 use Rattle.std.specs.List.{list_all, flat_map, AllByRecursion}
 use Rattle.std.specs.Option.{IfSome, option_map, option_and_then}
@@ -18,12 +19,14 @@ use Rattle.td_civil.proofs.lemmas.Shown.{elapsed_is, local_bounds_text, stamp_of
 use Rattle.ical_lines.specs.Unfolding.{is_feed}
 use Rattle.recurrence.specs.declared.part_types.Part.{Part}
 use Rattle.recurrence.specs.declared.rule_types.Rule.{Rule}
-use Rattle.vtimezone.specs.CalendarText.{line, kind_of, start_line, change_lines, rule_lines, part_lines, head_lines, alias_lines, end_lines, tail_lines, calendar_lines, calendar, IsLineText, IsReadable}
+use Rattle.vtimezone.specs.CalendarText.{line, kind_of, start_line, change_lines, rule_lines, part_lines, head_lines, alias_lines, end_lines, tail_lines}
+use Rattle.vtimezone.specs.CalendarText.{calendar_lines, calendar, IsLineText, IsReadable}
 use Rattle.vtimezone.specs.Cutting.{Named, cut_first, all_read, put_before}
 use Rattle.vtimezone.specs.ReadRules.{Recur, recur_in}
 use Rattle.vtimezone.specs.ReadValues.{is_safe, local_in, offset_in, text_value}
 use Rattle.vtimezone.specs.Spellable.{IsSafe, IsSpellable}
-use Rattle.vtimezone.specs.Spelled.{shown_at, second_of_day, part_with, part_of_lines, is_line, parts_among, after_begin, before_end, inside, zone_lines, spelled_by, spelled}
+use Rattle.vtimezone.specs.Spelled.{shown_at, second_of_day, part_with, part_of_lines, is_line, parts_among, after_begin, before_end, inside, zone_lines}
+use Rattle.vtimezone.specs.Spelled.{spelled_by, spelled}
 use Rattle.vtimezone.specs.Values.{offset_text, utc_basic, rule_text}
 use Rattle.vtimezone.proofs.ReadBack.{calendar_read_back}
 use Rattle.vtimezone.proofs.RulesBack.{read_append, recur_back}

@@ -1,5 +1,6 @@
 -- The last onset before a moment is that of the moment's year or of the year before.
-use Rattle.std.proofs.Common.{◌≡◌, ℕ, zero, suc, ◌+◌, ◌<◌, true, false, ◌⊎◌, inl, inr, refl, sym, subst, arith, ℤ, pos, neg_ℤ, ◌+ℤ◌, ◌-ℤ◌, ◌*ℤ◌, ◌≤ℤ◌, ◌<ℤ◌, int_lt, unsigned_abs, Option, None, Some}
+use Rattle.std.proofs.Common.{◌≡◌, ℕ, zero, suc, ◌+◌, ◌<◌, true, false, ◌⊎◌, inl, inr, refl, sym, subst, arith, ℤ, pos, neg_ℤ, ◌+ℤ◌, ◌-ℤ◌, ◌*ℤ◌, ◌≤ℤ◌, ◌<ℤ◌}
+use Rattle.std.proofs.Common.{int_lt, unsigned_abs, Option, None, Some}
 use Rattle.std.proofs.lemmas.Bool.{cond_both, cases_lt, cases_order}
 use Rattle.jiff_core.specs.Calendar.{days_from_civil, IsYear, IsBetween}
 use Rattle.jiff_core.proofs.SignedLemmas.{signed_arith, one_part}

@@ -1,5 +1,6 @@
 -- The parts of a range mean the state.
-use Rattle.std.proofs.Common.{◌≡◌, ◌-◌, Bool, true, false, true≢false, not, ◌&&◌, refl, sym, subst, ap, ◌∙◌, arith, ℤ, pos, neg_ℤ, ◌-ℤ◌, ◌*ℤ◌, ◌≤ℤ◌, ◌<ℤ◌, int_lt, unsigned_abs, Option, None, Some, List, [], ◌++◌}
+use Rattle.std.proofs.Common.{◌≡◌, ◌-◌, Bool, true, false, true≢false, not, ◌&&◌, refl, sym, subst, ap, ◌∙◌, arith, ℤ, pos, neg_ℤ, ◌-ℤ◌, ◌*ℤ◌, ◌≤ℤ◌, ◌<ℤ◌}
+use Rattle.std.proofs.Common.{int_lt, unsigned_abs, Option, None, Some, List, [], ◌++◌}
 use Rattle.std.specs.List.{Contains}
 use Rattle.std.proofs.lemmas.Bool.{cond_both}
 use Rattle.std.proofs.lemmas.List.{append-nil}

@@ -1,5 +1,6 @@
 -- Rules that are written are read back.
-use Rattle.std.proofs.Common.{◌≡◌, inl, inr, ℕ, ◌+◌, ◌≤◌, true, refl, sym, ap, ◌∙◌, arith, append_assoc, append-nil, ℤ, pos, negsuc, ◌+ℤ◌, Option, None, Some, List, [], ◌∷◌, ◌++◌, codes, decimal}
+use Rattle.std.proofs.Common.{◌≡◌, inl, inr, ℕ, ◌+◌, ◌≤◌, true, refl, sym, ap, ◌∙◌, arith, append_assoc, append-nil, ℤ, pos, negsuc, ◌+ℤ◌, Option, None, Some}
+use Rattle.std.proofs.Common.{List, [], ◌∷◌, ◌++◌, codes, decimal}
 use Rattle.std.specs.Fmt.{signed_decimal}
 use Rattle.std.specs.Str.{all_ascii_digits}
 use Rattle.std.specs.Option.{IfSome, option_map, option_and_then}
@@ -18,9 +19,12 @@ use Rattle.jiff_core.specs.Calendar.{days_in_month}
 use Rattle.vtimezone.specs.Cutting.{Named, cut_at, cut_first, all_read, put_before}
 use Rattle.vtimezone.specs.ReadRules.{Day, number_in, month_in, months_in, numbers_in, days_in, form_read, month_days_form, recur_with, recur_of, recur_in}
 use Rattle.vtimezone.specs.ReadValues.{utc_in}
-use Rattle.vtimezone.specs.Values.{utc_basic, weekday_name, seven_numbers, by_month, by_weekday, by_nth_weekday, by_month_day, by_month_days, by_year_days, form_text, until_text, rule_text}
+use Rattle.vtimezone.specs.Values.{utc_basic, weekday_name, seven_numbers, by_month, by_weekday, by_nth_weekday, by_month_day, by_month_days, by_year_days}
+use Rattle.vtimezone.specs.Values.{form_text, until_text, rule_text}
 use Rattle.vtimezone.proofs.ValuesBack.{all_digits, utc_back}
-use Rattle.vtimezone.proofs.NumbersBack.{cut_last, short_back, uncut, uncut-append, after_each, are_uncut, cut_each, signed_uncut, weekday_uncut, utc_uncut, read_more, IsShort, one_number_back, next_numbers, seven_back, seven_uncut, row_back, weekday_alone, nth_weekday, one_day}
+use Rattle.vtimezone.proofs.NumbersBack.{cut_last, short_back, uncut, uncut-append, after_each, are_uncut, cut_each, signed_uncut, weekday_uncut, utc_uncut}
+use Rattle.vtimezone.proofs.NumbersBack.{read_more, IsShort, one_number_back, next_numbers, seven_back, seven_uncut, row_back, weekday_alone, nth_weekday}
+use Rattle.vtimezone.proofs.NumbersBack.{one_day}
 
 -- ---- the words of a rule
 

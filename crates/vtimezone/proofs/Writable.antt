@@ -1,5 +1,6 @@
 -- The parts of a zone have texts.
-use Rattle.std.proofs.Common.{◌≡◌, ℕ, zero, suc, ◌-◌, ◌<◌, Bool, true, false, true≢false, not, ◌&&◌, inl, inr, refl, sym, subst, arith, ℤ, pos, neg_ℤ, ◌+ℤ◌, ◌-ℤ◌, ◌*ℤ◌, ◌≤ℤ◌, ◌<ℤ◌, int_lt, unsigned_abs, Option, None, Some, List, [], ◌∷◌, ◌++◌, map, slice_index_or}
+use Rattle.std.proofs.Common.{◌≡◌, ℕ, zero, suc, ◌-◌, ◌<◌, Bool, true, false, true≢false, not, ◌&&◌, inl, inr, refl, sym, subst, arith, ℤ, pos, neg_ℤ, ◌+ℤ◌}
+use Rattle.std.proofs.Common.{◌-ℤ◌, ◌*ℤ◌, ◌≤ℤ◌, ◌<ℤ◌, int_lt, unsigned_abs, Option, None, Some, List, [], ◌∷◌, ◌++◌, map, slice_index_or}
 use Rattle.std.specs.List.{All, Contains}
 use Rattle.std.specs.Option.{IfSome}
 use Rattle.std.specs.Ordering.{int_eq}
@@ -31,7 +32,8 @@ use Rattle.recurrence.specs.declared.part_types.Range.{Range}
 use Rattle.recurrence.proofs.lemmas.InYear.{onset_in_year}
 use Rattle.recurrence.proofs.lemmas.Onsets.{keeps_onsets}
 use Rattle.vtimezone.specs.CalendarText.{IsWritable}
-use Rattle.vtimezone.specs.PartsOf.{single_of, last_before, rule_part, part_until, rule_part_if, rule_parts, rules_if_any, rules_of, part_end, parts_from, IsEndOf}
+use Rattle.vtimezone.specs.PartsOf.{single_of, last_before, rule_part, part_until, rule_part_if, rule_parts, rules_if_any, rules_of, part_end, parts_from}
+use Rattle.vtimezone.specs.PartsOf.{IsEndOf}
 use Rattle.vtimezone.specs.ZoneParts.{end_in, rule_year, range_parts}
 use Rattle.vtimezone.proofs.InForce.{first_not_later}
 use Rattle.vtimezone.proofs.LastBefore.{lt_is}

@@ -1,5 +1,6 @@
 -- The calendar of a zone spells the parts of the zone.
-use Rattle.std.proofs.Common.{◌≡◌, ℕ, suc, ◌<◌, true, false, ◌&&◌, IsTrue, refl, sym, ◌∙◌, arith, ℤ, pos, ◌+ℤ◌, ◌-ℤ◌, ◌*ℤ◌, ◌<ℤ◌, int_lt, unsigned_abs, Option, None, Some, List, [], ◌∷◌, ◌++◌, map}
+use Rattle.std.proofs.Common.{◌≡◌, ℕ, suc, ◌<◌, true, false, ◌&&◌, IsTrue, refl, sym, ◌∙◌, arith, ℤ, pos, ◌+ℤ◌, ◌-ℤ◌, ◌*ℤ◌, ◌<ℤ◌, int_lt, unsigned_abs, Option}
+use Rattle.std.proofs.Common.{None, Some, List, [], ◌∷◌, ◌++◌, map}
 use Rattle.std.specs.Int.{int_rem_euclid}
 use Rattle.std.specs.List.{All, AllByRecursion, Contains, list_all}
 use Rattle.std.specs.Option.{IfSome}
@@ -33,7 +34,8 @@ use Rattle.recurrence.specs.declared.part_types.Range.{Range}
 use Rattle.recurrence.specs.declared.rule_types.Rule.{Rule}
 use Rattle.recurrence.proofs.lemmas.Onsets.{keeps_onsets}
 use Rattle.vtimezone.specs.CalendarText.{IsWritable, calendar, IsLineText}
-use Rattle.vtimezone.specs.PartsOf.{single_of, last_before, rule_part, part_until, rule_part_if, rule_parts, rules_if_any, rules_of, part_end, parts_from, IsEndOf}
+use Rattle.vtimezone.specs.PartsOf.{single_of, last_before, rule_part, part_until, rule_part_if, rule_parts, rules_if_any, rules_of, part_end, parts_from}
+use Rattle.vtimezone.specs.PartsOf.{IsEndOf}
 use Rattle.vtimezone.specs.ReadValues.{is_safe}
 use Rattle.vtimezone.specs.Spellable.{IsSafe, HasTime, IsSpellable}
 use Rattle.vtimezone.specs.Spelled.{spelled}

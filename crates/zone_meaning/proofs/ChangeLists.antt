@@ -1,5 +1,6 @@
 -- The changes of a state over a stretch in which it stays, and over its end.
-use Rattle.std.proofs.Common.{◌≡◌, ◌≢◌, ℕ, zero, suc, ◌+◌, ◌-◌, [], ◌∷◌, Bool, true, false, not, cond, refl, sym, subst, ap, ◌∙◌, arith, ℤ, pos, ◌+ℤ◌, ◌-ℤ◌, ◌≤ℤ◌, ◌<ℤ◌, unsigned_abs}
+use Rattle.std.proofs.Common.{◌≡◌, ◌≢◌, ℕ, zero, suc, ◌+◌, ◌-◌, [], ◌∷◌, Bool, true, false, not, cond, refl, sym, subst, ap, ◌∙◌, arith, ℤ, pos, ◌+ℤ◌, ◌-ℤ◌}
+use Rattle.std.proofs.Common.{◌≤ℤ◌, ◌<ℤ◌, unsigned_abs}
 use Rattle.std.proofs.lemmas.Int.{by_lt_z}
 use Rattle.jiff_core.proofs.SignedLemmas.{signed_arith, one_part}
 use Rattle.td_base.specs.declared.short_text.ShortText.{ShortText}
@@ -35,7 +36,8 @@ pub changes_step : (state : ℤ → Local) (n : ℕ) (t u : ℤ) → u ≡ t +�
     → changes_after state t (suc n) ≡ change_at state u ∷ changes_after state u n
 unfolding changes_after
 changes_step state n t u is other =
-    let P : ℤ → Type 0 = λ k. cond (is_change state k) (change_at state k ∷ changes_after state k n) (changes_after state k n) ≡ change_at state u ∷ changes_after state u n in
+    let P : ℤ → Type 0 = λ k. cond (is_change state k) (change_at state k ∷ changes_after state k n) (changes_after state k n) ≡ change_at state
+    u ∷ changes_after state u n in
     subst P is (rw (some_change state u other) refl)
 
 steady : (state : ℤ → Local) (t u v : ℤ) → StaysUntil state t u → t <ℤ v → v <ℤ u → state v ≡ state (v -ℤ pos 1)

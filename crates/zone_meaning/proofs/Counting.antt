@@ -35,7 +35,8 @@ same a = omega (arith, ints)
 
 rising_by : (xs : List Moment) → AreRising xs → (i n : ℕ) (d : Moment) → i + n < length xs → (get_or xs i d).seconds ≤ℤ (get_or xs (i + n) d).seconds
 rising_by xs up i zero d lt = let e : i + 0 ≡ i = omega arith in rw e (same _)
-rising_by xs up i (suc n) d lt = let e : i + suc n ≡ suc (i + n) = omega arith in rw e (step_up _ _ _ (rising_by xs up i n d (omega arith)) (up (i + n) d (omega arith)))
+rising_by xs up i (suc n) d lt = let e : i + suc n ≡ suc (i + n) = omega arith in
+    rw e (step_up _ _ _ (rising_by xs up i n d (omega arith)) (up (i + n) d (omega arith)))
 
 pub rising_le : (xs : List Moment) → AreRising xs → (i j : ℕ) (d : Moment) → i ≤ j → j < length xs → (get_or xs i d).seconds ≤ℤ (get_or xs j d).seconds
 rising_le xs up i j d le lt =
@@ -53,7 +54,8 @@ nothing = record { seconds = pos 0 }
 
 pub begun_count : (xs : List Moment) (t : ℤ) (n : ℕ) → n ≤ length xs
     → IsPartitionPoint (λ m. int_le m.seconds t ≡ true) (λ m. int_le m.seconds t ≡ false) xs n → begun t xs ≡ n
-begun_count xs t n le h = count_of_first (λ m. int_le m.seconds t) xs n nothing le (λ k lt. h.0 k nothing (omega arith) lt) (λ k low high. h.1 k nothing low high)
+begun_count xs t n le h = count_of_first (λ m. int_le m.seconds t) xs n nothing le (λ k lt. h.0 k nothing (omega arith) lt)
+    (λ k low high. h.1 k nothing low high)
 
 passes : (a b t : ℤ) → a ≤ℤ b → b ≤ℤ t → int_le a t ≡ true
 passes a b t h k = grind (arith, ints)

@@ -1,5 +1,6 @@
 -- A list of a range's observances is determined by its members, and the last of them by a moment tells the state then.
-use Rattle.std.proofs.Common.{◌≡◌, ◌≢◌, ◌⊎◌, ℕ, zero, suc, List, [], ◌∷◌, true, false, inl, inr, refl, sym, subst, ap, ◌∙◌, arith, ℤ, pos, ◌+ℤ◌, ◌-ℤ◌, ◌≤ℤ◌, ◌<ℤ◌, unsigned_abs}
+use Rattle.std.proofs.Common.{◌≡◌, ◌≢◌, ◌⊎◌, ℕ, zero, suc, List, [], ◌∷◌, true, false, inl, inr, refl, sym, subst, ap, ◌∙◌, arith, ℤ, pos, ◌+ℤ◌, ◌-ℤ◌, ◌≤ℤ◌}
+use Rattle.std.proofs.Common.{◌<ℤ◌, unsigned_abs}
 use Rattle.std.specs.List.{Contains}
 use Rattle.std.proofs.lemmas.Int.{by_lt_z}
 use Rattle.jiff_core.proofs.SignedLemmas.{signed_arith, one_part}
@@ -64,7 +65,8 @@ same_members t (x ∷ xs) [] up also all back = absurd (no_member x (all x (memb
 same_members t (x ∷ xs) (y ∷ ys) up also all back =
     let same = first_same t x y xs ys up also all back in
     let P : Observance → Type 0 = λ p. AreRisingAfter p.onset.seconds ys in
-    let rest = same_members x.onset.seconds xs ys up.1 (subst P (sym same) also.1) (rest_has t x y xs ys same up all) (rest_has t y x ys xs (sym same) also back) in
+    let rest = same_members x.onset.seconds xs ys up.1 (subst P (sym same) also.1) (rest_has t x y xs ys same up all)
+    (rest_has t y x ys xs (sym same) also back) in
     ap (λ p. p ∷ xs) same ∙ ap (λ os. y ∷ os) rest
 
 -- at most one list is that of the observances of a range
@@ -127,7 +129,8 @@ told_by state a b list is zero t at before =
 told_by state a b list is (suc k) t at before =
     elim (changes_or_not state t (t -ℤ pos 1)) [
       | inl same ↦
-          still_told state a b list is t (omega (arith, signed_arith, at)) same (told_by state a b list is k (t -ℤ pos 1) (omega (arith, signed_arith, at)) (omega (arith, signed_arith)))
+          still_told state a b list is t (omega (arith, signed_arith, at)) same
+          (told_by state a b list is k (t -ℤ pos 1) (omega (arith, signed_arith, at)) (omega (arith, signed_arith)))
       | inr changes ↦
           now_told state list t (change_at state t) (is.every t (omega (arith, signed_arith, at)) before changes) (change_onset state t) (change_told state t)
     ]

@@ -12,12 +12,14 @@ use Rattle.zone_meaning.specs.Faults.{in_file, footer_text_fault, zone_fault}
 pub zone_clear : (bytes : List ℕ) (lists : ZoneFile) → first_fault bytes ≡ None → lists ≡ lists_of bytes → footer_text_fault lists.footer ≡ None
     → zone_fault bytes ≡ None
 unfolding zone_fault
-zone_clear bytes lists h e k = let f : footer_text_fault (lists_of bytes).footer ≡ None = ap (λ (z : ZoneFile). footer_text_fault z.footer) (sym e) ∙ k in rw (h, f) refl
+zone_clear bytes lists h e k = let f : footer_text_fault (lists_of bytes).footer ≡ None = ap (λ (z : ZoneFile). footer_text_fault z.footer) (sym e) ∙ k in
+    rw (h, f) refl
 
 pub footer_refused : (bytes : List ℕ) (lists : ZoneFile) (e : FooterFault) → first_fault bytes ≡ None → lists ≡ lists_of bytes
     → footer_text_fault lists.footer ≡ Some e → zone_fault bytes ≡ Some (Footer e)
 unfolding zone_fault
-footer_refused bytes lists e h same k = let f : footer_text_fault (lists_of bytes).footer ≡ Some e = ap (λ (z : ZoneFile). footer_text_fault z.footer) (sym same) ∙ k in rw (h, f) refl
+footer_refused bytes lists e h same k = let f : footer_text_fault (lists_of bytes).footer ≡ Some e =
+    ap (λ (z : ZoneFile). footer_text_fault z.footer) (sym same) ∙ k in rw (h, f) refl
 
 file_refused : (bytes : List ℕ) (e : TzifFault) → first_fault bytes ≡ Some e → zone_fault bytes ≡ Some (Tzif e)
 unfolding zone_fault

@@ -106,7 +106,8 @@ no_turn z t n types h all = λ v low.
 pub onset_turn : (z : ZoneFile) (footer : Footer) (t : ℤ) (n : ℕ) (next : Option Moment) → HasTypes z → HaveBegun z.moments t n → length z.moments ≤ n
     → IsNext footer.dst footer.std.offset t next → IsNextTurn z (Some footer) t n next
 onset_turn z footer t n None types h all is = λ v low.
-    sym (late_stays z (Some footer) t v low (all_still z t t n types h all (omega (arith, signed_arith))) (all_still z t v n types h all low) (quiet_until footer.dst footer.std.offset t v None is tt))
+    sym (late_stays z (Some footer) t v low (all_still z t t n types h all (omega (arith, signed_arith))) (all_still z t v n types h all low)
+    (quiet_until footer.dst footer.std.offset t v None is tt))
 onset_turn z footer t n (Some m) types h all is =
     let later = next_later footer.dst footer.std.offset t m is in
     let same : n ≡ min (n + 1) (length z.moments) = (let bound = h.bound in omega arith) in
@@ -114,6 +115,7 @@ onset_turn z footer t n (Some m) types h all is =
     record {
       later = later;
       stays = λ v low high.
-          sym (late_stays z (Some footer) t v low (all_still z t t n types h all (omega (arith, signed_arith))) (all_still z t v n types h all low) (quiet_until footer.dst footer.std.offset t v (Some m) is high));
+          sym (late_stays z (Some footer) t v low (all_still z t t n types h all (omega (arith, signed_arith))) (all_still z t v n types h all low)
+          (quiet_until footer.dst footer.std.offset t v (Some m) is high));
       begun = subst P same (still_begun z.moments t m.seconds n (omega (arith, signed_arith)) h (λ d more. absurd (omega arith)));
     }

@@ -1,5 +1,6 @@
 -- A history with one release more: its last changes, entries, chain value and tokens.
-use Rattle.std.proofs.Common.{◌≡◌, ℕ, ◌+◌, ◌-◌, ◌<◌, ◌≤◌, Bool, true, false, cond, if◌then◌else◌, ◌&&◌, ◌||◌, Option, None, Some, List, [], ◌∷◌, ◌++◌, length, take, get_or, refl, sym, ap, ◌∙◌, subst, map, arith, length-append, append_assoc}
+use Rattle.std.proofs.Common.{◌≡◌, ℕ, ◌+◌, ◌-◌, ◌<◌, ◌≤◌, Bool, true, false, cond, if◌then◌else◌, ◌&&◌, ◌||◌, Option, None, Some, List, [], ◌∷◌, ◌++◌, length}
+use Rattle.std.proofs.Common.{take, get_or, refl, sym, ap, ◌∙◌, subst, map, arith, length-append, append_assoc}
 use Rattle.std.specs.Prelude.{reverse, replicate}
 use Rattle.std.specs.List.{AllByRecursion, list_all, last_or, prefix_len, suffix_len, range_with_len}
 use Rattle.std.proofs.lemmas.List.{reverse-append, length-reverse, get_or_append_left, get_or_default, take-append-le}
@@ -11,7 +12,8 @@ use Rattle.catalogue.specs.Releases.{ContentData, ReleaseData, IsInOrder}
 use Rattle.catalogue.specs.Digests.{chain_of, content_digest, linked, token_text}
 use Rattle.catalogue.specs.Growing.{entry_next}
 use Rattle.catalogue.specs.HeldZones.{held_content, held_digest, held_entry}
-use Rattle.catalogue.specs.Histories.{IsHistory, IsRelease, EntryData, FitsAfter, entries_of, entry_from, entry_of, has_content, last_change, last_release, meta, token_of, tokens_of}
+use Rattle.catalogue.specs.Histories.{IsHistory, IsRelease, EntryData, FitsAfter, entries_of, entry_from, entry_of, has_content, last_change, last_release}
+use Rattle.catalogue.specs.Histories.{meta, token_of, tokens_of}
 use Rattle.catalogue.specs.Holdings.{StandsFor, place_count, release_held, release_of}
 use Rattle.catalogue.specs.declared.holding.Catalogue.{Catalogue}
 use Rattle.catalogue.proofs.lemmas.LastRelease.{Last, last_of}
@@ -73,7 +75,14 @@ unfolding last_change
 stays A x r c hx hr =
     let two : list_all (has_content c) (x ∷ r ∷ []) ≡ true = rw (hx, hr) in
     let one : list_all (has_content c) (x ∷ []) ≡ true = rw hx in
-    omega (arith, suffix_all (has_content c) A (x ∷ r ∷ []) two, suffix_all (has_content c) A (x ∷ []) one, length-append A (x ∷ r ∷ []), length-append A (x ∷ []))
+    omega (
+      arith,
+      suffix_all (has_content c) A (x ∷ r ∷ []) two,
+      suffix_all (has_content c) A (x ∷ []) one,
+      length-append A (x ∷ r ∷ []),
+      length-append A
+          (x ∷ []),
+    )
 
 at_most : (A : List ReleaseData) (x : ReleaseData) (c : ContentData) → has_content c x ≡ true → last_change (A ++ x ∷ []) c - 1 < length (A ++ x ∷ [])
 unfolding last_change
@@ -186,7 +195,8 @@ data Parted (H : List ReleaseData) (r : ReleaseData) (before : List ReleaseData)
   last_one : before ≡ H → x ≡ r → Parted H r before x
   earlier : (rest : List ReleaseData) → H ≡ before ++ x ∷ rest → Parted H r before x
 
-parted : (H : List ReleaseData) (r : ReleaseData) (before : List ReleaseData) (x : ReleaseData) (after : List ReleaseData) → H ++ r ∷ [] ≡ before ++ x ∷ after → Parted H r before x
+parted : (H : List ReleaseData) (r : ReleaseData) (before : List ReleaseData) (x : ReleaseData) (after : List ReleaseData) → H ++ r ∷ [] ≡ before ++ x ∷ after
+    → Parted H r before x
 parted [] r [] x after e = last_one refl (cc)
 parted [] r (b ∷ bs) x after e = absurd (omega (arith, ap length e, length-append bs (x ∷ after)))
 parted (h ∷ hs) r [] x after e = earlier hs (let same : h ≡ x = cc in ap (λ y. y ∷ hs) same)
@@ -196,7 +206,8 @@ parted (h ∷ hs) r (b ∷ bs) x after e = by (parted hs r bs x after (cc)) (cc)
     by (last_one f g) k = last_one (ap (λ ys. b ∷ ys) f ∙ ap (λ y. y ∷ hs) (sym k)) g
     by (earlier rest f) k = earlier rest (ap (λ y. y ∷ hs) k ∙ ap (λ ys. b ∷ ys) f)
 
-pub history_grown : (sound : ReleaseData → Type 0) (H : List ReleaseData) (r : ReleaseData) → IsHistory sound H → IsRelease sound H r → IsHistory sound (H ++ r ∷ [])
+pub history_grown : (sound : ReleaseData → Type 0) (H : List ReleaseData) (r : ReleaseData) → IsHistory sound H → IsRelease sound H r
+    → IsHistory sound (H ++ r ∷ [])
 history_grown sound H r h is before x after e = by (parted H r before x after e)
   where
     by : Parted H r before x → IsRelease sound before x
@@ -205,7 +216,8 @@ history_grown sound H r h is before x after e = by (parted H r before x after e)
 
 -- ---- the next catalogue
 
-pub places_are : {Z : Type 0} (bytes : Z → List ℕ) (sound : ReleaseData → Type 0) (k : Catalogue Z) (H : List ReleaseData) → StandsFor bytes sound k H → place_count k ≡ length H
+pub places_are : {Z : Type 0} (bytes : Z → List ℕ) (sound : ReleaseData → Type 0) (k : Catalogue Z) (H : List ReleaseData) → StandsFor bytes sound k H
+    → place_count k ≡ length H
 unfolding tokens_of
 places_are bytes sound k H s = sym k.counted ∙ ap length s.tokens ∙ length-map-range_with_len (token_of H) 1 (length H)
 

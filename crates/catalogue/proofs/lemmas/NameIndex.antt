@@ -1,5 +1,6 @@
 -- The rising list of all names finds the zone that has a name.
-use Rattle.std.proofs.Common.{add-one, ◌⊎◌, inl, inr, ◌≡◌, ℕ, zero, suc, ◌+◌, ◌<◌, ◌≤◌, ◌||◌, Bool, true, false, cond, if◌then◌else◌, Option, None, Some, List, [], ◌∷◌, ◌++◌, length, map, refl, ap, sym, ◌∙◌, subst, arith, get_or, Ordering, Less, Equal, Greater}
+use Rattle.std.proofs.Common.{add-one, ◌⊎◌, inl, inr, ◌≡◌, ℕ, zero, suc, ◌+◌, ◌<◌, ◌≤◌, ◌||◌, Bool, true, false, cond, if◌then◌else◌, Option, None, Some, List}
+use Rattle.std.proofs.Common.{[], ◌∷◌, ◌++◌, length, map, refl, ap, sym, ◌∙◌, subst, arith, get_or, Ordering, Less, Equal, Greater}
 use Rattle.std.specs.Ordering.{nat_cmp, ordering_index}
 use Rattle.std.specs.Cmp.Lexicographic.{slice_cmp}
 use Rattle.std.specs.List.{AllByRecursion, IsDistinct, list_any, position_from}
@@ -69,7 +70,8 @@ first_part : (P : List ℕ → Type 0) (xs ys : List (List ℕ)) → AllByRecurs
 first_part P [] ys all = (tt, all)
 first_part P (x ∷ xs) ys all = let rest = first_part P xs ys all.1 in ((all.0, rest.0), rest.1)
 
-each_numbered : (P : List ℕ → Type 0) (k : ℕ) (xss : List (List (List ℕ))) → AllByRecursion P (joined_names xss) → AllByRecursion (λ n. P n.text) (numbered k xss)
+each_numbered : (P : List ℕ → Type 0) (k : ℕ) (xss : List (List (List ℕ))) → AllByRecursion P (joined_names xss)
+    → AllByRecursion (λ n. P n.text) (numbered k xss)
 each_numbered P k [] all = tt
 each_numbered P k (texts ∷ rest) all =
     let parts = first_part P texts (joined_names rest) all in
@@ -149,7 +151,8 @@ missed_here : (name : List ℕ) (k : ℕ) (texts : List (List ℕ)) (rest : List
 missed_here name k [] rest all = (refl, all)
 missed_here name k (x ∷ xs) rest all = let more = missed_here name k xs rest all.1 in (rw all.0 more.0, more.1)
 
-missed : (name : List ℕ) (k : ℕ) (xss : List (List (List ℕ))) → AllByRecursion (λ n. bytes_eq name n.text ≡ false) (numbered k xss) → position_from (is_one name) k xss ≡ None
+missed : (name : List ℕ) (k : ℕ) (xss : List (List (List ℕ))) → AllByRecursion (λ n. bytes_eq name n.text ≡ false) (numbered k xss)
+    → position_from (is_one name) k xss ≡ None
 missed name k [] all = refl
 missed name k (texts ∷ rest) all =
     let parts = missed_here name k texts (numbered (k + 1) rest) all in

@@ -1,5 +1,6 @@
 -- The texts of entries and tokens are plain.
-use Rattle.std.proofs.Common.{◌≡◌, ℕ, zero, suc, ◌+◌, ◌-◌, ◌/◌, ◌%◌, ◌<◌, ◌^◌, List, [], ◌∷◌, ◌++◌, length, take, map, Option, None, Some, IsTrue, refl, ap, sym, subst, ◌∙◌, arith, get_or, append_assoc, slice_index}
+use Rattle.std.proofs.Common.{◌≡◌, ℕ, zero, suc, ◌+◌, ◌-◌, ◌/◌, ◌%◌, ◌<◌, ◌^◌, List, [], ◌∷◌, ◌++◌, length, take, map, Option, None, Some, IsTrue, refl, ap}
+use Rattle.std.proofs.Common.{sym, subst, ◌∙◌, arith, get_or, append_assoc, slice_index}
 use Rattle.std.proofs.lemmas.Bool.{and_parts}
 use Rattle.std.proofs.lemmas.Bool.Decides.{nat_tests}
 use Rattle.std.proofs.lemmas.Fmt.{decimal_by_steps}
@@ -161,7 +162,8 @@ zones_plain H last (c ∷ cs) all one names =
       zones_plain H last cs all one parts.1,
     )
 
-last_entries_plain : (H : List ReleaseData) (o : Option ReleaseData) → AllByRecursion IsPlainRelease H → IfSome o IsPlainRelease → AllByRecursion IsPlainEntry (entries_of H o)
+last_entries_plain : (H : List ReleaseData) (o : Option ReleaseData) → AllByRecursion IsPlainRelease H → IfSome o IsPlainRelease
+    → AllByRecursion IsPlainEntry (entries_of H o)
 last_entries_plain H None all one = tt
 last_entries_plain H (Some last) all one = zones_plain H last last.contents all one one.names
 

@@ -79,7 +79,8 @@ not_before_itself x y h = by (slice_cmp nat_cmp x y) refl
     by Equal e = ap is_lt e
     by Greater e = ap is_lt e
 
-pub none_before : (x y : List ℕ) (ys : List (List ℕ)) → is_before y x ≡ false → AllByRecursion (λ z. is_before z y ≡ false) ys → AllByRecursion (λ z. is_before z x ≡ false) ys
+pub none_before : (x y : List ℕ) (ys : List (List ℕ)) → is_before y x ≡ false → AllByRecursion (λ z. is_before z y ≡ false) ys
+    → AllByRecursion (λ z. is_before z x ≡ false) ys
 none_before x y [] h all = tt
 none_before x y (z ∷ zs) h all = (by (is_before z x) refl, none_before x y zs h all.1)
   where
@@ -91,9 +92,12 @@ never_falls_put : {X : Type 0} (text : X → List ℕ) (x : X) (xs : List X) →
 never_falls_put text x [] h = (tt, tt)
 never_falls_put text x (y ∷ ys) h = by (is_before (text y) (text x)) refl (never_falls_put text x ys h.1)
   where
-    by : (b : Bool) → is_before (text y) (text x) ≡ b → NeverFalls (map text (put_by text x ys)) → NeverFalls (map text (if b then y ∷ put_by text x ys else x ∷ y ∷ ys))
+    by : (b : Bool) → is_before (text y) (text x) ≡ b → NeverFalls (map text (put_by text x ys))
+        → NeverFalls (map text (if b then y ∷ put_by text x ys else x ∷ y ∷ ys))
     by true e later = (
-      mapped text (λ z. is_before z (text y) ≡ false) (put_by text x ys) (each_put text (λ z. is_before (text z) (text y) ≡ false) x ys (not_before_itself (text x) (text y) e) (each_mapped text (λ z. is_before z (text y) ≡ false) ys h.0)),
+      mapped text (λ z. is_before z (text y) ≡ false) (put_by text x ys)
+          (each_put text (λ z. is_before (text z) (text y) ≡ false) x ys (not_before_itself (text x) (text y) e)
+          (each_mapped text (λ z. is_before z (text y) ≡ false) ys h.0)),
       later,
     )
     by false e later = ((e, none_before (text x) (text y) (map text ys) e h.0), h)
@@ -102,7 +106,8 @@ pub never_falls : {X : Type 0} (text : X → List ℕ) (xs : List X) → NeverFa
 never_falls text [] = tt
 never_falls text (x ∷ xs) = never_falls_put text x (rising_by text xs) (never_falls text xs)
 
-all_before : (x : List ℕ) (ys : List (List ℕ)) → AllByRecursion (λ y. is_before y x ≡ false) ys → AllByRecursion (λ y. bytes_eq x y ≡ false) ys → AllByRecursion (λ y. is_before x y ≡ true) ys
+all_before : (x : List ℕ) (ys : List (List ℕ)) → AllByRecursion (λ y. is_before y x ≡ false) ys → AllByRecursion (λ y. bytes_eq x y ≡ false) ys
+    → AllByRecursion (λ y. is_before x y ≡ true) ys
 all_before x [] h d = tt
 all_before x (y ∷ ys) h d = (behind x y h.0 d.0, all_before x ys h.1 d.1)
 
@@ -133,7 +138,8 @@ distinct_tzids (c ∷ cs) h =
     let later = each_of_both (λ y. bytes_eq c.tzid y ≡ false) c.aliases (names_of cs) h.0 in
     (each_tzid (λ y. bytes_eq c.tzid y ≡ false) cs later.1, distinct_tzids cs (distinct_both c.aliases (names_of cs) h.1).1)
 
-rising_aliases : (cs : List ContentData) → AllByRecursion (λ c. NeverFalls c.aliases) cs → IsDistinct bytes_eq (names_of cs) → AllByRecursion (λ c. IsRising c.aliases) cs
+rising_aliases : (cs : List ContentData) → AllByRecursion (λ c. NeverFalls c.aliases) cs → IsDistinct bytes_eq (names_of cs)
+    → AllByRecursion (λ c. IsRising c.aliases) cs
 unfolding IsDistinct
 rising_aliases [] h d = tt
 rising_aliases (c ∷ cs) h d =
@@ -150,7 +156,8 @@ sorted_aliases bytes (z ∷ zs) =
     (subst NeverFalls (mapped_ids (rising_by (λ a. a) z.aliases)) (never_falls (λ a. a) z.aliases), sorted_aliases bytes zs)
 
 -- a release whose names are distinct is in order
-pub in_order : {Z : Type 0} (bytes : Z → List ℕ) (r : Release Z) → IsDistinct bytes_eq (names_of (release_data bytes r).contents) → IsInOrder (release_data bytes r)
+pub in_order : {Z : Type 0} (bytes : Z → List ℕ) (r : Release Z) → IsDistinct bytes_eq (names_of (release_data bytes r).contents)
+    → IsInOrder (release_data bytes r)
 in_order bytes r d =
     let cs = (release_data bytes r).contents in
     record {

@@ -1,5 +1,6 @@
 -- The zone of a catalogue with the same content, and its entry.
-use Rattle.std.proofs.Common.{◌≡◌, ℕ, zero, suc, ◌+◌, ◌-◌, ◌<◌, ◌≤◌, Bool, true, false, cond, if◌then◌else◌, ◌&&◌, ◌||◌, None, Some, List, [], ◌∷◌, ◌++◌, length, get_or, refl, sym, ap, ◌∙◌, subst, map, arith}
+use Rattle.std.proofs.Common.{◌≡◌, ℕ, zero, suc, ◌+◌, ◌-◌, ◌<◌, ◌≤◌, Bool, true, false, cond, if◌then◌else◌, ◌&&◌, ◌||◌, None, Some, List, [], ◌∷◌, ◌++◌}
+use Rattle.std.proofs.Common.{length, get_or, refl, sym, ap, ◌∙◌, subst, map, arith}
 use Rattle.std.specs.List.{AllByRecursion, IsDistinct, list_any, position_from}
 use Rattle.std.specs.Cmp.Lexicographic.{pointwise, pointwise_decides}
 use Rattle.std.specs.Str.{bytes_eq}
@@ -33,7 +34,8 @@ same_is c d h =
     let tzid : c.tzid ≡ d.tzid = (bytes_eq-Decides c.tzid d.tzid).0 two.0 in
     let aliases : c.aliases ≡ d.aliases = (pointwise_decides bytes_eq-Decides c.aliases d.aliases).0 two.1 in
     let file : c.file ≡ d.file = (bytes_eq-Decides c.file d.file).0 one.1 in
-    ap (λ (x : List ℕ). content x c.aliases c.file) tzid ∙ ap (λ (x : List (List ℕ)). content d.tzid x c.file) aliases ∙ ap (λ (x : List ℕ). content d.tzid d.aliases x) file
+    ap (λ (x : List ℕ). content x c.aliases c.file) tzid ∙ ap (λ (x : List (List ℕ)). content d.tzid x c.file) aliases
+    ∙ ap (λ (x : List ℕ). content d.tzid d.aliases x) file
 
 -- a zone of another identifier has another content
 other_tzid : (c d : ContentData) → bytes_eq c.tzid d.tzid ≡ false → same_content c d ≡ false
@@ -62,7 +64,8 @@ apart_text : (t : List ℕ) (xs ys : List (List ℕ)) → Apart xs ys → list_a
 apart_text t [] ys apart h = absurd (cc)
 apart_text t (x ∷ xs) ys apart h = by (apart_text t xs ys apart.1) (bytes_eq t x) refl h
   where
-    by : (list_any (bytes_eq t) xs ≡ true → AllByRecursion (λ y. bytes_eq t y ≡ false) ys) → (b : Bool) → bytes_eq t x ≡ b → (b || list_any (bytes_eq t) xs) ≡ true
+    by : (list_any (bytes_eq t) xs ≡ true → AllByRecursion (λ y. bytes_eq t y ≡ false) ys) → (b : Bool) → bytes_eq t x ≡ b
+        → (b || list_any (bytes_eq t) xs) ≡ true
         → AllByRecursion (λ y. bytes_eq t y ≡ false) ys
     by again true e h = subst (λ z. AllByRecursion (λ y. bytes_eq z y ≡ false) ys) (sym ((bytes_eq-Decides t x).0 e)) apart.0
     by again false e h = again h
@@ -98,13 +101,15 @@ other_content c k i (x ∷ xs) d distinct e other = by (other_content c (k + 1) 
         let first : same_content c x ≡ false = subst (λ m. same_content c (get_or (x ∷ xs) m d) ≡ false) none other in
         rw first (none_of_tzid c xs (apart_text c.tzid (x.tzid ∷ x.aliases) (names_of xs) parts.apart n))
 
-    later : is_name_of c.tzid x ≡ false → k + 1 ≤ i → (same_content c (get_or xs (i - (k + 1)) d) ≡ false → list_any (same_content c) xs ≡ false) → list_any (same_content c) (x ∷ xs) ≡ false
+    later : is_name_of c.tzid x ≡ false → k + 1 ≤ i → (same_content c (get_or xs (i - (k + 1)) d) ≡ false → list_any (same_content c) xs ≡ false)
+        → list_any (same_content c) (x ∷ xs) ≡ false
     later n le again =
         let more : i - k ≡ suc (i - (k + 1)) = omega arith in
         rw (not_named c x n) (again (subst (λ m. same_content c (get_or (x ∷ xs) m d) ≡ false) more other))
 
     by : (position_from (is_name_of c.tzid) (k + 1) xs ≡ Some i → same_content c (get_or xs (i - (k + 1)) d) ≡ false → list_any (same_content c) xs ≡ false)
-        → (b : Bool) → is_name_of c.tzid x ≡ b → cond b (Some k) (position_from (is_name_of c.tzid) (k + 1) xs) ≡ Some i → list_any (same_content c) (x ∷ xs) ≡ false
+        → (b : Bool) → is_name_of c.tzid x ≡ b → cond b (Some k) (position_from (is_name_of c.tzid) (k + 1) xs) ≡ Some i
+        → list_any (same_content c) (x ∷ xs) ≡ false
     by again true n e = here n (cc)
     by again false n e = later n (not_before (is_name_of c.tzid) (k + 1) i xs e) (again e)
 
@@ -148,7 +153,8 @@ module _ {Z : Type 0} (bytes : Z → List ℕ) (sound : ReleaseData → Type 0) 
   other_held c i h at lt is other =
       let place : i - 0 ≡ i = omega arith in
       let there : get_or (map (held_content bytes) k.held) (i - 0) (held_content bytes h) ≡ held_content bytes h =
-      ap (λ n. get_or (map (held_content bytes) k.held) n (held_content bytes h)) place ∙ mapped_at (held_content bytes) k.held i h (held_content bytes h) lt is in
+      ap (λ n. get_or (map (held_content bytes) k.held) n (held_content bytes h)) place
+      ∙ mapped_at (held_content bytes) k.held i h (held_content bytes h) lt is in
       other_content c 0 i (map (held_content bytes) k.held) (held_content bytes h)
       (last_of sound H _ s.history s.last).release.fits.distinct
       (sym (named_is c.tzid) ∙ sym at)
@@ -158,7 +164,8 @@ module _ {Z : Type 0} (bytes : Z → List ℕ) (sound : ReleaseData → Type 0) 
   unfolding meta
   entries_are = s.entries ∙ ap (entries_of H) s.last ∙ map-map (entry_of H (release_held bytes k)) (held_content bytes) k.held
 
-  pub kept_entry : (c : ContentData) (r : ReleaseData) (n i : ℕ) (h : _) → i < length k.held → h ≡ get_or k.held i h → same_content c (held_content bytes h) ≡ true
+  pub kept_entry : (c : ContentData) (r : ReleaseData) (n i : ℕ) (h : _) → i < length k.held → h ≡ get_or k.held i h
+      → same_content c (held_content bytes h) ≡ true
       → held_entry bytes h ≡ entry_next H (release_held bytes k) r n c
   kept_entry c r n i h lt is same =
       let one : held_entry bytes h ≡ entry_of H (release_held bytes k) (held_content bytes h) =
@@ -170,9 +177,12 @@ module _ {Z : Type 0} (bytes : Z → List ℕ) (sound : ReleaseData → Type 0) 
       one ∙ ap (entry_of H (release_held bytes k)) (sym (same_is c (held_content bytes h) same))
       ∙ ap (λ b. if b then entry_of H (release_held bytes k) c else entry_from r n c) (sym has)
 
-  pub kept_digest : (c : ContentData) (i : ℕ) (h : _) → i < length k.held → h ≡ get_or k.held i h → same_content c (held_content bytes h) ≡ true → held_digest h ≡ content_digest c
+  pub kept_digest : (c : ContentData) (i : ℕ) (h : _) → i < length k.held → h ≡ get_or k.held i h → same_content c (held_content bytes h) ≡ true
+      → held_digest h ≡ content_digest c
   kept_digest c i h lt is same =
-      same_at held_digest (λ z. content_digest (held_content bytes z)) k.held i h s.digests lt is ∙ ap content_digest (sym (same_is c (held_content bytes h) same))
+      same_at held_digest (λ z. content_digest (held_content bytes z)) k.held i h s.digests lt is
+      ∙ ap content_digest (sym (same_is c (held_content bytes h) same))
 
-  pub new_entry : (c : ContentData) (r : ReleaseData) (n : ℕ) → has_content c (release_held bytes k) ≡ false → entry_from r n c ≡ entry_next H (release_held bytes k) r n c
+  pub new_entry : (c : ContentData) (r : ReleaseData) (n : ℕ) → has_content c (release_held bytes k) ≡ false
+      → entry_from r n c ≡ entry_next H (release_held bytes k) r n c
   new_entry c r n none = ap (λ b. if b then entry_of H (release_held bytes k) c else entry_from r n c) (sym none)

@@ -1,5 +1,6 @@
 -- The token of a place finds that place.
-use Rattle.std.proofs.Common.{get_or, append_assoc, length-append, ◌≡◌, ℕ, zero, suc, ◌+◌, ◌-◌, ◌%◌, ◌<◌, ◌≤◌, ◌^◌, Bool, true, false, cond, not, None, Some, List, [], ◌∷◌, ◌++◌, length, take, map, nat_eq, refl, sym, ap, ◌∙◌, subst, arith, if◌then◌else◌}
+use Rattle.std.proofs.Common.{get_or, append_assoc, length-append, ◌≡◌, ℕ, zero, suc, ◌+◌, ◌-◌, ◌%◌, ◌<◌, ◌≤◌, ◌^◌, Bool, true, false, cond, not, None, Some}
+use Rattle.std.proofs.Common.{List, [], ◌∷◌, ◌++◌, length, take, map, nat_eq, refl, sym, ap, ◌∙◌, subst, arith, if◌then◌else◌}
 use Rattle.std.specs.List.{filter, find, list_all, position_or_len, range_with_len, slice_get}
 use Rattle.std.specs.Fmt.{decimal}
 use Rattle.std.specs.Str.{bytes_eq}
@@ -81,7 +82,8 @@ found f m a (suc l) low high one = by (found f m (a + 1) l) (bytes_eq (f a) (f m
       | inr ge ↦ let same : a ≡ m = omega arith in absurd (cc (subst (λ k. bytes_eq (f k) (f m) ≡ true) (sym same) (same_bytes (f m))))
     ]
 
-    by : (a + 1 ≤ m → m < a + 1 + l → ((k : ℕ) → a + 1 ≤ k → k < a + 1 + l → f k ≡ f m → k ≡ m) → find (λ k. bytes_eq (f k) (f m)) (range_with_len (a + 1) l) ≡ Some m)
+    by : (a + 1 ≤ m → m < a + 1 + l → ((k : ℕ) → a + 1 ≤ k → k < a + 1 + l → f k ≡ f m → k ≡ m)
+        → find (λ k. bytes_eq (f k) (f m)) (range_with_len (a + 1) l) ≡ Some m)
         → (b : Bool) → bytes_eq (f a) (f m) ≡ b → cond b (Some a) (find (λ k. bytes_eq (f k) (f m)) (range_with_len (a + 1) l)) ≡ Some m
     by again true e = ap Some (one a (omega arith) (omega arith) ((bytes_eq-Decides (f a) (f m)).0 e))
     by again false e = again (later low e) (omega arith) (λ k ge lt. one k (omega arith) (omega arith))
@@ -92,7 +94,8 @@ place_found H n some there small =
     found (token_of H) n 1 (length H) some (omega arith) (λ k low high. tokens_apart H H k n (omega arith) (omega arith))
 
 -- a text that no number has is not found
-not_found : (f : ℕ → List ℕ) (text : List ℕ) (a l : ℕ) → ((k : ℕ) → a ≤ k → k < a + l → bytes_eq (f k) text ≡ false) → find (λ k. bytes_eq (f k) text) (range_with_len a l) ≡ None
+not_found : (f : ℕ → List ℕ) (text : List ℕ) (a l : ℕ) → ((k : ℕ) → a ≤ k → k < a + l → bytes_eq (f k) text ≡ false)
+    → find (λ k. bytes_eq (f k) text) (range_with_len a l) ≡ None
 not_found f text a zero none = refl
 not_found f text a (suc l) none = rw (none a (omega arith) (omega arith)) (not_found f text (a + 1) l (λ k low high. none k (omega arith) (omega arith)))
 
@@ -126,7 +129,8 @@ items_at p done (x ∷ xs) = by (p x) (later (items_at p (done ++ x ∷ []) xs))
         (subst (λ n. map (slice_get ((done ++ x ∷ []) ++ xs)) (positions p n xs) ≡ map Some (filter p xs)) (length-append done (x ∷ [])) more)
 
     by : (b : Bool) → map (slice_get (done ++ x ∷ xs)) (positions p (length done + 1) xs) ≡ map Some (filter p xs)
-        → map (slice_get (done ++ x ∷ xs)) (if b then length done ∷ positions p (length done + 1) xs else positions p (length done + 1) xs) ≡ map Some (cond b (x ∷ filter p xs) (filter p xs))
+        → map (slice_get (done ++ x ∷ xs)) (if b then length done ∷ positions p (length done + 1) xs else positions p (length done + 1) xs) ≡ map Some
+        (cond b (x ∷ filter p xs) (filter p xs))
     by true more = ap (λ o. o ∷ map (slice_get (done ++ x ∷ xs)) (positions p (length done + 1) xs)) (get_after done x xs) ∙ ap (λ os. Some x ∷ os) more
     by false more = more
 
@@ -140,7 +144,8 @@ token_at bytes sound k H s n t some there is =
     is ∙ ap (λ ts. get_or ts (n - 1) t) s.tokens ∙ get_or-map-range_with_len (token_of H) 1 (length H) (n - 1) n t below (omega arith)
 
 -- a history has few places
-pub few_places : {Z : Type 0} (bytes : Z → List ℕ) (sound : ReleaseData → Type 0) (k : Catalogue Z) (H : List ReleaseData) → StandsFor bytes sound k H → length H < 2 ^ 32
+pub few_places : {Z : Type 0} (bytes : Z → List ℕ) (sound : ReleaseData → Type 0) (k : Catalogue Z) (H : List ReleaseData) → StandsFor bytes sound k H
+    → length H < 2 ^ 32
 few_places bytes sound k H s =
     let last = last_of sound H (release_held bytes k) s.history s.last in
     omega (arith, last.release.fits.places, ap length last.is, length-append last.before (release_held bytes k ∷ []))

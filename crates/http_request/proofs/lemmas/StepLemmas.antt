@@ -1,5 +1,6 @@
 -- One step is one answer, and stays what it is whatever follows.
-use Rattle.std.proofs.Common.{◌≡◌, ◌≢◌, ℕ, ◌<◌, ◌≤◌, ◌⊎◌, inl, inr, List, [], ◌++◌, length, take, Bool, true, false, ◌&&◌, ◌||◌, Option, Some, None, refl, sym, ap, ◌∙◌, subst, arith, option_and_then, nat_le, cond}
+use Rattle.std.proofs.Common.{◌≡◌, ◌≢◌, ℕ, ◌<◌, ◌≤◌, ◌⊎◌, inl, inr, List, [], ◌++◌, length, take, Bool, true, false, ◌&&◌, ◌||◌, Option, Some, None, refl, sym}
+use Rattle.std.proofs.Common.{ap, ◌∙◌, subst, arith, option_and_then, nat_le, cond}
 use Rattle.std.specs.Prelude.{⊤}
 use Rattle.std.proofs.lemmas.Bool.{cases_Bool, true≢false}
 use Rattle.std.proofs.lemmas.Bool.Decides.{nat_tests}
@@ -11,7 +12,8 @@ use Rattle.httparse.specs.Grammar.{RequestHead, print_request, print_blank}
 use Rattle.httparse.proofs.GrammarLemmas.{request_unique, print_request-append}
 use Rattle.http_request.specs.Ends.{feeds, fits, window, is_full}
 use Rattle.http_request.specs.Scans.{head_end}
-use Rattle.http_request.specs.Steps.{HeadOf, HasNoHead, Found, Whole, Malformed, TooLarge, NotYet, Finds, Outcome, Taken, Refused, Waiting, outcome, verdict, IsStep}
+use Rattle.http_request.specs.Steps.{HeadOf, HasNoHead, Found, Whole, Malformed, TooLarge, NotYet, Finds, Outcome, Taken, Refused, Waiting, outcome, verdict}
+use Rattle.http_request.specs.Steps.{IsStep}
 use Rattle.http_request.proofs.EndLemmas.{same_end, ended, Ended, late, feeds-append}
 
 -- the window, by the end and the limits

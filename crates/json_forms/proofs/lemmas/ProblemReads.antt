@@ -9,7 +9,8 @@ use Rattle.serde_json.specs.Read.{read, max_depth}
 use Rattle.serde_json.specs.Written.{has_float}
 use Rattle.serde_json.proofs.Numbers.{number_of-decimal}
 use Rattle.json_forms.specs.declared.problem_type.Problem.{Problem}
-use Rattle.json_forms.specs.declared.problem_type.Problem.TheVariants.{InvalidAction, InvalidChangedsince, TzidNotFound, InvalidFormat, InvalidStart, InvalidEnd, InvalidPattern}
+use Rattle.json_forms.specs.declared.problem_type.Problem.TheVariants.{InvalidAction, InvalidChangedsince, TzidNotFound, InvalidFormat, InvalidStart}
+use Rattle.json_forms.specs.declared.problem_type.Problem.TheVariants.{InvalidEnd, InvalidPattern}
 use Rattle.json_forms.specs.JsonTexts.{json_in}
 use Rattle.json_forms.specs.ProblemDocument.{status_of, type_of, problem_data, problem_document, has_type, all_problems, problem_named, type_member, problem_in}
 use Rattle.json_forms.proofs.lemmas.JsonLemmas.{value_read}

@@ -1,5 +1,6 @@
 -- What upper crates need of the state: the last change decides it, and between two changes it stays.
-use Rattle.std.proofs.Common.{◌≡◌, ℕ, zero, suc, ◌+◌, ◌<◌, Bool, true, false, ◌&&◌, refl, ap, arith, ℤ, pos, ◌≤ℤ◌, int_lt, int_le, Option, None, Some, if◌then◌else◌}
+use Rattle.std.proofs.Common.{◌≡◌, ℕ, zero, suc, ◌+◌, ◌<◌, Bool, true, false, ◌&&◌, refl, ap, arith, ℤ, pos, ◌≤ℤ◌, int_lt, int_le, Option, None, Some}
+use Rattle.std.proofs.Common.{if◌then◌else◌}
 use Rattle.std.specs.List.{list_any}
 use Rattle.std.proofs.lemmas.Int.{by_lt_z, ints}
 use Rattle.jiff_core.specs.Calendar.{IsBetween}
@@ -28,7 +29,8 @@ standard_after_end rule std t is =
     (λ begun.
     let before = is.last other edge.Start there begun in
     let apart = is.start_counts refl other there in
-    some_year _ is.year is.year_in (between_is (onset_of rule std other edge.Start) t (onset_of rule std is.year edge.End) (omega (arith, signed_arith, apart)) is.begun)))
+    some_year _ is.year is.year_in (between_is (onset_of rule std other edge.Start) t (onset_of rule std is.year edge.End) (omega (arith, signed_arith, apart))
+    is.begun)))
 
 first_years_same : (n : ℕ) (p q : ℤ → Bool) → ((k : ℕ) → k < n → p (pos (1798 + k)) ≡ q (pos (1798 + k)))
     → list_any p (first_years n) ≡ list_any q (first_years n)
@@ -55,8 +57,10 @@ unfolding is_daylight has_ended
 daylight_stays rule std t u h quiet =
     same_years _ _ (λ year there.
     let begun = same_bound (onset_of rule std year edge.Start) t u h (quiet year edge.Start there) in
-    let ended = same_years (λ other. int_lt (onset_of rule std year edge.Start) (onset_of rule std other edge.End) && int_le (onset_of rule std other edge.End) t) (λ other. int_lt (onset_of rule std year edge.Start) (onset_of rule std other edge.End) && int_le (onset_of rule std other edge.End) u)
-    (λ other that. ap (λ b. int_lt (onset_of rule std year edge.Start) (onset_of rule std other edge.End) && b) (same_bound (onset_of rule std other edge.End) t u h (quiet other edge.End that))) in
+    let ended = same_years (λ other. int_lt (onset_of rule std year edge.Start) (onset_of rule std other edge.End) && int_le (onset_of rule std other edge.End)
+    t) (λ other. int_lt (onset_of rule std year edge.Start) (onset_of rule std other edge.End) && int_le (onset_of rule std other edge.End) u)
+    (λ other that. ap (λ b. int_lt (onset_of rule std year edge.Start) (onset_of rule std other edge.End) && b)
+    (same_bound (onset_of rule std other edge.End) t u h (quiet other edge.End that))) in
     cc)
 
 stays_by : (std : Local) (rule : Option DstRule) (t u : ℤ) → t ≤ℤ u → IsQuietIfAny rule std.offset t u → state_by std rule t ≡ state_by std rule u

@@ -9,7 +9,8 @@ use Rattle.posix_footer.specs.declared.rule_types.DstRule.{DstRule}
 use Rattle.posix_footer.specs.declared.rule_types.Footer.{Footer}
 use Rattle.posix_footer.specs.Grammar.{footer_in}
 use Rattle.posix_footer.specs.Lawful.{IsLawfulDay, IsLawfulDate, IsLawfulOffset, IsLawfulRule, IsLawfulIfAny, IsLawful}
-use Rattle.posix_footer.specs.Spelling.{IsBehindHours, IsClock, HasSign, IsSignedNumber, IsOffset, IsHourAhead, IsDay, IsTime, IsTwo, IsDate, IsRule, IsRuleIfAny, SpellsFooter}
+use Rattle.posix_footer.specs.Spelling.{IsBehindHours, IsClock, HasSign, IsSignedNumber, IsOffset, IsHourAhead, IsDay, IsTime, IsTwo, IsDate, IsRule}
+use Rattle.posix_footer.specs.Spelling.{IsRuleIfAny, SpellsFooter}
 use Rattle.posix_footer.proofs.FoundWhole.{footer_found}
 
 behind_bound : (text : List ℕ) (seconds : ℕ) → IsBehindHours text seconds → seconds < 3600

@@ -1,11 +1,13 @@
 -- Where the days and the onsets of a year lie.
-use Rattle.std.proofs.Common.{◌≡◌, ℕ, zero, suc, ◌+◌, ◌-◌, ◌*◌, ◌%◌, ◌<◌, ◌≤◌, ◌≢◌, min, inl, inr, sym, subst, ap, ◌∙◌, arith, ℤ, pos, negsuc, unsigned_abs, ◌+ℤ◌, ◌≤ℤ◌}
+use Rattle.std.proofs.Common.{◌≡◌, ℕ, zero, suc, ◌+◌, ◌-◌, ◌*◌, ◌%◌, ◌<◌, ◌≤◌, ◌≢◌, min, inl, inr, sym, subst, ap, ◌∙◌, arith, ℤ, pos, negsuc, unsigned_abs}
+use Rattle.std.proofs.Common.{◌+ℤ◌, ◌≤ℤ◌}
 use Rattle.std.proofs.lemmas.Bool.{cases_order}
 use Rattle.std.proofs.lemmas.Bool.Decides.{nat_tests}
 use Rattle.std.specs.Int.{IsInRange}
 use Rattle.jiff_core.specs.Calendar.{days_from_civil, days_in_month, weekday_number, IsCivilDate, IsYear}
 use Rattle.jiff_core.proofs.SignedLemmas.{signed_arith}
-use Rattle.jiff_core.proofs.CalendarLemmas.{days_from_civil-day_count, day_count-day_of_year, day_of_year_bound, days_in_year_bounds, days_in_month_bounds, weekday_number_bound}
+use Rattle.jiff_core.proofs.CalendarLemmas.{days_from_civil-day_count, day_count-day_of_year, day_of_year_bound, days_in_year_bounds, days_in_month_bounds}
+use Rattle.jiff_core.proofs.CalendarLemmas.{weekday_number_bound}
 use Rattle.jiff_core.proofs.DateLemmas.{weekday_number-day}
 use Rattle.jiff_core.specs.declared.civil.date.Date.{Date}
 use Rattle.jiff_core.specs.declared.civil.weekday.Weekday.{Weekday}
@@ -100,7 +102,15 @@ day_number_within (day.YearDay n) y h year = omega (arith, signed_arith)
 day_number_within (day.Week m week w) y h year =
     let d = month_day_within y m week w h.2 h.4 in
     let civil : IsCivilDate y m (month_day y m week w) = (year, (h.0, h.1), d) in
-    omega (arith, signed_arith, days_from_civil-day_count, day_count-day_of_year y m (month_day y m week w) d.0, day_of_year_bound y m (month_day y m week w) civil, days_in_year_bounds y)
+    omega (
+      arith,
+      signed_arith,
+      days_from_civil-day_count,
+      day_count-day_of_year y m (month_day y m week w) d.0,
+      day_of_year_bound y m (month_day y m week w)
+          civil,
+      days_in_year_bounds y,
+    )
 
 from_sunday-same : (within d : Date) (wd : Weekday) (w : ℕ) → d.year ≡ within.year → d.month ≡ within.month
     → weekday_number (days_from_civil d.year d.month d.day) ≡ monday_zero wd → sunday_zero wd ≡ w
@@ -114,7 +124,8 @@ day_from_start within d wd week w nth low high sunday =
     let long = days_in_month_bounds within.year within.month in
     let near : (7 * week < 7 + d.day) × (d.day ≤ 7 * week) × (0 < d.day) = omega (arith, signed_arith) in
     let same = from_sunday-same within d wd w nth.0.0 nth.0.1 nth.0.2 sunday in
-    sym (last_weekday_is within.year within.month w (min (7 * week) (days_in_month within.year within.month)) d.day (omega arith) (omega arith) (omega arith) same)
+    sym (last_weekday_is within.year within.month w (min (7 * week) (days_in_month within.year within.month)) d.day (omega arith) (omega arith) (omega arith)
+    same)
 
 day_from_end : (within d : Date) (wd : Weekday) (w : ℕ) → IsNthFromEnd within 1 wd d → sunday_zero wd ≡ w → d.day ≡ month_day within.year within.month 5 w
 day_from_end within d wd w nth sunday =

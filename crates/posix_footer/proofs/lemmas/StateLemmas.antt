@@ -30,7 +30,14 @@ day_number_rises (day.Week m week w) y later h year there lt =
     let civil : IsCivilDate y m (month_day y m week w) = (year, (h.0, h.1), d) in
     let after = (day_number_within (day.Week m week w) later h there).0 in
     let next = day_count-later_year y later (omega (arith, signed_arith)) lt in
-    omega (arith, signed_arith, days_from_civil-day_count, day_count-day_of_year y m (month_day y m week w) d.0, day_of_year_bound y m (month_day y m week w) civil)
+    omega (
+      arith,
+      signed_arith,
+      days_from_civil-day_count,
+      day_count-day_of_year y m (month_day y m week w) d.0,
+      day_of_year_bound y m (month_day y m week w)
+          civil,
+    )
 
 -- a date's moment lies less than eight days before its year, and less than nine after it
 pub moment_on_within : (date : Date) (offset y : ℤ) → IsLawfulDate date → IsLawfulOffset offset → IsYear y

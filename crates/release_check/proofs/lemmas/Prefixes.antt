@@ -1,5 +1,6 @@
 -- Of a file no more is read than one byte past its limit, which judges it as the whole file would be judged.
-use Rattle.std.proofs.Common.{◌≡◌, ℕ, ◌<◌, ◌≤◌, nat_lt, nat_le, Bool, true, false, List, length, take, Option, None, Some, Ok, Err, inl, inr, ◌⊎◌, ⊎_elim, ap, sym, ◌∙◌, refl, subst, arith}
+use Rattle.std.proofs.Common.{◌≡◌, ℕ, ◌<◌, ◌≤◌, nat_lt, nat_le, Bool, true, false, List, length, take, Option, None, Some, Ok, Err, inl, inr, ◌⊎◌, ⊎_elim, ap}
+use Rattle.std.proofs.Common.{sym, ◌∙◌, refl, subst, arith}
 use Rattle.std.specs.Option.{option_map}
 use Rattle.std.proofs.lemmas.Bool.Decides.{nat_tests}
 use Rattle.std.proofs.lemmas.List.{take_all, length-take-le}
@@ -48,13 +49,16 @@ pub prefix-whole : (n : ℕ) (whole : List ℕ) → file_fault n (take 65537 who
 prefix-whole n whole none = ⊎_elim
     (λ (long : 65536 < length whole).
     let size : length (take 65537 whole) ≡ 65537 = length-take-le 65537 whole (omega arith) in
-    let some : file_fault n (take 65537 whole) ≡ Some (fault.Tzif n tzif.TooLarge) = file_fault-tzif n (take 65537 whole) tzif.TooLarge (too_large _ (omega arith)) in
+    let some : file_fault n (take 65537 whole) ≡ Some (fault.Tzif n tzif.TooLarge) =
+    file_fault-tzif n (take 65537 whole) tzif.TooLarge (too_large _ (omega arith)) in
     cc)
     (λ (fits : length whole ≤ 65536). take_all 65537 whole (omega arith))
     (fits_or_longer 65536 whole)
 
 -- the file of a zone, where its first bytes were read
-content_prefix : (n : ℕ) (path : List ℕ) (z : ManifestZone) (found : Option (List ℕ)) (prefix : List ℕ) (c : Content (List ℕ)) → option_map (take 65537) found ≡ Some prefix → file_fault n prefix ≡ None → c.tzid ≡ z.tzid → c.aliases ≡ z.aliases → c.zone ≡ prefix → content_from n path z found ≡ Ok (content_data (λ bytes. bytes) c)
+content_prefix : (n : ℕ) (path : List ℕ) (z : ManifestZone) (found : Option (List ℕ)) (prefix : List ℕ) (c : Content (List ℕ))
+    → option_map (take 65537) found ≡ Some prefix → file_fault n prefix ≡ None → c.tzid ≡ z.tzid → c.aliases ≡ z.aliases → c.zone ≡ prefix
+    → content_from n path z found ≡ Ok (content_data (λ bytes. bytes) c)
 content_prefix n path z None prefix c read none tzid aliases zone = cc
 content_prefix n path z (Some whole) prefix c read none tzid aliases zone =
     let is : take 65537 whole ≡ prefix = cc in
@@ -62,24 +66,29 @@ content_prefix n path z (Some whole) prefix c read none tzid aliases zone =
     ap (λ f. unless f (Ok (content_with z whole))) (sym (file_fault-prefix n whole) ∙ clean)
     ∙ rw (tzid, aliases, zone, ← is, prefix-whole n whole clean) refl
 
-content_prefix_refused : (n : ℕ) (path : List ℕ) (z : ManifestZone) (found : Option (List ℕ)) (prefix : List ℕ) (f : CheckFault) → option_map (take 65537) found ≡ Some prefix → file_fault n prefix ≡ Some f → content_from n path z found ≡ Err f
+content_prefix_refused : (n : ℕ) (path : List ℕ) (z : ManifestZone) (found : Option (List ℕ)) (prefix : List ℕ) (f : CheckFault)
+    → option_map (take 65537) found ≡ Some prefix → file_fault n prefix ≡ Some f → content_from n path z found ≡ Err f
 content_prefix_refused n path z None prefix f read is = cc
 content_prefix_refused n path z (Some whole) prefix f read is =
     let same : take 65537 whole ≡ prefix = cc in
     ap (λ f. unless f (Ok (content_with z whole))) (sym (file_fault-prefix n whole) ∙ (ap (file_fault n) same ∙ is))
 
 -- the same of the files of a directory
-pub content_read : (files : List File) (dir : List ℕ) (n : ℕ) (z : ManifestZone) (prefix : List ℕ) (c : Content (List ℕ)) → option_map (take 65537) (file_at files (path_in dir z.file)) ≡ Some prefix → file_fault n prefix ≡ None → c.tzid ≡ z.tzid → c.aliases ≡ z.aliases → c.zone ≡ prefix → content_in files dir n z ≡ Ok (content_data (λ bytes. bytes) c)
+pub content_read : (files : List File) (dir : List ℕ) (n : ℕ) (z : ManifestZone) (prefix : List ℕ) (c : Content (List ℕ))
+    → option_map (take 65537) (file_at files (path_in dir z.file)) ≡ Some prefix → file_fault n prefix ≡ None → c.tzid ≡ z.tzid → c.aliases ≡ z.aliases
+    → c.zone ≡ prefix → content_in files dir n z ≡ Ok (content_data (λ bytes. bytes) c)
 unfolding content_in
 content_read files dir n z prefix c read none tzid aliases zone =
     content_prefix n (path_in dir z.file) z (file_at files (path_in dir z.file)) prefix c read none tzid aliases zone
 
-pub content_refused : (files : List File) (dir : List ℕ) (n : ℕ) (z : ManifestZone) (prefix : List ℕ) (f : CheckFault) → option_map (take 65537) (file_at files (path_in dir z.file)) ≡ Some prefix → file_fault n prefix ≡ Some f → content_in files dir n z ≡ Err f
+pub content_refused : (files : List File) (dir : List ℕ) (n : ℕ) (z : ManifestZone) (prefix : List ℕ) (f : CheckFault)
+    → option_map (take 65537) (file_at files (path_in dir z.file)) ≡ Some prefix → file_fault n prefix ≡ Some f → content_in files dir n z ≡ Err f
 unfolding content_in
 content_refused files dir n z prefix f read is =
     content_prefix_refused n (path_in dir z.file) z (file_at files (path_in dir z.file)) prefix f read is
 
-pub content_absent : (files : List File) (dir : List ℕ) (n : ℕ) (z : ManifestZone) → file_at files (path_in dir z.file) ≡ None → content_in files dir n z ≡ Err (fault.Absent (path_in dir z.file))
+pub content_absent : (files : List File) (dir : List ℕ) (n : ℕ) (z : ManifestZone) → file_at files (path_in dir z.file) ≡ None
+    → content_in files dir n z ≡ Err (fault.Absent (path_in dir z.file))
 unfolding content_in
 content_absent files dir n z none = ap (content_from n (path_in dir z.file) z) none
 

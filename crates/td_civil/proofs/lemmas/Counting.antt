@@ -6,7 +6,8 @@ use Rattle.jiff_core.specs.Calendar.{days_in_year, days_in_month, day_count, day
 use Rattle.jiff_core.specs.Date.{epoch_day}
 use Rattle.jiff_core.proofs.SignedLemmas.{signed_arith, one_part}
 use Rattle.jiff_core.proofs.DateLemmas.{civil, epoch_day_injective}
-use Rattle.jiff_core.proofs.CalendarLemmas.{day_count-next_month, day_count-next_year, day_count-day, day_count-last_of_year, day_count-end, day_count-later_year, day_count-day_of_year, day_count_bounds, days_from_civil-day_count}
+use Rattle.jiff_core.proofs.CalendarLemmas.{day_count-next_month, day_count-next_year, day_count-day, day_count-last_of_year, day_count-end}
+use Rattle.jiff_core.proofs.CalendarLemmas.{day_count-later_year, day_count-day_of_year, day_count_bounds, days_from_civil-day_count}
 use Rattle.jiff_core.proofs.MarchLemmas.{day_count-early}
 use Rattle.td_civil.specs.Calendar.{Civil, month_after, year_after, date_of}
 
@@ -43,7 +44,8 @@ month_after_counts (suc more) y m days n year low bound e within =
     cond_both (nat_lt days (days_in_month (pos y) m)) (dated y m (days + 1)) (month_after more y (m + 1) (days - days_in_month (pos y) m)) (λ c. HasCount c n)
     (λ lt. counted_day y m days n year low (omega arith) (ltb-true _ _ lt) e)
     (λ ge. let le = ltb-false _ _ ge in
-    month_after_counts more y (m + 1) (days - days_in_month (pos y) m) n year (omega arith) (omega arith) (omega (arith, day_count-next_month (pos y) m low)) within)
+    month_after_counts more y (m + 1) (days - days_in_month (pos y) m) n year (omega arith) (omega arith) (omega (arith, day_count-next_month (pos y) m low))
+    within)
 
 count_zero : day_count (pos 0) 1 1 ≡ 3652425
 count_zero = day_count-early (pos 0) 9999 1 1 refl (omega arith) (omega arith) (omega arith)
@@ -60,7 +62,8 @@ year_after_counts (suc more) y days n bound e within =
     (λ lt. let less = ltb-true _ _ lt in month_after_counts 11 y 1 days n (omega arith) (omega arith) refl e (omega arith))
     (λ ge. let le = ltb-false _ _ ge in
     let next : pos (y + 1) ≡ pos y +ℤ pos 1 = omega (arith, signed_arith) in
-    year_after_counts more (y + 1) (days - days_in_year (pos y)) n (omega arith) (omega (arith, day_count-next_year (pos y) (pos (y + 1)) (omega (arith, signed_arith)) next)) within)
+    year_after_counts more (y + 1) (days - days_in_year (pos y)) n (omega arith)
+    (omega (arith, day_count-next_year (pos y) (pos (y + 1)) (omega (arith, signed_arith)) next)) within)
 
 -- the date that counting gives has so many days before it, from 0000-01-01 on
 pub date_of_counts : (n : ℕ) → n < 3652425 → HasCount (date_of n) (n + 3652425)
@@ -116,7 +119,8 @@ dated_bounds c h =
 
 -- the date that counting gives has the day number that was counted
 pub date_of_number : (z : ℤ) → pos 0 ≤ℤ (z +ℤ pos 719528) → z ≤ℤ pos 2932896
-    → z ≡ days_from_civil (pos (date_of (unsigned_abs (z +ℤ pos 719528))).year) (date_of (unsigned_abs (z +ℤ pos 719528))).month (date_of (unsigned_abs (z +ℤ pos 719528))).day
+    → z ≡ days_from_civil (pos (date_of (unsigned_abs (z +ℤ pos 719528))).year) (date_of (unsigned_abs (z +ℤ pos 719528))).month
+    (date_of (unsigned_abs (z +ℤ pos 719528))).day
 date_of_number z low high =
     let is = one_part (z +ℤ pos 719528) in
     let found = date_of_counts (unsigned_abs (z +ℤ pos 719528)) (omega (arith, signed_arith, is)) in

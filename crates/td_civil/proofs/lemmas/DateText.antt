@@ -1,5 +1,6 @@
 -- The text of a date is judged by its fields and by the text that they have.
-use Rattle.std.proofs.Common.{◌≡◌, ◌≢◌, ℕ, Bool, true, false, not, ◌&&◌, cond, List, length, refl, sym, ap, ◌∙◌, ℤ, pos, arith, ◌≤◌, Option, Some, None, inl, inr, IsTrue, ◌↔◌}
+use Rattle.std.proofs.Common.{◌≡◌, ◌≢◌, ℕ, Bool, true, false, not, ◌&&◌, cond, List, length, refl, sym, ap, ◌∙◌, ℤ, pos, arith, ◌≤◌, Option, Some, None, inl}
+use Rattle.std.proofs.Common.{inr, IsTrue, ◌↔◌}
 use Rattle.std.specs.Str.{bytes_eq}
 use Rattle.std.specs.Option.{is_some}
 use Rattle.std.proofs.lemmas.Bool.{and_parts, and_from, and_right, not-true, not-false, cases_Bool}
@@ -27,14 +28,16 @@ same_spelling text y m d year month day =
     ∙ ap (λ (n : ℕ). date_spelling (four_at text 0) n d) month
     ∙ ap (λ (n : ℕ). date_spelling (four_at text 0) (two_at text 5) n) day
 
-same_date : (text : List ℕ) (y m d : ℕ) → y ≡ four_at text 0 → m ≡ two_at text 5 → d ≡ two_at text 8 → is_date y m d ≡ is_date (four_at text 0) (two_at text 5) (two_at text 8)
+same_date : (text : List ℕ) (y m d : ℕ) → y ≡ four_at text 0 → m ≡ two_at text 5 → d ≡ two_at text 8
+    → is_date y m d ≡ is_date (four_at text 0) (two_at text 5) (two_at text 8)
 same_date text y m d year month day =
     ap (λ (n : ℕ). is_date n m d) year
     ∙ ap (λ (n : ℕ). is_date (four_at text 0) n d) month
     ∙ ap (λ (n : ℕ). is_date (four_at text 0) (two_at text 5) n) day
 
 -- a text that differs from that of its fields is no date
-pub other_date : (text own : List ℕ) (y m d : ℕ) → y ≡ four_at text 0 → m ≡ two_at text 5 → d ≡ two_at text 8 → own ≡ date_spelling y m d → true ≡ not (bytes_eq text own) → false ≡ is_date_text text
+pub other_date : (text own : List ℕ) (y m d : ℕ) → y ≡ four_at text 0 → m ≡ two_at text 5 → d ≡ two_at text 8 → own ≡ date_spelling y m d
+    → true ≡ not (bytes_eq text own) → false ≡ is_date_text text
 unfolding is_date_text
 other_date text own y m d year month day is e =
     let apart : bytes_eq text own ≡ false = not-true _ (sym e) in
@@ -46,7 +49,8 @@ some_where true n = refl
 some_where false n = refl
 
 -- and the text of its fields is one where there is such a date
-pub own_date : (text own : List ℕ) (y m d : ℕ) → y ≡ four_at text 0 → m ≡ two_at text 5 → d ≡ two_at text 8 → own ≡ date_spelling y m d → false ≡ not (bytes_eq text own) → (o : Option ℤ) (n : ℤ) → o ≡ cond (is_date y m d) (Some n) None → (r : Bool) → r ≡ is_some o → r ≡ is_date_text text
+pub own_date : (text own : List ℕ) (y m d : ℕ) → y ≡ four_at text 0 → m ≡ two_at text 5 → d ≡ two_at text 8 → own ≡ date_spelling y m d
+    → false ≡ not (bytes_eq text own) → (o : Option ℤ) (n : ℤ) → o ≡ cond (is_date y m d) (Some n) None → (r : Bool) → r ≡ is_some o → r ≡ is_date_text text
 unfolding is_date_text
 own_date text own y m d year month day is e o n found r answer =
     let equal : bytes_eq text own ≡ true = not-false _ (sym e) in

@@ -26,4 +26,5 @@ pub stamp_back : (s : Stamp) → IsStamp s → stamp_in (spelling s) ≡ s
 stamp_back s h =
     let longest = days_in_month_bounds (pos s.year) s.month in
     let last : s.day ≤ 31 = omega (arith, h.day, longest) in
-    same_fields (stamp_in (spelling s)) s (four_back s.year h.year) (two_back s.month (omega (arith, h.month))) (two_back s.day (omega arith)) (two_back s.hour (omega (arith, h.hour))) (two_back s.minute (omega (arith, h.minute))) (two_back s.second (omega (arith, h.second)))
+    same_fields (stamp_in (spelling s)) s (four_back s.year h.year) (two_back s.month (omega (arith, h.month))) (two_back s.day (omega arith))
+    (two_back s.hour (omega (arith, h.hour))) (two_back s.minute (omega (arith, h.minute))) (two_back s.second (omega (arith, h.second)))

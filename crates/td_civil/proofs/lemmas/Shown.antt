@@ -1,5 +1,6 @@
 -- What UTC shows at a moment: the one stamp of which it is the moment.
-use Rattle.std.proofs.Common.{◌≡◌, ℕ, ◌+◌, ◌*◌, ◌/◌, ◌<◌, ◌≤◌, List, refl, sym, ap, subst, ◌↔◌, ◌∙◌, arith, ℤ, pos, negsuc, ◌+ℤ◌, ◌≤ℤ◌, ◌<ℤ◌, unsigned_abs, Option, Some}
+use Rattle.std.proofs.Common.{◌≡◌, ℕ, ◌+◌, ◌*◌, ◌/◌, ◌<◌, ◌≤◌, List, refl, sym, ap, subst, ◌↔◌, ◌∙◌, arith, ℤ, pos, negsuc, ◌+ℤ◌, ◌≤ℤ◌, ◌<ℤ◌, unsigned_abs}
+use Rattle.std.proofs.Common.{Option, Some}
 use Rattle.jiff_core.specs.Calendar.{day_count, IsCivilDate, IsWithin}
 use Rattle.jiff_core.proofs.SignedLemmas.{signed_arith}
 use Rattle.jiff_core.proofs.CalendarLemmas.{days_from_civil-day_count, day_count-next_year, day_count-day_of_year, day_of_year_bound}
@@ -106,10 +107,13 @@ pub one_stamp : (a b : Stamp) → IsStamp a → IsStamp b → moment_at a ≡ mo
 one_stamp a b h k e =
     let x = days_from_civil-day_count (pos a.year) a.month a.day in
     let y = days_from_civil-day_count (pos b.year) b.month b.day in
-    let count : day_count (pos a.year) a.month a.day ≡ day_count (pos b.year) b.month b.day = omega (arith, signed_arith, h.hour, h.minute, h.second, k.hour, k.minute, k.second) in
+    let count : day_count (pos a.year) a.month a.day ≡ day_count (pos b.year) b.month b.day =
+    omega (arith, signed_arith, h.hour, h.minute, h.second, k.hour, k.minute, k.second) in
     let date : civil a ≡ civil b = one_date (civil a) (civil b) (dated a h) (dated b k) count in
     let time : 3600 * a.hour + 60 * a.minute + a.second ≡ 3600 * b.hour + 60 * b.minute + b.second = omega (arith, signed_arith) in
-    same_fields a b (ap (λ (c : Civil). c.year) date) (ap (λ (c : Civil). c.month) date) (ap (λ (c : Civil). c.day) date) (omega (arith, h.minute, h.second, k.minute, k.second)) (omega (arith, h.minute, h.second, k.minute, k.second)) (omega (arith, h.minute, h.second, k.minute, k.second))
+    same_fields a b (ap (λ (c : Civil). c.year) date) (ap (λ (c : Civil). c.month) date) (ap (λ (c : Civil). c.day) date)
+    (omega (arith, h.minute, h.second, k.minute, k.second)) (omega (arith, h.minute, h.second, k.minute, k.second))
+    (omega (arith, h.minute, h.second, k.minute, k.second))
 
 -- a moment has one text
 pub one_text_lem : (a b : List ℕ) (m : ℤ) → Spells a m → Spells b m → a ≡ b
@@ -143,8 +147,11 @@ year_lem s m h e =
 -- the moment of a stamp lies in the years 0 to 9999
 pub stamp_has_text : (s : Stamp) (m : ℤ) → IsStamp s → m ≡ moment_at s → HasText m
 stamp_has_text s m h e =
-    let bounds = dated_bounds (civil s) (dated s h) in
-    (omega (arith, signed_arith, bounds, days_from_civil-day_count (pos s.year) s.month s.day), omega (arith, signed_arith, bounds, h.hour, h.minute, h.second, days_from_civil-day_count (pos s.year) s.month s.day))
+    let bounds = dated_bounds (civil s) (dated s h) in (
+      omega (arith, signed_arith, bounds, days_from_civil-day_count (pos s.year) s.month s.day),
+      omega
+          (arith, signed_arith, bounds, h.hour, h.minute, h.second, days_from_civil-day_count (pos s.year) s.month s.day),
+    )
 
 -- and UTC shows that stamp at it
 pub stamp_of_is : (s : Stamp) (m : ℤ) → IsStamp s → m ≡ moment_at s → stamp_of m ≡ s

@@ -39,7 +39,8 @@ stamp_parts s e =
 
 pub stamp_from : (s : Stamp) → IsStamp s → is_stamp s ≡ true
 stamp_from s h =
-    and_from _ _ (and_from _ _ (and_from _ _ (date_from _ _ _ h.year h.month.0 h.month.1 h.day.0 h.day.1) (lt-ltb _ _ h.hour)) (lt-ltb _ _ h.minute)) (lt-ltb _ _ h.second)
+    and_from _ _ (and_from _ _ (and_from _ _ (date_from _ _ _ h.year h.month.0 h.month.1 h.day.0 h.day.1) (lt-ltb _ _ h.hour)) (lt-ltb _ _ h.minute))
+    (lt-ltb _ _ h.second)
 
 pub same_text : (xs ys : List ℕ) → bytes_eq xs ys ≡ true → xs ≡ ys
 same_text xs ys e = (bytes_eq-Decides xs ys).0 e
@@ -94,10 +95,12 @@ other_text text own s fields is e =
     sym (cond-false _ _ _ (and_right _ _ (sym (ap (bytes_eq text) same) ∙ apart)))
 
 -- and the text of its fields is read as they say
-pub own_text : (text own : List ℕ) (s : Stamp) (o : Option ℤ) → s ≡ stamp_in text → own ≡ spelling s → false ≡ not (bytes_eq text own) → o ≡ moment_if s → o ≡ moment_in text
+pub own_text : (text own : List ℕ) (s : Stamp) (o : Option ℤ) → s ≡ stamp_in text → own ≡ spelling s → false ≡ not (bytes_eq text own) → o ≡ moment_if s
+    → o ≡ moment_in text
 unfolding moment_in
 own_text text own s o fields is e read =
     let equal : bytes_eq text own ≡ true = not-false _ (sym e) in
     let same : own ≡ spelling (stamp_in text) = is ∙ ap spelling fields in
-    let both : is_stamp (stamp_in text) ≡ (is_stamp (stamp_in text) && bytes_eq text (spelling (stamp_in text))) = sym (ap (λ b. is_stamp (stamp_in text) && b) (sym (ap (bytes_eq text) same) ∙ equal) ∙ and-true _) in
+    let both : is_stamp (stamp_in text) ≡ (is_stamp (stamp_in text) && bytes_eq text (spelling (stamp_in text))) =
+    sym (ap (λ b. is_stamp (stamp_in text) && b) (sym (ap (bytes_eq text) same) ∙ equal) ∙ and-true _) in
     read ∙ ap moment_if fields ∙ ap (λ b. cond b (Some (moment_at (stamp_in text))) None) both

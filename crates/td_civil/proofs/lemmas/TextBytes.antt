@@ -18,13 +18,83 @@ spelling_all : (P : ℕ → Type 0) → ((b : ℕ) → 45 ≤ b → b ≤ 90 →
 spelling_all P h s =
     let digit : (n : ℕ) → P (48 + n % 10) = λ n. h (48 + n % 10) (omega arith) (omega arith) in
     let dash : P 45 = h 45 (omega arith) (omega arith) in
-    let colon : P 58 = h 58 (omega arith) (omega arith) in
-    (digit (s.year / 1000), (digit (s.year / 100), (digit (s.year / 10), (digit s.year, (dash, (digit (s.month / 10), (digit s.month, (dash, (digit (s.day / 10), (digit s.day, (h 84 (omega arith) (omega arith), (digit (s.hour / 10), (digit s.hour, (colon, (digit (s.minute / 10), (digit s.minute, (colon, (digit (s.second / 10), (digit s.second, (h 90 (omega arith) (omega arith), tt))))))))))))))))))))
+    let colon : P 58 = h 58 (omega arith) (omega arith) in (
+      digit (s.year / 1000),
+      (
+        digit (s.year / 100),
+        (
+          digit (s.year / 10),
+          (
+            digit s.year,
+            (
+              dash,
+              (
+                digit (s.month / 10),
+                (
+                  digit s.month,
+                  (
+                    dash,
+                    (
+                      digit (s.day / 10),
+                      (
+                        digit s.day,
+                        (
+                          h 84 (omega arith) (omega arith),
+                          (
+                            digit (s.hour / 10),
+                            (
+                              digit s.hour,
+                              (
+                                colon,
+                                (digit (s.minute / 10), (digit s.minute, (colon, (digit (s.second / 10), (digit s.second, (h 90 (omega arith) (omega arith), tt)))))),
+                              ),
+                            ),
+                          ),
+                        ),
+                      ),
+                    ),
+                  ),
+                ),
+              ),
+            ),
+          ),
+        ),
+      ),
+    )
 
 basic_spelling_all : (P : ℕ → Type 0) → ((b : ℕ) → 45 ≤ b → b ≤ 90 → P b) → (s : Stamp) → AllByRecursion P (basic_spelling s)
 basic_spelling_all P h s =
-    let digit : (n : ℕ) → P (48 + n % 10) = λ n. h (48 + n % 10) (omega arith) (omega arith) in
-    (digit (s.year / 1000), (digit (s.year / 100), (digit (s.year / 10), (digit s.year, (digit (s.month / 10), (digit s.month, (digit (s.day / 10), (digit s.day, (h 84 (omega arith) (omega arith), (digit (s.hour / 10), (digit s.hour, (digit (s.minute / 10), (digit s.minute, (digit (s.second / 10), (digit s.second, tt)))))))))))))))
+    let digit : (n : ℕ) → P (48 + n % 10) = λ n. h (48 + n % 10) (omega arith) (omega arith) in (
+      digit (s.year / 1000),
+      (
+        digit (s.year / 100),
+        (
+          digit (s.year / 10),
+          (
+            digit s.year,
+            (
+              digit (s.month / 10),
+              (
+                digit s.month,
+                (
+                  digit (s.day / 10),
+                  (
+                    digit s.day,
+                    (
+                      h 84 (omega arith) (omega arith),
+                      (
+                        digit (s.hour / 10),
+                        (digit s.hour, (digit (s.minute / 10), (digit s.minute, (digit (s.second / 10), (digit s.second, tt))))),
+                      ),
+                    ),
+                  ),
+                ),
+              ),
+            ),
+          ),
+        ),
+      ),
+    )
 
 -- what holds of the numbers from 45 to 90 holds of each byte of a text
 pub text_all_by_recursion : (P : ℕ → Type 0) → ((b : ℕ) → 45 ≤ b → b ≤ 90 → P b) → (m : ℤ) → AllByRecursion P (text_of m)

@@ -54,7 +54,8 @@ zone_name file t h names =
     let z = lists_of file in
     let footer = footer_meant z.footer in
     let kinds = map (λ (kind : Local). kind.name) z.kinds in
-    let both = and_parts (list_all is_printable_name kinds) (list_all is_printable_name (footer_names footer)) (sym (list_all-append is_printable_name kinds (footer_names footer)) ∙ names) in
+    let both = and_parts (list_all is_printable_name kinds) (list_all is_printable_name (footer_names footer))
+    (sym (list_all-append is_printable_name kinds (footer_names footer)) ∙ names) in
     state_name z footer t (has_types file h) (sym (list_all-map is_printable_name (λ (kind : Local). kind.name) z.kinds) ∙ both.0) both.1
 
 told_name : (o : Observance) (s : Local) → state_told o ≡ s → is_printable_name s.name ≡ true → is_printable_name o.name ≡ true

@@ -24,8 +24,13 @@ late z (Some footer) t number h k = rw (h, eq-eqb (length z.moments) (length z.m
 pub follows : (z : ZoneFile) (footer : Option Footer) (t : ℤ) → AreRising z.moments → FollowsRules z footer t (state_at z footer t)
 follows z footer t up = record {
   before = λ some lt. early z footer t 0 (begun_are z.moments t 0 (record { seconds = pos 0 }) up (omega arith) (λ k e. absurd (omega arith)) (λ _. lt)) some;
-  between = λ i inside low high. early z footer t (suc i) (begun_are z.moments t (suc i) (record { seconds = pos 0 }) up (omega arith) (λ k e. let s : i ≡ k = omega arith in subst (λ (j : ℕ). (get_or z.moments j (record { seconds = pos 0 })).seconds ≤ℤ t) s low) (λ _. high)) inside;
-  from_last = λ i last low. late z footer t (slice_index z.numbers i) (begun_are z.moments t (length z.moments) (record { seconds = pos 0 }) up (omega arith) (λ k e. let s : i ≡ k = omega arith in subst (λ (j : ℕ). (get_or z.moments j (record { seconds = pos 0 })).seconds ≤ℤ t) s low) (λ lt. absurd (omega arith))) (ap (after z) (sym last));
+  between = λ i inside low high. early z footer t (suc i)
+      (begun_are z.moments t (suc i) (record { seconds = pos 0 }) up (omega arith)
+      (λ k e. let s : i ≡ k = omega arith in subst (λ (j : ℕ). (get_or z.moments j (record { seconds = pos 0 })).seconds ≤ℤ t) s low) (λ _. high)) inside;
+  from_last = λ i last low. late z footer t (slice_index z.numbers i)
+      (begun_are z.moments t (length z.moments) (record { seconds = pos 0 }) up (omega arith)
+      (λ k e. let s : i ≡ k = omega arith in subst (λ (j : ℕ). (get_or z.moments j (record { seconds = pos 0 })).seconds ≤ℤ t) s low)
+      (λ lt. absurd (omega arith))) (ap (after z) (sym last));
   alone = λ none. late z footer t 0 (ap (λ (ms : List Moment). begun t ms) none ∙ sym (ap length none)) (ap (after z) (ap length none));
 }
 

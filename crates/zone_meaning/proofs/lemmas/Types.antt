@@ -3,7 +3,8 @@ use Rattle.std.specs.Prelude.{ℤ, int_le, slice_index}
 use Rattle.std.specs.Option.{IfSome}
 use Rattle.std.specs.List.{slice_get}
 use Rattle.td_civil.specs.declared.moment_type.TheConstants.{HI}
-use Rattle.std.proofs.Common.{◌≡◌, ◌≤◌, ◌-◌, ◌<ℤ◌, ◌==◌, ℕ, zero, suc, Option, ap, subst, List, length, None, Some, ◌∙◌, sym, arith, to_z, of_z, to_z-of_z, w32, FitsSigned}
+use Rattle.std.proofs.Common.{◌≡◌, ◌≤◌, ◌-◌, ◌<ℤ◌, ◌==◌, ℕ, zero, suc, Option, ap, subst, List, length, None, Some, ◌∙◌, sym, arith, to_z, of_z, to_z-of_z, w32}
+use Rattle.std.proofs.Common.{FitsSigned}
 use Rattle.std.proofs.lemmas.Bool.{cond_both}
 use Rattle.std.proofs.lemmas.List.Sums.{count_by-le-length}
 use Rattle.jiff_core.proofs.SignedLemmas.{signed_arith}
@@ -51,7 +52,8 @@ kept_types file lists footer k = subst (λ (z : ZoneFile). HasTypes z) (sym k.li
 pub kept_state : (file : List ℕ) (lists : ZoneFile) (footer : Option Footer) (t : ℤ) → IsReadFrom file lists footer
     → state_at lists footer t ≡ zone_state file t
 unfolding zone_state
-kept_state file lists footer t k = ap (λ (f : Option Footer). state_at lists f t) k.footer_is ∙ ap (λ (z : ZoneFile). state_at z (footer_meant z.footer) t) k.lists_are
+kept_state file lists footer t k = ap (λ (f : Option Footer). state_at lists f t) k.footer_is
+    ∙ ap (λ (z : ZoneFile). state_at z (footer_meant z.footer) t) k.lists_are
 
 -- the offset of a type, and of the state that a footer gives
 after_offset : (z : ZoneFile) (n : ℕ) → HasTypes z → n ≤ length z.moments → IsLawfulOffset (after z n).offset

@@ -7,4 +7,5 @@ use Rattle.catalogue.proofs.chain.hash_digests.Given as goal
 
 abbrev pub invariant-loop-one : goal.invariant-loop-one
 invariant-loop-one g l = (m : List ℕ) → Holds256 l.fn.hasher m → (done : List ℕ)
-    × Holds256 l.hasher done × (done ++ concat (map held_digest (drop l.one-index l.held)) ≡ (m ++ four_bytes (length l.held)) ++ concat (map held_digest l.held))
+    × Holds256 l.hasher done × (done ++ concat (map held_digest (drop l.one-index l.held)) ≡ (m ++ four_bytes (length l.held))
+    ++ concat (map held_digest l.held))

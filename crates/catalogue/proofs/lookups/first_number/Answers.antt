@@ -5,7 +5,8 @@ use Rattle.catalogue.proofs.lemmas.Tokens.{number_before}
 use Rattle.catalogue.proofs.lookups.first_number.Goals as goal
 
 -- what stands before the first dash
-prefix : (dash : ℕ) (text rest : List ℕ) (n : ℕ) → dash ≡ position_or_len (nat_eq 45) text → text ≡ decimal n ++ 45 ∷ rest → n < 2 ^ 32 → take dash text ≡ decimal n
+prefix : (dash : ℕ) (text rest : List ℕ) (n : ℕ) → dash ≡ position_or_len (nat_eq 45) text → text ≡ decimal n ++ 45 ∷ rest → n < 2 ^ 32
+    → take dash text ≡ decimal n
 prefix dash text rest n at e small =
     ap (λ k. take k text) at ∙ ap (λ t. take (position_or_len (nat_eq 45) t) t) e ∙ number_before n rest (omega arith)
 

@@ -5,7 +5,16 @@ use Rattle.catalogue.proofs.tests.two_zones.Goals as goal
 
 pub returns-clause-lengths : goal.returns-clause-lengths
 returns-clause-lengths c =
-    rw (c.in_ok-release.ensures, c.in_ok-zones.ensures, c.in_ok-more.ensures, c.in_ok-utc.ensures, c.in_ok-york.ensures, c.in_ok-zone.ensures, c.in_ok-zone-2.ensures, c.in_ok-leaps.ensures)
+    rw (
+      c.in_ok-release.ensures,
+      c.in_ok-zones.ensures,
+      c.in_ok-more.ensures,
+      c.in_ok-utc.ensures,
+      c.in_ok-york.ensures,
+      c.in_ok-zone.ensures,
+      c.in_ok-zone-2.ensures,
+      c.in_ok-leaps.ensures,
+    )
     (record {
       stamp = search rules;
       publisher = lit< tt;
@@ -18,7 +27,16 @@ returns-clause-lengths c =
 pub returns-clause-fits : goal.returns-clause-fits
 unfolding is_path segments IsDistinct
 returns-clause-fits c =
-    rw (c.in_ok-release.ensures, c.in_ok-zones.ensures, c.in_ok-more.ensures, c.in_ok-utc.ensures, c.in_ok-york.ensures, c.in_ok-zone.ensures, c.in_ok-zone-2.ensures, c.in_ok-leaps.ensures)
+    rw (
+      c.in_ok-release.ensures,
+      c.in_ok-zones.ensures,
+      c.in_ok-more.ensures,
+      c.in_ok-utc.ensures,
+      c.in_ok-york.ensures,
+      c.in_ok-zone.ensures,
+      c.in_ok-zone-2.ensures,
+      c.in_ok-leaps.ensures,
+    )
     (record {
       identifiers = refl;
       distinct = ((refl, (refl, (refl, (refl, tt)))), ((refl, (refl, (refl, tt))), ((refl, (refl, tt)), ((refl, tt), (tt, tt)))));

@@ -14,7 +14,8 @@ returns-in-Given g c =
 
 pub returns-then-is_raised : goal.returns-then-is_raised
 returns-then-is_raised g c =
-    turns.idle _ g.D.Conn.Conn.seen _ _ _ _ _ _ c.in-Idle.ensures.accepts c.is_raised.ensures.flag (c.in-Idle.ensures.accepts.last, sym c.is_raised.ensures.seen ∙ c.if-is_raised.true)
+    turns.idle _ g.D.Conn.Conn.seen _ _ _ _ _ _ c.in-Idle.ensures.accepts c.is_raised.ensures.flag
+    (c.in-Idle.ensures.accepts.last, sym c.is_raised.ensures.seen ∙ c.if-is_raised.true)
 
 pub returns-else-is_raised : goal.returns-else-is_raised
 returns-else-is_raised g c = turns.idle _ g.D.Conn.Conn.seen _ _ _ _ _ _ c.in-Idle.ensures.accepts c.is_raised.ensures.flag tt

@@ -6,4 +6,5 @@ use Rattle.http_request.proofs.fields.joined.Given as goal
 
 abbrev pub invariant-loop-field : goal.invariant-loop-field
 invariant-loop-field l =
-    values_joined_on l.all (field_values l.name (map (header_bytes l.buf) (drop l.field-index l.fields))) ≡ joined_values (field_values l.name (map (header_bytes l.buf) l.fields))
+    values_joined_on l.all (field_values l.name (map (header_bytes l.buf) (drop l.field-index l.fields))) ≡ joined_values
+    (field_values l.name (map (header_bytes l.buf) l.fields))

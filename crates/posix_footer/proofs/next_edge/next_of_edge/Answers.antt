@@ -11,7 +11,8 @@ use Rattle.posix_footer.proofs.next_edge.next_of_edge.Goals as goal
 
 pub loop-ahead-init : goal.loop-ahead-init
 loop-ahead-init c = λ year there lt.
-    rw (to_z-of_z c.ranges.std) (onset_before c.args.rule.now c.args.std c.args.year year c.args.t.seconds c.args.edge c.requires.lawful (omega (arith, signed_arith)) (year_of year there) (omega (arith, signed_arith)) c.requires.begun)
+    rw (to_z-of_z c.ranges.std) (onset_before c.args.rule.now c.args.std c.args.year year c.args.t.seconds c.args.edge c.requires.lawful
+    (omega (arith, signed_arith)) (year_of year there) (omega (arith, signed_arith)) c.requires.begun)
 
 -- the year of a candidate
 abbrev candidate_year : ℤ → ℕ → ℤ
@@ -31,8 +32,11 @@ returns-then-t-candidate c =
     let fits : FitsSigned w64 c.onset-candidate.result.seconds = search rules in
     let fits_t : FitsSigned w64 c.args.t.seconds = search rules in
     let y = candidate_year c.args.year c.loop-ahead.ahead in
-    let is = onset_at c.args.rule.now c.args.std _ y c.args.edge _ c.ranges.std (candidate_is c.args.year c.loop-ahead.ahead c.from.result c.ranges.year c.requires.year_in c.from.ensures c.loop-ahead-test.true) c.onset-candidate.ensures in
-    next_is c.args.rule.now c.args.std y c.args.t.seconds c.onset-candidate.result.seconds c.args.edge c.requires.lawful (omega (arith, signed_arith, c.loop-ahead-test.true)) is (omega (arith, signed_arith))
+    let is = onset_at c.args.rule.now c.args.std _ y c.args.edge _ c.ranges.std
+    (candidate_is c.args.year c.loop-ahead.ahead c.from.result c.ranges.year c.requires.year_in c.from.ensures c.loop-ahead-test.true)
+    c.onset-candidate.ensures in
+    next_is c.args.rule.now c.args.std y c.args.t.seconds c.onset-candidate.result.seconds c.args.edge c.requires.lawful
+    (omega (arith, signed_arith, c.loop-ahead-test.true)) is (omega (arith, signed_arith))
     (λ other there lt. rw (to_z-of_z c.ranges.std) at (c.loop-ahead.invariant other there (omega (arith, signed_arith))))
 
 pub loop-ahead-preserved : goal.loop-ahead-preserved
@@ -44,7 +48,8 @@ loop-ahead-preserved c = λ year there lt.
     (λ earlier. c.loop-ahead.invariant year there (omega (arith, signed_arith)))
     (λ le.
     let same : year ≡ y = omega (arith, signed_arith) in
-    let is = c.onset-candidate.ensures ∙ ap (λ k. onset_of c.args.rule.now (to_z w32 (of_z w32 c.args.std)) k c.args.edge) (candidate_is c.args.year c.loop-ahead.ahead c.from.result c.ranges.year c.requires.year_in c.from.ensures c.loop-ahead-test.true ∙ sym same) in
+    let is = c.onset-candidate.ensures ∙ ap (λ k. onset_of c.args.rule.now (to_z w32 (of_z w32 c.args.std)) k c.args.edge)
+    (candidate_is c.args.year c.loop-ahead.ahead c.from.result c.ranges.year c.requires.year_in c.from.ensures c.loop-ahead-test.true ∙ sym same) in
     omega (arith, signed_arith, is))
 
 pub returns-else-year-lt9998 : goal.returns-else-year-lt9998
@@ -58,6 +63,7 @@ returns-then-year-lt9998 c =
     let year : IsBetween (pos 1798) (pos 9999) y = (omega (arith, signed_arith), omega (arith, signed_arith, c.if-year-lt9998.true)) in
     let asked : to_z w32 (of_z w32 (to_z w32 (of_z w32 c.args.year) +ℤ pos 2)) ≡ y = omega (arith, signed_arith) in
     let is = onset_at c.args.rule.now c.args.std _ y c.args.edge _ c.ranges.std asked c.onset.ensures in
-    let late = onset_after c.args.rule.now c.args.std c.args.year (c.args.year +ℤ pos 1) y c.args.t.seconds c.args.edge c.requires.lawful (omega (arith, signed_arith)) (year_of y year) refl (omega (arith, signed_arith)) c.requires.ahead in
+    let late = onset_after c.args.rule.now c.args.std c.args.year (c.args.year +ℤ pos 1) y c.args.t.seconds c.args.edge c.requires.lawful
+    (omega (arith, signed_arith)) (year_of y year) refl (omega (arith, signed_arith)) c.requires.ahead in
     next_is c.args.rule.now c.args.std y c.args.t.seconds c.onset.result.seconds c.args.edge c.requires.lawful year is (rw is late)
     (λ other there lt. rw (to_z-of_z c.ranges.std) at (c.loop-ahead.invariant other there (omega (arith, signed_arith, c.loop-ahead-test.false))))

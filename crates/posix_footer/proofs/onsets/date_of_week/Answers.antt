@@ -12,7 +12,8 @@ returns-in-Ok c =
       last = λ five. same ∙ c.place_in_month.ensures.last five;
     } in
     let month : c.date-first.result.month ≡ c.args.month = omega (arith, signed_casts) in
-    nth_weekday_is c.date-first.result c.in-Ok.day c.weekday_of.result _ c.args.week c.args.weekday c.args.year c.args.month c.in-Ok.ensures.value place c.requires.day_in.2 c.requires.day_in.3 c.weekday_of.ensures (c.date-first.ensures.0 ∙ to_z-of_z c.ranges.year) month
+    nth_weekday_is c.date-first.result c.in-Ok.day c.weekday_of.result _ c.args.week c.args.weekday c.args.year c.args.month c.in-Ok.ensures.value place
+    c.requires.day_in.2 c.requires.day_in.3 c.weekday_of.ensures (c.date-first.ensures.0 ∙ to_z-of_z c.ranges.year) month
 
 pub returns-in-Err : goal.returns-in-Err
 returns-in-Err c =

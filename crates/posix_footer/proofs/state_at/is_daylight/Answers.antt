@@ -16,7 +16,8 @@ returns-clause-value c =
     let fits_ended : FitsSigned w64 c.latest-ended.result = search rules in
     let started = passed c.args.rule.now c.args.std c.args.t.seconds c.latest-started.result edge.Start c.ranges.std c.latest-started.ensures in
     let ended = passed c.args.rule.now c.args.std c.args.t.seconds c.latest-ended.result edge.End c.ranges.std c.latest-ended.ensures in
-    rw (to_z-of_z fits_started, to_z-of_z fits_ended) (daylight_is c.args.rule.now c.args.std c.args.t.seconds c.latest-started.result c.latest-ended.result started ended)
+    rw (to_z-of_z fits_started, to_z-of_z fits_ended)
+    (daylight_is c.args.rule.now c.args.std c.args.t.seconds c.latest-started.result c.latest-ended.result started ended)
 
 pub returns-clause-change : goal.returns-clause-change
 returns-clause-change c =
@@ -24,4 +25,5 @@ returns-clause-change c =
     let fits_ended : FitsSigned w64 c.latest-ended.result = search rules in
     let started = passed c.args.rule.now c.args.std c.args.t.seconds c.latest-started.result edge.Start c.ranges.std c.latest-started.ensures in
     let ended = passed c.args.rule.now c.args.std c.args.t.seconds c.latest-ended.result edge.End c.ranges.std c.latest-ended.ensures in
-    rw (to_z-of_z fits_started, to_z-of_z fits_ended) (last_change_is c.args.rule.now c.args.std c.args.t.seconds c.latest-started.result c.latest-ended.result started ended)
+    rw (to_z-of_z fits_started, to_z-of_z fits_ended)
+    (last_change_is c.args.rule.now c.args.std c.args.t.seconds c.latest-started.result c.latest-ended.result started ended)

@@ -7,7 +7,8 @@ use Rattle.recurrence.specs.declared.rule_types.Form.TheVariants as form
 use Rattle.recurrence.specs.Occurs.{IsOccurrence}
 use Rattle.recurrence.specs.Row.{row_first, days_ahead, weeks_begin}
 use Rattle.recurrence.specs.Valid.{IsValidForm}
-use Rattle.recurrence.proofs.Windows.{nth_day_occurs, month_days_occur, year_days_occur, fixed_date_occurs, weeks_start, month_days_start, year_days_start, fixed_date_start}
+use Rattle.recurrence.proofs.Windows.{nth_day_occurs, month_days_occur, year_days_occur, fixed_date_occurs, weeks_start, month_days_start, year_days_start}
+use Rattle.recurrence.proofs.Windows.{fixed_date_start}
 use Rattle.recurrence.proofs.yearly.day_in_year.Goals as goal
 
 year_of : (y : ℤ) → IsBetween (pos 1800) (pos 9999) y → IsYear y

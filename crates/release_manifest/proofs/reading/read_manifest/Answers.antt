@@ -35,16 +35,39 @@ unfolding manifest_checks
 returns-in_err-zones-clause-judged c =
     judges_err _ _ _ c.from_residual-in_err-zones.ensures.1
     (λ n. let h = c.in_err-zones.ensures.judged n in
-    simp (first_failing-append, c.in_ok-check_object.ensures, c.in_ok-publisher.ensures.judged, c.in_ok-version.ensures.judged, c.in_ok-stamp.ensures.judged, h))
+    simp (
+      first_failing-append,
+      c.in_ok-check_object.ensures,
+      c.in_ok-publisher.ensures.judged,
+      c.in_ok-version.ensures.judged,
+      c.in_ok-stamp.ensures.judged,
+      h,
+    ))
 
 pub returns-in_err-leaps-clause-judged : goal.returns-in_err-leaps-clause-judged
 unfolding manifest_checks
 returns-in_err-leaps-clause-judged c =
     judges_err _ _ _ c.from_residual-in_err-leaps.ensures.1
     (λ n. let h = c.in_err-leaps.ensures.judged n in
-    simp (first_failing-append, c.in_ok-check_object.ensures, c.in_ok-publisher.ensures.judged, c.in_ok-version.ensures.judged, c.in_ok-stamp.ensures.judged, c.in_ok-zones.ensures.judged, h))
+    simp (
+      first_failing-append,
+      c.in_ok-check_object.ensures,
+      c.in_ok-publisher.ensures.judged,
+      c.in_ok-version.ensures.judged,
+      c.in_ok-stamp.ensures.judged,
+      c.in_ok-zones.ensures.judged,
+      h,
+    ))
 
 pub returns-clause-judged : goal.returns-clause-judged
 unfolding manifest_checks
 returns-clause-judged c =
-    simp (first_failing-append, c.in_ok-check_object.ensures, c.in_ok-publisher.ensures.judged, c.in_ok-version.ensures.judged, c.in_ok-stamp.ensures.judged, c.in_ok-zones.ensures.judged, c.in_ok-leaps.ensures.judged)
+    simp (
+      first_failing-append,
+      c.in_ok-check_object.ensures,
+      c.in_ok-publisher.ensures.judged,
+      c.in_ok-version.ensures.judged,
+      c.in_ok-stamp.ensures.judged,
+      c.in_ok-zones.ensures.judged,
+      c.in_ok-leaps.ensures.judged,
+    )

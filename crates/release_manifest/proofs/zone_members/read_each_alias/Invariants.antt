@@ -8,5 +8,6 @@ use Rattle.release_manifest.proofs.zone_members.read_each_alias.Given as goal
 abbrev pub invariant-loop-number : goal.invariant-loop-number
 invariant-loop-number l = record {
   is : (rest : List _) → AllAre IsText (items_view (drop l.number l.list)) rest → AllAre IsText (items_view l.list) (l.aliases ++ rest);
-  judged : first_failing (each_checks (λ n alias. text_checks (path.Alias l.zone n) (Some alias)) 0 (items_view l.list)) ≡ first_failing (each_checks (λ n alias. text_checks (path.Alias l.zone n) (Some alias)) l.number (items_view (drop l.number l.list)));
+  judged : first_failing (each_checks (λ n alias. text_checks (path.Alias l.zone n) (Some alias)) 0 (items_view l.list)) ≡ first_failing
+      (each_checks (λ n alias. text_checks (path.Alias l.zone n) (Some alias)) l.number (items_view (drop l.number l.list)));
 }

@@ -9,7 +9,8 @@ pub overflow_cast-result : goal.overflow_cast-result
 overflow_cast-result c =
     let fits : FitsSigned w64 c.args.m.seconds = omega (arith, signed_arith, c.requires) in
     let shown = simp to_z-of_z at c.at.ensures in
-    let year = year_of_fields c.args.m.seconds c.result.inside.year c.at.result (bounds_text _ c.requires) (ap (λ (s : Stamp). s.year) c.result.view_is) shown in
+    let year = year_of_fields c.args.m.seconds c.result.inside.year c.at.result (bounds_text _ c.requires) (ap (λ (s : Stamp). s.year) c.result.view_is) shown
+    in
     let most = year.0 in
     omega (arith, signed_arith, most)
 
@@ -17,7 +18,8 @@ pub returns-clause-exact : goal.returns-clause-exact
 returns-clause-exact c =
     let fits : FitsSigned w64 c.args.m.seconds = omega (arith, signed_arith, c.requires) in
     let shown = simp to_z-of_z at c.at.ensures in
-    let year = year_of_fields c.args.m.seconds c.result.inside.year c.at.result (bounds_text _ c.requires) (ap (λ (s : Stamp). s.year) c.result.view_is) shown in
+    let year = year_of_fields c.args.m.seconds c.result.inside.year c.at.result (bounds_text _ c.requires) (ap (λ (s : Stamp). s.year) c.result.view_is) shown
+    in
     let most = year.0 in
     let narrow : FitsSigned w32 (pos c.result.inside.year) = omega (arith, signed_arith, most) in
     to_z-of_z narrow ∙ ap pos year.1

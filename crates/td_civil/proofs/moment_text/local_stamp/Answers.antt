@@ -10,7 +10,8 @@ returns-clause-shows c =
     let fits : FitsSigned w64 c.args.m.seconds = omega (arith, signed_arith, c.requires.moment) in
     let both : FitsSigned w64 (c.args.m.seconds +ℤ c.args.offset) = omega (arith, signed_arith, c.requires.moment, c.requires.offset) in
     let shown = simp to_z-of_z at c.at.ensures in
-    made_shows c.basic_spelling.result c.at.result (c.args.m.seconds +ℤ c.args.offset) (local_bounds_text _ _ c.requires.moment c.requires.offset) c.basic_spelling.ensures shown
+    made_shows c.basic_spelling.result c.at.result (c.args.m.seconds +ℤ c.args.offset) (local_bounds_text _ _ c.requires.moment c.requires.offset)
+    c.basic_spelling.ensures shown
 
 pub returns-clause-exact : goal.returns-clause-exact
 returns-clause-exact c =

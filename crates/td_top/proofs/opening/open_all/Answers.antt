@@ -13,14 +13,16 @@ returns-in_err-installer-clause-all g c =
 pub returns-in-Err-clause-all : goal.returns-in-Err-clause-all
 returns-in-Err-clause-all g c =
     let row = headed c.args.folders.now c.index-folders-0.result c.requires.folders c.index-folders-0.is in
-    all_stopped _ _ _ c.index-folders-0.result (drop 1 c.args.folders.now) c.args.folders.now (λ p. history_of p.0.list) (c.in_ok-installer.installer, c.in_ok-installer.desks)
+    all_stopped _ _ _ c.index-folders-0.result (drop 1 c.args.folders.now) c.args.folders.now (λ p. history_of p.0.list)
+    (c.in_ok-installer.installer, c.in_ok-installer.desks)
     c.in_ok-installer.installer.list _ c.in-Err.fault row (rw c.as_slice-first.ensures at c.in_ok-installer.ensures.found) c.in_ok-installer.ensures.grown
     refl (rw (others_are c.args.folders.now) at c.in-Err.ensures.rest)
 
 pub returns-clause-all : goal.returns-clause-all
 returns-clause-all g c =
     let row = headed c.args.folders.now c.index-folders-0.result c.requires.folders c.index-folders-0.is in
-    all_came _ _ _ c.index-folders-0.result (drop 1 c.args.folders.now) c.args.folders.now (λ p. history_of p.0.list) (c.in_ok-installer.installer, c.in_ok-installer.desks)
+    all_came _ _ _ c.index-folders-0.result (drop 1 c.args.folders.now) c.args.folders.now (λ p. history_of p.0.list)
+    (c.in_ok-installer.installer, c.in_ok-installer.desks)
     c.in_ok-installer.installer.list _ _ row (rw c.as_slice-first.ensures at c.in_ok-installer.ensures.found) c.in_ok-installer.ensures.grown
     refl (rw (others_are c.args.folders.now) at c.in_default.ensures.rest)
 

@@ -11,7 +11,8 @@ pub conclude-requires : goal.conclude-requires
 conclude-requires g c =
     let told = c.in-All.ensures.beside in
     let names = (came _ _ _ told.1 told.2).1 in
-    let pairs = pairs_now g.D.Door.seen _ _ _ c.args.works.items c.in-All.dones.items told.1 told.2 (subst (λ s. HasWorks s.installer.pair c.args.works.items) (sym c.new-console.ensures.session_now) c.requires.works)
+    let pairs = pairs_now g.D.Door.seen _ _ _ c.args.works.items c.in-All.dones.items told.1 told.2
+    (subst (λ s. HasWorks s.installer.pair c.args.works.items) (sym c.new-console.ensures.session_now) c.requires.works)
     c.in-All.ensures.results in
     λ k d less. search (pairs k d less, ap (λ l. l.session) names, rules)
 
@@ -20,7 +21,8 @@ returns-in-Some g c =
     let told = c.in-All.ensures.beside in
     let names = (came _ _ _ told.1 told.2).1 in
     let ended : c.run_beside-pool.new.beside.end.now ≡ Some c.in-Some.end = search (c.in-Some.is, ap (λ l. l.end) names, rules) in
-    let concluded : Concludes c.run_beside-pool.new.beside.session.now c.in-All.dones.items c.in-Some.end c.conclude.result.doors.items c.conclude.result.status =
+    let concluded : Concludes c.run_beside-pool.new.beside.session.now c.in-All.dones.items c.in-Some.end c.conclude.result.doors.items
+    c.conclude.result.status =
     search (c.conclude.ensures, ap (λ l. l.session) names, rules) in
     let done = beside_done g.D.Door.seen _ _ _ c.in-Some.end c.args.works.items c.in-All.dones.items _ _ _ _ told.1 told.2 ended
     c.run_beside-pool.ensures.later c.in-All.ensures.results concluded in

@@ -16,18 +16,22 @@ returns-in-Ok g c =
 
 pub returns-in-Err : goal.returns-in-Err
 returns-in-Err g c =
-    given_up g.N.Door.Door.seen c.args.address.now c.args.workers _ _ _ _ _ _ _ _ c.give_up.ensures.status c.give_up.ensures.doors c.in-Given.ensures.opens.later out_of_memory
+    given_up g.N.Door.Door.seen c.args.address.now c.args.workers _ _ _ _ _ _ _ _ c.give_up.ensures.status c.give_up.ensures.doors
+    c.in-Given.ensures.opens.later out_of_memory
 
 pub returns-in-Failed : goal.returns-in-Failed
 returns-in-Failed g c =
-    given_up g.N.Door.Door.seen c.args.address.now c.args.workers _ _ _ _ _ _ _ _ c.give_up-in-Failed.ensures.status c.give_up-in-Failed.ensures.doors c.in-Failed.ensures.opens.later
+    given_up g.N.Door.Door.seen c.args.address.now c.args.workers _ _ _ _ _ _ _ _ c.give_up-in-Failed.ensures.status c.give_up-in-Failed.ensures.doors
+    c.in-Failed.ensures.opens.later
     (no_network (refl, refl) (c.in-Failed.ensures.opens.failed refl))
 
 pub returns-in-NoMemory : goal.returns-in-NoMemory
 returns-in-NoMemory g c =
-    given_up g.N.Door.Door.seen c.args.address.now c.args.workers _ _ _ _ _ _ _ _ c.give_up-in-NoMemory.ensures.status c.give_up-in-NoMemory.ensures.doors c.in-NoMemory.ensures.opens.later out_of_memory
+    given_up g.N.Door.Door.seen c.args.address.now c.args.workers _ _ _ _ _ _ _ _ c.give_up-in-NoMemory.ensures.status c.give_up-in-NoMemory.ensures.doors
+    c.in-NoMemory.ensures.opens.later out_of_memory
 
 pub serve_beside-requires-clause-works : goal.serve_beside-requires-clause-works
 serve_beside-requires-clause-works g c =
-    let has = has_works c.args.opened.session.installer.pair _ c.in-Ok.works.items (c.in-Ok.ensures.works c.args.opened.session.installer.pair c.requires.pairs) in
+    let has = has_works c.args.opened.session.installer.pair _ c.in-Ok.works.items
+    (c.in-Ok.ensures.works c.args.opened.session.installer.pair c.requires.pairs) in
     search (has, rules)

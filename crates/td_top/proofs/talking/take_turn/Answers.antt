@@ -33,6 +33,7 @@ returns-else-is_quit g c = λ start at.
     line_turn start _ _ _ _ _ _ _ c.args.lines.now c.take_line.new.lines c.as_slice-in-Line.result.now c.in-Line.line c.say-in-Line.result
     (sym c.is_quit.ensures ∙ c.if-is_quit.false) at
     c.in-Line.ensures
-    (as_written _ _ c.args.session.now c.answer_line-said.new.session c.in-Line.line c.answer_line-said.result _ (rw c.as_slice-in-Line.ensures c.reply_for.ensures)
+    (as_written _ _ c.args.session.now c.answer_line-said.new.session c.in-Line.line c.answer_line-said.result _
+    (rw c.as_slice-in-Line.ensures c.reply_for.ensures)
     c.answer_line-said.ensures)
     c.say-in-Line.ensures

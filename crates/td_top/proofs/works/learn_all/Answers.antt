@@ -26,6 +26,7 @@ pub returns : goal.returns
 returns g c =
     let none : c.loop-done.done-iterator.rest.items ≡ [] = nil_from_length _ (search rules) in
     record {
-      learnt = learnt_all c.args.ended.now.list c.loop-done.yielded c.loop-done.done-iterator.rest.items c.args.dones.items c.loop-done.doors.items c.loop-done.worn
+      learnt = learnt_all c.args.ended.now.list c.loop-done.yielded c.loop-done.done-iterator.rest.items c.args.dones.items c.loop-done.doors.items
+          c.loop-done.worn
           c.loop-done.invariant.whole none c.loop-done.invariant.doors c.loop-done.invariant.worn c.loop-done.invariant.seen;
     }

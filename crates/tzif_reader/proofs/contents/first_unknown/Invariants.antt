@@ -6,4 +6,5 @@ use Rattle.tzif_reader.specs.Faults.{is_unknown}
 use Rattle.tzif_reader.proofs.contents.first_unknown.Given as goal
 
 abbrev pub invariant-loop-i : goal.invariant-loop-i
-invariant-loop-i l = find (is_unknown l.typecnt l.numbers) (range_with_len l.i ((length l.numbers) - l.i)) ≡ least ((length l.numbers)) (is_unknown l.typecnt l.numbers)
+invariant-loop-i l = find (is_unknown l.typecnt l.numbers) (range_with_len l.i ((length l.numbers) - l.i)) ≡ least ((length l.numbers))
+    (is_unknown l.typecnt l.numbers)

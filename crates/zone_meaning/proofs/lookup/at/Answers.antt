@@ -9,4 +9,5 @@ state_at-requires-clause-types c = kept_types _ _ _ c.zone.invariant
 
 pub returns-clause-offset : goal.returns-clause-offset
 returns-clause-offset c =
-    subst (λ (s : Local). IsLawfulOffset s.offset) (sym c.state_at.ensures) (state_offset c.zone.inside.lists c.zone.inside.footer c.args.t.seconds (kept_types _ _ _ c.zone.invariant) c.zone.invariant.lawful)
+    subst (λ (s : Local). IsLawfulOffset s.offset) (sym c.state_at.ensures)
+    (state_offset c.zone.inside.lists c.zone.inside.footer c.args.t.seconds (kept_types _ _ _ c.zone.invariant) c.zone.invariant.lawful)

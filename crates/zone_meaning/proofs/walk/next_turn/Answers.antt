@@ -12,7 +12,8 @@ returns-then-begun-moments c =
     let moments : c.as_slice-moments.result.now ≡ c.args.lists.now.moments = c.as_slice-moments.ensures in
     let inside : c.args.begun < length c.args.lists.now.moments = omega (arith, ap (length {A = Moment}) moments) in
     let zero : Moment = record { seconds = pos 0 } in
-    transition_turn c.args.lists.now c.args.footer.now c.args.t.seconds c.args.begun (get_or c.as_slice-moments.result.now c.args.begun zero) c.requires.types c.requires.begun inside
+    transition_turn c.args.lists.now c.args.footer.now c.args.t.seconds c.args.begun (get_or c.as_slice-moments.result.now c.args.begun zero) c.requires.types
+    c.requires.begun inside
     (λ d. get_or_default c.args.lists.now.moments c.args.begun d zero inside ∙ ap (λ (ms : List Moment). get_or ms c.args.begun zero) (sym moments))
 
 pub returns-in-Some : goal.returns-in-Some
@@ -20,7 +21,8 @@ returns-in-Some c =
     let moments : c.as_slice-moments.result.now ≡ c.args.lists.now.moments = c.as_slice-moments.ensures in
     let all : length c.args.lists.now.moments ≤ c.args.begun = omega (arith, ap (length {A = Moment}) moments) in
     let P : Option Footer → Type 0 = λ footer. IsNextTurn c.args.lists.now footer c.args.t.seconds c.args.begun c.next_onset.result in
-    subst P (sym c.in-Some.is) (onset_turn c.args.lists.now c.in-Some.footer c.args.t.seconds c.args.begun c.next_onset.result c.requires.types c.requires.begun all c.next_onset.ensures)
+    subst P (sym c.in-Some.is) (onset_turn c.args.lists.now c.in-Some.footer c.args.t.seconds c.args.begun c.next_onset.result c.requires.types
+    c.requires.begun all c.next_onset.ensures)
 
 pub returns-in-None : goal.returns-in-None
 returns-in-None c =

@@ -12,7 +12,8 @@ abbrev pub invariant-loop-content : goal.invariant-loop-content
 invariant-loop-content g l = record {
   count : length l.held.items + length (into_iter_items l.content-iterator) ≡ length l.fn.contents;
   entries : ForEachHistory g.Z.ZoneData.bytes g.Z.ZoneData.sound l.self (λ H. map (held_entry g.Z.ZoneData.bytes) l.held.items
-      ++ map (entry_next H (release_held g.Z.ZoneData.bytes l.self) (release_of l.head []) l.place) (map (content_as_is g.Z.ZoneData.bytes) (into_iter_items l.content-iterator))
+      ++ map (entry_next H (release_held g.Z.ZoneData.bytes l.self) (release_of l.head []) l.place)
+      (map (content_as_is g.Z.ZoneData.bytes) (into_iter_items l.content-iterator))
       ≡ map (entry_next H (release_held g.Z.ZoneData.bytes l.self) (release_of l.head []) l.place) (map (content_as_is g.Z.ZoneData.bytes) l.fn.contents));
   digests : ForEachHistory g.Z.ZoneData.bytes g.Z.ZoneData.sound l.self (λ H. map held_digest l.held.items
       ++ map content_digest (map (content_as_is g.Z.ZoneData.bytes) (into_iter_items l.content-iterator))

@@ -13,16 +13,20 @@ use Rattle.catalogue.specs.Releases.{ContentData, ReleaseData, names_of}
 use Rattle.catalogue.specs.declared.holding.Catalogue.{Catalogue}
 use Rattle.catalogue.specs.declared.names.Name.{Name}
 use Rattle.catalogue.proofs.lemmas.LastRelease.{last_of}
-use Rattle.catalogue.proofs.lemmas.NameIndex.{entry_names, joined_names, joined-names_of, names_listed, zone_is_there, place_found, place_missed, compared, same_text, searchable, none_same}
+use Rattle.catalogue.proofs.lemmas.NameIndex.{entry_names, joined_names, joined-names_of, names_listed, zone_is_there, place_found, place_missed, compared}
+use Rattle.catalogue.proofs.lemmas.NameIndex.{same_text, searchable, none_same}
 use Rattle.catalogue.proofs.holding.Catalogue.find_name.Goals as goal
 
 -- the names are those of the entries
-names_are : {Z : Type 0} (bytes : Z → List ℕ) (sound : ReleaseData → Type 0) (k : Catalogue Z) (H : List ReleaseData) → StandsFor bytes sound k H → k.names ≡ names_listed (meta H)
+names_are : {Z : Type 0} (bytes : Z → List ℕ) (sound : ReleaseData → Type 0) (k : Catalogue Z) (H : List ReleaseData) → StandsFor bytes sound k H
+    → k.names ≡ names_listed (meta H)
 names_are bytes sound k H s =
-    k.indexed ∙ ap (λ xss. rising_by (λ (n : Name). n.text) (numbered 0 xss)) (sym (map-map entry_names (held_entry bytes) k.held) ∙ ap (map entry_names) s.entries)
+    k.indexed ∙ ap (λ xss. rising_by (λ (n : Name). n.text) (numbered 0 xss))
+    (sym (map-map entry_names (held_entry bytes) k.held) ∙ ap (map entry_names) s.entries)
 
 -- and they are distinct
-apart : {Z : Type 0} (bytes : Z → List ℕ) (sound : ReleaseData → Type 0) (k : Catalogue Z) (H : List ReleaseData) → StandsFor bytes sound k H → IsDistinct bytes_eq (joined_names (map entry_names (meta H)))
+apart : {Z : Type 0} (bytes : Z → List ℕ) (sound : ReleaseData → Type 0) (k : Catalogue Z) (H : List ReleaseData) → StandsFor bytes sound k H
+    → IsDistinct bytes_eq (joined_names (map entry_names (meta H)))
 apart bytes sound k H s =
     let distinct = (last_of sound H _ s.history s.last).release.fits.distinct in
     let same : joined_names (map entry_names (meta H)) ≡ names_of (map (held_content bytes) k.held) =
@@ -35,7 +39,8 @@ pub returns-in-Ok-clause-within : goal.returns-in-Ok-clause-within
 returns-in-Ok-clause-within g c =
     let held = c.args.self.now.held in
     let names = c.as_slice-names.ensures ∙ c.args.self.now.indexed in
-    rw names (rw (length-map held held_names) at (zone_is_there (map held_names held) c.in-Ok.found c.index-names-found.result (rw names at c.in-Ok.ensures.bound)))
+    rw names (rw (length-map held held_names) at
+    (zone_is_there (map held_names held) c.in-Ok.found c.index-names-found.result (rw names at c.in-Ok.ensures.bound)))
 
 pub returns-in-Ok-clause-place : goal.returns-in-Ok-clause-place
 unfolding place_named

@@ -15,7 +15,8 @@ returns-else-is_same-clause-none g c = λ _ H s.
     let bytes = g.Z.ZoneData.bytes in
     let h = c.index-as_slice-at.result in
     let other : same_content (content_as_is bytes c.args.content.now) (held_content bytes h) ≡ false =
-    ap (λ v. same_content (content_as_is bytes c.args.content.now) (content_as_is bytes v.entry.content)) (sym c.deref.ensures) ∙ sym c.is_same.ensures ∙ c.if-is_same.false in
+    ap (λ v. same_content (content_as_is bytes c.args.content.now) (content_as_is bytes v.entry.content)) (sym c.deref.ensures) ∙ sym c.is_same.ensures
+    ∙ c.if-is_same.false in
     other_held bytes g.Z.ZoneData.sound c.args.self.now H s (content_as_is bytes c.args.content.now) c.in_ok-at.at h
     (c.in_ok-at.ensures.place H s ∙ ap (place_named H) c.as_slice.ensures)
     c.in_ok-at.ensures.within

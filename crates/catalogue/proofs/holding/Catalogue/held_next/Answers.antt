@@ -13,7 +13,8 @@ returns-in_ok-held-in-Some-clause-entry g c = λ H s.
     let same : same_content (content_as_is bytes c.args.content) (held_content bytes h) ≡ true =
     ap (λ z. same_content (content_as_is bytes c.args.content) (held_content bytes z)) is ∙ c.in-Some.ensures.same h in
     ap (λ v. entry_data bytes v.entry) c.in_ok-held-in-Some.ensures
-    ∙ kept_entry bytes g.Z.ZoneData.sound c.args.self.now H s (content_as_is bytes c.args.content) (release_of c.args.head.now []) c.args.place c.in-Some.at h c.in-Some.ensures.within is same
+    ∙ kept_entry bytes g.Z.ZoneData.sound c.args.self.now H s (content_as_is bytes c.args.content) (release_of c.args.head.now []) c.args.place c.in-Some.at h
+    c.in-Some.ensures.within is same
 
 pub returns-in_ok-held-in-Some-clause-digest : goal.returns-in_ok-held-in-Some-clause-digest
 returns-in_ok-held-in-Some-clause-digest g c = λ H s.

@@ -39,7 +39,8 @@ returns-then-eq g c = λ H s.
     let token = token_at g.Z.ZoneData.bytes g.Z.ZoneData.sound c.args.self.now H s c.in_ok-place.place t some (omega (arith, c.if-self-place.false))
     (c.index-as_slice-place.is ∙ ap (λ ts. get_or ts (c.in_ok-place.place - 1) t) c.as_slice.ensures) in
     let equal : bytes_eq c.as_slice-2.result.now c.args.text.now ≡ true = sym c.eq.ensures ∙ c.if-eq.true in
-    let text : c.args.text.now ≡ token_of H c.in_ok-place.place = sym ((bytes_eq-Decides c.as_slice-2.result.now c.args.text.now).0 equal) ∙ c.as_slice-2.ensures.value ∙ token in
+    let text : c.args.text.now ≡ token_of H c.in_ok-place.place = sym ((bytes_eq-Decides c.as_slice-2.result.now c.args.text.now).0 equal)
+    ∙ c.as_slice-2.ensures.value ∙ token in
     sym (ap (place_of H) text ∙ place_found H c.in_ok-place.place some (omega (arith, places, c.if-self-place.false)) (omega (arith, places, fits)))
 
 pub returns-else-eq : goal.returns-else-eq

@@ -9,7 +9,8 @@ invariant_of-self-2 c =
     let inputs : c.push_reserved.new.self.items ≡ c.self.inside.inputs.items ++ c.args.conn.inner.source.left ∷ [] = search rules in
     record {
       given = search rules;
-      inputs = rw (script, inputs) (pushed_inputs _ c.self.inside.inputs.items c.self.inside.script.items c.args.conn c.self.invariant.given c.self.invariant.inputs);
+      inputs = rw (script, inputs) (pushed_inputs _ c.self.inside.inputs.items c.self.inside.script.items c.args.conn c.self.invariant.given
+          c.self.invariant.inputs);
       fresh = rw script (AreFresh-append c.self.inside.script.items (step.Conn c.args.conn ∷ []) c.self.invariant.fresh (c.requires.fresh, tt));
       room = search rules;
     }

@@ -7,5 +7,9 @@ pub returns-clause-tells : goal.returns-clause-tells
 returns-clause-tells g c =
     let rest : c.replace-given.new.dest.items ≡ drop c.args.number c.self.inside.doors.items = search rules in
     let given : c.replace-given.result.items ≡ take c.args.number c.self.inside.doors.items = search rules in
-    rw (← c.self.view_is, rest, given)
-    (sym (drop-map _ c.args.number c.self.inside.doors.items), search (rules, map-append), first_tell g.D.Door.seen c.args.number c.self.inside.doors.items c.self.invariant)
+    rw (← c.self.view_is, rest, given) (
+      sym (drop-map _ c.args.number c.self.inside.doors.items),
+      search (rules, map-append),
+      first_tell g.D.Door.seen c.args.number c.self.inside.doors.items
+          c.self.invariant,
+    )
