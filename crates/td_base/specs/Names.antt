@@ -1,11 +1,12 @@
 -- The texts that name things in a release: identifiers of time zones, files, publishers and
 -- versions.
 use Rattle.std.specs.Prelude.{ℕ, List, [], ◌∷◌, length, Bool, IsTrue, false, not, ◌&&◌, ◌||◌, ◌==◌}
-use Rattle.std.specs.Prelude.{nat_le}
-use Rattle.std.specs.Prelude.{if◌then◌else◌}
+use Rattle.std.specs.Prelude.{nat_le, if◌then◌else◌}
 use Rattle.std.specs.List.{list_all, list_any}
 use Rattle.std.specs.Str.{bytes_eq}
-use Rattle.td_base.specs.declared.name_forms.TheConstants.{MOST_PATH_BYTES}
+use Rattle.td_base.specs.declared.name_forms.TheConstants.{MOST_FILE_NAME_BYTES}
+use Rattle.td_base.specs.declared.name_forms.TheConstants.{MOST_IDENTIFIER_BYTES}
+use Rattle.td_base.specs.declared.name_forms.TheConstants.{MOST_LABEL_BYTES, MOST_PATH_BYTES}
 
 -- the byte before the first piece
 abbrev pub with_first : ℕ → List (List ℕ) → List (List ℕ)
@@ -27,23 +28,13 @@ is_name_byte b =
 abbrev pub is_segment : List ℕ → Bool
 is_segment s = nat_le 1 (length s) && list_all is_name_byte s
 
--- the most bytes of an identifier, of the name of a file, and of a label
-abbrev pub most_identifier_bytes : ℕ
-most_identifier_bytes = 64
-
-abbrev pub most_file_name_bytes : ℕ
-most_file_name_bytes = 128
-
-abbrev pub most_label_bytes : ℕ
-most_label_bytes = 64
-
 -- at most so many bytes, in segments with single slashes between them
 unfoldable pub is_path : ℕ → List ℕ → Bool
 is_path most text = nat_le (length text) most && list_all is_segment (segments text)
 
 -- the identifier of a time zone, or an alias of one
 abbrev pub is_identifier : List ℕ → Bool
-is_identifier text = is_path most_identifier_bytes text
+is_identifier text = is_path MOST_IDENTIFIER_BYTES text
 
 -- a segment that stands for a folder itself or for the one above it
 abbrev pub is_dots : List ℕ → Bool
@@ -51,7 +42,7 @@ is_dots s = bytes_eq s (46 ∷ []) || bytes_eq s (46 ∷ 46 ∷ [])
 
 -- the name of a file of a release
 unfoldable pub is_file_name : List ℕ → Bool
-is_file_name text = is_path most_file_name_bytes text && not (list_any is_dots (segments text))
+is_file_name text = is_path MOST_FILE_NAME_BYTES text && not (list_any is_dots (segments text))
 
 -- a printable ASCII byte
 abbrev pub is_printable : ℕ → Bool
@@ -64,7 +55,7 @@ IsPlain text = IsTrue (list_all is_printable text)
 -- the name of a publisher or of a version: 1 to so many printable bytes
 unfoldable pub is_label : List ℕ → Bool
 is_label text =
-    nat_le 1 (length text) && nat_le (length text) most_label_bytes && list_all is_printable text
+    nat_le 1 (length text) && nat_le (length text) MOST_LABEL_BYTES && list_all is_printable text
 
 -- the path of a file or folder where words or lines name one: 1 to 1,024 bytes that do not begin
 -- with a dash

@@ -65,7 +65,10 @@ pub use memory_sink::MemorySink;
 pub use memory_source::MemorySource;
 pub use memory_spawner::MemorySpawner;
 pub use memory_store::MemoryStore;
-pub use name_forms::{MOST_PATH_BYTES, is_file_name, is_identifier, is_label, is_path_word};
+pub use name_forms::{
+    MOST_FILE_NAME_BYTES, MOST_IDENTIFIER_BYTES, MOST_LABEL_BYTES, MOST_PATH_BYTES, is_file_name,
+    is_identifier, is_label, is_path_word,
+};
 pub use network::{Made, Network};
 pub use no_memory::NoMemory;
 pub use outside::{Conn, FileRead, ReadStep, Sink, Source, Store, WriteStep};

@@ -6,13 +6,13 @@ ghost use Rattle.td_base.specs.Names.{segments};
 ghost use Rattle.td_base.specs.NameCuts.{IsSegmentCut};
 
 /// The most bytes of an identifier.
-const MOST_IDENTIFIER_BYTES: usize = 64;
+pub const MOST_IDENTIFIER_BYTES: usize = 64;
 
 /// The most bytes of the name of a file.
-const MOST_FILE_NAME_BYTES: usize = 128;
+pub const MOST_FILE_NAME_BYTES: usize = 128;
 
 /// The most bytes of a label.
-const MOST_LABEL_BYTES: usize = 64;
+pub const MOST_LABEL_BYTES: usize = 64;
 
 /// The most bytes of the path of a file or folder where words or lines name one.
 pub const MOST_PATH_BYTES: usize = 1_024;
