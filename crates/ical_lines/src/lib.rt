@@ -7,6 +7,7 @@ mod folding;
 mod laws;
 mod line_fault;
 mod reading;
+mod send_sync;
 #[cfg(test)]
 mod tests;
 

@@ -6,6 +6,7 @@
 mod choosing;
 mod pieces;
 mod qualities;
+mod send_sync;
 mod tags;
 #[cfg(test)]
 mod tests;

@@ -13,6 +13,7 @@ mod outcome;
 mod printing;
 mod refusing;
 mod running;
+mod send_sync;
 mod server;
 mod serving;
 mod session;
