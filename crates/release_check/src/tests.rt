@@ -1,7 +1,7 @@
 //! Folders of a store in memory.
 mod folders;
 mod histories;
-mod slim_files;
+mod plans;
 mod values;
 
 use crate::{CheckFault, check};

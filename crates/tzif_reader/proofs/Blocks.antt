@@ -33,7 +33,7 @@ sized c text len = record {
   ut = length_piece (8 * c.timecnt + c.timecnt + 6 * c.typecnt + c.charcnt + 12 * c.leapcnt + c.isstdcnt) c.isutcnt text (omega arith);
 }
 
-abbrev joined_parts : Parts → List ℕ
+abbrev pub joined_parts : Parts → List ℕ
 joined_parts p = p.times ++ (p.numbers ++ (p.types ++ (p.designations ++ (p.leaps ++ (p.standard ++ p.ut)))))
 
 onto : (a r s : List ℕ) → r ≡ s → a ++ r ≡ a ++ s

@@ -16,13 +16,14 @@ use Rattle.tzif_reader.specs.declared.zone_file.ZoneFile.{ZoneFile}
 use Rattle.tzif_reader.specs.Layout.{IsBlock, IsKind, IsLeapLine, IsMoment, second_block_size}
 use Rattle.tzif_reader.specs.Cut.{Parts, piece, items, long_at, parts_in, transition_at, flag_at, kind_at, leap_at, zone_from}
 use Rattle.tzif_reader.specs.Faults.{is_unordered, is_too_late}
+use Rattle.tzif_reader.specs.Views.{AreSized}
 use Rattle.tzif_reader.proofs.lemmas.Joined.{field, joined_length, joined_at}
 use Rattle.tzif_reader.proofs.Records.{CutsKind, kind_cuts, leap_cuts, moment_cuts}
 use Rattle.tzif_reader.proofs.Soundness.{AreSound}
-use Rattle.tzif_reader.proofs.Blocks.{nothing, test_from_lt}
+use Rattle.tzif_reader.proofs.Blocks.{joined_parts, nothing, test_from_lt}
 
 -- the parts that a layout names
-abbrev laid : (text : List ℕ) (c : Counts) (z : ZoneFile) → IsBlock text c z → Parts
+abbrev pub laid : (text : List ℕ) (c : Counts) (z : ZoneFile) → IsBlock text c z → Parts
 laid text c z is = record {
   times = is.times;
   numbers = z.numbers;
@@ -52,48 +53,63 @@ lengths_6 text c z is = joined_length 6 (IsKind is.designations) is.types z.kind
 lengths_12 : (text : List ℕ) (c : Counts) (z : ZoneFile) (is : IsBlock text c z) → length is.leaps ≡ 12 * c.leapcnt
 lengths_12 text c z is = joined_length 12 IsLeapLine is.leaps z.leaps is.leaps_are ∙ ap (λ (n : ℕ). 12 * n) is.leap_count
 
-pub laid_parts : (text : List ℕ) (c : Counts) (z : ZoneFile) (is : IsBlock text c z) → parts_in c text ≡ laid text c z is
-laid_parts text c z is =
-    let t = lengths_8 text c z is in
-    let r0 : drop (8 * c.timecnt) text ≡ z.numbers ++ (is.types ++ (is.designations ++ (is.leaps ++ (is.standard ++ is.ut)))) =
-    ap (drop (8 * c.timecnt)) is.whole ∙ drop_at is.times _ (8 * c.timecnt) t in
-    let f1 = field text z.numbers (is.types ++ (is.designations ++ (is.leaps ++ (is.standard ++ is.ut)))) (8 * c.timecnt) c.timecnt r0 is.number_count in
-    let f2 = field text is.types (is.designations ++ (is.leaps ++ (is.standard ++ is.ut))) (8 * c.timecnt + c.timecnt) (6 * c.typecnt) f1.1
-    (lengths_6 text c z is) in
-    let f3 = field text is.designations (is.leaps ++ (is.standard ++ is.ut)) (8 * c.timecnt + c.timecnt + 6 * c.typecnt) c.charcnt f2.1 is.designation_count in
-    let f4 = field text is.leaps (is.standard ++ is.ut) (8 * c.timecnt + c.timecnt + 6 * c.typecnt + c.charcnt) (12 * c.leapcnt) f3.1 (lengths_12 text c z is)
-    in
-    let f5 = field text is.standard is.ut (8 * c.timecnt + c.timecnt + 6 * c.typecnt + c.charcnt + 12 * c.leapcnt) c.isstdcnt f4.1 is.standard_count in
-    same_parts c text is.times z.numbers is.types is.designations is.leaps is.standard is.ut
-    (ap (take (8 * c.timecnt)) is.whole ∙ take_at is.times _ (8 * c.timecnt) t) f1.0 f2.0 f3.0 f4.0 f5.0
-    (ap (take c.isutcnt) f5.1 ∙ take_all c.isutcnt is.ut (omega (arith, is.ut_count)))
+-- parts that are joined, and have the lengths that the counts give, are what is cut
+pub parts_laid : (c : Counts) (text : List ℕ) (p : Parts) → text ≡ joined_parts p → AreSized c p → parts_in c text ≡ p
+parts_laid c text p whole s =
+    let r0 : drop (8 * c.timecnt) text ≡ p.numbers ++ (p.types ++ (p.designations ++ (p.leaps ++ (p.standard ++ p.ut)))) =
+    ap (drop (8 * c.timecnt)) whole ∙ drop_at p.times _ (8 * c.timecnt) s.times in
+    let f1 = field text p.numbers (p.types ++ (p.designations ++ (p.leaps ++ (p.standard ++ p.ut)))) (8 * c.timecnt) c.timecnt r0 s.numbers in
+    let f2 = field text p.types (p.designations ++ (p.leaps ++ (p.standard ++ p.ut))) (8 * c.timecnt + c.timecnt) (6 * c.typecnt) f1.1 s.types in
+    let f3 = field text p.designations (p.leaps ++ (p.standard ++ p.ut)) (8 * c.timecnt + c.timecnt + 6 * c.typecnt) c.charcnt f2.1 s.designations in
+    let f4 = field text p.leaps (p.standard ++ p.ut) (8 * c.timecnt + c.timecnt + 6 * c.typecnt + c.charcnt) (12 * c.leapcnt) f3.1 s.leaps in
+    let f5 = field text p.standard p.ut (8 * c.timecnt + c.timecnt + 6 * c.typecnt + c.charcnt + 12 * c.leapcnt) c.isstdcnt f4.1 s.standard in
+    same_parts c text p.times p.numbers p.types p.designations p.leaps p.standard p.ut
+    (ap (take (8 * c.timecnt)) whole ∙ take_at p.times _ (8 * c.timecnt) s.times) f1.0 f2.0 f3.0 f4.0 f5.0
+    (ap (take c.isutcnt) f5.1 ∙ take_all c.isutcnt p.ut (omega (arith, s.ut)))
 
-pub laid_size : (text : List ℕ) (c : Counts) (z : ZoneFile) → IsBlock text c z → length text ≡ second_block_size c
-laid_size text c z is =
+pub parts_size : (c : Counts) (text : List ℕ) (p : Parts) → text ≡ joined_parts p → AreSized c p → length text ≡ second_block_size c
+parts_size c text p whole s =
     omega (
       arith,
-      ap length is.whole,
-      length-append is.times (z.numbers ++ (is.types ++ (is.designations ++ (is.leaps ++ (is.standard ++ is.ut))))),
-      length-append z.numbers (is.types ++ (is.designations ++ (is.leaps ++ (is.standard ++ is.ut)))),
-      length-append is.types (is.designations ++ (is.leaps ++ (is.standard ++ is.ut))),
-      length-append is.designations (is.leaps ++ (is.standard ++ is.ut)),
-      length-append is.leaps (is.standard ++ is.ut),
-      length-append is.standard is.ut,
-      lengths_8 text c z is,
-      lengths_6 text c z is,
-      lengths_12 text c z is,
-      is.number_count,
-      is.designation_count,
-      is.standard_count,
-      is.ut_count,
+      ap length whole,
+      length-append p.times (p.numbers ++ (p.types ++ (p.designations ++ (p.leaps ++ (p.standard ++ p.ut))))),
+      length-append p.numbers (p.types ++ (p.designations ++ (p.leaps ++ (p.standard ++ p.ut)))),
+      length-append p.types (p.designations ++ (p.leaps ++ (p.standard ++ p.ut))),
+      length-append p.designations (p.leaps ++ (p.standard ++ p.ut)),
+      length-append p.leaps (p.standard ++ p.ut),
+      length-append p.standard p.ut,
+      s.times,
+      s.numbers,
+      s.types,
+      s.designations,
+      s.leaps,
+      s.standard,
+      s.ut,
     )
+
+laid_sized : (text : List ℕ) (c : Counts) (z : ZoneFile) (is : IsBlock text c z) → AreSized c (laid text c z is)
+laid_sized text c z is = record {
+  times = lengths_8 text c z is;
+  numbers = is.number_count;
+  types = lengths_6 text c z is;
+  designations = is.designation_count;
+  leaps = lengths_12 text c z is;
+  standard = is.standard_count;
+  ut = is.ut_count;
+}
+
+pub laid_parts : (text : List ℕ) (c : Counts) (z : ZoneFile) (is : IsBlock text c z) → parts_in c text ≡ laid text c z is
+laid_parts text c z is = parts_laid c text (laid text c z is) is.whole (laid_sized text c z is)
+
+pub laid_size : (text : List ℕ) (c : Counts) (z : ZoneFile) → IsBlock text c z → length text ≡ second_block_size c
+laid_size text c z is = parts_size c text (laid text c z is) is.whole (laid_sized text c z is)
 
 -- ---- the items
 
-some_local : Local
+pub some_local : Local
 some_local = record { offset = pos 0; dst = false; name = [] }
 
-some_line : LeapLine
+pub some_line : LeapLine
 some_line = record { at = pos 0; correction = pos 0 }
 
 moment_here : (text : List ℕ) (c : Counts) (z : ZoneFile) (is : IsBlock text c z) (i : ℕ) (d : Moment) → i < c.timecnt

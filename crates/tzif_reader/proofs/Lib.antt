@@ -9,3 +9,6 @@ pub mod Cuts
 pub mod Footers
 pub mod Frames
 pub mod LeapLines
+pub mod SlimRows
+pub mod SlimCuts
+pub mod SlimSound

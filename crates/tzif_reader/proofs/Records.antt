@@ -78,7 +78,7 @@ six_cells p len =
     drop_more p 4 0 (omega arith) ∙ ap (λ (r : List ℕ). get_or p 4 0 ∷ r) (drop_more p 5 0 (omega arith) ∙ ap (λ (r : List ℕ). get_or p 5 0 ∷ r) end) in
     sym (take-append-drop 4 p) ∙ ap (λ (r : List ℕ). take 4 p ++ r) rest
 
-flag_is : (n : ℕ) → n ≤ 1 → n ≡ from_bool (eqb n 1)
+pub flag_is : (n : ℕ) → n ≤ 1 → n ≡ from_bool (eqb n 1)
 flag_is zero le = refl
 flag_is (suc zero) le = refl
 flag_is (suc (suc n)) le = absurd (omega arith)
@@ -91,7 +91,7 @@ flag_low : (dst : Bool) → from_bool dst ≤ 1
 flag_low true = omega arith
 flag_low false = omega arith
 
-named_some : (o : Option (List ℕ)) → is_no_name o ≡ false → (o ≡ Some (unwrap_or o [])) × (length (unwrap_or o []) ≤ 32)
+pub named_some : (o : Option (List ℕ)) → is_no_name o ≡ false → (o ≡ Some (unwrap_or o [])) × (length (unwrap_or o []) ≤ 32)
 named_some None h = absurd cc
 named_some (Some name) h = (refl, ltb-false 32 (length name) h)
 
@@ -146,7 +146,7 @@ pub record CutsKind (designations types : List ℕ) (i : ℕ) (k : Local) : Type
   pub flag : flag_at types i ≤ 1
   pub within : is_beyond types i ≡ false
 
-cell_of : (front rest : List ℕ) (k : ℕ) → length front ≡ 4 → get_or (front ++ rest) (4 + k) 0 ≡ get_or rest k 0
+pub cell_of : (front rest : List ℕ) (k : ℕ) → length front ≡ 4 → get_or (front ++ rest) (4 + k) 0 ≡ get_or rest k 0
 cell_of front rest k len = subst (λ (n : ℕ). get_or (front ++ rest) (n + k) 0 ≡ get_or rest k 0) len (get_or-append-add front rest k 0)
 
 same_local : (o p : ℤ) (d e : Bool) (n m : List ℕ) (k : Local) → k ≡ record { offset = o; dst = d; name = n } → o ≡ p → d ≡ e → n ≡ m

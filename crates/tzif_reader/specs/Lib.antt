@@ -3,4 +3,5 @@ pub mod FaultText
 pub mod Faults
 pub mod Layout
 pub mod LeapSteps
+pub mod Slim
 pub mod Views

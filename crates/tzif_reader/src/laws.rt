@@ -1,6 +1,9 @@
-ghost use Rattle.std.specs.Prelude.{◌≡◌, ◌↔◌, ◌≤◌, ℕ, List, length, None};
+ghost use Rattle.std.specs.Prelude.{◌≡◌, ◌≢◌, ◌↔◌, ◌≤◌, ℕ, List, length, All, None};
 ghost use Rattle.tzif_reader.specs.Layout.{IsZoneFile};
+ghost use Rattle.tzif_reader.specs.Cut.{lists_of};
 ghost use Rattle.tzif_reader.specs.Faults.{first_fault};
+ghost use Rattle.tzif_reader.specs.Slim.{PlanLists, FitsFile, IsSoundPlan, slim_of};
+ghost use Rattle.tzif_reader.specs.Slim.{zone_of_plan};
 ghost use Rattle.tzif_reader.specs.declared.zone_file.ZoneFile.{ZoneFile as Zone};
 ghost use Rattle.tzif_reader.specs.declared.zone_file.TheConstants.{MOST_BYTES};
 
@@ -15,4 +18,18 @@ pub fn one_zone_file()
 /// A zone file has fewer leap lines than bytes may be in it.
 pub fn leap_lines_fit()
     ensures { (bytes : List ℕ) (z : Zone) → IsZoneFile bytes z → length z.leaps ≤ MOST_BYTES }
+{}
+
+/// A slim file reads back as its plan, where the plan's numbers have room in a file: what is cut
+/// out of its bytes at the places that its counts give are the moments, numbers, types, leap lines
+/// and footer of the plan, so that where it has no fault it is the file of that zone. It has none
+/// exactly where the plan is sound.
+#[tactic(auto, using(crate::proofs::SlimCuts::slim_reads, crate::proofs::SlimCuts::slim_zone, crate::proofs::SlimSound::sound_plans))]
+pub fn slim_file_reads_back()
+    ensures reads { (plan : PlanLists) → FitsFile plan → All (λ byte. byte ≢ 10) plan.footer
+        → lists_of (slim_of plan) ≡ zone_of_plan plan }
+    ensures zone { (plan : PlanLists) → FitsFile plan → first_fault (slim_of plan) ≡ None
+        → IsZoneFile (slim_of plan) (zone_of_plan plan) }
+    ensures sound { (plan : PlanLists) → FitsFile plan
+        → (first_fault (slim_of plan) ≡ None) ↔ IsSoundPlan plan }
 {}

@@ -1,6 +1,7 @@
 //! Zone files in the TZif format (RFC 9636), versions 2 to 4, read from their bytes. The main call
 //! is [`read`]: what it gives is laid out in the bytes as `Layout.antt` says, and what it refuses
-//! has the first fault of `Faults.antt`.
+//! has the first fault of `Faults.antt`. [`slim`] writes the file of a plan, which reads back as
+//! that plan.
 #![tactic(auto)]
 
 mod block;
@@ -12,13 +13,15 @@ mod laws;
 mod numbers;
 mod reading;
 mod send_sync;
+mod slim_file;
 mod text;
 mod tzif_fault;
 mod zone;
 mod zone_file;
 
-pub use laws::{leap_lines_fit, one_zone_file};
+pub use laws::{leap_lines_fit, one_zone_file, slim_file_reads_back};
 pub use reading::read;
+pub use slim_file::{Plan, slim};
 pub use tzif_fault::TzifFault;
 pub use zone_file::{LeapLine, MOST_BYTES, MOST_TRANSITIONS, ZoneFile};
 

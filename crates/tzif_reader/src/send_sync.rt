@@ -1,10 +1,11 @@
 //! The types of this crate may be sent to other threads and shared with them.
-use crate::{LeapLine, TzifFault, ZoneFile};
+use crate::{LeapLine, Plan, TzifFault, ZoneFile};
 
 fn is_shared<T: Send + Sync>() {}
 
 fn types_are_shared() {
     is_shared::<ZoneFile>();
     is_shared::<LeapLine>();
+    is_shared::<Plan<'static>>();
     is_shared::<TzifFault>();
 }

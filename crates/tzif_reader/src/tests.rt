@@ -1,21 +1,8 @@
 use super::*;
 use std::alloc::Global;
+use std::process::Abort;
 use std::test::*;
 use td_base::{Bytes, NoMemory};
-
-/// What the second block of a file and its footer are to hold.
-#[derive(Clone, Copy)]
-struct Plan<'a> {
-    times: &'a [i64],
-    numbers: &'a [u8],
-    /// Offset, flag and index of each type.
-    types: &'a [(i32, u8, u8)],
-    designations: &'a [u8],
-    leaps: &'a [(i64, i32)],
-    standard: &'a [u8],
-    ut: &'a [u8],
-    footer: &'a [u8],
-}
 
 const UTC: Plan<'static> = Plan {
     times: &[],
@@ -38,61 +25,6 @@ const NEW_YORK: Plan<'static> = Plan {
     ut: &[],
     footer: b"EST5EDT,M3.2.0,M11.1.0",
 };
-
-/// Isutcnt, isstdcnt, leapcnt, timecnt, typecnt and charcnt.
-fn put_header(file: &mut Bytes, counts: &[u32]) -> Result<(), NoMemory> {
-    file.append(b"TZif2")?;
-    file.append(&[0; 15])?;
-    for count in counts {
-        file.append(&count.to_be_bytes())?;
-    }
-    Ok(())
-}
-
-fn put_block(file: &mut Bytes, plan: &Plan) -> Result<(), NoMemory> {
-    for time in plan.times {
-        file.append(&time.to_be_bytes())?;
-    }
-    file.append(plan.numbers)?;
-    for (offset, flag, index) in plan.types {
-        file.append(&offset.to_be_bytes())?;
-        file.append(&[*flag, *index])?;
-    }
-    file.append(plan.designations)?;
-    for (at, correction) in plan.leaps {
-        file.append(&at.to_be_bytes())?;
-        file.append(&correction.to_be_bytes())?;
-    }
-    file.append(plan.standard)?;
-    file.append(plan.ut)
-}
-
-fn count_of(len: usize) -> u32 {
-    u32::try_from(len).unwrap_or(u32::MAX)
-}
-
-/// A file of version 2 whose first block has one type and one designation.
-fn slim(alloc: Global, plan: &Plan) -> Result<Bytes, NoMemory> {
-    let mut file = Bytes::new(alloc);
-    put_header(&mut file, &[0, 0, 0, 0, 1, 1])?;
-    file.append(&[0; 7])?;
-    put_header(
-        &mut file,
-        &[
-            count_of(plan.ut.len()),
-            count_of(plan.standard.len()),
-            count_of(plan.leaps.len()),
-            count_of(plan.times.len()),
-            count_of(plan.types.len()),
-            count_of(plan.designations.len()),
-        ],
-    )?;
-    put_block(&mut file, plan)?;
-    file.push(b'\n')?;
-    file.append(plan.footer)?;
-    file.push(b'\n')?;
-    Ok(file)
-}
 
 /// The bytes with others in their place from `place` on.
 fn edited(alloc: Global, bytes: &[u8], place: usize, with: &[u8]) -> Result<Bytes, NoMemory> {
@@ -344,6 +276,85 @@ fn a_zone_is_read(rt: HostRuntime) -> Result<(), Fail> {
     }
     one_zone_file();
     leap_lines_fit();
+    Ok(())
+}
+
+/// A plan, and what is to be read of its file: the seconds of the moments, the numbers, the names
+/// of the types and the footer.
+struct ReadRow {
+    plan: Plan<'static>,
+    seconds: &'static [i64],
+    numbers: &'static [u8],
+    names: &'static [&'static [u8]],
+    footer: &'static [u8],
+}
+
+const READ_ROWS: [ReadRow; 4] = [
+    ReadRow {
+        plan: UTC,
+        seconds: &[],
+        numbers: &[],
+        names: &[b"UTC"],
+        footer: b"UTC0",
+    },
+    ReadRow {
+        plan: NEW_YORK,
+        seconds: &[1_173_596_400],
+        numbers: &[1],
+        names: &[b"EST", b"EDT"],
+        footer: b"EST5EDT,M3.2.0,M11.1.0",
+    },
+    ReadRow {
+        plan: Plan {
+            times: &[-576_460_752_303_423_488, -1, 253_370_764_799],
+            numbers: &[0, 1, 0],
+            standard: &[1, 1],
+            ut: &[0, 1],
+            footer: b"",
+            ..NEW_YORK
+        },
+        seconds: &[-576_460_752_303_423_488, -1, 253_370_764_799],
+        numbers: &[0, 1, 0],
+        names: &[b"EST", b"EDT"],
+        footer: b"",
+    },
+    ReadRow {
+        plan: Plan {
+            types: &[(-5_400, 0, 1), (0, 1, 5), (86_399, 0, 0)],
+            designations: b"LONG\0\0",
+            leaps: &[(78_796_800, 1)],
+            ..UTC
+        },
+        seconds: &[],
+        numbers: &[],
+        names: &[b"ONG", b"", b"LONG"],
+        footer: b"UTC0",
+    },
+];
+
+fn expect_read(rt: &impl Abort, alloc: Global, row: &ReadRow) -> Result<(), TzifFault> {
+    let file = slim(alloc, &row.plan)?;
+    let zone = read(alloc, file.as_slice())?;
+    assert_eq!(rt; zone.numbers.as_slice(), row.numbers);
+    assert_eq!(rt; zone.footer.as_slice(), row.footer);
+    assert_eq!(rt; zone.moments.len(), row.seconds.len());
+    for (moment, seconds) in zone.moments.as_slice().iter().zip(row.seconds) {
+        assert_eq!(rt; moment.seconds, *seconds);
+    }
+    assert_eq!(rt; zone.kinds.len(), row.names.len());
+    for (kind, name) in zone.kinds.as_slice().iter().zip(row.names) {
+        assert_eq!(rt; kind.name.as_slice(), *name);
+    }
+    Ok(())
+}
+
+#[test]
+fn a_file_reads_back_as_its_plan(rt: HostRuntime) -> Result<(), Fail> {
+    let alloc = rt.alloc();
+    for row in &READ_ROWS {
+        expect_read(&rt, alloc, row)?;
+    }
+    slim_file_reads_back();
     Ok(())
 }
 

@@ -13,9 +13,9 @@ mod calendar_text;
 #[cfg(test)]
 mod form_rows;
 mod laws;
-mod rule_parts;
 #[cfg(test)]
-mod slim_files;
+mod plans;
+mod rule_parts;
 #[cfg(test)]
 mod test_rows;
 #[cfg(test)]

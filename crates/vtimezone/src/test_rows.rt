@@ -1,7 +1,8 @@
 //! Calendars as they are to be, line by line. Those of `ENDS` come from a program that lists the
 //! days of each year.
-use crate::slim_files::{ALWAYS_DAYLIGHT, CAIRO, FAT, NEW_YORK, Plan, UTC};
+use crate::plans::{ALWAYS_DAYLIGHT, CAIRO, FAT, NEW_YORK, UTC};
 use td_civil::LO;
+use tzif_reader::Plan;
 
 /// A zone, a range, and the calendar of the zone for it.
 pub struct Row {

@@ -9,7 +9,6 @@ ghost use Rattle.vtimezone.specs.PartsOf.{IsEndOf};
 ghost use Rattle.vtimezone.specs.ZoneParts.{end_in};
 
 use crate::form_rows::FORMS;
-use crate::slim_files::slim;
 use crate::test_rows::{ENDS, Row, VECTORS};
 use crate::{Range, parts, write};
 use recurrence::carry;
@@ -18,6 +17,7 @@ use std::process::Abort;
 use std::test::Fail;
 use td_base::{Bytes, NoMemory};
 use td_civil::{HI, LO, Moment};
+use tzif_reader::slim;
 use zone_meaning::{Zone, ZoneFault, footer, zone_of};
 
 /// Whether yearly rules say what the footer of a zone says.

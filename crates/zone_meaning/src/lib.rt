@@ -25,6 +25,6 @@ pub use zone_type::{Zone, file, footer, leap_count, lists};
 #[cfg(test)]
 mod observance_tests;
 #[cfg(test)]
-mod slim_files;
+mod plans;
 #[cfg(test)]
 mod tests;

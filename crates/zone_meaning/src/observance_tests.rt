@@ -1,7 +1,7 @@
 //! Observances of ranges: where they begin, where the state changes, and where it does not.
 ghost use Rattle.zone_meaning.specs.Observed.{IsRange};
 
-use crate::slim_files::{NEW_YORK, Plan, UTC, slim};
+use crate::plans::{NEW_YORK, UTC};
 use crate::{
     Changes, Zone, ZoneFault, last_observance_tells_the_state, names_are_printable, observances,
     observances_are_the_changes, zone_of,
@@ -11,6 +11,7 @@ use std::process::Abort;
 use std::test::Fail;
 use td_base::{Items, NoMemory};
 use td_civil::{HI, LO, Moment, Observance};
+use tzif_reader::{Plan, slim};
 
 /// Onset, offset before and after it, daylight saving time, name.
 type Row = (i64, i32, i32, bool, &'static [u8]);
@@ -53,8 +54,10 @@ const ONE_OFFSET: Plan<'static> = Plan {
     times: &[0, 1_000, 2_000],
     numbers: &[1, 2, 2],
     types: &[(-18_000, 0, 0), (-18_000, 0, 4), (-18_000, 1, 4)],
-    names: b"EST\0XST\0",
+    designations: b"EST\0XST\0",
     leaps: &[],
+    standard: &[],
+    ut: &[],
     footer: b"",
 };
 

@@ -1,4 +1,4 @@
-use crate::slim_files::{CAIRO, NEW_YORK, Plan, UTC, slim};
+use crate::plans::{CAIRO, NEW_YORK, UTC};
 use crate::{ZoneFault, at, file, leap_count, zone_from_lists, zone_of};
 use catalogue::ZoneData;
 use posix_footer::FooterFault;
@@ -6,7 +6,7 @@ use std::alloc::Global;
 use std::process::Abort;
 use std::test::Fail;
 use td_civil::{HI, LO, Moment};
-use tzif_reader::TzifFault;
+use tzif_reader::{Plan, TzifFault, slim};
 
 /// A moment and the state at it: offset, daylight saving time, name.
 type StateRow = (i64, i32, bool, &'static [u8]);

@@ -1,7 +1,8 @@
 //! Folders with their files, in a store in memory.
-use crate::tests::slim_files::{NEW_YORK, Plan, UTC, slim};
+use crate::tests::plans::{NEW_YORK, UTC};
 use std::alloc::Global;
 use td_base::{Bytes, MemoryStore, NoMemory};
+use tzif_reader::{Plan, slim};
 
 /// The manifests of folders.
 const MANIFESTS: [(&[u8], &[u8]); 25] = [
@@ -112,8 +113,10 @@ const BEYOND: Plan<'static> = Plan {
     times: &[],
     numbers: &[],
     types: &[(-10_800, 0, 0)],
-    names: b"AAA\0",
+    designations: b"AAA\0",
     leaps: &[],
+    standard: &[],
+    ut: &[],
     footer: b"AAA3BBB,M2.5.0,M10.1.0",
 };
 
@@ -147,7 +150,7 @@ const FILES: [(&[u8], Plan<'static>); 14] = [
     (
         b"state",
         Plan {
-            names: b"EST\0EXT\0",
+            designations: b"EST\0EXT\0",
             ..NEW_YORK
         },
     ),
@@ -164,14 +167,14 @@ const FILES: [(&[u8], Plan<'static>); 14] = [
         b"unnamed",
         Plan {
             times: &[1_167_609_600],
-            names: b"E.T\0EDT\0",
+            designations: b"E.T\0EDT\0",
             ..NEW_YORK
         },
     ),
     (
         b"unruled",
         Plan {
-            names: b"A.A\0",
+            designations: b"A.A\0",
             ..BEYOND
         },
     ),

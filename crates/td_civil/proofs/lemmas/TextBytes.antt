@@ -46,7 +46,16 @@ spelling_all P h s =
                               digit s.hour,
                               (
                                 colon,
-                                (digit (s.minute / 10), (digit s.minute, (colon, (digit (s.second / 10), (digit s.second, (h 90 (omega arith) (omega arith), tt)))))),
+                                (
+                                  digit (s.minute / 10),
+                                  (
+                                    digit s.minute,
+                                    (
+                                      colon,
+                                      (digit (s.second / 10), (digit s.second, (h 90 (omega arith) (omega arith), tt))),
+                                    ),
+                                  ),
+                                ),
                               ),
                             ),
                           ),
