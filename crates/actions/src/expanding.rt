@@ -1,6 +1,5 @@
-ghost use Rattle.std.specs.Prelude.{◌≡◌, ◌++◌, ◌<ℤ◌, ◌≤ℤ◌, List, IfOk, OnOk};
+ghost use Rattle.std.specs.Prelude.{◌≡◌, IfOk};
 ghost use Rattle.td_base.specs.Names.{IsPlain};
-ghost use Rattle.td_civil.specs.Bounds.{HasMeaning};
 ghost use Rattle.http_answer.specs.Replies.{IsAnswerStatus};
 ghost use Rattle.json_forms.specs.ExpansionDocument.{expansion_document};
 ghost use Rattle.zone_meaning.specs.Observed.{IsRange, observed};
@@ -8,7 +7,7 @@ ghost use Rattle.zone_meaning.specs.Sound.{IsSoundFile};
 ghost use Rattle.zone_meaning.specs.State.{zone_state};
 ghost use Rattle.zone_meaning.specs.ZoneHistories.{ForEachZoneHistory, HasZoneHistory};
 ghost use Rattle.actions.specs.Bounds as bounds;
-ghost use Rattle.actions.specs.Expanding.{expand_answer, expanded_from, expanded_to};
+ghost use Rattle.actions.specs.Expanding.{expand_answer, expanded_from};
 
 use crate::bounds::{end_of, start_of};
 use crate::documents::{document, refusal};

@@ -52,7 +52,7 @@ fn changed_after<Z>(alloc: Global, held: &[Arc<Held<Z>>], n: u32) -> Result<Item
 }
 
 impl<Z: ZoneData> Catalogue<Z> {
-    ghost use Rattle.catalogue.specs.Holdings.{ForEachHistory, zone_count, place_count};
+    ghost use Rattle.catalogue.specs.Holdings.{ForEachHistory, zone_count};
 
     /// The position of the entry of which this is the identifier or an alias.
     pub fn find_name(&self, name: &[u8]) -> Option<usize>

@@ -1,8 +1,8 @@
 -- What serving a connection over a desk promises.
-use Rattle.std.specs.Prelude.{ℕ, List, length, map, take}
+use Rattle.std.specs.Prelude.{ℕ, List, length, take}
 use mathlib.Core.List.{IsPrefix}
 use Rattle.actions.specs.Action.{action}
-use Rattle.catalogue.specs.Holdings.{release_held, history_of}
+use Rattle.catalogue.specs.Holdings.{history_of}
 use Rattle.catalogue.specs.Releases.{ReleaseData}
 use Rattle.catalogue.specs.declared.holding.Catalogue.{Catalogue}
 use Rattle.http_answer.specs.declared.answer.Answer.{Answer}

@@ -1,4 +1,4 @@
-ghost use Rattle.connection.specs.Turns.{HasServed, NoneOut, TakesTurn};
+ghost use Rattle.connection.specs.Turns.{NoneOut, TakesTurn};
 ghost use Rattle.json_forms.specs.PlainTexts.{IsPlainRole};
 
 use crate::serving::serve;

@@ -1,5 +1,5 @@
 //! Works in threads of their own, beside one thing of the caller's thread.
-ghost use Rattle.std.specs.Prelude.{◌≡◌, ◌<◌, ◌≤◌, [], length, map, take, vec_len};
+ghost use Rattle.std.specs.Prelude.{◌≡◌, ◌<◌, ◌≤◌, [], map, vec_len};
 ghost use Rattle.std.specs.Prelude.{false, IfOk};
 ghost use Rattle.std.specs.Vec.{vec_capacity};
 ghost use Rattle.td_base.specs.Works.{work_of};

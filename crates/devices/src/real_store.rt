@@ -1,7 +1,7 @@
 ghost use Rattle.std.specs.Prelude.{◌≡◌, ◌≤◌, None, MatchResult};
 ghost use Rattle.std.specs.IoError.{error_kind};
 ghost use Rattle.td_base.specs.Cause.{Rose};
-ghost use Rattle.devices.specs.Opened.{FitsRead, GivesPrefix, is_absent, open_refusal};
+ghost use Rattle.devices.specs.Opened.{FitsRead, GivesPrefix, open_refusal};
 
 use crate::real_source::RealSource;
 use std::alloc::Global;

@@ -1,5 +1,5 @@
 //! The pattern that a text is read as.
-ghost use Rattle.std.specs.Prelude.{◌≡◌, ◌≢◌, ◌<◌, ◌≤◌, length, drop, IfOk, IfErr, IfSome};
+ghost use Rattle.std.specs.Prelude.{◌≡◌, ◌≢◌, ◌<◌, ◌≤◌, length, drop, IfOk, IfErr};
 ghost use Rattle.find_pattern.specs.Patterns as patterns;
 ghost use Rattle.find_pattern.specs.Pieces as pieces;
 

@@ -1,6 +1,6 @@
 ghost use Rattle.std.specs.Prelude.{◌≡◌, ◌++◌, OnOk, OnErr};
 ghost use Rattle.http_answer.specs.Parts.{Keeps, parts_text};
-ghost use Rattle.http_answer.specs.Replies.{IsAnswerStatus, fields, reply, ended, status_line};
+ghost use Rattle.http_answer.specs.Replies.{IsAnswerStatus, fields, reply};
 
 use crate::Answer;
 use crate::lines::{close_line, content, location_line};

@@ -1,13 +1,11 @@
 -- What an install makes of a history.
-use Rattle.std.specs.Prelude.{◌≡◌, ⊤, ℕ, List, [], ◌∷◌, ◌++◌, map, Result, Ok, Err, IfSome, IsErrOf}
+use Rattle.std.specs.Prelude.{◌≡◌, ⊤, ℕ, List, [], ◌∷◌, ◌++◌, Result, Ok, Err, IfSome, IsErrOf}
 use Rattle.td_base.specs.Cause.{StoreFailed}
 use Rattle.td_base.specs.Files.{File}
 use Rattle.td_base.specs.Later.{LaterStore}
 use Rattle.td_base.specs.Views.{StoreView}
 use Rattle.catalogue.specs.Histories.{Fits}
-use Rattle.catalogue.specs.Holdings.{release_held}
 use Rattle.catalogue.specs.Releases.{ReleaseData}
-use Rattle.catalogue.specs.declared.holding.Catalogue.{Catalogue}
 use Rattle.zone_meaning.specs.Sound.{IsSound}
 use Rattle.release_check.specs.Found.{Blames}
 use Rattle.release_check.specs.declared.check_fault.CheckFault.TheVariants as check

@@ -1,4 +1,4 @@
-ghost use Rattle.std.specs.Prelude.{◌≡◌, [], ◌∷◌, ◌++◌, IfOk};
+ghost use Rattle.std.specs.Prelude.{[], ◌∷◌, ◌++◌, IfOk};
 ghost use Rattle.catalogue.specs.Holdings.{StandsFor, release_held};
 ghost use Rattle.zone_meaning.specs.Sound.{IsSound};
 ghost use Rattle.zone_meaning.specs.ZoneHistories.{ForEachZoneHistory};

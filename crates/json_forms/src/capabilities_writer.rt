@@ -1,7 +1,6 @@
 ghost use Rattle.std.specs.Prelude.{◌≡◌, [], ◌∷◌, ◌++◌, codes, map, string_bytes, IfOk, OnOk};
 ghost use Rattle.std.specs.Prelude.{OnErr};
-ghost use Rattle.serde_json.specs.Data.{array};
-ghost use Rattle.serde_json.specs.View.{view, items_of};
+ghost use Rattle.serde_json.specs.View.{view};
 ghost use Rattle.td_base.specs.Names.{IsPlain};
 ghost use Rattle.json_forms.specs.CapabilitiesDocument as document;
 ghost use Rattle.json_forms.specs.PlainTexts.{IsPlainRole};

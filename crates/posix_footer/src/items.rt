@@ -1,6 +1,6 @@
 //! The items of a TZ string: names, offsets, times and days. An answer of None leaves the reader
 //! anywhere.
-ghost use Rattle.std.specs.Prelude.{◌≡◌, ℕ, ◌+◌, ◌-◌, ◌*◌, ◌<◌, ◌≤◌, length, drop, if◌then◌else◌};
+ghost use Rattle.std.specs.Prelude.{◌≡◌, ◌+◌, ◌-◌, ◌*◌, ◌<◌, ◌≤◌, length, drop, if◌then◌else◌};
 ghost use Rattle.std.specs.Prelude.{IfSome};
 ghost use Rattle.jiff_core.specs.Calendar.{IsWithin};
 ghost use Rattle.posix_footer.specs.Items.{begins, begins_as, is_sign, behind, number_of_digits};

@@ -1,8 +1,8 @@
 //! A whole TZ string, read from the left (POSIX, section 8.3; RFC 9636, section 3.3.2).
-ghost use Rattle.std.specs.Prelude.{◌≡◌, true, false, IfOk, pos};
+ghost use Rattle.std.specs.Prelude.{◌≡◌, true, false, IfOk};
 ghost use Rattle.posix_footer.specs.Grammar.{footer_in, footer_at, rule_in, rule_at, dates_behind};
 ghost use Rattle.posix_footer.specs.Grammar.{daylight_at, standard_at, date_at, time_behind};
-ghost use Rattle.posix_footer.specs.Lawful.{IsLawful, IsLawfulDate, IsLawfulOffset, IsLawfulRule};
+ghost use Rattle.posix_footer.specs.Lawful.{IsLawful, IsLawfulDate, IsLawfulOffset};
 ghost use Rattle.posix_footer.specs.Spelling.{SpellsFooter};
 ghost use Rattle.posix_footer.specs.declared.rule_types.Footer.{Footer};
 ghost use Rattle.posix_footer.specs.Takes.{TakesOrFails, SkipsOrFails};

@@ -1,5 +1,5 @@
 //! Onsets and states of rules of known zones, and of rules at the edges of the year.
-ghost use Rattle.std.specs.Prelude.{◌≡◌, ◌≤◌, pos, neg_ℤ, true, false, length, Some, IsTrue};
+ghost use Rattle.std.specs.Prelude.{◌≡◌, ◌≤◌, true, false, length, Some, IsTrue};
 ghost use Rattle.jiff_core.specs.Calendar.{IsWithin};
 ghost use Rattle.posix_footer.specs.Lawful.{IsLawful, IsLawfulDay, IsLawfulDate, IsLawfulOffset};
 

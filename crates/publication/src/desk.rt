@@ -1,6 +1,5 @@
 ghost use Rattle.std.specs.Prelude.{◌≡◌, ◌+◌, ◌≤◌, length, map, max, true, option_map};
 ghost use Rattle.std.specs.Prelude.{Some, None, IfSome, MatchOption, OnOk, OnErr};
-ghost use Rattle.std.specs.Arc.{arc_value};
 ghost use mathlib.Core.List.{IsPrefix};
 ghost use Rattle.left_right.specs.Sides.{view};
 ghost use Rattle.publication.specs.declared.view.SeatRole.TheVariants.{Desk as AtDesk};

@@ -1,5 +1,5 @@
 //! What a footer says of each year.
-ghost use Rattle.std.specs.Prelude.{◌≡◌, ◌≤◌, Some, pos, true, IfOk};
+ghost use Rattle.std.specs.Prelude.{◌≡◌, ◌≤◌, Some, pos, IfOk};
 ghost use Rattle.std.specs.Result.{is_err};
 ghost use Rattle.posix_footer.specs.Carried as carried;
 ghost use Rattle.posix_footer.specs.Lawful.{IsLawful, IsLawfulDate, IsLawfulRule};

@@ -1,5 +1,5 @@
 //! The day of a rule in a year.
-ghost use Rattle.std.specs.Prelude.{◌≡◌, ◌+◌, ◌-◌, ◌≤◌, pos, negsuc, neg_ℤ, ◌+ℤ◌};
+ghost use Rattle.std.specs.Prelude.{◌≡◌, ◌+◌, ◌-◌, ◌≤◌, pos, neg_ℤ, ◌+ℤ◌};
 ghost use Rattle.jiff_core.specs.Calendar.{IsBetween, IsEpochDay, days_in_month, days_from_civil};
 ghost use Rattle.recurrence.specs.Valid.{IsMonth, IsOrdinal, IsFirstDay, IsValidForm, IsValid};
 ghost use Rattle.recurrence.specs.Occurs.{IsOccurrence};

@@ -2,7 +2,7 @@
 use Rattle.std.proofs.Common.{◌≡◌, ℕ, ◌+◌, ◌-◌, ◌<◌, ◌≤◌, Bool, true, false, cond, ◌&&◌, ◌||◌, Option, None, Some, IfSome, IsTrue, List, [], ◌∷◌, ◌++◌, length}
 use Rattle.std.proofs.Common.{get_or, refl, sym, ap, ◌∙◌, subst, map, arith, nat_lt, length-append, append_assoc}
 use Rattle.std.specs.Prelude.{reverse, option_map}
-use Rattle.std.specs.List.{list_all, list_any, last_or, prefix_len, suffix_len}
+use Rattle.std.specs.List.{list_all, last_or, prefix_len, suffix_len}
 use Rattle.std.specs.Str.{bytes_eq}
 use Rattle.std.proofs.lemmas.List.{reverse-append, length-reverse, get_or_append_left, get_or_default}
 use Rattle.std.proofs.lemmas.List.Folds.{list_all-append}

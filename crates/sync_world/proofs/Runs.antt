@@ -14,7 +14,7 @@ use Rattle.sync_core.specs.declared.heard_type.Heard.TheVariants as heard
 use Rattle.sync_world.specs.Primaries.{HeardIsTold, FindsPlaces, FindsNoOther, Service, served_for, told_by, list_at, list_told, changes_of, changes_at}
 use Rattle.sync_world.specs.Primaries.{IsPlace}
 use Rattle.sync_world.specs.Worlds as world
-use Rattle.sync_world.specs.Worlds.{SyncWorld, Sent, Step, IsAnswer, LeadsTo, Leads, world_after, world_begun, sent_then}
+use Rattle.sync_world.specs.Worlds.{SyncWorld, Sent, Step, LeadsTo, Leads, world_after, world_begun, sent_then}
 use Rattle.sync_world.proofs.Aliases.{cut}
 use Rattle.sync_world.proofs.Changes.{end, ends_distinct}
 use Rattle.sync_world.proofs.Files.{zones_are, named_of_zone, history_front}

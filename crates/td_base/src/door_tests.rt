@@ -1,5 +1,5 @@
 ghost use Rattle.std.specs.Prelude.{◌≡◌, [], IfOk};
-ghost use Rattle.td_base.specs.Doors.{Accepts, Finishes, HasOut};
+ghost use Rattle.td_base.specs.Doors.{Accepts, HasOut};
 ghost use Rattle.td_base.specs.MemoryDoors.{IsFresh};
 
 use crate::{

@@ -1,6 +1,6 @@
 //! Laws of the definitions of this crate, each the contract of a function that does nothing.
-ghost use Rattle.std.specs.Prelude.{◌≡◌, ◌≢◌, ◌<◌, ◌^◌, ℕ, List, Option, Some, None, Result, Ok};
-ghost use Rattle.std.specs.Prelude.{Err, IfSome, IsTrue, take};
+ghost use Rattle.std.specs.Prelude.{◌≡◌, ℕ, List, Option, Result};
+ghost use Rattle.std.specs.Prelude.{IfSome, IsTrue, take};
 ghost use Rattle.td_base.specs.Cause.{SourceFailed, SinkFailed, StoreFailed};
 ghost use Rattle.td_base.specs.Later.{LaterSource, LaterSink, LaterStore, LaterConn};
 ghost use Rattle.td_base.specs.Names.{IsPlain, is_identifier, is_label};

@@ -1,5 +1,5 @@
-ghost use Rattle.std.specs.Prelude.{◌≡◌, ◌≢◌, ◌<◌, ◌≤◌, [], ◌∷◌, ◌++◌, length, map, take, drop};
-ghost use Rattle.std.specs.Prelude.{Some, IsSome, IfOk, OnOk, OnErr};
+ghost use Rattle.std.specs.Prelude.{◌≡◌, ◌≢◌, ◌<◌, ◌≤◌, [], ◌∷◌, ◌++◌, length, map};
+ghost use Rattle.std.specs.Prelude.{IsSome, IfOk, OnOk, OnErr};
 ghost use Rattle.td_base.specs.Doors.{IsNewDoor, OpenFits, OpenTells, Opens};
 ghost use Rattle.td_base.specs.Memory.{one_more};
 ghost use Rattle.td_base.specs.MemoryNetworks.{coming_in, memory_network, opening_of};

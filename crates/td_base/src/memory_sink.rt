@@ -1,5 +1,4 @@
-ghost use Rattle.std.specs.Prelude.{◌≡◌, ◌+◌, ◌<◌, ◌≤◌, ◌↔◌, ◌==◌, [], length, min, drop, IfOk};
-ghost use Rattle.std.specs.Prelude.{if◌then◌else◌};
+ghost use Rattle.std.specs.Prelude.{◌≡◌, ◌+◌, ◌<◌, ◌≤◌, ◌==◌, [], length, min, drop, IfOk};
 ghost use Rattle.td_base.specs.Memory.{SinkState, one_more, piece_size, sink_view};
 ghost use Rattle.td_base.specs.Outside.{Writes};
 

@@ -1,4 +1,4 @@
-ghost use Rattle.std.specs.Prelude.{◌≡◌, ◌≢◌, ◌<◌, ◌≤◌, ◌↔◌, ◌++◌, [], Some, length, min, take};
+ghost use Rattle.std.specs.Prelude.{◌≡◌, ◌≢◌, ◌<◌, ◌≤◌, [], Some, length, min, take};
 ghost use Rattle.std.specs.Prelude.{drop};
 ghost use Rattle.td_base.specs.Memory.{piece_size, source_view};
 ghost use Rattle.td_base.specs.Outside.{Reads, GivenTells};

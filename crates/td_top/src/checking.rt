@@ -1,4 +1,4 @@
-ghost use Rattle.std.specs.Prelude.{◌≡◌, ◌∷◌, ◌++◌, [], List, Some, IfOk, IfSome};
+ghost use Rattle.std.specs.Prelude.{List, Some, IfOk, IfSome};
 ghost use Rattle.td_base.specs.Views.{SourceView};
 ghost use Rattle.catalogue.specs.Releases.{ReleaseData};
 ghost use Rattle.installer.specs.Installing.{Installs};

@@ -2,7 +2,6 @@ ghost use Rattle.std.specs.Prelude.{◌≡◌, ◌≢◌, ◌++◌, None, Some, 
 ghost use Rattle.td_base.specs.Views.{SourceView};
 ghost use Rattle.td_civil.specs.Bounds.{HasMeaning};
 ghost use Rattle.zone_meaning.specs.Faults.{zone_fault};
-ghost use Rattle.zone_meaning.specs.FaultText.{fault_text};
 ghost use Rattle.zone_meaning.specs.State.{zone_state};
 ghost use Rattle.td_top.specs.Grammar.{at};
 ghost use Rattle.td_top.specs.Lines.{state_line};

@@ -28,7 +28,7 @@ use Rattle.tzif_reader.proofs.Cuts.{parts_laid, parts_size, some_local, some_lin
 use Rattle.tzif_reader.proofs.Footers.{EndsIn, footer_none, found_footer}
 use Rattle.tzif_reader.proofs.SlimRows.{unsigned_size, unsigned_back, long_size, rows_joined, items_back, moment_back, leap_size, leap_back, IsRow, type_size}
 use Rattle.tzif_reader.proofs.SlimRows.{type_back, row_cuts}
-use Rattle.tzif_reader.proofs.lemmas.Whole.{zone_file_of}
+use Rattle.tzif_reader.proofs.lemmas.Whole.{same_parts, zone_file_of}
 
 -- ---- headers
 
@@ -65,9 +65,6 @@ pub record IsCut (bytes : List ℕ) (counts : Counts) (block rest : List ℕ) : 
   pub counts_are : counts_of bytes ≡ counts
   pub parts_are : parts_of bytes ≡ parts_in counts block
   pub rest_is : drop (footer_place bytes) bytes ≡ rest
-
-same_parts : (c d : Counts) (t u : List ℕ) → c ≡ d → t ≡ u → parts_in c t ≡ parts_in d u
-same_parts c d t u e g = rw (e, g) refl
 
 pub file_cut : (bytes one first two block rest : List ℕ) (c d : Counts) → bytes ≡ one ++ (first ++ (two ++ (block ++ rest)))
     → CutsHeader one 50 c → length first ≡ first_block_size c → CutsHeader two 50 d → length block ≡ second_block_size d

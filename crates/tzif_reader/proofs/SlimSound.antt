@@ -26,7 +26,7 @@ use Rattle.tzif_reader.proofs.SlimRows.{short_size, short_back, rows_joined, typ
 use Rattle.tzif_reader.proofs.SlimCuts.{lengths_of, times_text, types_text, leaps_text, parts_of_plan, counts_are_lengths, header_bytes_are}
 use Rattle.tzif_reader.proofs.SlimCuts.{header_bytes_cut, moments_joined, leaps_joined, plan_sized, plan_zone, block_whole, slim_whole, first_size, first_fit}
 use Rattle.tzif_reader.proofs.SlimCuts.{lengths_fit, slim_cut, slim_parts, line_is, slim_footer}
-use Rattle.tzif_reader.proofs.lemmas.Whole.{zone_file_cuts}
+use Rattle.tzif_reader.proofs.lemmas.Whole.{zone_file_cuts, same_sound}
 
 -- ---- the size
 
@@ -174,9 +174,6 @@ sound_type p fits sound i lt =
       flag = subst (λ (n : ℕ). n ≤ 1) f.flag (ltb-false 1 (flag_at (types_text p) i) flag.0);
       name = subst (λ (n : ℕ). IsSomeAnd (before 0 (drop n p.designations)) (λ name. length name ≤ 32)) f.index name;
     }
-
-same_sound : (c d : Counts) (p q : Parts) → AreSound d q → c ≡ d → p ≡ q → AreSound c p
-same_sound c d p q k e g = rw (e, g) k
 
 plan_sound : (p : PlanLists) → FitsFile p → first_fault (slim_of p) ≡ None → AreSound (lengths_of p) (parts_of_plan p)
 unfolding first_fault

@@ -1,5 +1,5 @@
 //! The parts of a footer's rules.
-ghost use Rattle.std.specs.Prelude.{◌≡◌, ◌++◌, ◌≤ℤ◌, ◌-ℤ◌, pos, int_lt, true, false, unsigned_abs};
+ghost use Rattle.std.specs.Prelude.{◌≡◌, ◌++◌, ◌-ℤ◌, pos, int_lt, true, false, unsigned_abs};
 ghost use Rattle.std.specs.Prelude.{Some, OnOk, option_to_list, IfSome};
 ghost use Rattle.jiff_core.specs.Calendar.{IsBetween};
 ghost use Rattle.td_civil.specs.Bounds.{IsWithinBounds};

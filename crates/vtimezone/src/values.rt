@@ -1,5 +1,5 @@
 //! The values of content lines (RFC 5545, section 3.3), in fixed room.
-ghost use Rattle.std.specs.Prelude.{◌≡◌, ◌+◌, ◌<◌, ◌≤◌, ◌++◌, length, pos, IfSome};
+ghost use Rattle.std.specs.Prelude.{◌≡◌, ◌+◌, ◌<◌, ◌≤◌, ◌++◌, length, IfSome};
 ghost use Rattle.std.specs.Fmt.{signed_decimal};
 ghost use Rattle.jiff_core.specs.Calendar.{IsWithin};
 ghost use Rattle.td_civil.specs.Bounds.{IsWithinBounds};

@@ -1,5 +1,5 @@
 -- A history with one release more: its last changes, entries, chain value and tokens.
-use Rattle.std.proofs.Common.{◌≡◌, ℕ, ◌+◌, ◌-◌, ◌<◌, ◌≤◌, Bool, true, false, cond, if◌then◌else◌, ◌&&◌, ◌||◌, Option, None, Some, List, [], ◌∷◌, ◌++◌, length}
+use Rattle.std.proofs.Common.{◌≡◌, ℕ, ◌+◌, ◌-◌, ◌<◌, ◌≤◌, Bool, true, false, cond, if◌then◌else◌, ◌&&◌, Option, None, Some, List, [], ◌∷◌, ◌++◌, length}
 use Rattle.std.proofs.Common.{take, get_or, refl, sym, ap, ◌∙◌, subst, map, arith, length-append, append_assoc}
 use Rattle.std.specs.Prelude.{reverse, replicate}
 use Rattle.std.specs.List.{AllByRecursion, list_all, last_or, prefix_len, suffix_len, range_with_len}

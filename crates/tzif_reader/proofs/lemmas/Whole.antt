@@ -64,10 +64,10 @@ same_cut : (c d : Counts) (p q : Parts) (f : List ℕ) (o : Option (List ℕ)) (
     → z ≡ zone_from c p (unwrap_or o [])
 same_cut c d p q f o z k e g h = rw (e, g, h) k
 
-same_sound : (c d : Counts) (p q : Parts) → AreSound d q → c ≡ d → p ≡ q → AreSound c p
+pub same_sound : (c d : Counts) (p q : Parts) → AreSound d q → c ≡ d → p ≡ q → AreSound c p
 same_sound c d p q k e g = rw (e, g) k
 
-same_parts : (c d : Counts) (t u : List ℕ) → c ≡ d → t ≡ u → parts_in c t ≡ parts_in d u
+pub same_parts : (c d : Counts) (t u : List ℕ) → c ≡ d → t ≡ u → parts_in c t ≡ parts_in d u
 same_parts c d t u e g = rw (e, g) refl
 
 framed_of : (bytes : List ℕ) (z : ZoneFile) (is : IsZoneFile bytes z) → first_header bytes ≡ is.first_header → starts_with nat_eq is.first_header magic ≡ true

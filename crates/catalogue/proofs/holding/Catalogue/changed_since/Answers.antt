@@ -1,4 +1,4 @@
-use Rattle.std.proofs.Common.{◌≡◌, ℕ, List, [], Bool, ap, sym, ◌∙◌, map, nat_lt}
+use Rattle.std.proofs.Common.{◌≡◌, ℕ, List, [], ap, sym, ◌∙◌, map, nat_lt}
 use Rattle.std.specs.List.{slice_get}
 use Rattle.catalogue.specs.HeldZones.{held_change, held_entry}
 use Rattle.catalogue.specs.Histories.{EntryData, meta}
