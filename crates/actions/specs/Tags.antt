@@ -1,7 +1,7 @@
 -- The entity tags of a zone's data (RFC 9110, section 8.8.3), with their quotes: the tag of its
 -- content, the format, and the bounds, where one is given.
 use Rattle.std.specs.Prelude.{ℕ, List, [], ◌++◌, codes}
-use Rattle.td_civil.specs.Texts.{text_of}
+use Rattle.td_civil.specs.Calendar.{text_of}
 use Rattle.actions.specs.declared.ranges.Bound.{Bound}
 use Rattle.actions.specs.declared.ranges.Bound.TheVariants.{Open, At}
 

@@ -5,7 +5,7 @@ use Rattle.std.specs.Int.{to_be_bytes, w32}
 use Rattle.sha2.specs.Sha256.{sha256}
 use Rattle.hex.specs.Hex.{encode_lower}
 use Rattle.td_base.specs.Sized.{sized}
-use Rattle.td_civil.specs.Texts.{text_of}
+use Rattle.td_civil.specs.Calendar.{text_of}
 use Rattle.catalogue.specs.Releases.{ContentData, ReleaseData, leap_file, leap_expiry}
 
 -- a number in four bytes, the high one first

@@ -2,7 +2,7 @@ ghost use Rattle.std.specs.Prelude.{◌≡◌, ◌<◌, ◌++◌, ◌^◌, ℕ, 
 ghost use Rattle.std.specs.List.{concat};
 ghost use Rattle.sha2.specs.Hashers.{Holds256};
 ghost use Rattle.td_base.specs.Sized.{sized};
-ghost use Rattle.td_civil.specs.Texts.{text_of};
+ghost use Rattle.td_civil.specs.Calendar.{text_of};
 ghost use Rattle.catalogue.specs.Releases.{ContentData, HasLengths, leap_file, leap_expiry};
 ghost use Rattle.catalogue.specs.Digests.{content_digest, linked, four_bytes};
 ghost use Rattle.catalogue.specs.HeldZones.{held_digest};

@@ -1,6 +1,7 @@
 -- Connections of a door, served one after the other.
-use Rattle.std.proofs.Common.{◌≡◌, ℕ, ◌+◌, ◌≤◌, List, [], ◌∷◌, ◌++◌, length, Option, Some, None, refl, sym, ap, ◌∙◌, subst, arith}
-use Rattle.std.proofs.Common.{append_assoc, append-nil, length-append}
+use Rattle.std.proofs.Common.{◌≡◌, ℕ, ◌+◌, ◌≤◌, List, [], ◌∷◌, ◌++◌, length, Option, Some, None}
+use Rattle.std.proofs.Common.{refl, sym, ap, ◌∙◌, subst, arith, append_assoc, append-nil}
+use Rattle.std.proofs.Common.{length-append}
 use Rattle.std.specs.Io.KnownBytes.{Appends, Consumes}
 use Rattle.std.specs.List.{AllByRecursion}
 use Rattle.std.proofs.lemmas.List.Concat.{flat_map-append}
@@ -8,15 +9,15 @@ use Rattle.catalogue.specs.Releases.{ReleaseData}
 use Rattle.catalogue.specs.declared.holding.Catalogue.{Catalogue}
 use Rattle.publication.specs.Views.{DeskView}
 use Rattle.td_base.proofs.lemmas.Beginnings.{prefix_length, prefix_self, prefix_trans}
-use Rattle.td_base.specs.Cause.{Rose}
+use Rattle.td_base.specs.Views.{Rose, ConnView}
 use Rattle.td_base.specs.DoorViews.{DoorContent, Finished}
 use Rattle.td_base.specs.Doors.{GivesNext, IsNewConn, IsUnfailed, handed_back}
-use Rattle.td_base.specs.Views.{ConnView}
 use Rattle.td_base.specs.declared.report.End.{End}
 use Rattle.td_base.specs.declared.report.End.TheVariants as end
 use Rattle.td_base.specs.declared.report.Report.{Report}
 use Rattle.td_base.specs.declared.report.Role.{Role}
-use Rattle.connection.specs.DoorWorks.{ServedConn, ServedConns, ServesConns, one_if_starved, places_of, starved}
+use Rattle.connection.specs.DoorWorks.{ServedConn, ServedConns, ServesConns, one_if_starved}
+use Rattle.connection.specs.DoorWorks.{places_of, starved}
 use Rattle.connection.specs.Entering.{GoesOn, HasCounted}
 use Rattle.connection.specs.Exchanges.{Exchanges}
 use Rattle.connection.specs.Served.{NeverFall, Served}

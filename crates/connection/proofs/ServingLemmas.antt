@@ -1,5 +1,6 @@
 -- How the end of a connection that is served over a desk follows from its parts.
-use Rattle.std.proofs.Common.{◌≡◌, ℕ, ◌≤◌, List, [], ◌∷◌, ◌++◌, length, take, drop, Bool, true, false, refl, sym, ap, ◌∙◌, subst, arith, append-nil}
+use Rattle.std.proofs.Common.{◌≡◌, ℕ, ◌≤◌, List, [], ◌∷◌, ◌++◌, length, take, drop, Bool, true}
+use Rattle.std.proofs.Common.{false, refl, sym, ap, ◌∙◌, subst, arith, append-nil}
 use Rattle.std.specs.Io.KnownBytes.{IsAtEnd}
 use mathlib.Core.List.{IsPrefix}
 use Rattle.actions.specs.Action.{action}
@@ -11,8 +12,7 @@ use Rattle.http_request.specs.Asks.{Asks, Gives, Rest}
 use Rattle.http_request.specs.declared.head.Head.{Head}
 use Rattle.publication.specs.Views.{DeskView}
 use Rattle.td_base.proofs.lemmas.Beginnings.{prefix_trans, prefix_length}
-use Rattle.td_base.specs.Cause.{ConnReadFailed, ConnWriteFailed}
-use Rattle.td_base.specs.Views.{ConnView}
+use Rattle.td_base.specs.Views.{ConnReadFailed, ConnWriteFailed, ConnView}
 use Rattle.td_base.specs.declared.report.End.{End}
 use Rattle.td_base.specs.declared.report.End.TheVariants as end
 use Rattle.td_base.specs.declared.report.Role.{Role}

@@ -1,14 +1,14 @@
 -- A worker's turns, one after the other.
-use Rattle.std.proofs.Common.{◌≡◌, ℕ, ◌+◌, ◌≤◌, ◌⊎◌, inl, inr, List, [], ◌∷◌, length, length-append, true, false, Option, Some, None, IfSome, refl, sym, ap}
-use Rattle.std.proofs.Common.{◌∙◌, subst, arith}
+use Rattle.std.proofs.Common.{◌≡◌, ℕ, ◌+◌, ◌≤◌, ◌⊎◌, inl, inr, List, [], ◌∷◌, length, length-append}
+use Rattle.std.proofs.Common.{true, false, Option, Some, None, IfSome, refl, sym, ap, ◌∙◌, subst}
+use Rattle.std.proofs.Common.{arith}
 use Rattle.std.specs.List.{AllByRecursion}
 use Rattle.catalogue.specs.declared.holding.Catalogue.{Catalogue}
 use Rattle.desk_pool.specs.Flag.{Sight}
 use Rattle.publication.specs.Views.{DeskView}
-use Rattle.td_base.specs.Cause.{Rose, RoseBy}
+use Rattle.td_base.specs.Views.{Rose, RoseBy, ConnView}
 use Rattle.td_base.specs.DoorViews.{DoorContent, DoorView}
 use Rattle.td_base.specs.Doors.{AcceptTold, Accepts, FinishTold, Finishes, HasOut, IsUnfailed}
-use Rattle.td_base.specs.Views.{ConnView}
 use Rattle.td_base.specs.declared.door.Accepted.TheVariants as accepted
 use Rattle.td_base.specs.declared.report.Report.{Report}
 use Rattle.td_base.specs.declared.report.Role.{Role}

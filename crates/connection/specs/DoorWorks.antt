@@ -6,7 +6,7 @@ use Rattle.catalogue.specs.Releases.{ReleaseData}
 use Rattle.catalogue.specs.declared.holding.Catalogue.{Catalogue}
 use Rattle.desk_pool.specs.Flag.{Sight}
 use Rattle.publication.specs.Views.{DeskView}
-use Rattle.td_base.specs.Cause.{Rose, RoseBy}
+use Rattle.td_base.specs.Views.{Rose, RoseBy}
 use Rattle.td_base.specs.DoorViews.{DoorContent, DoorView, Finished}
 use Rattle.td_base.specs.declared.door.DoorAnswer.TheVariants as answer
 use Rattle.td_base.specs.declared.report.End.{End}

@@ -4,9 +4,8 @@ use Rattle.std.specs.Io.KnownBytes.{IsAtEnd}
 use Rattle.http_request.specs.Asks.{Asks, Bad, Gives, Rest}
 use Rattle.http_request.specs.Taking.{IsRefusal}
 use Rattle.http_request.specs.declared.head.Head.{Head}
-use Rattle.td_base.specs.Cause.{ConnReadFailed}
+use Rattle.td_base.specs.Views.{ConnReadFailed, ConnView}
 use Rattle.td_base.specs.TargetForm.{has_form}
-use Rattle.td_base.specs.Views.{ConnView}
 use Rattle.connection.specs.Exchanges.{Exchanges}
 use Rattle.connection.specs.Replies.{IsOpen}
 use Rattle.connection.specs.Served.{IsNeeded, most_piece}

@@ -1,8 +1,7 @@
 -- What is sent over a connection.
 use Rattle.std.specs.Prelude.{ℕ, ◌<◌, List, [], length, take}
 use Rattle.http_answer.specs.Replies.{fixed}
-use Rattle.td_base.specs.Cause.{ConnWriteFailed}
-use Rattle.td_base.specs.Views.{ConnView}
+use Rattle.td_base.specs.Views.{ConnWriteFailed, ConnView}
 use Rattle.td_base.specs.declared.report.End.{End}
 use Rattle.td_base.specs.declared.report.End.TheVariants as end
 use Rattle.connection.specs.Exchanges.{Exchanges}

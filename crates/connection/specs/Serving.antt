@@ -8,8 +8,7 @@ use Rattle.catalogue.specs.declared.holding.Catalogue.{Catalogue}
 use Rattle.http_answer.specs.declared.answer.Answer.{Answer}
 use Rattle.http_request.specs.declared.head.Head.{Head}
 use Rattle.publication.specs.Views.{DeskView}
-use Rattle.td_base.specs.Cause.{ConnReadFailed, ConnWriteFailed}
-use Rattle.td_base.specs.Views.{ConnView}
+use Rattle.td_base.specs.Views.{ConnReadFailed, ConnWriteFailed, ConnView}
 use Rattle.td_base.specs.declared.report.Report.{Report}
 use Rattle.td_base.specs.declared.report.Role.{Role}
 use Rattle.connection.specs.Exchanges.{Exchanges}

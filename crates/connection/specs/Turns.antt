@@ -3,7 +3,7 @@ use Rattle.std.specs.Prelude.{◌≡◌, ℕ, ◌≤◌, List, length, true, ⊤
 use Rattle.catalogue.specs.declared.holding.Catalogue.{Catalogue}
 use Rattle.desk_pool.specs.Flag.{Sight}
 use Rattle.publication.specs.Views.{DeskView}
-use Rattle.td_base.specs.Cause.{Rose}
+use Rattle.td_base.specs.Views.{Rose}
 use Rattle.td_base.specs.DoorViews.{DoorView}
 use Rattle.td_base.specs.declared.door.DoorAnswer.TheVariants as answer
 use Rattle.td_base.specs.declared.report.Role.{Role}

@@ -1,6 +1,6 @@
 -- What running works beside one thing of the caller's thread promises.
 use Rattle.std.specs.Prelude.{◌≡◌, ℕ, ◌<◌, List, [], ◌∷◌, length, take, true, false, Bool, ⊤}
-use Rattle.td_base.specs.Cause.{Rose}
+use Rattle.td_base.specs.Views.{Rose}
 use Rattle.desk_pool.specs.declared.pool_end.PoolEnd.{PoolEnd}
 use Rattle.desk_pool.specs.declared.pool_end.PoolEnd.TheVariants.{All, NotStarted, NoMemory}
 

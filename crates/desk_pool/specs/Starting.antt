@@ -1,6 +1,6 @@
 -- What starting works one after the other comes to.
 use Rattle.std.specs.Prelude.{◌≡◌, ℕ, ◌<◌, List, length, map, take, ⊤}
-use Rattle.td_base.specs.Cause.{Rose}
+use Rattle.td_base.specs.Views.{Rose}
 use Rattle.desk_pool.specs.declared.pool.Started.{Started}
 use Rattle.desk_pool.specs.declared.pool.Started.TheVariants.{All, Refused}
 

@@ -1,5 +1,5 @@
 ghost use Rattle.std.specs.Prelude.{◌≡◌, ◌≤◌, None, All, IfOk, length};
-ghost use Rattle.td_base.specs.Cause.{Rose};
+ghost use Rattle.td_base.specs.Views.{Rose};
 ghost use Rattle.td_base.specs.Doors.{IsNewDoor};
 ghost use Rattle.devices.specs.RealDoors.{door_view};
 

@@ -1,9 +1,6 @@
 -- What an install makes of a history.
 use Rattle.std.specs.Prelude.{◌≡◌, ⊤, ℕ, List, [], ◌∷◌, ◌++◌, Result, Ok, Err, IfSome, IsErrOf}
-use Rattle.td_base.specs.Cause.{StoreFailed}
-use Rattle.td_base.specs.Files.{File}
-use Rattle.td_base.specs.Later.{LaterStore}
-use Rattle.td_base.specs.Views.{StoreView}
+use Rattle.td_base.specs.Views.{StoreFailed, File, LaterStore, StoreView}
 use Rattle.catalogue.specs.Histories.{Fits}
 use Rattle.catalogue.specs.Releases.{ReleaseData}
 use Rattle.zone_meaning.specs.Sound.{IsSound}

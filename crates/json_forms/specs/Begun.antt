@@ -4,7 +4,7 @@ use Rattle.json.specs.Token as token
 use Rattle.json.specs.Token.{Token}
 use Rattle.json.specs.Written.{Written}
 use Rattle.serde_json.specs.Data.{Data}
-use Rattle.td_civil.specs.Texts.{text_of}
+use Rattle.td_civil.specs.Calendar.{text_of}
 use Rattle.td_civil.specs.declared.local_time.Observance.{Observance}
 use Rattle.json_forms.specs.declared.zone_list.ListZone.{ListZone}
 use Rattle.json_forms.specs.ExpansionDocument.{observance_data}

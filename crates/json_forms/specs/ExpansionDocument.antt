@@ -5,7 +5,7 @@ use Rattle.serde_json.specs.Data.{Data, number, string, array, object, no_member
 use Rattle.serde_json.specs.Find.{of_integer}
 use Rattle.serde_json.specs.View.{items_of}
 use Rattle.serde_json.specs.Written.{compact_text}
-use Rattle.td_civil.specs.Texts.{text_of}
+use Rattle.td_civil.specs.Calendar.{text_of}
 use Rattle.td_civil.specs.declared.local_time.Observance.{Observance}
 
 -- an observance, with its offsets in seconds east of UTC

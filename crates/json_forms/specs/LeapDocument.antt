@@ -8,7 +8,7 @@ use Rattle.serde_json.specs.View.{items_of}
 use Rattle.serde_json.specs.Written.{compact_text}
 use Rattle.td_base.specs.Names.{IsPlain}
 use Rattle.td_civil.specs.Bounds.{IsWithinBounds}
-use Rattle.td_civil.specs.Texts.{text_of}
+use Rattle.td_civil.specs.Calendar.{text_of}
 use Rattle.catalogue.specs.declared.release.Leaps.{Leaps}
 use Rattle.catalogue.specs.declared.release.LeapStep.{LeapStep}
 

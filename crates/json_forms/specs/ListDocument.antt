@@ -4,7 +4,7 @@ use Rattle.std.specs.Prelude.{ℕ, List, [], ◌∷◌, map, codes}
 use Rattle.serde_json.specs.Data.{Data, string, array, object, Members, no_members, member}
 use Rattle.serde_json.specs.View.{items_of}
 use Rattle.serde_json.specs.Written.{compact_text}
-use Rattle.td_civil.specs.Texts.{text_of}
+use Rattle.td_civil.specs.Calendar.{text_of}
 use Rattle.json_forms.specs.declared.zone_list.ListZone.{ListZone}
 
 -- an array of strings

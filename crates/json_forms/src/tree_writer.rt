@@ -8,7 +8,7 @@ ghost use Rattle.serde_json.specs.Find.{of_integer};
 ghost use Rattle.serde_json.specs.Written.{number_text};
 ghost use Rattle.td_base.specs.Names.{IsPlain};
 ghost use Rattle.td_civil.specs.Bounds.{IsWithinBounds};
-ghost use Rattle.td_civil.specs.Texts.{text_of};
+ghost use Rattle.td_civil.specs.Calendar.{text_of};
 ghost use Rattle.json_forms.specs.ListDocument.{strings};
 ghost use Rattle.json_forms.specs.TreeTokens.{tree_tokens};
 

@@ -1,16 +1,17 @@
 -- What reading the zones of a manifest comes to, one after another.
-use Rattle.std.proofs.Common.{◌≡◌, ◌≢◌, ℕ, ◌+◌, ◌<◌, List, [], ◌∷◌, ◌++◌, length, map, take, drop, get_or, Option, None, Some, Result, Ok, Err, ap, sym, ◌∙◌}
-use Rattle.std.proofs.Common.{refl, subst, append_assoc, append-nil}
+use Rattle.std.proofs.Common.{◌≡◌, ◌≢◌, ℕ, ◌+◌, ◌<◌, List, [], ◌∷◌, ◌++◌, length, map, take, drop}
+use Rattle.std.proofs.Common.{get_or, Option, None, Some, Result, Ok, Err, ap, sym, ◌∙◌, refl}
+use Rattle.std.proofs.Common.{subst, append_assoc, append-nil}
 use Rattle.std.proofs.lemmas.List.{at_drop_more, map-append, take_more}
-use Rattle.td_base.specs.Files.{File, file_at}
+use Rattle.td_base.specs.Views.{File, file_at}
 use Rattle.catalogue.specs.Releases.{ContentData, content_data}
 use Rattle.catalogue.specs.declared.release.Content.{Content}
 use Rattle.release_manifest.specs.declared.manifest_type.ManifestZone.{ManifestZone}
 use Rattle.td_base.specs.FirstFault.{◌>>=◌}
 use Rattle.release_check.specs.Folder.{content_from, content_in, content_with, contents_in, unless}
+use Rattle.release_check.specs.Folder.{path_in}
 use Rattle.release_check.specs.Found.{IsFile, IsZoneIn, AreZonesIn, IsOf, AreOf}
-use Rattle.release_check.specs.Paths.{path_in}
-use Rattle.release_check.specs.ZoneFaults.{file_fault}
+use Rattle.release_check.specs.Faults.{file_fault}
 use Rattle.release_check.specs.declared.check_fault.CheckFault.{CheckFault}
 use Rattle.release_check.specs.declared.check_fault.CheckFault.TheVariants as fault
 use Rattle.release_check.proofs.lemmas.Prefixes.{content_read, content_refused, content_absent}

@@ -1,11 +1,11 @@
 -- How faults are printed and shown.
-use Rattle.std.proofs.Common.{◌≡◌, ◌≢◌, List, [], ℕ, Bool, true, false, if◌then◌else◌, IsUtf8, refl, sym, ap, ◌∙◌, ◌<◌, arith, ℤ}
-use Rattle.std.proofs.lemmas.Str.{IsUtf8-from_is_utf8, is_utf8-from_IsUtf8}
+use Rattle.std.proofs.Common.{◌≡◌, ◌≢◌, List, [], ℕ, Bool, true, false, if◌then◌else◌, IsUtf8, refl}
+use Rattle.std.proofs.Common.{sym, ap, ◌∙◌, ◌<◌, arith, ℤ}
+use Rattle.std.proofs.lemmas.Str.{IsUtf8-from_is_utf8, is_utf8-from_IsUtf8, IsUtf8-from_ascii}
 use Rattle.std.specs.Str.{is_utf8}
-use Rattle.std.proofs.lemmas.Str.{IsUtf8-from_ascii}
 use Rattle.std.proofs.lemmas.Str.Ascii.{IsAscii-from_all}
 use Rattle.td_civil.specs.Bounds.{has_meaning}
-use Rattle.td_civil.specs.Texts.{text_of}
+use Rattle.td_civil.specs.Calendar.{text_of}
 use Rattle.td_civil.specs.declared.moment_type.Moment.{Moment}
 use Rattle.td_civil.proofs.lemmas.TextBytes.{text_all}
 use Rattle.release_check.specs.FaultText.{fault_text, readable, shown_text, stamp_text}

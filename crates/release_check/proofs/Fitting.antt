@@ -1,19 +1,21 @@
 -- The release of a manifest and of the zones that its files gave.
-use Rattle.std.proofs.Common.{◌≡◌, ℕ, ◌+◌, ◌≤◌, ◌<◌, nat_lt, nat_le, ℤ, ◌≤ℤ◌, ◌<ℤ◌, IfSome, Bool, true, false, not, ◌||◌, if◌then◌else◌, List, [], ◌∷◌, ◌++◌}
-use Rattle.std.proofs.Common.{length, Option, None, Some, Result, Ok, Err, refl, ap, sym, ◌∙◌, subst, arith, IsPermutation}
+use Rattle.std.proofs.Common.{◌≡◌, ℕ, ◌+◌, ◌≤◌, ◌<◌, nat_lt, nat_le, ℤ, ◌≤ℤ◌, ◌<ℤ◌, IfSome, Bool}
+use Rattle.std.proofs.Common.{true, false, not, ◌||◌, if◌then◌else◌, List, [], ◌∷◌, ◌++◌, length}
+use Rattle.std.proofs.Common.{Option, None, Some, Result, Ok, Err, refl, ap, sym, ◌∙◌, subst, arith}
+use Rattle.std.proofs.Common.{IsPermutation}
 use Rattle.std.specs.List.{AllByRecursion, IsDistinct, list_all, list_any}
 use Rattle.std.specs.Cmp.Lexicographic.{nat_list_eq_equiv}
 use Rattle.std.specs.Str.{bytes_eq}
 use Rattle.std.specs.Prelude.{int_le, int_lt}
 use Rattle.std.proofs.lemmas.Bool.{ltb-false, leb-false, and_from, and_parts, or_parts}
 use Rattle.std.proofs.lemmas.List.Folds.{list_all-append, list_any-append}
-use Rattle.std.proofs.lemmas.List.Sorted.{list_any-IsPermutation, length_permutation, IsPermutation-trans}
+use Rattle.std.proofs.lemmas.List.Sorted.{list_any-IsPermutation, length_permutation}
+use Rattle.std.proofs.lemmas.List.Sorted.{IsPermutation-trans}
 use Rattle.std.proofs.lemmas.Map.Keys.{IsDistinct-IsPermutation}
-use Rattle.td_base.specs.Files.{File}
-use Rattle.td_base.specs.Names.{is_identifier}
+use Rattle.td_base.specs.Views.{File}
+use Rattle.td_base.specs.Names.{is_identifier, is_label}
 use Rattle.catalogue.specs.Order.{rising_by}
 use Rattle.catalogue.specs.Releases.{ContentData, ReleaseData, names_of}
-use Rattle.td_base.specs.Names.{is_label}
 use Rattle.td_civil.specs.Bounds.{HasMeaning, has_meaning}
 use Rattle.td_civil.specs.declared.moment_type.Moment.{Moment}
 use Rattle.td_civil.specs.declared.moment_type.TheConstants.{LO, HI}
@@ -25,8 +27,8 @@ use Rattle.td_civil.specs.Reading.{is_date_text}
 use Rattle.release_manifest.proofs.lemmas.Expiry.{expiry_is_date}
 use Rattle.release_manifest.specs.declared.manifest_type.ManifestLeaps.{ManifestLeaps}
 use Rattle.release_manifest.specs.declared.manifest_fault.Path.TheVariants as path
-use Rattle.release_check.specs.Before.{Before, Follows}
-use Rattle.release_check.specs.HistoryFaults.{first_missing, stamp_fault, drop_fault, place_fault}
+use Rattle.release_check.specs.Before.{Before, Follows, first_missing, stamp_fault, drop_fault}
+use Rattle.release_check.specs.Before.{place_fault}
 use Rattle.release_check.proofs.Missing.{there, gone}
 use Rattle.catalogue.proofs.lemmas.Rising.{each_sorted}
 use Rattle.release_manifest.specs.Reading.{IsManifestText}
@@ -36,12 +38,14 @@ use Rattle.zone_meaning.specs.Sound.{IsSound, IsSoundFile, IsSoundLeaps}
 use Rattle.td_base.specs.FirstFault.{◌>>=◌, ◌or_else◌, when}
 use Rattle.release_check.specs.Folder.{contents_in, release_with, release_in, table_in, unless}
 use Rattle.release_check.specs.Found.{AreOf}
-use Rattle.release_check.specs.ManifestFaults.{names_in, limit_fault, identifier_fault, duplicate_fault, manifest_fault, form_text_fault, has_date, form_fault}
-use Rattle.release_check.specs.ManifestFaults.{IsFormed}
+use Rattle.release_check.specs.Faults.{names_in, limit_fault, identifier_fault, duplicate_fault}
+use Rattle.release_check.specs.Faults.{manifest_fault, form_text_fault, has_date, form_fault}
+use Rattle.release_check.specs.Faults.{IsFormed}
 use Rattle.release_check.specs.declared.check_fault.CheckFault.{CheckFault}
 use Rattle.release_check.specs.declared.check_fault.CheckFault.TheVariants as fault
 use Rattle.release_check.specs.declared.check_fault.Limited.TheVariants as limited
-use Rattle.release_check.proofs.Names.{names_moved, names_rising, rising_moves, count_kept, list_all_moved}
+use Rattle.release_check.proofs.Names.{names_moved, names_rising, rising_moves, count_kept}
+use Rattle.release_check.proofs.Names.{list_all_moved}
 
 -- the release of the zones and the table, by what the manifest and the files give
 abbrev from_parts : Manifest → Option CheckFault → Result (List ContentData) CheckFault → Result (Option Leaps) CheckFault → Result ReleaseData CheckFault

@@ -1,7 +1,8 @@
 -- What looking into a folder comes to.
-use Rattle.std.proofs.Common.{◌≡◌, ◌≢◌, ℕ, List, map, take, Option, None, Some, Result, Ok, Err, ap, sym, ◌∙◌, refl, subst}
+use Rattle.std.proofs.Common.{◌≡◌, ◌≢◌, ℕ, List, map, take, Option, None, Some, Result, Ok, Err, ap}
+use Rattle.std.proofs.Common.{sym, ◌∙◌, refl, subst}
 use Rattle.std.specs.Option.{option_map}
-use Rattle.td_base.specs.Files.{File, file_at}
+use Rattle.td_base.specs.Views.{File, file_at}
 use Rattle.catalogue.specs.declared.release.Leaps.{Leaps}
 use Rattle.catalogue.specs.declared.release.Release.{Release}
 use Rattle.catalogue.specs.Releases.{ReleaseData, content_data, release_data}
@@ -12,16 +13,18 @@ use Rattle.release_manifest.specs.declared.manifest_fault.ManifestFault.TheVaria
 use Rattle.release_manifest.specs.declared.manifest_type.Manifest.{Manifest}
 use Rattle.zone_meaning.specs.Sound.{IsSound}
 use Rattle.release_check.specs.Before.{Before, Follows}
-use Rattle.release_check.specs.Folder.{FolderGives, absent, refused, read, release_in, release_with, unless}
-use Rattle.release_check.specs.Found.{IsFile, IsManifestIn, AreZonesIn, IsTableIn, IsOfManifest, IsExaminedIn, IsReleaseIn}
+use Rattle.release_check.specs.Folder.{FolderGives, absent, refused, read, release_in, release_with}
+use Rattle.release_check.specs.Folder.{unless, manifest_path}
+use Rattle.release_check.specs.Found.{IsFile, IsManifestIn, AreZonesIn, IsTableIn, IsOfManifest}
+use Rattle.release_check.specs.Found.{IsExaminedIn, IsReleaseIn}
 use Rattle.release_check.specs.Judged.{of_manifest, RefusesText}
-use Rattle.release_check.specs.ManifestFaults.{form_fault, manifest_fault}
-use Rattle.release_check.specs.Paths.{manifest_path}
+use Rattle.release_check.specs.Faults.{form_fault, manifest_fault}
 use Rattle.release_check.specs.declared.check_fault.CheckFault.{CheckFault}
 use Rattle.release_check.specs.declared.check_fault.CheckFault.TheVariants as fault
 use Rattle.release_check.proofs.Contents.{zones_of_folder}
-use Rattle.release_check.proofs.Fitting.{gave, follows, formed_read, release_told, release_refused_early, release_refused_late, release_refused_last}
-use Rattle.release_check.proofs.Fitting.{sound_release}
+use Rattle.release_check.proofs.Fitting.{gave, follows, formed_read, release_told}
+use Rattle.release_check.proofs.Fitting.{release_refused_early, release_refused_late}
+use Rattle.release_check.proofs.Fitting.{release_refused_last, sound_release}
 use Rattle.release_check.proofs.LeapFiles.{sound_table}
 use Rattle.release_check.proofs.lemmas.Prefixes.{manifest_text_fault-prefix, manifest-prefix}
 

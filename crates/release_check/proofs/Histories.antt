@@ -1,12 +1,12 @@
 -- What a catalogue holds is what its histories leave.
-use Rattle.std.proofs.Common.{◌≡◌, ◌∙◌, ℕ, List, length, Option, None, Some, Result, Ok, Err, IfOk, ap, sym, subst}
+use Rattle.std.proofs.Common.{◌≡◌, ◌∙◌, ℕ, List, length, Option, None, Some, Result, Ok, Err, IfOk}
+use Rattle.std.proofs.Common.{ap, sym, subst}
 use Rattle.catalogue.specs.Counts.{stands_count}
 use Rattle.catalogue.specs.Histories.{Fits}
 use Rattle.catalogue.specs.Holdings.{StandsFor, release_held}
 use Rattle.catalogue.specs.Releases.{ReleaseData, release_data}
 use Rattle.catalogue.specs.declared.release.Release.{Release}
-use Rattle.td_base.specs.Files.{File}
-use Rattle.td_base.specs.Views.{StoreView}
+use Rattle.td_base.specs.Views.{File, StoreView}
 use Rattle.release_check.specs.Found.{FindsIn}
 use Rattle.release_check.specs.declared.check_fault.CheckFault.{CheckFault}
 use Rattle.release_check.proofs.Looking.{finds_as}

@@ -2,9 +2,9 @@
 use Rattle.std.proofs.Common.{◌≡◌, ◌≢◌, ℕ, List, [], Option, None, Some, length, refl, ap, ◌∙◌}
 use Rattle.release_manifest.specs.declared.manifest_type.Manifest.{Manifest}
 use Rattle.td_base.specs.FirstFault.{◌or_else◌}
-use Rattle.release_check.specs.Before.{Before}
-use Rattle.release_check.specs.HistoryFaults.{stamp_fault, drop_fault, place_fault}
-use Rattle.release_check.specs.ManifestFaults.{names_in, limit_fault, identifier_fault, duplicate_fault, manifest_fault}
+use Rattle.release_check.specs.Before.{Before, stamp_fault, drop_fault, place_fault}
+use Rattle.release_check.specs.Faults.{names_in, limit_fault, identifier_fault, duplicate_fault}
+use Rattle.release_check.specs.Faults.{manifest_fault}
 use Rattle.release_check.specs.declared.check_fault.CheckFault.{CheckFault}
 use Rattle.release_check.specs.declared.check_fault.CheckFault.TheVariants as fault
 

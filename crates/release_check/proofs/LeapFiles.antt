@@ -1,10 +1,11 @@
 -- The table of leap seconds of a release, as its file gives it.
-use Rattle.std.proofs.Common.{◌≡◌, ◌≢◌, ℕ, ◌<◌, ◌≤◌, true, List, [], ◌∷◌, length, map, take, ℤ, Option, None, Some, Ok, Err, ⊎_elim, IfSome, refl, ap, sym}
-use Rattle.std.proofs.Common.{subst, ◌∙◌, arith}
+use Rattle.std.proofs.Common.{◌≡◌, ◌≢◌, ℕ, ◌<◌, ◌≤◌, true, List, [], ◌∷◌, length, map, take, ℤ}
+use Rattle.std.proofs.Common.{Option, None, Some, Ok, Err, ⊎_elim, IfSome, refl, ap, sym, subst}
+use Rattle.std.proofs.Common.{◌∙◌, arith}
 use Rattle.std.specs.Option.{option_map}
 use Rattle.std.proofs.lemmas.List.{take_all, length-take-le}
 use Rattle.td_base.specs.FirstFault.{◌or_else◌}
-use Rattle.td_base.specs.Files.{File, file_at}
+use Rattle.td_base.specs.Views.{File, file_at}
 use Rattle.td_base.proofs.lemmas.FaultLemmas.{first, second, unmapped}
 use Rattle.td_civil.specs.Reading.{is_date_text}
 use Rattle.tzif_reader.specs.Cut.{lists_of}
@@ -21,12 +22,11 @@ use Rattle.leap_table.specs.declared.leap_fault.LeapFault.{LeapFault}
 use Rattle.leap_table.specs.declared.leap_fault.LeapFault.TheVariants as table
 use Rattle.release_manifest.specs.declared.manifest_type.ManifestLeaps.{ManifestLeaps}
 use Rattle.zone_meaning.specs.Sound.{IsSoundLeaps}
-use Rattle.release_check.specs.Folder.{table_from, table_in, unless}
+use Rattle.release_check.specs.Folder.{table_from, table_in, unless, path_in}
 use Rattle.release_check.specs.Found.{IsFile, IsTableIn}
 use Rattle.release_check.specs.Judged.{of_leap_reader, of_table}
 use Rattle.release_check.specs.LeapFile.{of_file, of_cause, leap_file_fault, step_of_pair, table_of}
-use Rattle.release_check.specs.ManifestFaults.{has_date}
-use Rattle.release_check.specs.Paths.{path_in}
+use Rattle.release_check.specs.Faults.{has_date}
 use Rattle.release_check.specs.declared.check_fault.CheckFault.{CheckFault}
 use Rattle.release_check.specs.declared.check_fault.CheckFault.TheVariants as fault
 use Rattle.release_check.proofs.lemmas.Prefixes.{fits_or_longer, too_large}

@@ -1,8 +1,7 @@
 -- How looks into a store follow one another.
-use Rattle.std.proofs.Common.{◌≡◌, List, Option, None, Some, Result, Ok, Err, IfSome, IsErrOf, ap, subst, arith}
-use Rattle.td_base.specs.Cause.{StoreFailed}
-use Rattle.td_base.specs.Files.{File}
-use Rattle.td_base.specs.Views.{StoreView}
+use Rattle.std.proofs.Common.{◌≡◌, List, Option, None, Some, Result, Ok, Err, IfSome, IsErrOf, ap}
+use Rattle.std.proofs.Common.{subst, arith}
+use Rattle.td_base.specs.Views.{StoreFailed, File, StoreView}
 use Rattle.td_base.proofs.lemmas.LaterLemmas.{store_refl, store_trans}
 use Rattle.release_check.specs.Found.{FindsIn}
 use Rattle.release_check.specs.declared.check_fault.CheckFault.{CheckFault}

@@ -1,12 +1,13 @@
 -- Names of the last release that are missing, in their order.
-use Rattle.std.proofs.Common.{◌≡◌, ℕ, ◌+◌, ◌≤◌, Bool, true, false, List, [], ◌∷◌, length, drop, None, Some, refl, ap, sym, ◌∙◌}
+use Rattle.std.proofs.Common.{◌≡◌, ℕ, ◌+◌, ◌≤◌, Bool, true, false, List, [], ◌∷◌, length, drop}
+use Rattle.std.proofs.Common.{None, Some, refl, ap, sym, ◌∙◌}
 use Rattle.std.specs.List.{list_any, slice_get}
 use Rattle.std.specs.Str.{bytes_eq}
 use Rattle.std.proofs.lemmas.List.{at_drop_more, drop_all}
 use Rattle.std.proofs.lemmas.Option.{slice_get_within, get_or_from_slice_get}
 use Rattle.catalogue.specs.Holdings.{names_held, release_held}
 use Rattle.catalogue.specs.declared.holding.Catalogue.{Catalogue}
-use Rattle.release_check.specs.HistoryFaults.{drop_fault, first_missing}
+use Rattle.release_check.specs.Before.{drop_fault, first_missing}
 use Rattle.release_check.specs.declared.check_fault.CheckFault.TheVariants as fault
 
 drop_step : (xs : List (List ℕ)) (i : ℕ) (x : List ℕ) → slice_get xs i ≡ Some x → drop i xs ≡ x ∷ drop (i + 1) xs

@@ -1,14 +1,18 @@
 -- The names of a release are those of its zones as they stand, in another order.
-use Rattle.std.proofs.Common.{◌≡◌, ℕ, suc, Bool, true, false, if◌then◌else◌, List, [], ◌∷◌, ◌++◌, length, ap, refl, append_assoc, IsPermutation}
+use Rattle.std.proofs.Common.{◌≡◌, ℕ, suc, Bool, true, false, if◌then◌else◌, List, [], ◌∷◌, ◌++◌}
+use Rattle.std.proofs.Common.{length, ap, refl, append_assoc, IsPermutation}
 use Rattle.std.specs.List.{list_all}
-use Rattle.std.proofs.lemmas.List.Sorted.{IsPermutation-refl, IsPermutation-cons, IsPermutation-trans, IsPermutation-append, IsPermutation-append_left}
-use Rattle.std.proofs.lemmas.List.Sorted.{IsPermutation-append_right, IsPermutation-append_comm, IsPermutation-middle, All-permutation}
+use Rattle.std.proofs.lemmas.List.Sorted.{IsPermutation-refl, IsPermutation-cons}
+use Rattle.std.proofs.lemmas.List.Sorted.{IsPermutation-trans, IsPermutation-append}
+use Rattle.std.proofs.lemmas.List.Sorted.{IsPermutation-append_left, IsPermutation-append_right}
+use Rattle.std.proofs.lemmas.List.Sorted.{IsPermutation-append_comm, IsPermutation-middle}
+use Rattle.std.proofs.lemmas.List.Sorted.{All-permutation}
 use Rattle.std.proofs.lemmas.List.Sums.{AllPass-from_list_all, list_all-from_AllPass}
 use Rattle.catalogue.specs.Order.{is_before, put_by, rising_by}
 use Rattle.catalogue.specs.Releases.{ContentData, names_of}
 use Rattle.release_manifest.specs.declared.manifest_type.ManifestZone.{ManifestZone}
 use Rattle.release_check.specs.Found.{AreOf}
-use Rattle.release_check.specs.ManifestFaults.{names_in}
+use Rattle.release_check.specs.Faults.{names_in}
 
 -- an item that is put in its place only moves
 put_moves : {X : Type 0} (text : X → List ℕ) (x : X) (xs : List X) → IsPermutation (x ∷ xs) (put_by text x xs)

@@ -1,13 +1,13 @@
 -- A directory gives one thing, and one alone.
 use Rattle.std.proofs.Common.{◌≡◌, ℕ, List, Option, None, Some, Result, Err, refl, ap, ◌∙◌, subst}
-use Rattle.td_base.specs.Files.{File, file_at}
+use Rattle.td_base.specs.Views.{File, file_at}
 use Rattle.catalogue.specs.Releases.{ReleaseData}
 use Rattle.release_manifest.specs.Reading.{IsManifestText, manifest_text_fault}
 use Rattle.release_manifest.specs.declared.manifest_fault.ManifestFault.{ManifestFault}
 use Rattle.release_manifest.specs.declared.manifest_type.Manifest.{Manifest}
 use Rattle.release_check.specs.Before.{Before}
 use Rattle.release_check.specs.Folder.{FolderGives, absent, refused, read, release_in}
-use Rattle.release_check.specs.Paths.{manifest_path}
+use Rattle.release_check.specs.Folder.{manifest_path}
 use Rattle.release_check.specs.declared.check_fault.CheckFault.{CheckFault}
 use Rattle.release_check.specs.declared.check_fault.CheckFault.TheVariants as fault
 

@@ -1,5 +1,6 @@
 -- The first fault of a zone's file, as the parts of its reading find it.
-use Rattle.std.proofs.Common.{◌≡◌, ◌≢◌, ℕ, ◌<◌, Bool, true, false, not, List, [], ◌∷◌, length, Option, None, Some, ap, sym, ◌∙◌, refl, arith}
+use Rattle.std.proofs.Common.{◌≡◌, ◌≢◌, ℕ, ◌<◌, Bool, true, false, not, List, [], ◌∷◌, length}
+use Rattle.std.proofs.Common.{Option, None, Some, ap, sym, ◌∙◌, refl, arith}
 use Rattle.std.specs.Option.{option_map, option_map_or, option_or}
 use Rattle.tzif_reader.specs.Cut.{lists_of}
 use Rattle.tzif_reader.specs.Faults.{first_fault}
@@ -18,7 +19,7 @@ use Rattle.zone_meaning.specs.State.{footer_meant}
 use Rattle.zone_meaning.specs.Sound.{IsSoundFile}
 use Rattle.td_base.specs.FirstFault.{◌or_else◌, when}
 use Rattle.release_check.specs.Judged.{of_reader}
-use Rattle.release_check.specs.ZoneFaults.{file_fault, lines_fault, meaning_fault}
+use Rattle.release_check.specs.Faults.{file_fault, lines_fault, meaning_fault}
 use Rattle.release_check.specs.declared.check_fault.CheckFault.{CheckFault}
 use Rattle.release_check.specs.declared.check_fault.CheckFault.TheVariants as fault
 

@@ -2,7 +2,7 @@
 use Rattle.std.specs.Prelude.{ℕ, List, [], ◌++◌, codes, decimal, if◌then◌else◌}
 use Rattle.std.specs.Str.{is_utf8}
 use Rattle.td_civil.specs.Bounds.{has_meaning}
-use Rattle.td_civil.specs.Texts.{text_of}
+use Rattle.td_civil.specs.Calendar.{text_of}
 use Rattle.td_civil.specs.declared.moment_type.Moment.{Moment}
 use Rattle.release_manifest.specs.FaultText.{fault_text as manifest_text}
 use Rattle.tzif_reader.specs.FaultText.{fault_text as tzif_text}

@@ -1,6 +1,8 @@
--- Which release the files under a directory give, or which fault is the first.
-use Rattle.std.specs.Prelude.{◌≡◌, ℕ, ◌+◌, List, [], ◌∷◌, Option, None, Some, Result, Ok, Err}
-use Rattle.td_base.specs.Files.{File, file_at}
+-- Which release the files under a directory give, or which fault is the first; and where these
+-- files stand in a store.
+use Rattle.std.specs.Prelude.{◌≡◌, ℕ, ◌+◌, List, [], ◌∷◌, Option, None, Some, Result, Ok, Err, ◌++◌}
+use Rattle.std.specs.Prelude.{codes}
+use Rattle.td_base.specs.Views.{File, file_at}
 use Rattle.td_base.specs.FirstFault.{◌>>=◌}
 use Rattle.catalogue.specs.Order.{rising_by}
 use Rattle.catalogue.specs.Releases.{ContentData, ReleaseData}
@@ -12,11 +14,17 @@ use Rattle.release_manifest.specs.declared.manifest_type.ManifestLeaps.{Manifest
 use Rattle.release_manifest.specs.declared.manifest_fault.ManifestFault.{ManifestFault}
 use Rattle.release_check.specs.Before.{Before}
 use Rattle.release_check.specs.LeapFile.{leap_file_fault, table_of}
-use Rattle.release_check.specs.ManifestFaults.{form_fault, manifest_fault}
-use Rattle.release_check.specs.Paths.{path_in, manifest_path}
-use Rattle.release_check.specs.ZoneFaults.{file_fault}
+use Rattle.release_check.specs.Faults.{form_fault, manifest_fault, file_fault}
 use Rattle.release_check.specs.declared.check_fault.CheckFault.{CheckFault}
 use Rattle.release_check.specs.declared.check_fault.CheckFault.TheVariants as fault
+
+-- the path of a file in a directory; an empty directory gives the name alone
+abbrev pub path_in : List ℕ → List ℕ → List ℕ
+path_in [] name = name
+path_in (b ∷ dir) name = (b ∷ dir) ++ 47 ∷ name
+
+abbrev pub manifest_path : List ℕ → List ℕ
+manifest_path dir = path_in dir (codes "manifest.json")
 
 -- a result, unless there is a fault
 abbrev pub unless : {A : Type 0} → Option CheckFault → Result A CheckFault → Result A CheckFault

@@ -2,10 +2,7 @@
 use Rattle.std.specs.Prelude.{◌≡◌, ◌≢◌, ⊤, ℕ, Option, List, [], ◌∷◌, take, map, None, Some, Result}
 use Rattle.std.specs.Prelude.{Ok, Err, IfSome, IsErrOf}
 use Rattle.std.specs.Option.{option_map}
-use Rattle.td_base.specs.Cause.{StoreFailed}
-use Rattle.td_base.specs.Files.{File, file_at}
-use Rattle.td_base.specs.Later.{LaterStore}
-use Rattle.td_base.specs.Views.{StoreView}
+use Rattle.td_base.specs.Views.{StoreFailed, File, file_at, LaterStore, StoreView}
 use Rattle.catalogue.specs.Order.{rising_by}
 use Rattle.catalogue.specs.Releases.{ContentData, ReleaseData, content_data, release_data}
 use Rattle.catalogue.specs.declared.release.Leaps.{Leaps}
@@ -18,8 +15,7 @@ use Rattle.release_manifest.specs.declared.manifest_type.ManifestLeaps.{Manifest
 use Rattle.zone_meaning.specs.Sound.{IsSoundFile}
 use Rattle.release_check.specs.Before.{Before}
 use Rattle.release_check.specs.Folder.{FolderGives, content_in, contents_in, examined_in}
-use Rattle.release_check.specs.Folder.{release_in, table_in}
-use Rattle.release_check.specs.Paths.{manifest_path}
+use Rattle.release_check.specs.Folder.{release_in, table_in, manifest_path}
 use Rattle.release_check.specs.declared.check_fault.CheckFault.{CheckFault}
 use Rattle.release_check.specs.declared.check_fault.CheckFault.TheVariants as fault
 

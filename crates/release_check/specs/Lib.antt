@@ -1,9 +1,6 @@
-pub mod Paths
 pub mod Before
-pub mod HistoryFaults
 pub mod LeapFile
-pub mod ManifestFaults
-pub mod ZoneFaults
+pub mod Faults
 pub mod Folder
 pub mod FaultText
 pub mod Judged

@@ -8,7 +8,7 @@ ghost use Rattle.release_check.specs.Before.{before_held, before_of};
 ghost use Rattle.release_check.specs.Found.{FindsIn, IsExaminedIn, IsManifestIn, IsOfManifest};
 ghost use Rattle.release_check.specs.Found.{IsReleaseIn};
 ghost use Rattle.release_check.specs.Judged.{of_manifest, RefusesText};
-ghost use Rattle.release_check.specs.ManifestFaults.{IsFormed};
+ghost use Rattle.release_check.specs.Faults.{IsFormed};
 
 use crate::check_fault::CheckFault;
 use crate::files::read_in;

@@ -2,7 +2,7 @@ ghost use Rattle.std.specs.Prelude.{◌≡◌, [], ℕ, List, ◌||◌, map, not
 ghost use Rattle.std.specs.List.{list_any};
 ghost use Rattle.std.specs.Str.{bytes_eq};
 ghost use Rattle.release_check.specs.Judged.{JudgesUnread};
-ghost use Rattle.release_check.specs.ManifestFaults.{duplicate_fault};
+ghost use Rattle.release_check.specs.Faults.{duplicate_fault};
 
 use crate::check_fault::CheckFault;
 use std::alloc::Global;

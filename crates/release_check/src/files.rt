@@ -1,6 +1,6 @@
 ghost use Rattle.std.specs.Prelude.{◌≡◌, IfOk};
 ghost use Rattle.release_check.specs.Found.{FindsIn, IsFile};
-ghost use Rattle.release_check.specs.Paths.{path_in};
+ghost use Rattle.release_check.specs.Folder.{path_in};
 
 use crate::check_fault::CheckFault;
 use std::alloc::Global;

@@ -1,7 +1,7 @@
 //! The texts of a manifest value.
 ghost use Rattle.std.specs.Prelude.{◌≡◌};
 ghost use Rattle.release_check.specs.Judged.{JudgesUnread};
-ghost use Rattle.release_check.specs.ManifestFaults.{form_fault, has_date};
+ghost use Rattle.release_check.specs.Faults.{form_fault, has_date};
 
 use crate::check_fault::{CheckFault, has_meaning};
 use release_manifest::{Manifest, ManifestFault, ManifestLeaps, Path};
@@ -9,7 +9,7 @@ use td_base::is_label;
 use td_civil::is_date;
 
 /// Looks for the first text of a manifest value that has not its form.
-#[tactic(auto, unfolding(crate::specs::ManifestFaults::form_fault))]
+#[tactic(auto, unfolding(crate::specs::Faults::form_fault))]
 pub fn judge_form(manifest: &Manifest) -> Result<(), CheckFault>
     ensures { JudgesUnread (form_fault manifest.now) result }
 {

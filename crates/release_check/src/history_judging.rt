@@ -3,9 +3,8 @@ ghost use Rattle.std.specs.Prelude.{◌≡◌, ℕ, List, map, option_copied};
 ghost use Rattle.std.specs.List.{list_any};
 ghost use Rattle.std.specs.Str.{bytes_eq};
 ghost use Rattle.catalogue.specs.Holdings.{names_held};
-ghost use Rattle.release_check.specs.Before.{before_held};
-ghost use Rattle.release_check.specs.HistoryFaults.{drop_fault, first_missing, place_fault};
-ghost use Rattle.release_check.specs.HistoryFaults.{stamp_fault};
+ghost use Rattle.release_check.specs.Before.{before_held, drop_fault, first_missing, place_fault};
+ghost use Rattle.release_check.specs.Before.{stamp_fault};
 ghost use Rattle.release_check.specs.Judged.{JudgesUnread};
 
 use crate::check_fault::CheckFault;

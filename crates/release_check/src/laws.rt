@@ -1,5 +1,5 @@
 ghost use Rattle.std.specs.Prelude.{◌≡◌, List, ℕ, Ok, Result, Some};
-ghost use Rattle.td_base.specs.Files.{File};
+ghost use Rattle.td_base.specs.Views.{File};
 ghost use Rattle.catalogue.specs.Holdings.{StandsFor};
 ghost use Rattle.catalogue.specs.Releases.{ReleaseData};
 ghost use Rattle.catalogue.specs.declared.holding.Catalogue.{Catalogue};

@@ -5,7 +5,7 @@ ghost use Rattle.zone_meaning.specs.Sound.{IsSoundLeaps};
 ghost use Rattle.release_check.specs.Found.{FindsIn, IsTableIn};
 ghost use Rattle.release_check.specs.Judged.{JudgesUnread, of_leap_reader, of_table};
 ghost use Rattle.release_check.specs.LeapFile.{leap_file_fault, table_of};
-ghost use Rattle.release_check.specs.ManifestFaults.{has_date};
+ghost use Rattle.release_check.specs.Faults.{has_date};
 
 use crate::check_fault::{CheckFault, LeapFileFault};
 use crate::files::read_in;

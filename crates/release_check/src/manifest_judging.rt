@@ -2,8 +2,8 @@ ghost use Rattle.std.specs.Prelude.{◌≡◌, ◌∷◌, ◌++◌, map, option_
 ghost use Rattle.std.specs.List.{list_all};
 ghost use Rattle.td_base.specs.Names.{is_identifier};
 ghost use Rattle.release_check.specs.Before.{before_held};
-ghost use Rattle.release_check.specs.ManifestFaults.{names_in, limit_fault, identifier_fault};
-ghost use Rattle.release_check.specs.ManifestFaults.{manifest_fault};
+ghost use Rattle.release_check.specs.Faults.{names_in, limit_fault, identifier_fault};
+ghost use Rattle.release_check.specs.Faults.{manifest_fault};
 ghost use Rattle.release_check.specs.Judged.{JudgesUnread};
 
 use crate::check_fault::{CheckFault, Limited};

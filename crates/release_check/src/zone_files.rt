@@ -3,7 +3,7 @@ ghost use Rattle.catalogue.specs.Releases.{content_data};
 ghost use Rattle.zone_meaning.specs.Sound.{IsSoundFile};
 ghost use Rattle.release_check.specs.Found.{FindsIn, IsZoneIn, AreZonesIn, IsOf, AreOf};
 ghost use Rattle.release_check.specs.Judged.{JudgesUnread, of_reader};
-ghost use Rattle.release_check.specs.ZoneFaults.{file_fault};
+ghost use Rattle.release_check.specs.Faults.{file_fault};
 
 use crate::check_fault::CheckFault;
 use crate::files::read_in;

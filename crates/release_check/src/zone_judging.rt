@@ -5,7 +5,7 @@ ghost use Rattle.posix_footer.specs.Carried.{beyond};
 ghost use Rattle.tzif_reader.specs.Cut.{lists_of};
 ghost use Rattle.zone_meaning.specs.State.{footer_meant};
 ghost use Rattle.release_check.specs.Judged.{JudgesUnread};
-ghost use Rattle.release_check.specs.ZoneFaults.{meaning_fault};
+ghost use Rattle.release_check.specs.Faults.{meaning_fault};
 
 use crate::check_fault::CheckFault;
 use crate::zone_names::has_printable_names;
@@ -14,7 +14,7 @@ use zone_meaning::{Zone, footer, footer_agrees};
 
 /// Looks for the first fault of what a zone means: its footer does not go on from its last
 /// transition, a name cannot be printed, or no yearly rules say what its footer says.
-#[tactic(auto, unfolding(crate::specs::ZoneFaults::meaning_fault))]
+#[tactic(auto, unfolding(crate::specs::Faults::meaning_fault))]
 pub fn judge_zone(number: usize, zone: &Zone) -> Result<(), CheckFault>
     ensures { JudgesUnread (meaning_fault number zone.now) result }
 {

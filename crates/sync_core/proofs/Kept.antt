@@ -1,11 +1,13 @@
 -- What maps and sets keep, as rising lists.
-use Rattle.std.proofs.Common.{Ordering, Less, Equal, Greater, ◌≡◌, ℕ, suc, Bool, true, false, cond, Option, None, Some, List, [], ◌∷◌, ◌++◌, refl, sym, ap, ◌∙◌}
-use Rattle.std.proofs.Common.{map, slice_index_or, length, drop, ◌<◌, ◌+◌, arith, ◌||◌, not, subst, filter, if◌then◌else◌, option_map}
+use Rattle.std.proofs.Common.{Ordering, Less, Equal, Greater, ◌≡◌, ℕ, suc, Bool, true, false, cond}
+use Rattle.std.proofs.Common.{Option, None, Some, List, [], ◌∷◌, ◌++◌, refl, sym, ap, ◌∙◌, map}
+use Rattle.std.proofs.Common.{slice_index_or, length, drop, ◌<◌, ◌+◌, arith, ◌||◌, not, subst}
+use Rattle.std.proofs.Common.{filter, if◌then◌else◌, option_map}
 use Rattle.std.specs.List.{list_any}
 use Rattle.std.specs.BTreeMap.{insert_entry, is_at}
 use Rattle.std.specs.BTreeSet.{insert_key}
 use Rattle.std.specs.Option.{option_or}
-use Rattle.td_base.specs.Files.{File, file_at}
+use Rattle.td_base.specs.Views.{File, file_at}
 use Rattle.std.specs.Map.{keys_of, values_of}
 use Rattle.std.specs.Ordering.{nat_cmp, match_ordering}
 use Rattle.std.specs.Cmp.Lexicographic.{slice_cmp, nat_list_eq_equiv}
@@ -17,8 +19,10 @@ use Rattle.sync_core.specs.Keeping.{by_name, has_listed_name}
 use Rattle.sync_core.specs.Mirrors.{MirrorState, ZoneFile, entry_name, file_name, files_kept}
 use Rattle.sync_core.specs.Names.{put_in, put_all, at_text}
 use Rattle.sync_core.specs.Published.{bytes_of}
-use Rattle.sync_core.specs.Steps.{after_file, is_alias, kept_entries, kept_files, rising_zones, with_changes}
-use Rattle.sync_core.proofs.lemmas.Puts.{turned, same_text, Rising, rising_filter, rising_put_all, put_rising}
+use Rattle.sync_core.specs.Steps.{after_file, is_alias, kept_entries, kept_files, rising_zones}
+use Rattle.sync_core.specs.Steps.{with_changes}
+use Rattle.sync_core.proofs.lemmas.Puts.{turned, same_text, Rising, rising_filter, rising_put_all}
+use Rattle.sync_core.proofs.lemmas.Puts.{put_rising}
 
 abbrev pub state : Option (List ℕ) → Option (List ℕ) → List ListZone → List ZoneFile → List (List ℕ) → MirrorState
 state token coming entries files pending = record { token = token; coming = coming; entries = entries; files = files; pending = pending }

@@ -2,7 +2,7 @@
 use Rattle.std.specs.Prelude.{ℕ, List, map, codes, Bool, Option, None, Some, option_map, find}
 use Rattle.std.specs.Prelude.{int_le, ◌≡◌}
 use Rattle.std.specs.List.{list_all}
-use Rattle.td_base.specs.Files.{File, file_at}
+use Rattle.td_base.specs.Views.{File, file_at}
 use Rattle.td_civil.specs.declared.moment_type.TheConstants.{LO}
 use Rattle.json_forms.specs.declared.zone_list.ListZone.{ListZone}
 use Rattle.release_manifest.specs.declared.manifest_type.Manifest.{Manifest}

@@ -1,5 +1,6 @@
 -- A list that was written reads back as what it lists.
-use Rattle.std.proofs.Common.{◌≡◌, ℕ, ℤ, ◌≤ℤ◌, ◌<ℤ◌, Bool, true, false, cond, Option, None, Some, List, [], ◌∷◌, refl, sym, ap, ◌∙◌, map, pos, arith}
+use Rattle.std.proofs.Common.{◌≡◌, ℕ, ℤ, ◌≤ℤ◌, ◌<ℤ◌, Bool, true, false, cond, Option, None, Some}
+use Rattle.std.proofs.Common.{List, [], ◌∷◌, refl, sym, ap, ◌∙◌, map, pos, arith}
 use Rattle.std.proofs.lemmas.Int.{ints}
 use Rattle.std.specs.List.{AllByRecursion}
 use Rattle.std.specs.Option.{unwrap_or}
@@ -10,10 +11,11 @@ use Rattle.serde_json.specs.View.{items_of}
 use Rattle.td_civil.specs.Bounds.{HasMeaning, HasText}
 use Rattle.td_civil.specs.declared.moment_type.TheConstants.{LO, HI}
 use Rattle.td_civil.specs.Reading.{moment_in}
-use Rattle.td_civil.specs.Texts.{text_of}
+use Rattle.td_civil.specs.Calendar.{text_of}
 use Rattle.td_civil.proofs.lemmas.Shown.{reads_back_lem}
 use Rattle.json_forms.specs.JsonTexts.{json_in}
-use Rattle.json_forms.specs.ListDocument.{strings, with_aliases, zone_members, zone_data, list_data, list_document}
+use Rattle.json_forms.specs.ListDocument.{strings, with_aliases, zone_members, zone_data, list_data}
+use Rattle.json_forms.specs.ListDocument.{list_document}
 use Rattle.json_forms.specs.ListReading as reading
 use Rattle.json_forms.specs.ListReading.{text_in, zone_in}
 use Rattle.json_forms.specs.declared.zone_list.ListDoc.{ListDoc}

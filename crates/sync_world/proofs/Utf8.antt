@@ -8,8 +8,9 @@ use Rattle.serde_json.specs.Data.{Data, Members, no_members, member, object, arr
 use Rattle.serde_json.specs.View.{items_of}
 use Rattle.serde_json.specs.Written.{comma_if, compact_text, items_text, members_text}
 use Rattle.td_base.specs.Names.{IsPlain}
-use Rattle.td_civil.specs.Texts.{text_of}
-use Rattle.json_forms.specs.ListDocument.{strings, with_aliases, zone_members, zone_data, list_data, list_document}
+use Rattle.td_civil.specs.Calendar.{text_of}
+use Rattle.json_forms.specs.ListDocument.{strings, with_aliases, zone_members, zone_data, list_data}
+use Rattle.json_forms.specs.ListDocument.{list_document}
 use Rattle.json_forms.specs.PlainTexts.{IsPlainZone}
 use Rattle.json_forms.specs.declared.zone_list.ListZone.{ListZone}
 use Rattle.json_forms.proofs.lemmas.PlainStamps.{stamp_is_plain}

@@ -2,7 +2,7 @@
 //! installs, a mirror that says that it holds what the primary has holds exactly the release that
 //! answered. No program calls anything here.
 //!
-//! The world of a primary and a mirror, and its steps, are in `specs/Worlds.antt`; what a mirror
+//! The world of a primary and a mirror, and its steps, are in `specs/Outside.antt`; what a mirror
 //! hears in the answers of the actions in `specs/Hearing.antt`; that it holds a release in
 //! `specs/Holding.antt`. The law is the contract of [`mirrors_hold_releases`], and [`mirrors_hold`]
 //! says the same of any [`Primary`].

@@ -4,7 +4,7 @@ use Rattle.std.proofs.Common.{◌≡◌, ◌≤◌, ℕ, List, arith, refl, ap}
 use Rattle.std.proofs.KnownBytes.{Keeps-refl}
 use Rattle.td_base.specs.Memory.{one_more}
 use Rattle.td_base.specs.Outside.{Reads, Writes, Looks, ConnReads, ConnWrites, FileTells}
-use Rattle.td_base.specs.Views.{SourceView, SinkView, StoreView, ConnView, source_of, sink_of}
+use Rattle.td_base.specs.Views.{SourceView, SinkView, StoreView, ConnView, source_of, sink_of, File}
 use Rattle.td_base.specs.declared.outside.ReadStep.{ReadStep}
 use Rattle.td_base.specs.declared.outside.ReadStep.TheVariants as read
 use Rattle.td_base.specs.declared.outside.WriteStep.{WriteStep}
@@ -12,7 +12,6 @@ use Rattle.td_base.specs.declared.outside.WriteStep.TheVariants as write
 use Rattle.td_base.specs.declared.outside.FileRead.{FileRead}
 use Rattle.td_base.specs.declared.outside.FileRead.TheVariants as file
 use Rattle.std.specs.Prelude.{None, Some, Option}
-use Rattle.td_base.specs.Files.{File}
 
 -- the view with another count
 abbrev pub source_with : SourceView → ℕ → SourceView

@@ -3,9 +3,8 @@
 use Rattle.std.specs.Prelude.{◌≡◌, ℕ, ◌+◌, ◌≤◌, List, [], ◌∷◌, ◌++◌, length, map, take, drop, All}
 use Rattle.std.specs.Prelude.{⊤, Option, None, Some, IfSome}
 use Rattle.std.specs.Global.{Vec}
-use Rattle.td_base.specs.Cause.{Rose}
+use Rattle.td_base.specs.Views.{Rose, ConnView}
 use Rattle.td_base.specs.DoorViews.{DoorContent, DoorView, NetworkContent, NetworkView}
-use Rattle.td_base.specs.Views.{ConnView}
 use Rattle.td_base.specs.declared.door.Accepted.{Accepted}
 use Rattle.td_base.specs.declared.door.Accepted.TheVariants as accepted
 use Rattle.td_base.specs.declared.door.DoorAnswer.{DoorAnswer}

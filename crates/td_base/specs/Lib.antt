@@ -1,14 +1,10 @@
-pub mod Cause
 pub mod DoorViews
 pub mod Doors
-pub mod Files
 pub mod FirstFault
-pub mod Later
 pub mod Memory
 pub mod MemoryDoorFields
 pub mod MemoryDoors
 pub mod MemoryNetworks
-pub mod NameCuts
 pub mod Names
 pub mod Outside
 pub mod Sized

@@ -1,12 +1,12 @@
 -- The texts that name things in a release: identifiers of time zones, files, publishers and
 -- versions.
 use Rattle.std.specs.Prelude.{ℕ, List, [], ◌∷◌, length, Bool, IsTrue, false, not, ◌&&◌, ◌||◌, ◌==◌}
-use Rattle.std.specs.Prelude.{nat_le, if◌then◌else◌}
+use Rattle.std.specs.Prelude.{nat_le, if◌then◌else◌, ◌≡◌, Option, None, Some}
 use Rattle.std.specs.List.{list_all, list_any}
 use Rattle.std.specs.Str.{bytes_eq}
 use Rattle.td_base.specs.declared.name_forms.TheConstants.{MOST_FILE_NAME_BYTES}
-use Rattle.td_base.specs.declared.name_forms.TheConstants.{MOST_IDENTIFIER_BYTES}
-use Rattle.td_base.specs.declared.name_forms.TheConstants.{MOST_LABEL_BYTES, MOST_PATH_BYTES}
+use Rattle.td_base.specs.declared.name_forms.TheConstants.{MOST_IDENTIFIER_BYTES, MOST_LABEL_BYTES}
+use Rattle.td_base.specs.declared.name_forms.TheConstants.{MOST_PATH_BYTES}
 
 -- the byte before the first piece
 abbrev pub with_first : ℕ → List (List ℕ) → List (List ℕ)
@@ -62,3 +62,14 @@ is_label text =
 abbrev pub is_path_word : List ℕ → Bool
 is_path_word [] = false
 is_path_word (b ∷ bs) = not (b == 45) && nat_le (length (b ∷ bs)) MOST_PATH_BYTES
+
+-- ---- a text cut at its first slash
+
+-- the segments of a text that may be missing
+abbrev pub segments_left : Option (List ℕ) → List (List ℕ)
+segments_left None = []
+segments_left (Some text) = segments text
+
+-- the text is the segment, and after a slash what is left, if there is one
+abbrev pub IsSegmentCut : List ℕ → List ℕ → Option (List ℕ) → Type 0
+IsSegmentCut text segment left = segments text ≡ segment ∷ segments_left left

@@ -3,10 +3,8 @@
 use Rattle.std.specs.Prelude.{◌≡◌, ℕ, ◌<◌, ◌≤◌, List, length, take, ⊤, Option, None, Some}
 use Rattle.std.specs.Option.{option_map}
 use Rattle.std.specs.Io.KnownBytes.{Appends, Consumes, IsAtEnd, Keeps}
-use Rattle.td_base.specs.Cause.{SourceFailed, SinkFailed, StoreFailed}
-use Rattle.td_base.specs.Files.{File, file_at}
-use Rattle.td_base.specs.Views.{SourceView, SinkView, StoreView, ConnView, IsSameConn, source_of}
-use Rattle.td_base.specs.Views.{sink_of}
+use Rattle.td_base.specs.Views.{SourceFailed, SinkFailed, StoreFailed, File, file_at, SourceView}
+use Rattle.td_base.specs.Views.{SinkView, StoreView, ConnView, IsSameConn, source_of, sink_of}
 use Rattle.td_base.specs.declared.outside.ReadStep.{ReadStep}
 use Rattle.td_base.specs.declared.outside.ReadStep.TheVariants as read
 use Rattle.td_base.specs.declared.outside.WriteStep.{WriteStep}

@@ -2,8 +2,8 @@
 use Rattle.std.specs.Prelude.{◌≡◌, ℕ, ◌<◌, ◌≤◌, List, length, take, Option, Result, MatchResult}
 use Rattle.std.specs.Prelude.{IsErrOf}
 use Rattle.std.specs.Io.KnownBytes.{Appends, Consumes, IsAtEnd}
-use Rattle.td_base.specs.Cause.{SourceFailed, SinkFailed}
-use Rattle.td_base.specs.Views.{SourceView, SinkView, ConnView, IsSameConn, source_of, sink_of}
+use Rattle.td_base.specs.Views.{SourceFailed, SinkFailed, SourceView, SinkView, ConnView}
+use Rattle.td_base.specs.Views.{IsSameConn, source_of, sink_of}
 use Rattle.td_base.specs.declared.transfer.SourceFault.{SourceFault}
 use Rattle.td_base.specs.declared.transfer.SourceFault.TheVariants as fault
 use Rattle.td_base.specs.declared.transfer.Written.{Written}

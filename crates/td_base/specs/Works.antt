@@ -1,6 +1,6 @@
 -- Which work a running one is, and what starting a work comes to.
 use Rattle.std.specs.Prelude.{◌≡◌, ℕ, ◌≤◌, Result, Ok, Err}
-use Rattle.td_base.specs.Cause.{Rose}
+use Rattle.td_base.specs.Views.{Rose}
 use Rattle.td_base.specs.declared.running.Running.{Running}
 use Rattle.td_base.specs.declared.running.Running.TheVariants as running
 

@@ -1,5 +1,5 @@
 ghost use Rattle.std.specs.Prelude.{◌≡◌, ◌≤◌, true, false};
-ghost use Rattle.td_base.specs.Cause.{Rose};
+ghost use Rattle.td_base.specs.Views.{Rose};
 ghost use Rattle.td_base.specs.Memory.{counted, is_chosen, is_refused_begin, one_more};
 
 use crate::{Begin, Faulty, Spawner};

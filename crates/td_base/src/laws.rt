@@ -1,8 +1,8 @@
 //! Laws of the definitions of this crate, each the contract of a function that does nothing.
-ghost use Rattle.std.specs.Prelude.{◌≡◌, ℕ, List, Option, Result};
-ghost use Rattle.std.specs.Prelude.{IfSome, IsTrue, take};
-ghost use Rattle.td_base.specs.Cause.{SourceFailed, SinkFailed, StoreFailed};
-ghost use Rattle.td_base.specs.Later.{LaterSource, LaterSink, LaterStore, LaterConn};
+ghost use Rattle.std.specs.Prelude.{◌≡◌, ℕ, List, Option, Result, IfSome, IsTrue, take};
+ghost use Rattle.td_base.specs.Views.{SourceFailed, SinkFailed, StoreFailed, LaterSource};
+ghost use Rattle.td_base.specs.Views.{LaterSink, LaterStore, LaterConn, SourceView, SinkView};
+ghost use Rattle.td_base.specs.Views.{StoreView, ConnView, source_of, sink_of};
 ghost use Rattle.td_base.specs.Names.{IsPlain, is_identifier, is_label};
 ghost use Rattle.td_base.specs.Outside.{Reads, Writes, Looks, ConnReads, ConnWrites};
 ghost use Rattle.td_base.specs.Transfer.{IsWhole, ReadsTo, WritesAll, Sends};
@@ -11,8 +11,6 @@ ghost use Rattle.td_base.specs.declared.outside.ReadStep.{ReadStep};
 ghost use Rattle.td_base.specs.declared.outside.WriteStep.{WriteStep};
 ghost use Rattle.td_base.specs.declared.transfer.SourceFault.{SourceFault};
 ghost use Rattle.td_base.specs.declared.transfer.Written.{Written};
-ghost use Rattle.td_base.specs.Views.{SourceView, SinkView, StoreView, ConnView, source_of};
-ghost use Rattle.td_base.specs.Views.{sink_of};
 
 /// What is read of a source up to a limit is the prefix of all that it tells, so long.
 pub fn reads_a_prefix()

@@ -1,5 +1,5 @@
 ghost use Rattle.std.specs.Prelude.{◌≡◌, ◌≤◌};
-ghost use Rattle.td_base.specs.Cause.{Rose};
+ghost use Rattle.td_base.specs.Views.{Rose};
 ghost use Rattle.td_base.specs.Memory.{one_more};
 
 use crate::{Begin, Spawner};

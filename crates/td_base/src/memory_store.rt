@@ -1,7 +1,7 @@
 ghost use Rattle.std.specs.Prelude.{◌≡◌, [], ℕ, List, Some, OnOk, OnErr, if◌then◌else◌};
 ghost use Rattle.std.specs.Option.{option_map};
 ghost use Rattle.std.specs.Str.{bytes_eq};
-ghost use Rattle.td_base.specs.Files.{file_at};
+ghost use Rattle.td_base.specs.Views.{file_at};
 ghost use Rattle.td_base.specs.Memory.{IsPrefixRead};
 
 use crate::{Bytes, FileRead, NoMemory, Store};
@@ -17,7 +17,7 @@ pub struct MemoryStore {
 
 impl Model for MemoryStore {
     ghost use Rattle.std.specs.Prelude.{List};
-    ghost use Rattle.td_base.specs.Files.{File};
+    ghost use Rattle.td_base.specs.Views.{File};
     ghost use Rattle.td_base.specs.Stored.{files_of};
 
     ghost Value = { List File };

@@ -2,8 +2,7 @@ ghost use Rattle.std.specs.Prelude.{◌≡◌, ◌<◌, IfSome, length};
 ghost use Rattle.std.specs.Option.{option_copied};
 ghost use Rattle.std.specs.List.{list_all, list_any};
 ghost use Rattle.td_base.specs.Names as names;
-ghost use Rattle.td_base.specs.Names.{segments};
-ghost use Rattle.td_base.specs.NameCuts.{IsSegmentCut};
+ghost use Rattle.td_base.specs.Names.{segments, IsSegmentCut};
 
 /// The most bytes of an identifier.
 pub const MOST_IDENTIFIER_BYTES: usize = 64;

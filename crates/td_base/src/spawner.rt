@@ -1,5 +1,5 @@
 ghost use Rattle.std.specs.Prelude.{◌≡◌, ℕ, ◌≤◌};
-ghost use Rattle.td_base.specs.Cause.{Rose};
+ghost use Rattle.td_base.specs.Views.{Rose};
 ghost use Rattle.td_base.specs.Works.{Starts, work_of};
 
 use crate::running::Running;

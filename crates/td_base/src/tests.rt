@@ -1,4 +1,4 @@
-ghost use Rattle.td_base.specs.Later.{LaterConn, LaterSink, LaterSource};
+ghost use Rattle.td_base.specs.Views.{LaterConn, LaterSink, LaterSource};
 
 use crate::{
     Bytes, Conn, Faulty, FaultyConn, FileRead, Items, Joined, MemoryConn, MemorySink, MemorySource,

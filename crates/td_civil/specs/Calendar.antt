@@ -1,10 +1,10 @@
 -- The date and the time of day of a moment, by counting off whole years, whole months and whole
--- days.
+-- days; and its texts.
 use Rattle.std.specs.Prelude.{ℕ, zero, suc, ◌+◌, ◌-◌, ◌*◌, ◌/◌, ◌%◌, nat_lt, if◌then◌else◌, ℤ, pos}
-use Rattle.std.specs.Prelude.{unsigned_abs, ◌+ℤ◌, ◌*ℤ◌, ◌≤ℤ◌, ◌<ℤ◌}
+use Rattle.std.specs.Prelude.{unsigned_abs, ◌+ℤ◌, ◌*ℤ◌, ◌≤ℤ◌, ◌<ℤ◌, List}
 use Rattle.std.specs.Int.{IsInRange}
 use Rattle.jiff_core.specs.Calendar.{days_in_year, days_in_month, days_from_civil, IsBetween}
-use Rattle.td_civil.specs.Stamp.{Stamp}
+use Rattle.td_civil.specs.Stamp.{Stamp, spelling, basic_spelling}
 
 -- year, month and day
 pub record Civil : Type 0 where
@@ -63,3 +63,11 @@ abbrev pub HasDay : ℤ → ℕ → ℕ → Type 0
 HasDay year month day =
     IsBetween (pos 1798) (pos 9999) year × IsInRange 1 12 month
     × IsInRange 1 (days_in_month year month) day
+
+-- YYYY-MM-DDTHH:MM:SSZ of a moment
+unfoldable pub text_of : ℤ → List ℕ
+text_of m = spelling (stamp_of m)
+
+-- YYYYMMDDTHHMMSS of a moment, as clocks show it that are so many seconds east of UTC
+unfoldable pub local_text_of : ℤ → ℤ → List ℕ
+local_text_of m offset = basic_spelling (stamp_of (m +ℤ offset))

@@ -4,5 +4,4 @@ pub mod Calendar
 pub mod Reading
 pub mod SameLocal
 pub mod Stamp
-pub mod Texts
 pub use Rattle.jiff_core.specs.Calendar as Gregorian

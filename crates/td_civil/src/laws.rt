@@ -4,11 +4,10 @@ ghost use Rattle.std.specs.Prelude.{◌≡◌, ◌↔◌, ◌+ℤ◌, ◌*ℤ◌
 ghost use Rattle.std.specs.Prelude.{codes};
 ghost use Rattle.jiff_core.specs.Calendar.{IsYear, days_from_civil};
 ghost use Rattle.td_civil.specs.Bounds.{HasText};
-ghost use Rattle.td_civil.specs.Calendar.{IsInYear};
+ghost use Rattle.td_civil.specs.Calendar.{IsInYear, text_of};
 ghost use Rattle.td_civil.specs.Reading.{moment_in};
 ghost use Rattle.td_civil.specs.SameLocal.{same_local};
 ghost use Rattle.td_civil.specs.Stamp.{Spells};
-ghost use Rattle.td_civil.specs.Texts.{text_of};
 ghost use Rattle.td_civil.specs.declared.local_time.Local.{Local};
 
 use crate::{HI, LO};

@@ -2,7 +2,7 @@ ghost use Rattle.std.specs.Prelude.{◌≡◌, ℤ, ◌+ℤ◌, IfOk, IfSome, On
 ghost use Rattle.jiff_core.specs.Calendar.{IsWithin};
 ghost use Rattle.td_civil.specs.Bounds.{IsWithinBounds};
 ghost use Rattle.td_civil.specs.Stamp.{Spells, ShowsLocal};
-ghost use Rattle.td_civil.specs.Texts.{text_of, local_text_of};
+ghost use Rattle.td_civil.specs.Calendar.{text_of, local_text_of};
 ghost use Rattle.td_civil.specs.Reading.{moment_in};
 ghost use Rattle.td_civil.specs.Answer.{moment_read};
 

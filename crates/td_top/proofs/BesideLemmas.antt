@@ -1,6 +1,6 @@
 -- What serving doors beside a talk comes to, by how the pool of workers ended.
 use Rattle.std.proofs.Common.{◌≡◌, ℕ, ◌≤◌, List, [], map, All, Some, refl, sym, subst}
-use Rattle.td_base.specs.Cause.{Rose}
+use Rattle.td_base.specs.Views.{Rose}
 use Rattle.td_base.specs.DoorViews.{DoorView}
 use Rattle.connection.specs.DoorWorks.{WorkView}
 use Rattle.connection.specs.declared.door_work.DoorDone.{DoorDone}
@@ -16,7 +16,8 @@ use Rattle.td_top.specs.declared.status.Status.{Status}
 use Rattle.td_top.specs.declared.status.Status.TheVariants as status
 use Rattle.td_top.specs.declared.talking.TalkEnd.{TalkEnd}
 use Rattle.td_top.proofs.RunLemmas.{outside_refl}
-use Rattle.td_top.proofs.ServerLemmas.{Does, came, comes_concluded, comes_later, same_pairs, unstarted, without_memory}
+use Rattle.td_top.proofs.ServerLemmas.{Does, came, comes_concluded, comes_later, same_pairs}
+use Rattle.td_top.proofs.ServerLemmas.{unstarted, without_memory}
 
 module _ {D : Type 0} (seen : D → DoorView) where
   -- a worker was not started, so that the talk was not begun

@@ -1,16 +1,16 @@
 -- How folders are checked: the lines of a history, one folder more, and the ends.
-use Rattle.std.proofs.Common.{◌≡◌, ◌≢◌, ℕ, ◌+◌, ◌<◌, List, [], ◌∷◌, ◌++◌, length, take, drop, get_or, Option, None, Some, IfSome, Result, Ok, Err, inl, inr}
-use Rattle.std.proofs.Common.{refl, sym, subst, ap, ◌∙◌, append_assoc, append-nil, arith}
+use Rattle.std.proofs.Common.{◌≡◌, ◌≢◌, ℕ, ◌+◌, ◌<◌, List, [], ◌∷◌, ◌++◌, length, take, drop}
+use Rattle.std.proofs.Common.{get_or, Option, None, Some, IfSome, Result, Ok, Err, inl, inr, refl}
+use Rattle.std.proofs.Common.{sym, subst, ap, ◌∙◌, append_assoc, append-nil, arith}
 use Rattle.std.proofs.KnownBytes.{Appends-nil, Appends-trans}
 use Rattle.std.specs.Io.KnownBytes.{Appends}
 use Rattle.std.proofs.lemmas.List.{take-append-drop}
 use Rattle.std.proofs.Math.Seq.{take-append-add}
-use Rattle.td_base.specs.Files.{File}
-use Rattle.td_base.specs.Later.{LaterStore, LaterSink}
+use Rattle.td_base.specs.Views.{File, LaterStore, LaterSink, SinkView, SourceView, StoreView}
 use Rattle.td_base.specs.Transfer.{WritesAll}
-use Rattle.td_base.specs.Views.{SinkView, SourceView, StoreView}
 use Rattle.td_base.specs.declared.transfer.Written.TheVariants as written
-use Rattle.td_base.proofs.lemmas.LaterLemmas.{source_refl, sink_refl, sink_trans, store_refl, store_trans, writes_all_later, prints_later}
+use Rattle.td_base.proofs.lemmas.LaterLemmas.{source_refl, sink_refl, sink_trans, store_refl}
+use Rattle.td_base.proofs.lemmas.LaterLemmas.{store_trans, writes_all_later, prints_later}
 use Rattle.catalogue.specs.Holdings.{StandsFor, release_held}
 use Rattle.catalogue.specs.Releases.{ReleaseData}
 use Rattle.catalogue.specs.declared.holding.Catalogue.{Catalogue}
@@ -28,7 +28,8 @@ use Rattle.td_top.specs.Folders.{FoldersBegin, FoldersGive, GivesAfter, none, mo
 use Rattle.td_top.specs.Grammar.{check}
 use Rattle.td_top.specs.Lines.{ok_line, ok_lines, ok_lines_after, refused_line}
 use Rattle.td_top.specs.Outside.{outside}
-use Rattle.td_top.specs.Steps.{ChecksNext, EndsAt, PrintsOk, IsCheckedTo, Stands, TellsRelease, grown}
+use Rattle.td_top.specs.Steps.{ChecksNext, EndsAt, PrintsOk, IsCheckedTo, Stands, TellsRelease}
+use Rattle.td_top.specs.Steps.{grown}
 use Rattle.td_top.specs.Tells.{EndsLater, TellsRefused, RefusesInstall}
 use Rattle.td_top.specs.declared.status.Status.{Status}
 use Rattle.td_top.specs.declared.status.Status.TheVariants as status

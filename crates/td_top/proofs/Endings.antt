@@ -1,14 +1,14 @@
 -- From what a call does to the end of a run.
-use Rattle.std.proofs.Common.{◌≡◌, ℕ, List, ◌++◌, Option, None, Some, IfSome, Ok, Err, inl, inr, refl, sym, subst}
+use Rattle.std.proofs.Common.{◌≡◌, ℕ, List, ◌++◌, Option, None, Some, IfSome, Ok, Err, inl, inr}
+use Rattle.std.proofs.Common.{refl, sym, subst}
 use Rattle.std.specs.Prelude.{ℤ, codes}
-use Rattle.td_base.specs.Cause.{StoreFailed}
-use Rattle.td_base.specs.Files.{File, file_at}
-use Rattle.td_base.specs.Later.{LaterStore, LaterSink}
+use Rattle.td_base.specs.Views.{StoreFailed, File, file_at, LaterStore, LaterSink, StoreView}
+use Rattle.td_base.specs.Views.{SourceView, SinkView}
 use Rattle.td_base.specs.Outside.{FileTells, Looks}
-use Rattle.td_base.specs.Views.{StoreView, SourceView, SinkView}
 use Rattle.td_base.specs.declared.outside.FileRead.TheVariants as looked
 use Rattle.td_base.specs.declared.transfer.Written.TheVariants as written
-use Rattle.td_base.proofs.lemmas.LaterLemmas.{source_refl, sink_refl, looks_later, writes_all_later, prints_later}
+use Rattle.td_base.proofs.lemmas.LaterLemmas.{source_refl, sink_refl, looks_later, writes_all_later}
+use Rattle.td_base.proofs.lemmas.LaterLemmas.{prints_later}
 use Rattle.catalogue.specs.Releases.{ReleaseData}
 use Rattle.catalogue.specs.declared.holding.Catalogue.{Catalogue}
 use Rattle.release_check.specs.FaultText.{fault_text}
@@ -18,14 +18,15 @@ use Rattle.installer.specs.declared.install_fault.InstallFault.TheVariants as in
 use Rattle.release_check.specs.declared.check_fault.CheckFault.TheVariants as fault
 use Rattle.zone_meaning.specs.Faults.{zone_fault}
 use Rattle.zone_meaning.specs.declared.zone_fault.ZoneFault.{ZoneFault}
-use Rattle.td_top.specs.Called.{print, CallsFor, folders_of, releases, no_release, state, no_zone, no_file}
-use Rattle.td_top.specs.Ends.{printed, served, unread, out_of_memory, IsSilent, Printed}
+use Rattle.td_top.specs.Ends.{print, CallsFor, folders_of, releases, no_release, state, no_zone}
+use Rattle.td_top.specs.Ends.{no_file, printed, served, unread, out_of_memory, IsSilent, Printed}
 use Rattle.td_top.specs.Folders.{StopsWith}
 use Rattle.td_top.specs.Grammar.{Asked, answer, at}
 use Rattle.td_top.specs.Installed.{InstallsAll}
 use Rattle.td_top.specs.Lines.{refused_line}
 use Rattle.td_top.specs.Outside.{outside, Later}
-use Rattle.td_top.specs.Tells.{EndsLater, ServesLast, Tells, TellsRefused, RefusesInstall, Shows, ShowsBy}
+use Rattle.td_top.specs.Tells.{EndsLater, ServesLast, Tells, TellsRefused, RefusesInstall, Shows}
+use Rattle.td_top.specs.Tells.{ShowsBy}
 use Rattle.td_top.specs.declared.status.Status.{Status}
 use Rattle.td_top.specs.declared.status.Status.TheVariants as status
 use Rattle.td_top.proofs.ZonesShown.{IsOfPrefix, of_prefix}

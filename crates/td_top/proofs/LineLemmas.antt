@@ -1,11 +1,8 @@
 -- What one line of an operator makes of a talk.
-use Rattle.std.proofs.Common.{◌≡◌, ◌≢◌, ℕ, ◌+◌, ◌≤◌, List, [], ◌∷◌, ◌++◌, length, ◌⊎◌, inl, inr, Option, Ok, Err, refl, sym, subst, ap, ◌∙◌, length-append}
-use Rattle.std.proofs.Common.{arith}
+use Rattle.std.proofs.Common.{◌≡◌, ◌≢◌, ℕ, ◌+◌, ◌≤◌, List, [], ◌∷◌, ◌++◌, length, ◌⊎◌, inl, inr}
+use Rattle.std.proofs.Common.{Option, Ok, Err, refl, sym, subst, ap, ◌∙◌, length-append, arith}
 use Rattle.std.proofs.lemmas.List.{length-map}
-use Rattle.td_base.specs.Cause.{Rose, RoseBy}
-use Rattle.td_base.specs.Files.{File}
-use Rattle.td_base.specs.Later.{LaterStore}
-use Rattle.td_base.specs.Views.{StoreView}
+use Rattle.td_base.specs.Views.{Rose, RoseBy, File, LaterStore, StoreView}
 use Rattle.td_base.proofs.lemmas.LaterLemmas.{store_refl, store_trans}
 use Rattle.catalogue.specs.HeldZones.{held_content}
 use Rattle.catalogue.specs.Histories.{meta}
@@ -30,8 +27,9 @@ use Rattle.zone_meaning.specs.Sound.{IsSound}
 use Rattle.zone_meaning.specs.ZoneHistories.{HasZoneHistory}
 use Rattle.td_top.specs.Folders.{GivesAfter}
 use Rattle.td_top.specs.Sessions.{AnswersLine, LaterSession, SaysRefused, SaysWhy, StandsAt}
-use Rattle.td_top.specs.Talk.{GetsAnswer, IsUnknown, Talk, TakesMemory, installed, with_release, last_token, no_memory, once_more, quit, refused, shown_to}
-use Rattle.td_top.specs.Talk.{status, unknown, unread}
+use Rattle.td_top.specs.Talk.{GetsAnswer, IsUnknown, Talk, TakesMemory, installed, with_release}
+use Rattle.td_top.specs.Talk.{last_token, no_memory, once_more, quit, refused, shown_to, status}
+use Rattle.td_top.specs.Talk.{unknown, unread}
 use Rattle.td_top.specs.Turns.{IsSaidRefusal, TellsAnswer}
 use Rattle.td_top.specs.declared.session.Session.{Session}
 use Rattle.td_top.proofs.Installing.{blames, gives, kept_gives}

@@ -1,10 +1,7 @@
 -- How a run ends over all that is outside it.
 use Rattle.std.proofs.Common.{◌≡◌, ℕ, ◌≤◌, List, [], map, Option, Some, Ok, refl, sym, subst, arith}
-use Rattle.td_base.specs.Cause.{RoseBy}
+use Rattle.td_base.specs.Views.{RoseBy, File, LaterStore, SinkView, SourceView, StoreView}
 use Rattle.td_base.specs.DoorViews.{DoorView, NetworkView}
-use Rattle.td_base.specs.Files.{File}
-use Rattle.td_base.specs.Later.{LaterStore}
-use Rattle.td_base.specs.Views.{SinkView, SourceView, StoreView}
 use Rattle.td_base.proofs.lemmas.LaterLemmas.{sink_refl, source_refl, store_refl, store_trans}
 use Rattle.catalogue.specs.Releases.{ReleaseData}
 use Rattle.catalogue.specs.declared.holding.Catalogue.{Catalogue}
@@ -13,16 +10,16 @@ use Rattle.console.specs.declared.line.Line.{Line}
 use Rattle.catalogue.specs.Holdings.{history_of}
 use Rattle.td_top.specs.Grammar.{Asked, serve}
 use Rattle.td_top.specs.Installed.{InstallsAll}
-use Rattle.td_top.specs.Outside.{Later, Outside, outside}
+use Rattle.td_top.specs.Outside.{Later, Outside, outside, World, world}
 use Rattle.td_top.specs.RunEnds.{RunEndsLater, alone, opened}
-use Rattle.td_top.specs.Server.{OpenedEnds, OpensDoors, no_network, served as served_opened, not_started as not_started_opened}
+use Rattle.td_top.specs.Server.{OpenedEnds, OpensDoors, no_network, served as served_opened}
+use Rattle.td_top.specs.Server.{not_started as not_started_opened}
 use Rattle.td_top.specs.Server.{out_of_memory as out_of_memory_opened}
 use Rattle.td_top.specs.Serving.{ServesBeside, ServesOpened}
 use Rattle.td_top.specs.Talk.{Talks, talk_begun}
 use Rattle.td_top.specs.Talking.{AnswersOperator, EndsBy}
 use Rattle.td_top.specs.Tells.{EndsLater}
 use Rattle.td_top.specs.Works.{AreWorks, WorksEnd, not_started, out_of_memory, served}
-use Rattle.td_top.specs.Worlds.{World, world}
 use Rattle.td_top.specs.declared.session.Session.{Session}
 use Rattle.td_top.specs.declared.status.Status.{Status}
 use Rattle.td_top.specs.declared.talking.TalkEnd.{TalkEnd}

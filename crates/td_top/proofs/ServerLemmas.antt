@@ -1,5 +1,6 @@
 -- What doors that were served beside a talk come to, over the history of the run.
-use Rattle.std.proofs.Common.{◌≡◌, ℕ, List, [], ◌∷◌, length, map, Bool, true, false, All, Option, None, Some, inl, inr, sym, subst, ap, ◌∙◌}
+use Rattle.std.proofs.Common.{◌≡◌, ℕ, List, [], ◌∷◌, length, map, Bool, true, false, All, Option}
+use Rattle.std.proofs.Common.{None, Some, inl, inr, sym, subst, ap, ◌∙◌}
 use Rattle.std.specs.List.{list_any}
 use Rattle.std.specs.Global.{Vec}
 use Rattle.std.proofs.lemmas.List.{length-map}
@@ -7,14 +8,15 @@ use Rattle.std.proofs.lemmas.Simd.{map-map}
 use Rattle.std.proofs.lemmas.List.Elements.{All-cons, All-head, All-nil, All-tail, All-weaker}
 use Rattle.std.proofs.lemmas.Bool.{true≢false}
 use mathlib.Core.List.{IsPrefix}
-use Rattle.td_base.specs.Cause.{Rose, RoseBy}
+use Rattle.td_base.specs.Views.{Rose, RoseBy}
 use Rattle.td_base.specs.DoorViews.{DoorContent, DoorView, NetworkContent, NetworkView}
 use Rattle.td_base.specs.Doors.{IsNewDoor, OpenTold, Opens}
 use Rattle.td_base.specs.declared.network.Made.TheVariants as made
 use Rattle.td_base.specs.declared.report.Role.TheVariants as role
 use Rattle.catalogue.specs.Releases.{ReleaseData}
 use Rattle.catalogue.specs.declared.holding.Catalogue.{Catalogue}
-use Rattle.connection.specs.DoorWorks.{DoesDoor, NoneGiven, ServesTold, Stops, WorkView, at_end, at_flag, by_faults}
+use Rattle.connection.specs.DoorWorks.{DoesDoor, NoneGiven, ServesTold, Stops, WorkView, at_end}
+use Rattle.connection.specs.DoorWorks.{at_flag, by_faults}
 use Rattle.connection.specs.declared.door_work.DoorDone.{DoorDone}
 use Rattle.desk_pool.specs.Flag.{Sight}
 use Rattle.desk_pool.specs.Pool.{DoesEach}
@@ -24,9 +26,10 @@ use Rattle.publication.specs.Views.{DeskView}
 use Rattle.td_base.proofs.lemmas.Beginnings.{prefix_self}
 use Rattle.td_top.specs.Consoles.{ConsoleView, Halted, Ran}
 use Rattle.td_top.specs.Outside.{Outside}
-use Rattle.td_top.specs.Server.{ConnsTold, IsDone, LeavesStreams, OpensDoors, OpenedTold, ServesDoor, ServesDoors, no_door, one_more}
+use Rattle.td_top.specs.Server.{ConnsTold, IsDone, LeavesStreams, OpensDoors, OpenedTold}
+use Rattle.td_top.specs.Server.{ServesDoor, ServesDoors, no_door, one_more}
 use Rattle.td_top.specs.Serving.{Concludes, LearntAll}
-use Rattle.td_top.specs.Statuses.{status_for}
+use Rattle.td_top.specs.Ends.{status_for}
 use Rattle.td_top.specs.Talking.{AnswersOperator, ComesTo, LaterScene, Scene, Talked}
 use Rattle.td_top.specs.Works.{AreWorks, Learnt, WorksEnd, not_started, out_of_memory, served}
 use Rattle.td_top.specs.declared.session.Session.{Session}

@@ -1,16 +1,18 @@
 -- How a talk with an operator goes on by a turn, and ends.
-use Rattle.std.proofs.Common.{◌≡◌, ℕ, ◌≤◌, List, [], ◌∷◌, ◌++◌, length, flat_map, Option, Some, refl, sym, subst, ap, ◌∙◌, append_assoc, append-nil, arith}
+use Rattle.std.proofs.Common.{◌≡◌, ℕ, ◌≤◌, List, [], ◌∷◌, ◌++◌, length, flat_map, Option, Some}
+use Rattle.std.proofs.Common.{refl, sym, subst, ap, ◌∙◌, append_assoc, append-nil, arith}
 use Rattle.std.specs.Io.KnownBytes.{Consumes, IsAtEnd}
 use Rattle.std.specs.List.{AllByRecursion}
 use Rattle.std.proofs.KnownBytes.{Consumes-nil, Consumes-trans}
 use Rattle.std.proofs.lemmas.List.Concat.{flat_map-append}
-use Rattle.td_base.specs.Cause.{SourceFailed}
-use Rattle.td_base.specs.Later.{LaterSink, LaterSource}
+use Rattle.td_base.specs.Views.{SourceFailed, LaterSink, LaterSource, SinkView, SourceView}
+use Rattle.td_base.specs.Views.{StoreView}
 use Rattle.td_base.specs.Transfer.{WritesAll}
-use Rattle.td_base.specs.Views.{SinkView, SourceView, StoreView}
 use Rattle.td_base.specs.declared.transfer.Written.{Written}
 use Rattle.td_base.specs.declared.transfer.Written.TheVariants as written
-use Rattle.td_base.proofs.lemmas.LaterLemmas.{sink_trans, source_refl, source_then_failed, source_trans, store_refl, store_trans, writes_all_later}
+use Rattle.td_base.proofs.lemmas.LaterLemmas.{sink_trans, source_refl, source_then_failed}
+use Rattle.td_base.proofs.lemmas.LaterLemmas.{source_trans, store_refl, store_trans}
+use Rattle.td_base.proofs.lemmas.LaterLemmas.{writes_all_later}
 use Rattle.catalogue.specs.Holdings.{history_of}
 use Rattle.catalogue.specs.Releases.{ReleaseData}
 use Rattle.catalogue.proofs.lemmas.HistoryLemmas.{history_length, history_longer}
@@ -26,7 +28,8 @@ use Rattle.td_top.specs.Outside.{outside}
 use Rattle.td_top.specs.Sessions.{AnswersLine, BeginsWhole, LaterSession}
 use Rattle.td_top.specs.Talk.{GoesOn, talk_begun, last_token, more, none}
 use Rattle.td_top.specs.Talking.{ComesTo, IsAt, LaterScene, Scene, TalksOver, scene, talk_text}
-use Rattle.td_top.specs.Turns.{FeedsHeld, FeedsTalk, HasNone, IsNextLine, Reaches, SaysBye, SaysText}
+use Rattle.td_top.specs.Turns.{FeedsHeld, FeedsTalk, HasNone, IsNextLine, Reaches, SaysBye}
+use Rattle.td_top.specs.Turns.{SaysText}
 use Rattle.td_top.specs.declared.talking.Turn.{Turn}
 use Rattle.td_top.specs.declared.talking.Turn.TheVariants as turn
 use Rattle.td_top.specs.declared.session.Session.{Session}

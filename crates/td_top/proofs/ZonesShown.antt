@@ -1,8 +1,9 @@
 -- Of a zone file no more is read than one byte past the limit, which judges it as the whole file would be judged.
-use Rattle.std.proofs.Common.{◌≡◌, ℕ, ◌<◌, ◌≤◌, List, length, take, Option, None, Some, IfSome, ⊎_elim, ap, sym, ◌∙◌, refl, arith}
+use Rattle.std.proofs.Common.{◌≡◌, ℕ, ◌<◌, ◌≤◌, List, length, take, Option, None, Some, IfSome}
+use Rattle.std.proofs.Common.{⊎_elim, ap, sym, ◌∙◌, refl, arith}
 use Rattle.std.specs.Option.{option_map, option_or}
 use Rattle.std.proofs.lemmas.List.{take_all, length-take-le}
-use Rattle.td_base.specs.Files.{File, file_at}
+use Rattle.td_base.specs.Views.{File, file_at}
 use Rattle.td_base.specs.Outside.{FileTells}
 use Rattle.td_base.specs.declared.outside.FileRead.TheVariants as looked
 use Rattle.release_check.proofs.lemmas.Prefixes.{fits_or_longer, too_large}

@@ -1,9 +1,8 @@
 -- How folders are checked as one history: a line for each as it goes, up to the first that is
 -- refused.
 use Rattle.std.specs.Prelude.{ℕ, List}
-use Rattle.td_base.specs.Cause.{StoreFailed}
+use Rattle.td_base.specs.Views.{StoreFailed, SinkView, StoreView}
 use Rattle.td_base.specs.Transfer.{Prints, WritesAll}
-use Rattle.td_base.specs.Views.{SinkView, StoreView}
 use Rattle.td_base.specs.declared.transfer.Written.TheVariants as written
 use Rattle.catalogue.specs.Releases.{ReleaseData}
 use Rattle.release_check.specs.FaultText.{fault_text as folder_text}

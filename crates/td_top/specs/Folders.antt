@@ -1,7 +1,7 @@
 -- What a row of folders gives, each checked against the releases of those before it. Where the
 -- store does not tell its files, this is said of some releases.
 use Rattle.std.specs.Prelude.{◌≡◌, ◌≢◌, ℕ, List, [], ◌∷◌, ◌++◌, Option, IfSome, Result, Ok, Err}
-use Rattle.td_base.specs.Files.{File}
+use Rattle.td_base.specs.Views.{File}
 use Rattle.catalogue.specs.Releases.{ReleaseData}
 use Rattle.release_check.specs.Before.{before_of}
 use Rattle.release_check.specs.Folder.{FolderGives}

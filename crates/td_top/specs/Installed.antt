@@ -1,9 +1,6 @@
 -- What installing a row of folders comes to.
 use Rattle.std.specs.Prelude.{◌≡◌, ⊤, ℕ, List, ◌++◌, length, All, Option, Result, Ok, Err, IsErrOf}
-use Rattle.td_base.specs.Cause.{StoreFailed}
-use Rattle.td_base.specs.Files.{File}
-use Rattle.td_base.specs.Later.{LaterStore}
-use Rattle.td_base.specs.Views.{StoreView}
+use Rattle.td_base.specs.Views.{StoreFailed, File, LaterStore, StoreView}
 use Rattle.catalogue.specs.Releases.{ReleaseData}
 use Rattle.catalogue.specs.declared.holding.Catalogue.{Catalogue}
 use Rattle.catalogue.specs.Holdings.{history_of}

@@ -3,10 +3,8 @@ pub mod Commands
 pub mod Outside
 pub mod Lines
 pub mod Folders
-pub mod Called
 pub mod Checks
 pub mod Served
-pub mod Statuses
 pub mod Ends
 pub mod Tells
 pub mod Steps
@@ -16,7 +14,6 @@ pub mod Sessions
 pub mod Talking
 pub mod Turns
 pub mod Consoles
-pub mod Worlds
 pub mod Server
 pub mod Works
 pub mod Serving

@@ -1,7 +1,10 @@
--- What a run sees of the outside: the store of files, the input and the output, at one moment.
-use Rattle.td_base.specs.Later.{LaterStore, LaterSource, LaterSink}
-use Rattle.td_base.specs.Views.{StoreView, SourceView, SinkView}
+-- What a run sees of the outside at one moment: the store of files, the input and the output, and
+-- with these the network and the spawner.
+use Rattle.std.specs.Prelude.{ℕ, ◌≤◌}
+use Rattle.td_base.specs.Views.{LaterStore, LaterSource, LaterSink, StoreView, SourceView, SinkView}
+use Rattle.td_base.specs.DoorViews.{NetworkView}
 
+-- the store, the input and the output
 pub record Outside : Type 0 where
   pub store : StoreView
   pub input : SourceView
@@ -16,3 +19,18 @@ pub record Later (before after : Outside) : Type 0 where
   pub store : LaterStore before.store after.store
   pub input : LaterSource before.input after.input
   pub output : LaterSink before.output after.output
+
+-- these with the network and the spawner, of which the latter tells how often it failed
+pub record World : Type 0 where
+  pub outside : Outside
+  pub network : NetworkView
+  pub spawner : ℕ
+
+abbrev pub world : Outside → NetworkView → ℕ → World
+world outside network spawner = record { outside = outside; network = network; spawner = spawner }
+
+-- any calls were made
+pub record LaterWorld (before after : World) : Type 0 where
+  pub outside : Later before.outside after.outside
+  pub network : before.network.faults ≤ after.network.faults
+  pub spawner : before.spawner ≤ after.spawner

@@ -6,7 +6,7 @@ use Rattle.td_top.specs.Ends.{Ends}
 use Rattle.td_top.specs.Folders.{FoldersGive}
 use Rattle.td_top.specs.Grammar.{Asked, serve}
 use Rattle.td_top.specs.Server.{OpenedEnds}
-use Rattle.td_top.specs.Worlds.{LaterWorld, World}
+use Rattle.td_top.specs.Outside.{LaterWorld, World}
 use Rattle.td_top.specs.declared.status.Status.{Status}
 
 -- how a run ends, with the doors that were served and a status

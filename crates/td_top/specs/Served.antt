@@ -2,7 +2,7 @@
 use Rattle.std.specs.Prelude.{◌≡◌, ℕ, List, length}
 use Rattle.std.specs.Io.KnownBytes.{Appends, Consumes}
 use Rattle.std.specs.List.{AllByRecursion}
-use Rattle.td_base.specs.Cause.{SinkFailed, SourceFailed}
+use Rattle.td_base.specs.Views.{SinkFailed, SourceFailed}
 use Rattle.td_base.specs.declared.report.End.{End}
 use Rattle.td_base.specs.declared.report.Role.TheVariants as role
 use Rattle.catalogue.specs.Releases.{ReleaseData}

@@ -1,7 +1,7 @@
 -- How doors are served beside a talk with an operator, who installs further releases meanwhile.
-use Rattle.std.specs.Prelude.{◌≡◌, ℕ, ◌⊎◌, List, [], ◌∷◌, ◌++◌, length, map, take, drop, All}
-use Rattle.std.specs.Prelude.{Bool, true, false, ◌||◌, ⊤, Option, None, Some}
-use Rattle.td_base.specs.Cause.{Rose, RoseBy}
+use Rattle.std.specs.Prelude.{◌≡◌, ℕ, ◌⊎◌, List, [], ◌∷◌, ◌++◌, length, map, take, drop, All, Bool}
+use Rattle.std.specs.Prelude.{true, false, ◌||◌, ⊤, Option, None, Some}
+use Rattle.td_base.specs.Views.{Rose, RoseBy}
 use Rattle.td_base.specs.DoorViews.{DoorContent, DoorView, Finished, NetworkContent, NetworkView}
 use Rattle.td_base.specs.Doors.{IsNewDoor, new_content}
 use Rattle.td_base.specs.declared.door.DoorAnswer.TheVariants as answer
@@ -9,10 +9,9 @@ use Rattle.td_base.specs.declared.report.Role.TheVariants as role
 use Rattle.catalogue.specs.Releases.{ReleaseData}
 use Rattle.connection.specs.DoorWorks.{NoneComes, ServedConns, places_of}
 use Rattle.connection.specs.Served.{NeverFall}
-use Rattle.td_top.specs.Outside.{Outside}
-use Rattle.td_top.specs.Statuses.{status_for}
+use Rattle.td_top.specs.Outside.{Outside, World}
+use Rattle.td_top.specs.Ends.{status_for}
 use Rattle.td_top.specs.Talking.{AnswersOperator}
-use Rattle.td_top.specs.Worlds.{World}
 use Rattle.td_top.specs.declared.status.Status.{Status}
 use Rattle.td_top.specs.declared.status.Status.TheVariants as status
 use Rattle.td_top.specs.declared.talking.TalkEnd.{TalkEnd}

@@ -7,10 +7,9 @@ use Rattle.catalogue.specs.Releases.{ReleaseData}
 use Rattle.connection.specs.DoorWorks.{WorkView}
 use Rattle.connection.specs.declared.door_work.DoorDone.{DoorDone}
 use Rattle.catalogue.specs.Holdings.{history_of}
-use Rattle.td_top.specs.Outside.{Later, Outside}
+use Rattle.td_top.specs.Outside.{Later, Outside, LaterWorld, World}
 use Rattle.td_top.specs.Server.{OpenedEnds}
-use Rattle.td_top.specs.Statuses.{status_for}
-use Rattle.td_top.specs.Worlds.{LaterWorld, World}
+use Rattle.td_top.specs.Ends.{status_for}
 use Rattle.td_top.specs.Works.{AreWorks, Learnt, WorksEnd}
 use Rattle.td_top.specs.declared.session.Session.{Session}
 use Rattle.td_top.specs.declared.status.Status.{Status}

@@ -1,9 +1,7 @@
 -- What a console publishes with and shows, and what one of its lines makes of that.
 use Rattle.std.specs.Prelude.{◌≡◌, ◌≢◌, ℕ, ◌≤◌, List, length, ◌⊎◌, Result, Ok, Err}
 use mathlib.Core.List.{IsPrefix}
-use Rattle.td_base.specs.Cause.{RoseBy}
-use Rattle.td_base.specs.Later.{LaterStore}
-use Rattle.td_base.specs.Views.{StoreView}
+use Rattle.td_base.specs.Views.{RoseBy, LaterStore, StoreView}
 use Rattle.td_base.specs.declared.no_memory.NoMemory.{NoMemory}
 use Rattle.catalogue.specs.Releases.{ReleaseData}
 use Rattle.console.specs.declared.line.Line.{Line}

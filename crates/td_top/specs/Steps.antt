@@ -1,10 +1,7 @@
 -- What checking one more folder comes to, after a history for which a catalogue stands.
 use Rattle.std.specs.Prelude.{◌≡◌, ◌≢◌, ℕ, List, [], ◌∷◌, ◌++◌, Option, None, Some, Result, Ok, Err}
-use Rattle.td_base.specs.Cause.{StoreFailed}
-use Rattle.td_base.specs.Files.{File}
-use Rattle.td_base.specs.Later.{LaterStore, LaterSink}
+use Rattle.td_base.specs.Views.{StoreFailed, File, LaterStore, LaterSink, SinkView, StoreView}
 use Rattle.td_base.specs.Transfer.{Prints, WritesAll}
-use Rattle.td_base.specs.Views.{SinkView, StoreView}
 use Rattle.td_base.specs.declared.transfer.Written.TheVariants as written
 use Rattle.catalogue.specs.Holdings.{StandsFor, release_held}
 use Rattle.catalogue.specs.Releases.{ReleaseData}

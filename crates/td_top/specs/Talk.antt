@@ -4,7 +4,7 @@ use Rattle.std.specs.Prelude.{◌≡◌, ◌≢◌, ℕ, ◌+◌, ◌≤◌, Lis
 use Rattle.std.specs.Prelude.{false, Option, Ok, Err}
 use Rattle.std.specs.List.{AllByRecursion}
 use mathlib.Core.List.{IsPrefix}
-use Rattle.td_base.specs.Files.{File}
+use Rattle.td_base.specs.Views.{File}
 use Rattle.catalogue.specs.Histories.{meta, token_of}
 use Rattle.catalogue.specs.Releases.{ReleaseData}
 use Rattle.console.specs.declared.line.Line.{Line}

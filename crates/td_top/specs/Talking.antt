@@ -2,9 +2,8 @@
 use Rattle.std.specs.Prelude.{◌≡◌, ℕ, List, [], ◌∷◌, ◌++◌, flat_map, ⊤, Option, None, Some}
 use Rattle.std.specs.Io.KnownBytes.{Consumes, IsAtEnd}
 use Rattle.std.specs.List.{AllByRecursion}
-use Rattle.td_base.specs.Cause.{RoseBy, SourceFailed}
+use Rattle.td_base.specs.Views.{RoseBy, SourceFailed, SourceView}
 use Rattle.td_base.specs.Transfer.{WritesAll}
-use Rattle.td_base.specs.Views.{SourceView}
 use Rattle.td_base.specs.declared.transfer.Written.{Written}
 use Rattle.td_base.specs.declared.transfer.Written.TheVariants as written
 use Rattle.catalogue.specs.Releases.{ReleaseData}

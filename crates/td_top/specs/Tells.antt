@@ -1,7 +1,6 @@
 -- What the calls below a run come to.
 use Rattle.std.specs.Prelude.{◌≡◌, ℕ, List, Option, None, Some, ◌⊎◌, ℤ}
-use Rattle.td_base.specs.Later.{LaterSink, LaterSource}
-use Rattle.td_base.specs.Views.{SinkView, SourceView, StoreView}
+use Rattle.td_base.specs.Views.{LaterSink, LaterSource, SinkView, SourceView, StoreView}
 use Rattle.td_base.specs.declared.report.End.{End}
 use Rattle.catalogue.specs.Releases.{ReleaseData}
 use Rattle.release_check.specs.FaultText.{fault_text as folder_text}
@@ -13,12 +12,11 @@ use Rattle.zone_meaning.specs.Faults.{zone_fault}
 use Rattle.zone_meaning.specs.FaultText.{fault_text as zone_text}
 use Rattle.zone_meaning.specs.State.{zone_state}
 use Rattle.zone_meaning.specs.declared.zone_fault.ZoneFault.{ZoneFault}
-use Rattle.td_top.specs.Ends.{Ends, Printed}
+use Rattle.td_top.specs.Ends.{Ends, Printed, end_status}
 use Rattle.td_top.specs.Grammar.{Asked}
 use Rattle.td_top.specs.Lines.{refused_line, state_line}
 use Rattle.td_top.specs.Outside.{Outside, Later, outside}
 use Rattle.td_top.specs.Served.{ServesStreams}
-use Rattle.td_top.specs.Statuses.{end_status}
 use Rattle.td_top.specs.declared.status.Status.{Status}
 use Rattle.td_top.specs.declared.status.Status.TheVariants as status
 

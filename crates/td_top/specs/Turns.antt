@@ -1,9 +1,8 @@
 -- One turn of a talk with an operator, by its parts.
 use Rattle.std.specs.Prelude.{◌≡◌, ℕ, List, [], ◌∷◌, ◌++◌, ◌⊎◌, ⊤, Option, None, Some}
 use Rattle.std.specs.Io.KnownBytes.{Consumes, IsAtEnd}
-use Rattle.td_base.specs.Cause.{SourceFailed}
+use Rattle.td_base.specs.Views.{SourceFailed, SinkView, SourceView}
 use Rattle.td_base.specs.Transfer.{WritesAll}
-use Rattle.td_base.specs.Views.{SinkView, SourceView}
 use Rattle.td_base.specs.declared.transfer.Written.TheVariants as written
 use Rattle.console.specs.Lines.{lines_of}
 use Rattle.console.specs.Replies.{reply_text}

@@ -2,7 +2,7 @@
 use Rattle.std.specs.Prelude.{◌≡◌, ℕ, List, [], ◌∷◌, map, All, Bool, ⊤}
 use Rattle.std.specs.List.{list_any}
 use mathlib.Core.List.{IsPrefix}
-use Rattle.td_base.specs.Cause.{Rose}
+use Rattle.td_base.specs.Views.{Rose}
 use Rattle.td_base.specs.DoorViews.{DoorView}
 use Rattle.td_base.specs.declared.report.Role.TheVariants as role
 use Rattle.catalogue.specs.Releases.{ReleaseData}
@@ -12,7 +12,7 @@ use Rattle.connection.specs.declared.door_work.DoorDone.{DoorDone}
 use Rattle.logbook.specs.Pages.{Book}
 use Rattle.td_top.specs.Outside.{Outside}
 use Rattle.td_top.specs.Server.{LeavesStreams, ServesDoors}
-use Rattle.td_top.specs.Statuses.{status_for}
+use Rattle.td_top.specs.Ends.{status_for}
 use Rattle.td_top.specs.Talking.{AnswersOperator}
 use Rattle.td_top.specs.declared.status.Status.{Status}
 use Rattle.td_top.specs.declared.status.Status.TheVariants as status

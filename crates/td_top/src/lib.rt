@@ -1,6 +1,6 @@
 //! The top call of the program: what its words, the files of its store and its input make it write,
 //! and with which status it ends. [`run`] is the call; what words call for and how a run ends are
-//! `specs/Called.antt` and `specs/Ends.antt`.
+//! `specs/Ends.antt` and `specs/Ends.antt`.
 #![tactic(auto)]
 
 mod answering;

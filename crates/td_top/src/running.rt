@@ -1,11 +1,10 @@
 ghost use Rattle.std.specs.Prelude.{◌≡◌, None, map};
 ghost use Rattle.td_base.specs.Views.{SourceView, StoreView};
 ghost use Rattle.td_top.specs.Grammar.{command_of};
-ghost use Rattle.td_top.specs.Outside.{outside};
+ghost use Rattle.td_top.specs.Outside.{outside, LaterWorld, world};
 ghost use Rattle.td_top.specs.RunEnds.{RunEnds, RunEndsLater};
-ghost use Rattle.td_top.specs.Statuses.{number_of};
+ghost use Rattle.td_top.specs.Ends.{number_of};
 ghost use Rattle.td_top.specs.Tells.{EndsLater};
-ghost use Rattle.td_top.specs.Worlds.{LaterWorld, world};
 ghost use Rattle.td_top.specs.declared.status.Status.{Status};
 
 use crate::answering::answer;

@@ -3,10 +3,9 @@ ghost use mathlib.Core.List.{IsPrefix};
 ghost use Rattle.catalogue.specs.Holdings.{history_of};
 ghost use Rattle.td_top.specs.Grammar.{serve};
 ghost use Rattle.td_top.specs.Installed.{HasDesks};
-ghost use Rattle.td_top.specs.Outside.{outside};
+ghost use Rattle.td_top.specs.Outside.{outside, world};
 ghost use Rattle.td_top.specs.RunEnds.{RunEndsLater};
 ghost use Rattle.td_top.specs.Serving.{Concludes, ServesBeside, ServesOpened};
-ghost use Rattle.td_top.specs.Worlds.{world};
 ghost use Rattle.td_top.specs.Works.{HasWorks, Learnt};
 
 use crate::console_beside::Console;

@@ -1,5 +1,5 @@
 ghost use Rattle.std.specs.Prelude.{◌≡◌, if◌then◌else◌};
-ghost use Rattle.td_top.specs.Statuses.{number_of, status_for, end_status};
+ghost use Rattle.td_top.specs.Ends.{number_of, status_for, end_status};
 
 use crate::talking::TalkEnd;
 use td_base::End;

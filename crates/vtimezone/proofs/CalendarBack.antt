@@ -1,6 +1,6 @@
 -- The text of a calendar spells its parts.
-use Rattle.std.proofs.Common.{◌≡◌, ℕ, Bool, true, false, not, refl, sym, ap, ◌∙◌, arith, append-nil, ℤ, pos, ◌+ℤ◌, ◌-ℤ◌, Option, None, Some, List, [], ◌∷◌}
-use Rattle.std.proofs.Common.{◌++◌, codes}
+use Rattle.std.proofs.Common.{◌≡◌, ℕ, Bool, true, false, not, refl, sym, ap, ◌∙◌, arith, append-nil}
+use Rattle.std.proofs.Common.{ℤ, pos, ◌+ℤ◌, ◌-ℤ◌, Option, None, Some, List, [], ◌∷◌, ◌++◌, codes}
 use Rattle.std.specs.Int.{int_rem_euclid}
 use Rattle.std.specs.List.{list_all, flat_map, AllByRecursion}
 use Rattle.std.specs.Option.{IfSome, option_map, option_and_then}
@@ -12,20 +12,21 @@ use Rattle.std.proofs.lemmas.List.Folds.{list_all-append}
 use Rattle.jiff_core.proofs.SignedLemmas.{signed_arith}
 use Rattle.td_civil.specs.declared.moment_type.Moment.{Moment}
 use Rattle.td_civil.specs.Bounds.{HasText}
-use Rattle.td_civil.specs.Calendar.{stamp_of}
+use Rattle.td_civil.specs.Calendar.{stamp_of, local_text_of}
 use Rattle.td_civil.specs.Stamp.{moment_at}
-use Rattle.td_civil.specs.Texts.{local_text_of}
 use Rattle.td_civil.proofs.lemmas.Shown.{elapsed_is, local_bounds_text, stamp_of_moment}
 use Rattle.ical_lines.specs.Unfolding.{is_feed}
 use Rattle.recurrence.specs.declared.part_types.Part.{Part}
 use Rattle.recurrence.specs.declared.rule_types.Rule.{Rule}
-use Rattle.vtimezone.specs.CalendarText.{line, kind_of, start_line, change_lines, rule_lines, part_lines, head_lines, alias_lines, end_lines, tail_lines}
+use Rattle.vtimezone.specs.CalendarText.{line, kind_of, start_line, change_lines, rule_lines}
+use Rattle.vtimezone.specs.CalendarText.{part_lines, head_lines, alias_lines, end_lines, tail_lines}
 use Rattle.vtimezone.specs.CalendarText.{calendar_lines, calendar, IsLineText, IsReadable}
 use Rattle.vtimezone.specs.Cutting.{Named, cut_first, all_read, put_before}
 use Rattle.vtimezone.specs.ReadRules.{Recur, recur_in}
 use Rattle.vtimezone.specs.ReadValues.{is_safe, local_in, offset_in, text_value}
 use Rattle.vtimezone.specs.Spellable.{IsSafe, IsSpellable}
-use Rattle.vtimezone.specs.Spelled.{shown_at, second_of_day, part_with, part_of_lines, is_line, parts_among, after_begin, before_end, inside, zone_lines}
+use Rattle.vtimezone.specs.Spelled.{shown_at, second_of_day, part_with, part_of_lines, is_line}
+use Rattle.vtimezone.specs.Spelled.{parts_among, after_begin, before_end, inside, zone_lines}
 use Rattle.vtimezone.specs.Spelled.{spelled_by, spelled}
 use Rattle.vtimezone.specs.Values.{offset_text, utc_basic, rule_text}
 use Rattle.vtimezone.proofs.ReadBack.{calendar_read_back}

@@ -1,7 +1,8 @@
 -- Numbers and weekdays between commas are read back, and hold no semicolon.
-use Rattle.std.proofs.Common.{◌≡◌, ◌⊎◌, inl, inr, ℕ, zero, suc, ◌+◌, ◌-◌, ◌/◌, ◌%◌, ◌^◌, ◌<◌, ◌≤◌, ◌==◌, Bool, true, false, not, refl, ap, subst, ◌∙◌, arith}
-use Rattle.std.proofs.Common.{append_assoc, append-nil, ℤ, pos, negsuc, ◌+ℤ◌, unsigned_abs, Option, None, Some, List, [], ◌∷◌, ◌++◌, codes, length, take, drop}
-use Rattle.std.proofs.Common.{decimal}
+use Rattle.std.proofs.Common.{◌≡◌, ◌⊎◌, inl, inr, ℕ, zero, suc, ◌+◌, ◌-◌, ◌/◌, ◌%◌, ◌^◌, ◌<◌, ◌≤◌}
+use Rattle.std.proofs.Common.{◌==◌, Bool, true, false, not, refl, ap, subst, ◌∙◌, arith}
+use Rattle.std.proofs.Common.{append_assoc, append-nil, ℤ, pos, negsuc, ◌+ℤ◌, unsigned_abs, Option}
+use Rattle.std.proofs.Common.{None, Some, List, [], ◌∷◌, ◌++◌, codes, length, take, drop, decimal}
 use Rattle.std.specs.Fmt.{signed_decimal}
 use Rattle.std.specs.List.{list_all, onto_first}
 use Rattle.std.specs.Option.{option_map}
@@ -14,11 +15,11 @@ use Rattle.std.proofs.lemmas.Int.{ints}
 use Rattle.std.proofs.lemmas.Fmt.{decimal_by_steps, decimal_nonempty}
 use Rattle.std.proofs.lemmas.List.Folds.{list_all-append}
 use Rattle.jiff_core.proofs.SignedLemmas.{signed_arith}
-use Rattle.td_civil.specs.Calendar.{stamp_of}
+use Rattle.td_civil.specs.Calendar.{stamp_of, local_text_of}
 use Rattle.td_civil.specs.Stamp.{two_digits, four_digits}
-use Rattle.td_civil.specs.Texts.{local_text_of}
 use Rattle.vtimezone.specs.Cutting.{cut_at, all_read, put_before}
-use Rattle.vtimezone.specs.ReadRules.{Day, number_in, numbers_in, are_in_a_row, week_from, weekday_in, day_of, nth_in, day_in, days_in}
+use Rattle.vtimezone.specs.ReadRules.{Day, number_in, numbers_in, are_in_a_row, week_from}
+use Rattle.vtimezone.specs.ReadRules.{weekday_in, day_of, nth_in, day_in, days_in}
 use Rattle.vtimezone.specs.Values.{utc_basic, weekday_name, next_number, seven_numbers}
 use Rattle.vtimezone.proofs.ValuesBack.{number_back, weekday_back}
 

@@ -1,6 +1,8 @@
 -- The text of a calendar is read as its lines.
-use Rattle.std.proofs.Common.{◌≡◌, ℕ, suc, ◌+◌, ◌%◌, ◌/◌, ◌^◌, ◌<◌, ◌≤◌, ◌==◌, Bool, true, not, if◌then◌else◌, refl, ◌∙◌, arith, ℤ, pos, negsuc, ◌+ℤ◌, int_lt}
-use Rattle.std.proofs.Common.{unsigned_abs, Option, None, Some, Ok, List, [], ◌∷◌, ◌++◌, codes, decimal}
+use Rattle.std.proofs.Common.{◌≡◌, ℕ, suc, ◌+◌, ◌%◌, ◌/◌, ◌^◌, ◌<◌, ◌≤◌, ◌==◌, Bool, true, not}
+use Rattle.std.proofs.Common.{if◌then◌else◌, refl, ◌∙◌, arith, ℤ, pos, negsuc, ◌+ℤ◌, int_lt}
+use Rattle.std.proofs.Common.{unsigned_abs, Option, None, Some, Ok, List, [], ◌∷◌, ◌++◌, codes}
+use Rattle.std.proofs.Common.{decimal}
 use Rattle.std.specs.Fmt.{signed_decimal}
 use Rattle.std.specs.List.{list_all, flat_map, AllByRecursion}
 use Rattle.std.specs.Option.{IfSome}
@@ -11,9 +13,8 @@ use Rattle.std.proofs.lemmas.List.Folds.{list_all-append}
 use Rattle.jiff_core.proofs.CalendarLemmas.{days_in_month_bounds}
 use Rattle.jiff_core.proofs.SignedLemmas.{signed_arith, one_part}
 use Rattle.td_civil.specs.declared.moment_type.Moment.{Moment}
-use Rattle.td_civil.specs.Calendar.{stamp_of}
+use Rattle.td_civil.specs.Calendar.{stamp_of, local_text_of}
 use Rattle.td_civil.specs.Stamp.{two_digits, four_digits}
-use Rattle.td_civil.specs.Texts.{local_text_of}
 use Rattle.ical_lines.specs.Unfolding.{is_feed, begins_blank, is_plain, unfolded}
 use Rattle.ical_lines.proofs.lemmas.LawLemmas.{reads_back}
 use Rattle.recurrence.specs.declared.part_types.Part.{Part}
@@ -21,10 +22,13 @@ use Rattle.recurrence.specs.declared.rule_types.Form.{Form}
 use Rattle.recurrence.specs.declared.rule_types.Form.TheVariants as form
 use Rattle.recurrence.specs.declared.rule_types.Rule.{Rule}
 use Rattle.recurrence.specs.Valid.{IsValidForm, IsFirstDay, IsOrdinal}
-use Rattle.vtimezone.specs.CalendarText.{line, kind_of, start_line, change_lines, rule_lines, part_lines, head_lines, alias_lines, end_lines, tail_lines}
+use Rattle.vtimezone.specs.CalendarText.{line, kind_of, start_line, change_lines, rule_lines}
+use Rattle.vtimezone.specs.CalendarText.{part_lines, head_lines, alias_lines, end_lines, tail_lines}
 use Rattle.vtimezone.specs.CalendarText.{calendar_lines, calendar, IsLineText, IsReadable}
-use Rattle.vtimezone.specs.Values.{sign_of, seconds_text, offset_text, utc_basic, weekday_name, next_number, seven_numbers, by_month, by_weekday}
-use Rattle.vtimezone.specs.Values.{by_nth_weekday, by_month_day, by_month_days, by_year_days, form_text, until_text, rule_text}
+use Rattle.vtimezone.specs.Values.{sign_of, seconds_text, offset_text, utc_basic, weekday_name}
+use Rattle.vtimezone.specs.Values.{next_number, seven_numbers, by_month, by_weekday, by_nth_weekday}
+use Rattle.vtimezone.specs.Values.{by_month_day, by_month_days, by_year_days, form_text, until_text}
+use Rattle.vtimezone.specs.Values.{rule_text}
 
 abbrev clean : List ℕ → Bool
 clean text = list_all (λ b. not (is_feed b)) text

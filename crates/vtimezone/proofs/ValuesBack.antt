@@ -1,32 +1,37 @@
 -- Values that are written are read back.
-use Rattle.std.proofs.Common.{◌≡◌, ◌≢◌, ℕ, zero, suc, ◌+◌, ◌*◌, ◌-◌, ◌/◌, ◌%◌, ◌^◌, ◌<◌, ◌≤◌, ◌==◌, nat_lt, true, false, not, ◌&&◌, if◌then◌else◌, refl, sym}
-use Rattle.std.proofs.Common.{ap, subst, ◌∙◌, arith, ℤ, pos, negsuc, neg_ℤ, ◌+ℤ◌, int_lt, unsigned_abs, Option, None, Some, List, [], ◌∷◌, ◌++◌, length, take}
-use Rattle.std.proofs.Common.{drop, decimal, get_or}
+use Rattle.std.proofs.Common.{◌≡◌, ◌≢◌, ℕ, zero, suc, ◌+◌, ◌*◌, ◌-◌, ◌/◌, ◌%◌, ◌^◌, ◌<◌, ◌≤◌, ◌==◌}
+use Rattle.std.proofs.Common.{nat_lt, true, false, not, ◌&&◌, if◌then◌else◌, refl, sym, ap, subst}
+use Rattle.std.proofs.Common.{◌∙◌, arith, ℤ, pos, negsuc, neg_ℤ, ◌+ℤ◌, int_lt, unsigned_abs, Option}
+use Rattle.std.proofs.Common.{None, Some, List, [], ◌∷◌, ◌++◌, length, take, drop, decimal, get_or}
 use Rattle.std.specs.Char.{is_ascii_digit}
 use Rattle.std.specs.Fmt.{signed_decimal}
 use Rattle.std.specs.List.{list_all}
 use Rattle.std.specs.Str.{all_ascii_digits}
-use Rattle.std.specs.Str.Parse.{digits_value, starts_with_minus, without_leading_plus, without_leading_sign, signed_digits_value}
-use Rattle.std.proofs.lemmas.Bool.{cond_both, cond-true, cond-false, and_from, and_parts, le-leb, lt-ltb}
+use Rattle.std.specs.Str.Parse.{digits_value, starts_with_minus, without_leading_plus}
+use Rattle.std.specs.Str.Parse.{without_leading_sign, signed_digits_value}
+use Rattle.std.proofs.lemmas.Bool.{cond_both, cond-true, cond-false, and_from, and_parts, le-leb}
+use Rattle.std.proofs.lemmas.Bool.{lt-ltb}
 use Rattle.std.proofs.lemmas.Bool.Decides.{nat_tests}
 use Rattle.std.proofs.lemmas.Int.{ints}
-use Rattle.std.proofs.lemmas.Fmt.{digits_decimal, digits_value-decimal, length-decimal-le, decimal_nonempty}
-use Rattle.std.proofs.lemmas.Str.Parse.{IsNumeralModel, numerals_by_value, tells_all_ascii_digits, not_in_digits, without_leading_plus_none}
+use Rattle.std.proofs.lemmas.Fmt.{digits_decimal, digits_value-decimal, length-decimal-le}
+use Rattle.std.proofs.lemmas.Fmt.{decimal_nonempty}
+use Rattle.std.proofs.lemmas.Str.Parse.{IsNumeralModel, numerals_by_value, tells_all_ascii_digits}
+use Rattle.std.proofs.lemmas.Str.Parse.{not_in_digits, without_leading_plus_none}
 use Rattle.jiff_core.specs.Calendar.{IsWithin}
 use Rattle.jiff_core.proofs.CalendarLemmas.{days_in_month_bounds}
 use Rattle.jiff_core.proofs.SignedLemmas.{signed_arith}
 use Rattle.td_civil.specs.declared.moment_type.Moment.{Moment}
 use Rattle.td_civil.specs.Bounds.{HasText}
-use Rattle.td_civil.specs.Calendar.{stamp_of}
+use Rattle.td_civil.specs.Calendar.{stamp_of, local_text_of}
 use Rattle.td_civil.specs.Reading.{is_stamp}
 use Rattle.td_civil.specs.Stamp.{Stamp, IsStamp, two_digits, basic_spelling, moment_at}
-use Rattle.td_civil.specs.Texts.{local_text_of}
 use Rattle.td_civil.proofs.lemmas.ReadBack.{two_back, four_back, same_fields}
 use Rattle.td_civil.proofs.lemmas.Shown.{stamp_of_valid, stamp_of_moment}
 use Rattle.td_civil.proofs.lemmas.Spelled.{stamp_from}
 use Rattle.vtimezone.specs.Cutting.{put_before}
 use Rattle.vtimezone.specs.ReadRules.{is_number, number_in, weekday_in}
-use Rattle.vtimezone.specs.ReadValues.{fields_in, is_date_time, local_in, utc_in, is_hours, size_in, signed_by, offset_in, is_safe, text_after, text_value}
+use Rattle.vtimezone.specs.ReadValues.{fields_in, is_date_time, local_in, utc_in, is_hours, size_in}
+use Rattle.vtimezone.specs.ReadValues.{signed_by, offset_in, is_safe, text_after, text_value}
 use Rattle.vtimezone.specs.Spellable.{IsSafe}
 use Rattle.vtimezone.specs.Values.{sign_of, seconds_text, offset_text, utc_basic, weekday_name}
 

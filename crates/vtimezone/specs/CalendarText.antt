@@ -7,7 +7,7 @@ use Rattle.std.specs.Option.{IfSome}
 use Rattle.jiff_core.specs.Calendar.{IsWithin}
 use Rattle.td_civil.specs.Bounds.{IsWithinBounds}
 use Rattle.td_civil.specs.declared.moment_type.Moment.{Moment}
-use Rattle.td_civil.specs.Texts.{local_text_of}
+use Rattle.td_civil.specs.Calendar.{local_text_of}
 use Rattle.ical_lines.specs.Lines.{written}
 use Rattle.ical_lines.specs.Unfolding.{is_feed}
 use Rattle.recurrence.specs.declared.part_types.Part.{Part}

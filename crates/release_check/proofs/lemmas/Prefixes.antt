@@ -1,10 +1,11 @@
 -- Of a file no more is read than one byte past its limit, which judges it as the whole file would be judged.
-use Rattle.std.proofs.Common.{◌≡◌, ℕ, ◌<◌, ◌≤◌, nat_lt, nat_le, Bool, true, false, List, length, take, Option, None, Some, Ok, Err, inl, inr, ◌⊎◌, ⊎_elim, ap}
-use Rattle.std.proofs.Common.{sym, ◌∙◌, refl, subst, arith}
+use Rattle.std.proofs.Common.{◌≡◌, ℕ, ◌<◌, ◌≤◌, nat_lt, nat_le, Bool, true, false, List, length}
+use Rattle.std.proofs.Common.{take, Option, None, Some, Ok, Err, inl, inr, ◌⊎◌, ⊎_elim, ap, sym}
+use Rattle.std.proofs.Common.{◌∙◌, refl, subst, arith}
 use Rattle.std.specs.Option.{option_map}
 use Rattle.std.proofs.lemmas.Bool.Decides.{nat_tests}
 use Rattle.std.proofs.lemmas.List.{take_all, length-take-le}
-use Rattle.td_base.specs.Files.{File, file_at}
+use Rattle.td_base.specs.Views.{File, file_at}
 use Rattle.catalogue.specs.Releases.{content_data}
 use Rattle.catalogue.specs.declared.release.Content.{Content}
 use Rattle.release_manifest.specs.Reading.{IsManifestText, manifest_text_fault}
@@ -13,9 +14,8 @@ use Rattle.release_manifest.specs.declared.manifest_type.Manifest.{Manifest}
 use Rattle.release_manifest.specs.declared.manifest_type.ManifestZone.{ManifestZone}
 use Rattle.tzif_reader.specs.Faults.{first_fault, frame_fault}
 use Rattle.tzif_reader.specs.declared.tzif_fault.TzifFault.TheVariants as tzif
-use Rattle.release_check.specs.Folder.{content_in, content_from, content_with, unless}
-use Rattle.release_check.specs.Paths.{path_in}
-use Rattle.release_check.specs.ZoneFaults.{file_fault}
+use Rattle.release_check.specs.Folder.{content_in, content_from, content_with, unless, path_in}
+use Rattle.release_check.specs.Faults.{file_fault}
 use Rattle.release_check.specs.declared.check_fault.CheckFault.{CheckFault}
 use Rattle.release_check.specs.declared.check_fault.CheckFault.TheVariants as fault
 use Rattle.release_check.proofs.ZoneFiles.{file_fault-tzif}

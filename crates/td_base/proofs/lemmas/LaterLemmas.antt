@@ -1,13 +1,16 @@
 -- What any number of calls may have done: nothing is one of these, two of them after each other are one, and each call
 -- is one. An object that failed in a part of the calls failed in all of them.
-use Rattle.std.proofs.Common.{ℕ, List, [], ◌++◌, take, Option, None, Some, Result, Ok, Err, refl, ap, ◌∙◌, append-nil, sym, arith}
+use Rattle.std.proofs.Common.{ℕ, List, [], ◌++◌, take, Option, None, Some, Result, Ok, Err, refl}
+use Rattle.std.proofs.Common.{ap, ◌∙◌, append-nil, sym, arith}
 use Rattle.std.proofs.KnownBytes.{Consumes-nil, Consumes-trans, Appends-nil, Appends-trans}
 use Rattle.std.specs.Io.KnownBytes.{Appends, Consumes, Keeps}
-use Rattle.td_base.specs.Cause.{SourceFailed, SinkFailed, StoreFailed, ConnReadFailed, ConnWriteFailed}
-use Rattle.td_base.specs.Later.{LaterSource, LaterSink, LaterStore, LaterConn}
-use Rattle.td_base.specs.Outside.{Reads, Writes, Looks, ConnReads, ConnWrites, ReadTells, GivenTells}
+use Rattle.td_base.specs.Views.{SourceFailed, SinkFailed, StoreFailed, ConnReadFailed}
+use Rattle.td_base.specs.Views.{ConnWriteFailed, LaterSource, LaterSink, LaterStore, LaterConn}
+use Rattle.td_base.specs.Views.{SourceView, SinkView, StoreView, ConnView, IsSameConn, source_of}
+use Rattle.td_base.specs.Views.{sink_of}
+use Rattle.td_base.specs.Outside.{Reads, Writes, Looks, ConnReads, ConnWrites, ReadTells}
+use Rattle.td_base.specs.Outside.{GivenTells}
 use Rattle.td_base.specs.Transfer.{ReadsTo, WritesAll, Sends, Prints}
-use Rattle.td_base.specs.Views.{SourceView, SinkView, StoreView, ConnView, IsSameConn, source_of, sink_of}
 use Rattle.td_base.specs.declared.outside.ReadStep.{ReadStep}
 use Rattle.td_base.specs.declared.outside.ReadStep.TheVariants as read
 use Rattle.td_base.specs.declared.outside.WriteStep.{WriteStep}

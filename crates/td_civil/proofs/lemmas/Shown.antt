@@ -1,13 +1,15 @@
 -- What UTC shows at a moment: the one stamp of which it is the moment.
-use Rattle.std.proofs.Common.{◌≡◌, ℕ, ◌+◌, ◌*◌, ◌/◌, ◌<◌, ◌≤◌, List, refl, sym, ap, subst, ◌↔◌, ◌∙◌, arith, ℤ, pos, negsuc, ◌+ℤ◌, ◌≤ℤ◌, ◌<ℤ◌, unsigned_abs}
-use Rattle.std.proofs.Common.{Option, Some}
+use Rattle.std.proofs.Common.{◌≡◌, ℕ, ◌+◌, ◌*◌, ◌/◌, ◌<◌, ◌≤◌, List, refl, sym, ap, subst, ◌↔◌, ◌∙◌}
+use Rattle.std.proofs.Common.{arith, ℤ, pos, negsuc, ◌+ℤ◌, ◌≤ℤ◌, ◌<ℤ◌, unsigned_abs, Option, Some}
 use Rattle.jiff_core.specs.Calendar.{day_count, IsCivilDate, IsWithin}
 use Rattle.jiff_core.proofs.SignedLemmas.{signed_arith}
-use Rattle.jiff_core.proofs.CalendarLemmas.{days_from_civil-day_count, day_count-next_year, day_count-day_of_year, day_of_year_bound}
+use Rattle.jiff_core.proofs.CalendarLemmas.{days_from_civil-day_count, day_count-next_year}
+use Rattle.jiff_core.proofs.CalendarLemmas.{day_count-day_of_year, day_of_year_bound}
 use Rattle.td_civil.specs.Bounds.{IsWithinBounds, HasText}
 use Rattle.td_civil.specs.Calendar.{Civil, date_of, stamp_after, elapsed, stamp_of, IsInYear}
-use Rattle.td_civil.specs.Stamp.{Stamp, IsStamp, spelling, basic_spelling, moment_at, Spells, ShowsLocal}
-use Rattle.td_civil.specs.Texts.{text_of, local_text_of}
+use Rattle.td_civil.specs.Calendar.{text_of, local_text_of}
+use Rattle.td_civil.specs.Stamp.{Stamp, IsStamp, spelling, basic_spelling, moment_at, Spells}
+use Rattle.td_civil.specs.Stamp.{ShowsLocal}
 use Rattle.td_civil.specs.Reading.{moment_in}
 use Rattle.td_civil.proofs.lemmas.Counting.{IsDated, date_of_counts, dated_bounds, one_date}
 use Rattle.td_civil.proofs.lemmas.ReadBack.{same_fields}

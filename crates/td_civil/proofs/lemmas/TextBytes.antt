@@ -2,9 +2,8 @@
 use Rattle.std.proofs.Common.{◌≡◌, ℕ, ◌+◌, ◌/◌, ◌%◌, ◌≤◌, length, refl, arith, ℤ, ◌+ℤ◌}
 use Rattle.std.specs.List.{All, AllByRecursion}
 use Rattle.std.proofs.lemmas.List.Elements.{All-from_recursion}
-use Rattle.td_civil.specs.Calendar.{stamp_of}
+use Rattle.td_civil.specs.Calendar.{stamp_of, text_of, local_text_of}
 use Rattle.td_civil.specs.Stamp.{Stamp, spelling, basic_spelling}
-use Rattle.td_civil.specs.Texts.{text_of, local_text_of}
 
 pub text_length : (m : ℤ) → length (text_of m) ≡ 20
 unfolding text_of

@@ -1,5 +1,5 @@
 use Rattle.std.proofs.Common.{◌≡◌, ◌<◌}
-use Rattle.td_base.specs.Cause.{RoseBy}
+use Rattle.td_base.specs.Views.{RoseBy}
 use Rattle.connection.specs.Turns.{HasServed}
 use Rattle.connection.proofs.door_work.serve_door.Given as goal
 

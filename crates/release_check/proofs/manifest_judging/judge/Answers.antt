@@ -4,7 +4,7 @@ use Rattle.std.proofs.lemmas.List.{length-map}
 use Rattle.std.specs.List.{list_any}
 use Rattle.std.specs.Str.{bytes_eq}
 use Rattle.release_check.specs.Before.{before_held}
-use Rattle.release_check.specs.ManifestFaults.{names_in, identifier_fault, duplicate_fault}
+use Rattle.release_check.specs.Faults.{names_in, identifier_fault, duplicate_fault}
 use Rattle.release_check.proofs.Judgement.{searches, judged_first, judged_later}
 use Rattle.release_check.proofs.manifest_judging.judge.Goals as goal
 

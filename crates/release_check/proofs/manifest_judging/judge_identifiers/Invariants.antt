@@ -1,5 +1,5 @@
 use Rattle.std.proofs.Common.{◌≡◌, drop}
-use Rattle.release_check.specs.ManifestFaults.{identifier_fault}
+use Rattle.release_check.specs.Faults.{identifier_fault}
 use Rattle.release_check.proofs.manifest_judging.judge_identifiers.Given as goal
 
 abbrev pub invariant-loop-number : goal.invariant-loop-number

@@ -1,5 +1,5 @@
 use Rattle.std.proofs.Common.{◌≡◌, ◌++◌, map, drop}
-use Rattle.release_check.specs.ManifestFaults.{names_in}
+use Rattle.release_check.specs.Faults.{names_in}
 use Rattle.release_check.proofs.manifest_judging.names_in.Given as goal
 
 abbrev pub invariant-loop-zone : goal.invariant-loop-zone

@@ -1,5 +1,5 @@
 use Rattle.std.proofs.Common.{IfSome, map, take}
-use Rattle.td_base.specs.Later.{LaterStore}
+use Rattle.td_base.specs.Views.{LaterStore}
 use Rattle.catalogue.specs.Releases.{content_data}
 use Rattle.release_check.specs.Found.{AreOf}
 use Rattle.release_check.proofs.Contents.{SoFar}

@@ -2,8 +2,9 @@ use Rattle.std.proofs.Common.{◌≡◌, ◌∙◌, ap, sym, None, arith}
 use Rattle.tzif_reader.specs.Cut.{lists_of}
 use Rattle.tzif_reader.specs.Faults.{first_fault}
 use Rattle.std.proofs.lemmas.Result.{err_from_is_err_and}
-use Rattle.release_check.specs.ZoneFaults.{meaning_fault}
-use Rattle.release_check.proofs.ZoneFiles.{file_fault-leaps, file_fault-footer, file_fault-meant, judged_by_reader, no_leaps, sound_zone}
+use Rattle.release_check.specs.Faults.{meaning_fault}
+use Rattle.release_check.proofs.ZoneFiles.{file_fault-leaps, file_fault-footer, file_fault-meant}
+use Rattle.release_check.proofs.ZoneFiles.{judged_by_reader, no_leaps, sound_zone}
 use Rattle.release_check.proofs.zone_files.zone_in.Goals as goal
 
 pub returns-in-Err-clause-judged : goal.returns-in-Err-clause-judged

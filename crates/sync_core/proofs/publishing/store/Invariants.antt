@@ -1,6 +1,6 @@
 use Rattle.std.proofs.Common.{◌≡◌, ℕ, List, length, option_map}
 use Rattle.std.specs.Option.{option_or}
-use Rattle.td_base.specs.Files.{file_at}
+use Rattle.td_base.specs.Views.{file_at}
 use Rattle.sync_core.specs.Mirrors.{file_name, files_kept}
 use Rattle.sync_core.specs.Names.{at_text}
 use Rattle.sync_core.specs.Published.{bytes_of}

@@ -1,8 +1,7 @@
 use Rattle.std.proofs.Common.{◌≡◌, ◌+◌, length}
 use Rattle.std.specs.Option.{option_copied, option_map_or}
 use Rattle.std.specs.List.{list_any}
-use Rattle.td_base.specs.Names.{segments, is_dots}
-use Rattle.td_base.specs.NameCuts.{segments_left}
+use Rattle.td_base.specs.Names.{segments, is_dots, segments_left}
 use Rattle.td_base.proofs.name_forms.has_dots.Given as goal
 
 abbrev pub invariant-loop-left : goal.invariant-loop-left

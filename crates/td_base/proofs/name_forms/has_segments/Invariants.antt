@@ -1,8 +1,7 @@
 use Rattle.std.proofs.Common.{◌≡◌, ◌+◌, length}
 use Rattle.std.specs.Option.{option_copied, option_map_or}
 use Rattle.std.specs.List.{list_all}
-use Rattle.td_base.specs.Names.{segments, is_segment}
-use Rattle.td_base.specs.NameCuts.{segments_left}
+use Rattle.td_base.specs.Names.{segments, is_segment, segments_left}
 use Rattle.td_base.proofs.name_forms.has_segments.Given as goal
 
 abbrev pub invariant-loop-left : goal.invariant-loop-left

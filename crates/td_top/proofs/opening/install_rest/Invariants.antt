@@ -1,5 +1,5 @@
 use Rattle.std.proofs.Common.{take}
-use Rattle.td_base.specs.Later.{LaterStore}
+use Rattle.td_base.specs.Views.{LaterStore}
 use Rattle.catalogue.specs.Holdings.{history_of}
 use Rattle.td_top.specs.Installed.{Extends}
 use Rattle.td_top.specs.Sessions.{LaterSession}

@@ -1,6 +1,6 @@
 use Rattle.std.proofs.Common.{None}
 use Rattle.td_base.proofs.lemmas.LaterLemmas.{store_refl}
-use Rattle.td_top.specs.Called.{usage}
+use Rattle.td_top.specs.Ends.{usage}
 use Rattle.td_top.specs.Lines.{usage_line}
 use Rattle.td_top.specs.declared.status.Status.TheVariants as status
 use Rattle.td_top.proofs.Endings.{ends_printed}

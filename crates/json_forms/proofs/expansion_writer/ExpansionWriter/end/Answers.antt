@@ -1,7 +1,8 @@
-use Rattle.std.proofs.Common.{◌∷◌, [], ◌++◌, ◌∙◌, map, codes, refl, subst, sym, append_assoc, ◌≡◌, List}
+use Rattle.std.proofs.Common.{◌∷◌, [], ◌++◌, ◌∙◌, map, codes, refl, subst, sym, append_assoc, ◌≡◌}
+use Rattle.std.proofs.Common.{List}
 use Rattle.json.specs.Token as token
 use Rattle.json.specs.Token.{Token}
-use Rattle.td_civil.specs.Texts.{text_of}
+use Rattle.td_civil.specs.Calendar.{text_of}
 use Rattle.json_forms.specs.Begun.{IsExpansionBegun, expansion_opening}
 use Rattle.json_forms.specs.ExpansionDocument.{observance_data, expansion_data, expansion_document}
 use Rattle.json_forms.proofs.Begun.{begun_ended}

@@ -1,13 +1,18 @@
--- What is wrong with a release as its manifest tells it, before any file that it names is read: by
--- itself, and against the history before it (`HistoryFaults`).
+-- What is wrong with a release: as its manifest tells it, before any file that it names is read, by
+-- itself and against what stands before it (`Before`); and with the file of one of its zones.
 use Rattle.std.specs.Prelude.{ℕ, ◌+◌, List, [], ◌∷◌, ◌++◌, length, nat_lt, if◌then◌else◌, Option}
-use Rattle.std.specs.Prelude.{None, Some, Bool, true, not, IsTrue}
+use Rattle.std.specs.Prelude.{None, Some, Bool, true, not, IsTrue, false}
 use Rattle.std.specs.List.{list_all, list_any}
 use Rattle.std.specs.Str.{bytes_eq}
+use Rattle.std.specs.Option.{option_map, option_map_or}
 use Rattle.td_base.specs.FirstFault.{◌or_else◌, when}
 use Rattle.td_base.specs.Names.{is_identifier, is_label}
 use Rattle.td_civil.specs.Bounds.{HasMeaning, has_meaning}
 use Rattle.td_civil.specs.Reading.{is_date_text}
+use Rattle.tzif_reader.specs.Cut.{lists_of}
+use Rattle.tzif_reader.specs.Faults.{first_fault}
+use Rattle.tzif_reader.specs.declared.zone_file.LeapLine.{LeapLine}
+use Rattle.posix_footer.specs.Carried.{beyond}
 use Rattle.catalogue.specs.declared.limits.TheConstants.{MOST_ZONES, MOST_NAMES}
 use Rattle.release_manifest.specs.declared.manifest_type.Manifest.{Manifest}
 use Rattle.release_manifest.specs.declared.manifest_type.ManifestZone.{ManifestZone}
@@ -15,11 +20,16 @@ use Rattle.release_manifest.specs.declared.manifest_type.ManifestLeaps.{Manifest
 use Rattle.release_manifest.specs.declared.manifest_fault.ManifestFault.TheVariants as manifest
 use Rattle.release_manifest.specs.declared.manifest_fault.Path.{Path}
 use Rattle.release_manifest.specs.declared.manifest_fault.Path.TheVariants as path
-use Rattle.release_check.specs.Before.{Before}
-use Rattle.release_check.specs.HistoryFaults.{stamp_fault, drop_fault, place_fault}
+use Rattle.zone_meaning.specs.Agreement.{footer_agrees}
+use Rattle.zone_meaning.specs.Faults.{footer_text_fault}
+use Rattle.zone_meaning.specs.Names.{has_printable_names}
+use Rattle.zone_meaning.specs.State.{footer_meant}
+use Rattle.release_check.specs.Before.{Before, stamp_fault, drop_fault, place_fault}
 use Rattle.release_check.specs.declared.check_fault.Limited.TheVariants as limited
 use Rattle.release_check.specs.declared.check_fault.CheckFault.{CheckFault}
 use Rattle.release_check.specs.declared.check_fault.CheckFault.TheVariants as fault
+
+-- ---- what a manifest tells
 
 -- the names of zones in the order of the manifest: each identifier before its aliases
 abbrev pub names_in : List ManifestZone → List (List ℕ)
@@ -78,3 +88,36 @@ pub record IsFormed (m : Manifest) : Type 0 where
   pub version : IsTrue (is_label m.version)
   pub stamp : HasMeaning m.stamp.seconds
   pub expires : IsTrue (has_date m.leaps)
+
+-- ---- the file of a zone
+
+-- the file has leap seconds
+abbrev pub lines_fault : ℕ → List LeapLine → Option CheckFault
+lines_fault n [] = None
+lines_fault n (l ∷ ls) = Some (fault.LeapsInZone n)
+
+-- a name is not one that can be printed
+abbrev pub names_fault : ℕ → List ℕ → Option CheckFault
+names_fault n bytes = when (not (has_printable_names bytes)) (fault.NameBeyond n)
+
+-- its footer does not go on from its last transition
+abbrev pub agreement_fault : ℕ → List ℕ → Option CheckFault
+agreement_fault n bytes = when (not (footer_agrees (lists_of bytes))) (fault.FooterDisagrees n)
+
+-- no yearly rules say what its footer says
+abbrev pub rule_fault : ℕ → List ℕ → Option CheckFault
+rule_fault n bytes =
+    when (option_map_or beyond (footer_meant (lists_of bytes).footer) false) (fault.RuleBeyond n)
+
+-- what is wrong with what a zone means
+unfoldable pub meaning_fault : ℕ → List ℕ → Option CheckFault
+meaning_fault n bytes =
+    agreement_fault n bytes or_else names_fault n bytes or_else rule_fault n bytes
+
+-- the first fault of the file of the zone with this number
+unfoldable pub file_fault : ℕ → List ℕ → Option CheckFault
+file_fault n bytes =
+    option_map (fault.Tzif n) (first_fault bytes)
+    or_else lines_fault n (lists_of bytes).leaps
+    or_else option_map (fault.FooterText n) (footer_text_fault (lists_of bytes).footer)
+    or_else meaning_fault n bytes
