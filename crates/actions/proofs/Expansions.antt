@@ -13,7 +13,8 @@ use Rattle.td_civil.specs.declared.local_time.Local.{Local}
 use Rattle.td_civil.specs.declared.local_time.Observance.{Observance}
 use Rattle.json_forms.specs.Begun.{IsExpansionBegun}
 use Rattle.json_forms.specs.PlainTexts.{IsPlainObservance}
-use Rattle.zone_meaning.specs.Names.{is_designation_byte, is_printable_name}
+use Rattle.posix_footer.specs.Items.{is_designation_byte}
+use Rattle.zone_meaning.specs.Names.{is_printable_name}
 use Rattle.zone_meaning.specs.Observed.{IsRange, first_at, observed}
 use Rattle.zone_meaning.specs.RangeLaws.{IsChangeBetween}
 use Rattle.zone_meaning.specs.Sound.{IsSoundFile}

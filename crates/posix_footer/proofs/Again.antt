@@ -7,8 +7,10 @@ use Rattle.std.proofs.lemmas.Bool.Decides.{nat_tests}
 use Rattle.std.proofs.lemmas.Int.{ints}
 use Rattle.posix_footer.specs.declared.rule_types.DayForm.{DayForm}
 use Rattle.posix_footer.specs.declared.rule_types.DayForm.TheVariants as day
-use Rattle.posix_footer.specs.Items.{begins, begins_as, behind, is_sign, is_quotable, quoted_at, name_at, part_at, clock_at, signed_at, offset_at, ahead_at}
-use Rattle.posix_footer.specs.Items.{daylight_offset_at, begins_offset, time_at, week_at, julian_at, year_day_at, day_at}
+use Rattle.posix_footer.specs.Items.{begins, begins_as, behind, is_sign, is_designation_byte}
+use Rattle.posix_footer.specs.Items.{quoted_at, name_at, part_at, clock_at, signed_at, offset_at}
+use Rattle.posix_footer.specs.Items.{ahead_at, daylight_offset_at, begins_offset, time_at, week_at}
+use Rattle.posix_footer.specs.Items.{julian_at, year_day_at, day_at}
 use Rattle.posix_footer.specs.Spelling.{IsRun, IsUnquoted, IsQuoted, IsName, IsNumber, IsClockPart, IsBehindHours, IsClock, HasSign, IsSignedNumber, IsOffset}
 use Rattle.posix_footer.specs.Spelling.{IsDay}
 use Rattle.posix_footer.proofs.Runs.{run_again, number_again}
@@ -38,9 +40,9 @@ plain_again text name rest is end =
     let first = first_of_run is_ascii_alphabetic (λ b. b == 60) false name rest letter_no_quote is.letters.all (omega (arith, is.letters.at_least)) in
     ap (λ t. name_at (t ++ rest)) is.text_is ∙ rw first (run_again _ _ _ _ _ is.letters end)
 
-quoted_text : (name rest : List ℕ) → IsRun is_quotable 3 32 name → quoted_at (name ++ (62 ∷ rest)) ≡ Some (name, rest)
+quoted_text : (name rest : List ℕ) → IsRun is_designation_byte 3 32 name → quoted_at (name ++ (62 ∷ rest)) ≡ Some (name, rest)
 unfolding quoted_at behind
-quoted_text name rest is = rw (run_again is_quotable 3 32 name (62 ∷ rest) is refl) refl
+quoted_text name rest is = rw (run_again is_designation_byte 3 32 name (62 ∷ rest) is refl) refl
 
 quoted_again : (text name rest : List ℕ) → IsQuoted text name → name_at (text ++ rest) ≡ Some (name, rest)
 unfolding name_at

@@ -6,8 +6,11 @@ use Rattle.std.proofs.lemmas.Int.{ints}
 use Rattle.std.proofs.lemmas.Option.{cond_some}
 use Rattle.posix_footer.specs.declared.rule_types.DayForm.{DayForm}
 use Rattle.posix_footer.specs.declared.rule_types.DayForm.TheVariants as day
-use Rattle.posix_footer.specs.Items.{begins, begins_as, behind, is_sign, is_quotable, run_at, quoted_at, name_at, number_at, part_at, clock_at, signed_at}
-use Rattle.posix_footer.specs.Items.{offset_at, ahead_at, daylight_offset_at, begins_offset, time_at, week_at, julian_at, year_day_at, day_at}
+use Rattle.posix_footer.specs.Items.{begins, begins_as, behind, is_sign, is_designation_byte}
+use Rattle.posix_footer.specs.Items.{run_at, quoted_at, name_at, number_at, part_at, clock_at}
+use Rattle.posix_footer.specs.Items.{signed_at, offset_at, ahead_at, daylight_offset_at}
+use Rattle.posix_footer.specs.Items.{begins_offset, time_at, week_at, julian_at, year_day_at}
+use Rattle.posix_footer.specs.Items.{day_at}
 use Rattle.posix_footer.specs.Spelling.{IsName, IsNumber, IsClockPart, IsBehindHours, IsClock, IsSignedNumber, IsOffset, IsHourAhead, IsDay}
 use Rattle.posix_footer.proofs.Runs.{Reads, between, IsRunOf, run_found, run_along, number_found}
 use Rattle.std.specs.Char.{is_ascii_alphabetic}
@@ -38,7 +41,7 @@ plain_found text x h =
     }
 
 quoted_from : (text front rest : List ℕ) (run x : List ℕ × List ℕ) → begins 60 text ≡ true → drop 1 text ≡ front ++ run.1 →
-    IsRunOf is_quotable 3 32 front run.0 → run.1 ≡ 62 ∷ rest → ◌≡◌ {A = Option (List ℕ × List ℕ)} (Some (run.0, rest)) (Some x) →
+    IsRunOf is_designation_byte 3 32 front run.0 → run.1 ≡ 62 ∷ rest → ◌≡◌ {A = Option (List ℕ × List ℕ)} (Some (run.0, rest)) (Some x) →
     Reads IsName text x
 quoted_from text front rest run x first text_is is end last =
     let name_is : run.0 ≡ x.0 = cc in
@@ -53,8 +56,8 @@ quoted_from text front rest run x first text_is is end last =
 quoted_found : (text : List ℕ) (x : List ℕ × List ℕ) → begins 60 text ≡ true → quoted_at (drop 1 text) ≡ Some x → Reads IsName text x
 unfolding quoted_at
 quoted_found text x first h =
-    let name = between (run_at is_quotable 3 32 (drop 1 text)) _ x h in
-    let read = run_found is_quotable 3 32 (drop 1 text) name.value name.first_is in
+    let name = between (run_at is_designation_byte 3 32 (drop 1 text)) _ x h in
+    let read = run_found is_designation_byte 3 32 (drop 1 text) name.value name.first_is in
     let rest = between (behind 62 name.value.1) _ x name.then_is in
     quoted_from text read.front rest.value name.value x first read.text_is read.spells (behind_found _ _ _ rest.first_is) rest.then_is
 

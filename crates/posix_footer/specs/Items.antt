@@ -15,8 +15,8 @@ None >>= f = None
 (Some x) >>= f = f x
 
 -- what a name between `<` and `>` is made of: letters, digits, `+` and `-`
-abbrev pub is_quotable : ℕ → Bool
-is_quotable byte = is_ascii_alphanumeric byte || (byte == 43) || (byte == 45)
+abbrev pub is_designation_byte : ℕ → Bool
+is_designation_byte byte = is_ascii_alphanumeric byte || (byte == 43) || (byte == 45)
 
 -- whether the text begins with a byte of a kind, and with one byte
 abbrev pub begins_as : (ℕ → Bool) → List ℕ → Bool
@@ -41,7 +41,7 @@ run_at kind fewest most text =
 -- 3 to 32 bytes between `<` and `>`, behind the `<`
 unfoldable pub quoted_at : List ℕ → Option (List ℕ × List ℕ)
 quoted_at text = do
-  name ← run_at is_quotable 3 32 text
+  name ← run_at is_designation_byte 3 32 text
   rest ← behind 62 name.1
   Some (name.0, rest)
 

@@ -11,7 +11,7 @@ use Rattle.posix_footer.specs.declared.rule_types.DayForm.TheVariants as day
 use Rattle.posix_footer.specs.declared.rule_types.Date.{Date}
 use Rattle.posix_footer.specs.declared.rule_types.DstRule.{DstRule}
 use Rattle.posix_footer.specs.declared.rule_types.Footer.{Footer}
-use Rattle.posix_footer.specs.Items.{is_quotable, number_of_digits}
+use Rattle.posix_footer.specs.Items.{is_designation_byte, number_of_digits}
 
 -- from fewest to most bytes of a kind
 pub record IsRun (kind : ℕ → Bool) (fewest most : ℕ) (text : List ℕ) : Type 0 where
@@ -25,7 +25,7 @@ pub record IsUnquoted (text name : List ℕ) : Type 0 where
   pub text_is : text ≡ name
 
 pub record IsQuoted (text name : List ℕ) : Type 0 where
-  pub bytes : IsRun is_quotable 3 32 name
+  pub bytes : IsRun is_designation_byte 3 32 name
   pub text_is : text ≡ 60 ∷ (name ++ 62 ∷ [])
 
 abbrev pub IsName : List ℕ → List ℕ → Type 0

@@ -1,7 +1,7 @@
 -- What a reader answers and leaves, against the item that stands at the front of what it read.
 use Rattle.std.specs.Prelude.{◌≡◌, ℕ, Bool, List, Option, None, Some, Result, Ok, Err}
 use Rattle.std.specs.Char.{is_ascii_alphabetic, is_ascii_digit}
-use Rattle.posix_footer.specs.Items.{is_quotable, begins_offset}
+use Rattle.posix_footer.specs.Items.{is_designation_byte, begins_offset}
 use Rattle.posix_footer.specs.declared.footer_fault.FooterFault.{FooterFault}
 use Rattle.posix_footer.specs.declared.parser.Kind.{Kind}
 use Rattle.posix_footer.specs.declared.parser.Kind.TheVariants.{Letter, Digit, Quotable}
@@ -11,7 +11,7 @@ use Rattle.posix_footer.specs.declared.parser.Kind.TheVariants.{OffsetStart}
 abbrev pub test_of : Kind → ℕ → Bool
 test_of Letter = is_ascii_alphabetic
 test_of Digit = is_ascii_digit
-test_of Quotable = is_quotable
+test_of Quotable = is_designation_byte
 test_of OffsetStart = begins_offset
 
 -- seen by view, as what a reference points to

@@ -1,7 +1,7 @@
 ghost use Rattle.std.specs.Prelude.{◌≡◌, map};
 ghost use Rattle.std.specs.List.{list_all};
-ghost use Rattle.zone_meaning.specs.Names.{footer_names, has_printable_names, is_designation_byte};
-ghost use Rattle.zone_meaning.specs.Names.{is_printable_name};
+ghost use Rattle.posix_footer.specs.Items.{is_designation_byte};
+ghost use Rattle.zone_meaning.specs.Names.{footer_names, has_printable_names, is_printable_name};
 
 use posix_footer::Footer;
 use td_civil::{Local, Name};

@@ -23,7 +23,8 @@ use Rattle.posix_footer.specs.Carried.{is_all_year, is_carried_rule, beyond_if_a
 use Rattle.posix_footer.specs.Lawful.{IsLawfulRule, IsLawfulIfAny}
 use Rattle.posix_footer.specs.Onset.{onset_of}
 use Rattle.zone_meaning.specs.Faults.{zone_fault}
-use Rattle.zone_meaning.specs.Names.{is_designation_byte, is_printable_name, rule_names, footer_names, has_printable_names}
+use Rattle.posix_footer.specs.Items.{is_designation_byte}
+use Rattle.zone_meaning.specs.Names.{is_printable_name, rule_names, footer_names, has_printable_names}
 use Rattle.zone_meaning.specs.Observed.{observed}
 use Rattle.zone_meaning.specs.State.{zone_state, footer_meant}
 use Rattle.zone_meaning.proofs.lemmas.Members.{member_first, member_later}

@@ -1,16 +1,11 @@
 -- Which zones have names alone that can be printed: letters, digits, `+` and `-`, at least one.
-use Rattle.std.specs.Prelude.{ℕ, List, [], ◌∷◌, ◌++◌, map, Bool, false, ◌||◌, ◌==◌, Option, None}
-use Rattle.std.specs.Prelude.{Some}
+use Rattle.std.specs.Prelude.{ℕ, List, [], ◌∷◌, ◌++◌, map, Bool, false, Option, None, Some}
 use Rattle.std.specs.List.{list_all}
-use Rattle.std.specs.Char.{is_ascii_alphanumeric}
 use Rattle.tzif_reader.specs.Cut.{lists_of}
+use Rattle.posix_footer.specs.Items.{is_designation_byte}
 use Rattle.posix_footer.specs.declared.rule_types.Footer.{Footer}
 use Rattle.posix_footer.specs.declared.rule_types.DstRule.{DstRule}
 use Rattle.zone_meaning.specs.State.{footer_meant}
-
--- a letter, a digit, `+` or `-`
-abbrev pub is_designation_byte : ℕ → Bool
-is_designation_byte b = is_ascii_alphanumeric b || (b == 43) || (b == 45)
 
 -- at least one such byte
 abbrev pub is_printable_name : List ℕ → Bool
