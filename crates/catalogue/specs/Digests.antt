@@ -8,14 +8,11 @@ use Rattle.td_base.specs.Sized.{sized}
 use Rattle.td_civil.specs.Calendar.{text_of}
 use Rattle.catalogue.specs.Releases.{ContentData, ReleaseData, leap_file, leap_expiry}
 
--- a number in four bytes, the high one first
-abbrev pub four_bytes : ℕ → List ℕ
-four_bytes n = to_be_bytes w32 n
-
 -- the bytes that stand for a content: identifier, aliases and file, each after its length
 unfoldable pub content_bytes : ContentData → List ℕ
 content_bytes c =
-    sized c.tzid ++ four_bytes (length c.aliases) ++ concat (map sized c.aliases) ++ sized c.file
+    sized c.tzid ++ to_be_bytes w32 (length c.aliases) ++ concat (map sized c.aliases)
+    ++ sized c.file
 
 unfoldable pub content_digest : ContentData → List ℕ
 content_digest c = sha256 (content_bytes c)
@@ -29,7 +26,7 @@ unfoldable pub link_bytes : List ℕ → ReleaseData → List ℕ
 link_bytes before r =
     before ++ sized (text_of r.stamp) ++ sized r.publisher ++ sized r.version
     ++ sized (leap_file r.leaps) ++ sized (leap_expiry r.leaps)
-    ++ four_bytes (length r.contents) ++ concat (map content_digest r.contents)
+    ++ to_be_bytes w32 (length r.contents) ++ concat (map content_digest r.contents)
 
 -- the chain value of the place of a release, from that of the place before it
 unfoldable pub linked : List ℕ → ReleaseData → List ℕ

@@ -1,10 +1,11 @@
 ghost use Rattle.std.specs.Prelude.{◌≡◌, ◌<◌, ◌++◌, ◌^◌, ℕ, length, map, List, []};
+ghost use Rattle.std.specs.Int.{to_be_bytes, w32};
 ghost use Rattle.std.specs.List.{concat};
 ghost use Rattle.sha2.specs.Hashers.{Holds256};
 ghost use Rattle.td_base.specs.Sized.{sized};
 ghost use Rattle.td_civil.specs.Calendar.{text_of};
 ghost use Rattle.catalogue.specs.Releases.{ContentData, HasLengths, leap_file, leap_expiry};
-ghost use Rattle.catalogue.specs.Digests.{content_digest, linked, four_bytes};
+ghost use Rattle.catalogue.specs.Digests.{content_digest, linked};
 ghost use Rattle.catalogue.specs.HeldZones.{held_digest};
 ghost use Rattle.catalogue.specs.Holdings.{release_of};
 
@@ -55,7 +56,7 @@ fn hash_leaps(hasher: &mut Sha256, head: &Head)
 fn hash_digests<Z>(hasher: &mut Sha256, held: &[Arc<Held<Z>>])
     requires { length held.now < 2 ^ 32 }
     ensures { (m : List ℕ) → Holds256 hasher.old m → Holds256 hasher.new
-        (m ++ four_bytes (length held.now) ++ concat (map held_digest held.now)) }
+        (m ++ to_be_bytes w32 (length held.now) ++ concat (map held_digest held.now)) }
 {
     hash_number(hasher, held.len() as u32);
     for one in held {

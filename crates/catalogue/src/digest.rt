@@ -1,10 +1,11 @@
 ghost use Rattle.std.specs.Prelude.{◌≡◌, ◌<◌, ◌++◌, ◌^◌, ℕ, length, take, map, List};
+ghost use Rattle.std.specs.Int.{to_be_bytes, w32};
 ghost use Rattle.std.specs.List.{AllByRecursion, concat};
 ghost use Rattle.hex.specs.Hex.{encode_lower};
 ghost use Rattle.sha2.specs.Hashers.{Holds256};
 ghost use Rattle.td_base.specs.Sized.{sized};
 ghost use Rattle.catalogue.specs.Releases.{content_as_is, IsShort};
-ghost use Rattle.catalogue.specs.Digests.{content_digest, token_text, four_bytes};
+ghost use Rattle.catalogue.specs.Digests.{content_digest, token_text};
 
 use crate::{Content, ZoneData};
 use itoa::Buffer;
@@ -54,7 +55,7 @@ pub fn token(place: u32, chain: &[u8; 32]) -> Token
 /// Hashes a number as four bytes, the high one first.
 pub fn hash_number(hasher: &mut Sha256, number: u32)
     ensures { (m : List ℕ) → Holds256 hasher.old m →
-        Holds256 hasher.new (m ++ four_bytes number) }
+        Holds256 hasher.new (m ++ to_be_bytes w32 number) }
 {
     hasher.update(number.to_be_bytes().as_slice());
 }
@@ -74,7 +75,7 @@ fn hash_texts(hasher: &mut Sha256, texts: &Items<Bytes>)
     requires count { length texts.now < 2 ^ 32 }
     requires texts { AllByRecursion (λ a. length a < 2 ^ 32) texts.now }
     ensures { (m : List ℕ) → Holds256 hasher.old m →
-        Holds256 hasher.new (m ++ four_bytes (length texts.now) ++ concat (map sized texts.now)) }
+        Holds256 hasher.new (m ++ to_be_bytes w32 (length texts.now) ++ concat (map sized texts.now)) }
 {
     hash_number(hasher, texts.len() as u32);
     for text in texts.as_slice() {

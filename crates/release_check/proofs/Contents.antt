@@ -8,13 +8,12 @@ use Rattle.catalogue.specs.Releases.{ContentData, content_data}
 use Rattle.catalogue.specs.declared.release.Content.{Content}
 use Rattle.release_manifest.specs.declared.manifest_type.ManifestZone.{ManifestZone}
 use Rattle.td_base.specs.FirstFault.{◌>>=◌}
-use Rattle.release_check.specs.Folder.{content_from, content_in, content_with, contents_in, unless}
-use Rattle.release_check.specs.Folder.{path_in}
+use Rattle.release_check.specs.Folder.{content_from, content_in, contents_in, unless, path_in}
 use Rattle.release_check.specs.Found.{IsFile, IsZoneIn, AreZonesIn, IsOf, AreOf}
 use Rattle.release_check.specs.Faults.{file_fault}
 use Rattle.release_check.specs.declared.check_fault.CheckFault.{CheckFault}
 use Rattle.release_check.specs.declared.check_fault.CheckFault.TheVariants as fault
-use Rattle.release_check.proofs.lemmas.Prefixes.{content_read, content_refused, content_absent}
+use Rattle.release_check.proofs.lemmas.Prefixes.{content_read, content_refused, content_absent, content_with}
 use Rattle.release_check.proofs.ZoneFiles.{sound_file}
 
 -- the zones read before, with those that the rest gives

@@ -1,6 +1,7 @@
 -- The first fault of a zone's file, as the parts of its reading find it.
 use Rattle.std.proofs.Common.{◌≡◌, ◌≢◌, ℕ, ◌<◌, Bool, true, false, not, List, [], ◌∷◌, length}
 use Rattle.std.proofs.Common.{Option, None, Some, ap, sym, ◌∙◌, refl, arith}
+use Rattle.std.specs.List.{list_any}
 use Rattle.std.specs.Option.{option_map, option_map_or, option_or}
 use Rattle.tzif_reader.specs.Cut.{lists_of}
 use Rattle.tzif_reader.specs.Faults.{first_fault}
@@ -19,14 +20,14 @@ use Rattle.zone_meaning.specs.State.{footer_meant}
 use Rattle.zone_meaning.specs.Sound.{IsSoundFile}
 use Rattle.td_base.specs.FirstFault.{◌or_else◌, when}
 use Rattle.release_check.specs.Judged.{of_reader}
-use Rattle.release_check.specs.Faults.{file_fault, lines_fault, meaning_fault}
+use Rattle.release_check.specs.Faults.{file_fault, meaning_fault}
 use Rattle.release_check.specs.declared.check_fault.CheckFault.{CheckFault}
 use Rattle.release_check.specs.declared.check_fault.CheckFault.TheVariants as fault
 
 -- the faults in their order
 abbrev in_order : ℕ → Option TzifFault → List LeapLine → Option FooterFault → Option CheckFault → Option CheckFault
 in_order n read lines footer meant =
-    option_map (fault.Tzif n) read or_else lines_fault n lines
+    option_map (fault.Tzif n) read or_else when (list_any (λ line. true) lines) (fault.LeapsInZone n)
     or_else option_map (fault.FooterText n) footer or_else meant
 
 file_fault-is : (n : ℕ) (bytes : List ℕ) (read : Option TzifFault) (lines : List LeapLine) (footer : Option FooterFault) (meant : Option CheckFault)

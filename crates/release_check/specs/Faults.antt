@@ -11,7 +11,6 @@ use Rattle.td_civil.specs.Bounds.{HasMeaning, has_meaning}
 use Rattle.td_civil.specs.Reading.{is_date_text}
 use Rattle.tzif_reader.specs.Cut.{lists_of}
 use Rattle.tzif_reader.specs.Faults.{first_fault}
-use Rattle.tzif_reader.specs.declared.zone_file.LeapLine.{LeapLine}
 use Rattle.posix_footer.specs.Carried.{beyond}
 use Rattle.catalogue.specs.declared.limits.TheConstants.{MOST_ZONES, MOST_NAMES}
 use Rattle.release_manifest.specs.declared.manifest_type.Manifest.{Manifest}
@@ -91,11 +90,6 @@ pub record IsFormed (m : Manifest) : Type 0 where
 
 -- ---- the file of a zone
 
--- the file has leap seconds
-abbrev pub lines_fault : ℕ → List LeapLine → Option CheckFault
-lines_fault n [] = None
-lines_fault n (l ∷ ls) = Some (fault.LeapsInZone n)
-
 -- a name is not one that can be printed
 abbrev pub names_fault : ℕ → List ℕ → Option CheckFault
 names_fault n bytes = when (not (has_printable_names bytes)) (fault.NameBeyond n)
@@ -118,6 +112,6 @@ meaning_fault n bytes =
 unfoldable pub file_fault : ℕ → List ℕ → Option CheckFault
 file_fault n bytes =
     option_map (fault.Tzif n) (first_fault bytes)
-    or_else lines_fault n (lists_of bytes).leaps
+    or_else when (list_any (λ line. true) (lists_of bytes).leaps) (fault.LeapsInZone n)
     or_else option_map (fault.FooterText n) (footer_text_fault (lists_of bytes).footer)
     or_else meaning_fault n bytes

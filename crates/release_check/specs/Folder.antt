@@ -31,16 +31,13 @@ abbrev pub unless : {A : Type 0} → Option CheckFault → Result A CheckFault �
 unless (Some f) r = Err f
 unless None r = r
 
--- a zone of a manifest, with the bytes of its file
-abbrev pub content_with : ManifestZone → List ℕ → ContentData
-content_with z bytes =
-    record { tzid = z.tzid; aliases = rising_by (λ a. a) z.aliases; file = bytes }
-
--- the zone with this number over the file at its path
+-- the zone with this number over the file at its path, its aliases in rising order
 abbrev pub content_from : ℕ → List ℕ → ManifestZone → Option (List ℕ)
     → Result ContentData CheckFault
 content_from n path z None = Err (fault.Absent path)
-content_from n path z (Some bytes) = unless (file_fault n bytes) (Ok (content_with z bytes))
+content_from n path z (Some bytes) =
+    unless (file_fault n bytes)
+    (Ok (record { tzid = z.tzid; aliases = rising_by (λ a. a) z.aliases; file = bytes }))
 
 unfoldable pub content_in : List File → List ℕ → ℕ → ManifestZone → Result ContentData CheckFault
 content_in files dir n z =
@@ -75,17 +72,13 @@ release_with m contents leaps = record {
   leaps = leaps;
 }
 
--- the release of the files that a manifest names, the table of leap seconds last, or the first
--- fault
-abbrev pub files_in : List File → List ℕ → Manifest → Result ReleaseData CheckFault
-files_in files dir m =
-    contents_in files dir 0 m.zones >>= λ cs. table_in files dir m.leaps >>= λ leaps.
-    Ok (release_with m cs leaps)
-
 -- the release of a manifest and the files of its directory after what stands before it, or the
--- first fault
+-- first fault: of what the manifest says, then of the zones, and last of the leap seconds
 unfoldable pub release_in : List File → List ℕ → Before → Manifest → Result ReleaseData CheckFault
-release_in files dir before m = unless (manifest_fault before m) (files_in files dir m)
+release_in files dir before m =
+    unless (manifest_fault before m)
+    (contents_in files dir 0 m.zones >>= λ cs. table_in files dir m.leaps >>= λ leaps.
+    Ok (release_with m cs leaps))
 
 -- the same of a manifest value, whose texts are judged first
 abbrev pub examined_in : List File → List ℕ → Before → Manifest → Result ReleaseData CheckFault

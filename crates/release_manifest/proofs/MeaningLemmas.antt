@@ -7,7 +7,7 @@ use Rattle.std.specs.Int.Signed.{le_z_yes, lt_z_yes}
 use Rattle.std.proofs.lemmas.Float.{T_from_true}
 use Rattle.td_civil.specs.declared.moment_type.TheConstants.{LO, HI}
 use Rattle.serde_json.specs.Data.{Data, null, boolean, number, string, array, object, Items, item, no_items}
-use Rattle.serde_json.specs.Find.{get, as_array}
+use Rattle.serde_json.specs.Find.{get, as_str, as_array}
 use Rattle.td_base.specs.Names.{is_label, is_file_name}
 use Rattle.td_civil.specs.Bounds.{HasMeaning, has_meaning}
 use Rattle.td_civil.specs.Reading.{moment_in, is_date_text}
@@ -18,7 +18,7 @@ use Rattle.release_manifest.specs.declared.manifest_fault.ManifestFault.{Manifes
 use Rattle.release_manifest.specs.declared.manifest_type.Manifest.{Manifest}
 use Rattle.release_manifest.specs.declared.manifest_type.ManifestZone.{ManifestZone}
 use Rattle.release_manifest.specs.declared.manifest_type.ManifestLeaps.{ManifestLeaps}
-use Rattle.release_manifest.specs.Checks.{Check, first_failing, text_if_any, is_stamp_text, object_checks, text_checks, form_checks, each_checks, alias_checks}
+use Rattle.release_manifest.specs.Checks.{Check, first_failing, is_stamp_text, object_checks, text_checks, form_checks, each_checks, alias_checks}
 use Rattle.release_manifest.specs.Checks.{zone_checks, zones_checks, leap_checks, manifest_checks, document_fault}
 use Rattle.release_manifest.specs.Meaning.{IsForm, IsStampOf, AllAre, IsText, AreAliases, IsZone, AreZonesOf, IsLeaps, AreLeaps, IsManifest}
 use Rattle.release_manifest.proofs.CheckLemmas.{first_failing-append}
@@ -64,7 +64,7 @@ spelled (Some m) h = (m, refl, h)
 -- ---- members
 
 -- what has a text as a member is an object
-object_passes : (at : Path) (d : Data) (name text : List ℕ) → text_if_any (get name d) ≡ Some text
+object_passes : (at : Path) (d : Data) (name text : List ℕ) → option_and_then as_str (get name d) ≡ Some text
     → first_failing (object_checks at d) ≡ None
 unfolding object_checks
 object_passes at null name text is = cc
@@ -74,15 +74,15 @@ object_passes at (string s) name text is = cc
 object_passes at (array ds) name text is = cc
 object_passes at (object ms) name text is = refl
 
-text_passes : (at : Path) (member : Option Data) (text : List ℕ) → text_if_any member ≡ Some text
+text_passes : (at : Path) (member : Option Data) (text : List ℕ) → option_and_then as_str member ≡ Some text
     → first_failing (text_checks at member) ≡ None
 unfolding text_checks
 text_passes at member text is = rw is
 
 text_there : (at : Path) (member : Option Data) → first_failing (text_checks at member) ≡ None
-    → (text : List ℕ) × (text_if_any member ≡ Some text)
+    → (text : List ℕ) × (option_and_then as_str member ≡ Some text)
 unfolding text_checks
-text_there at member h = there (text_if_any member) (cond_none _ _ _ h).0
+text_there at member h = there (option_and_then as_str member) (cond_none _ _ _ h).0
 
 form_passes : (form : List ℕ → Bool) (at : Path) (member : Option Data) (text : List ℕ) → IsForm form member text
     → first_failing (form_checks form at member) ≡ None
@@ -94,8 +94,8 @@ form_there : (form : List ℕ → Bool) (at : Path) (member : Option Data) → f
 unfolding form_checks
 form_there form at member h =
     let parts = cond_none _ _ _ h in
-    let found = there (text_if_any member) parts.0 in
-    let fits : form (unwrap_or (text_if_any member) []) ≡ true = (cond_none _ _ _ parts.1).0 in
+    let found = there (option_and_then as_str member) parts.0 in
+    let fits : form (unwrap_or (option_and_then as_str member) []) ≡ true = (cond_none _ _ _ parts.1).0 in
     (found.0, record { is = found.1; fits = rw found.1 at fits })
 
 form_one : (form : List ℕ → Bool) (member : Option Data) (a b : List ℕ) → IsForm form member a → IsForm form member b → a ≡ b

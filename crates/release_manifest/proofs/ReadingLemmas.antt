@@ -1,12 +1,13 @@
 -- From bytes to a manifest.
 use Rattle.std.proofs.Common.{◌≡◌, ◌≢◌, ◌<◌, ◌≤◌, ℕ, Bool, true, false, cond, List, length, refl, sym, ap, ◌∙◌, Option, None, Some, Result, Ok, Err, IfOk}
 use Rattle.std.proofs.Common.{IfErr, IsErrAnd, IsUtf8, nat_le, arith, subst, ◌⊎◌, inl, inr}
+use Rattle.std.specs.Option.{option_map_or}
 use Rattle.std.proofs.lemmas.Str.{IsUtf8-from_is_utf8, is_utf8-from_IsUtf8}
 use Rattle.std.proofs.lemmas.Option.{same_Some}
 use Rattle.serde_json.specs.Data.{Data}
 use Rattle.serde_json.specs.Read.{read as read_text}
 use Rattle.release_manifest.specs.Checks.{document_fault, manifest_checks}
-use Rattle.release_manifest.specs.Reading.{value_in, value_fault, manifest_text_fault, JudgesChecks, IsManifestText}
+use Rattle.release_manifest.specs.Reading.{value_in, manifest_text_fault, JudgesChecks, IsManifestText}
 use Rattle.release_manifest.specs.Meaning.{IsManifest}
 use Rattle.release_manifest.specs.declared.manifest_type.Manifest.{Manifest}
 use Rattle.release_manifest.specs.declared.manifest_type.TheConstants.{MOST_BYTES}
@@ -103,7 +104,7 @@ refused_unless text (Err e) ok err f has = elim (memory_or e) [
   | inr n ↦ inl (ap Err (same_Some e f (sym (err n) ∙ has)))
 ]
 
-fault_free : (o : Option Data) → value_fault o ≡ None → (d : Data) × (o ≡ Some d) × (document_fault d ≡ None)
+fault_free : (o : Option Data) → option_map_or document_fault o (Some fault.Syntax) ≡ None → (d : Data) × (o ≡ Some d) × (document_fault d ≡ None)
 fault_free None h = cc
 fault_free (Some d) h = (d, refl, h)
 
@@ -111,7 +112,7 @@ fault_free (Some d) h = (d, refl, h)
 pub text_manifest : (text : List ℕ) → manifest_text_fault text ≡ None → (m : Manifest) × IsManifestText text m
 unfolding manifest_text_fault
 text_manifest text h =
-    let parts = cond_none (nat_le (length text) MOST_BYTES) (value_fault (value_in text)) fault.Long h in
+    let parts = cond_none (nat_le (length text) MOST_BYTES) (option_map_or document_fault (value_in text) (Some fault.Syntax)) fault.Long h in
     let free = fault_free (value_in text) parts.1 in
     let found = has_manifest free.0 free.2 in
     (found.0, record { fits = grind (arith, parts.0); value = free.0; reads = free.1; is = found.1 })

@@ -22,10 +22,6 @@ abbrev pub first_failing : List Check → Option ManifestFault
 first_failing [] = None
 first_failing (c ∷ cs) = if c.passes then first_failing cs else Some c.fault
 
--- the text that a member is, if it is there and is one
-abbrev pub text_if_any : Option Data → Option (List ℕ)
-text_if_any member = option_and_then as_str member
-
 -- whether a text spells such a moment
 unfoldable pub is_stamp_text : List ℕ → Bool
 is_stamp_text text = option_map_or has_meaning (moment_in text) false
@@ -37,13 +33,16 @@ object_checks at d = record { fault = fault.Field at; passes = is_some (as_objec
 -- a member that is to be a text
 unfoldable pub text_checks : Path → Option Data → List Check
 text_checks at member =
-    record { fault = fault.Field at; passes = is_some (text_if_any member) } ∷ []
+    record { fault = fault.Field at; passes = is_some (option_and_then as_str member) } ∷ []
 
 -- a member that is to be a text of some form
 unfoldable pub form_checks : (List ℕ → Bool) → Path → Option Data → List Check
 form_checks form at member =
-    record { fault = fault.Field at; passes = is_some (text_if_any member) }
-    ∷ record { fault = fault.Text at; passes = form (unwrap_or (text_if_any member) []) } ∷ []
+    record { fault = fault.Field at; passes = is_some (option_and_then as_str member) }
+    ∷ record {
+      fault = fault.Text at;
+      passes = form (unwrap_or (option_and_then as_str member) []);
+    } ∷ []
 
 -- each of the items, by its number
 unfoldable pub each_checks : (ℕ → Data → List Check) → ℕ → Items → List Check

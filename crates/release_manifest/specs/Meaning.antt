@@ -7,20 +7,19 @@ use Rattle.td_base.specs.Names.{is_label, is_file_name}
 use Rattle.td_civil.specs.Bounds.{HasMeaning}
 use Rattle.td_civil.specs.Reading.{moment_in, is_date_text}
 use Rattle.td_civil.specs.declared.moment_type.Moment.{Moment}
-use Rattle.release_manifest.specs.Checks.{text_if_any}
 use Rattle.release_manifest.specs.declared.manifest_type.Manifest.{Manifest}
 use Rattle.release_manifest.specs.declared.manifest_type.ManifestZone.{ManifestZone}
 use Rattle.release_manifest.specs.declared.manifest_type.ManifestLeaps.{ManifestLeaps}
 
 -- the member is this text, which has the form
 pub record IsForm (form : List ℕ → Bool) (member : Option Data) (text : List ℕ) : Type 0 where
-  pub is : text_if_any member ≡ Some text
+  pub is : option_and_then as_str member ≡ Some text
   pub fits : form text ≡ true
 
 -- the member is the text of this moment, which is within bounds
 pub record IsStampOf (member : Option Data) (m : Moment) : Type 0 where
   pub text : List ℕ
-  pub is : text_if_any member ≡ Some text
+  pub is : option_and_then as_str member ≡ Some text
   pub spells : moment_in text ≡ Some m.seconds
   pub within : HasMeaning m.seconds
 
@@ -42,7 +41,7 @@ AreAliases (Some d) texts = (items : Items) × (as_array d ≡ Some items) × Al
 
 -- the value is this zone
 pub record IsZone (d : Data) (z : ManifestZone) : Type 0 where
-  pub tzid : text_if_any (get (codes "tzid") d) ≡ Some z.tzid
+  pub tzid : option_and_then as_str (get (codes "tzid") d) ≡ Some z.tzid
   pub file : IsForm is_file_name (get (codes "file") d) z.file
   pub aliases : AreAliases (get (codes "aliases") d) z.aliases
 

@@ -1,6 +1,7 @@
 -- The manifest of a text, and the fault of one that has none.
 use Rattle.std.specs.Prelude.{◌≡◌, ℕ, ◌≤◌, List, length, nat_le, if◌then◌else◌, Option, None, Some}
 use Rattle.std.specs.Prelude.{Result, Ok, Err, ◌≢◌}
+use Rattle.std.specs.Option.{option_map_or}
 use Rattle.std.specs.Str.{is_utf8}
 use Rattle.serde_json.specs.Data.{Data}
 use Rattle.serde_json.specs.Read.{read as read_text}
@@ -15,15 +16,12 @@ use Rattle.release_manifest.specs.declared.manifest_type.TheConstants.{MOST_BYTE
 unfoldable pub value_in : List ℕ → Option Data
 value_in text = if is_utf8 text then read_text text else None
 
--- the fault of a text without a value, or the first of its value
-abbrev pub value_fault : Option Data → Option ManifestFault
-value_fault None = Some fault.Syntax
-value_fault (Some d) = document_fault d
-
--- why a text is no manifest
+-- why a text is no manifest: it is too long, it is no value, or its value has a fault
 unfoldable pub manifest_text_fault : List ℕ → Option ManifestFault
 manifest_text_fault text =
-    if nat_le (length text) MOST_BYTES then value_fault (value_in text) else Some fault.Long
+    if nat_le (length text) MOST_BYTES
+    then option_map_or document_fault (value_in text) (Some fault.Syntax)
+    else Some fault.Long
 
 -- the text is this manifest
 pub record IsManifestText (text : List ℕ) (m : Manifest) : Type 0 where

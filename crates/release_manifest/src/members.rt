@@ -1,12 +1,12 @@
-ghost use Rattle.std.specs.Prelude.{◌≡◌, Some, None, IfOk, MatchResult, codes};
-ghost use Rattle.serde_json.specs.Find.{get};
+ghost use Rattle.std.specs.Prelude.{◌≡◌, Some, None, IfOk, MatchResult, codes, option_and_then};
+ghost use Rattle.serde_json.specs.Find.{get, as_str};
 ghost use Rattle.serde_json.specs.View.{view};
 ghost use Rattle.td_base.specs.Names.{is_label as has_label_form};
 ghost use Rattle.td_base.specs.Names.{is_file_name as has_file_name_form};
 ghost use Rattle.td_civil.specs.Reading.{is_date_text};
 ghost use Rattle.release_manifest.specs.declared.manifest_fault.Path.TheVariants as path;
 ghost use Rattle.release_manifest.specs.Checks.{form_checks, is_stamp_text, object_checks};
-ghost use Rattle.release_manifest.specs.Checks.{text_checks, text_if_any};
+ghost use Rattle.release_manifest.specs.Checks.{text_checks};
 ghost use Rattle.release_manifest.specs.Meaning.{IsForm, IsStampOf};
 ghost use Rattle.release_manifest.specs.Reading.{JudgesChecks};
 
@@ -35,9 +35,9 @@ pub(crate) fn text_member<'v>(
     path: Path,
 ) -> Result<&'v str, ManifestFault>
     ensures { MatchResult result
-        (λ t. text_if_any (get name.now (view object.now)) ≡ Some t.now)
+        (λ t. option_and_then as_str (get name.now (view object.now)) ≡ Some t.now)
         (λ e. (e ≡ ManifestFault.Field path)
-        × (text_if_any (get name.now (view object.now)) ≡ None)) }
+        × (option_and_then as_str (get name.now (view object.now)) ≡ None)) }
 {
     match object.get(name).and_then(Value::as_str) {
         Some(text) => Ok(text),
@@ -53,7 +53,8 @@ pub(crate) fn read_text(
     name: &str,
     path: Path,
 ) -> Result<Bytes, ManifestFault>
-    ensures is { IfOk result (λ b. text_if_any (get name.now (view object.now)) ≡ Some b) }
+    ensures is { IfOk result
+        (λ b. option_and_then as_str (get name.now (view object.now)) ≡ Some b) }
     ensures judged { JudgesChecks result (text_checks path (get name.now (view object.now))) }
 {
     let text = text_member(object, name, path)?;

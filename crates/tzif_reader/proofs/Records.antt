@@ -1,8 +1,8 @@
 -- A record of a block, as it is laid out and as it is cut: moments, types and leap lines.
 use Rattle.std.proofs.Common.{◌≡◌, ◌≢◌, ℕ, zero, suc, ◌+◌, ◌*◌, ◌<◌, ◌≤◌, Bool, true, false, cond, eqb, List, [], ◌∷◌, ◌++◌, length, All, get_or, take, drop}
-use Rattle.std.proofs.Common.{Option, Some, None, refl, sym, ap, subst, ◌∙◌, arith}
+use Rattle.std.proofs.Common.{Option, Some, None, refl, sym, ap, subst, ◌∙◌, arith, nat_lt}
 use Rattle.std.specs.Prelude.{ℤ, pos, negsuc, int_lt, ◌≤ℤ◌, ◌||◌}
-use Rattle.std.specs.Option.{option_map, unwrap_or}
+use Rattle.std.specs.Option.{option_map, option_map_or, unwrap_or}
 use Rattle.std.specs.Int.{w32, w64, from_be_bytes, cast_signed, from_bool}
 use Rattle.std.proofs.lemmas.Bool.{ltb-false, le-ltb, eqb-true, eqb-false, eq-eqb, ne_eqb, or_parts, or_from}
 use Rattle.std.proofs.lemmas.Int.{ints}
@@ -15,7 +15,7 @@ use Rattle.tzif_reader.specs.declared.zone_file.LeapLine.{LeapLine}
 use Rattle.tzif_reader.specs.Layout.{IsKind, IsLeapLine, IsMoment}
 use Rattle.tzif_reader.specs.Cut.{piece, short_at, long_at, before, transition_at, type_offset_at, flag_at, index_at, designation_at, kind_at, leap_at}
 use Rattle.tzif_reader.proofs.lemmas.Joined.{length_piece}
-use Rattle.tzif_reader.specs.Faults.{is_no_name, is_unnamed, is_beyond}
+use Rattle.tzif_reader.specs.Faults.{is_unnamed, is_beyond}
 
 -- ---- pieces of pieces
 
@@ -91,7 +91,8 @@ flag_low : (dst : Bool) → from_bool dst ≤ 1
 flag_low true = omega arith
 flag_low false = omega arith
 
-pub named_some : (o : Option (List ℕ)) → is_no_name o ≡ false → (o ≡ Some (unwrap_or o [])) × (length (unwrap_or o []) ≤ 32)
+pub named_some : (o : Option (List ℕ)) → option_map_or (λ name. nat_lt 32 (length name)) o true ≡ false
+    → (o ≡ Some (unwrap_or o [])) × (length (unwrap_or o []) ≤ 32)
 named_some None h = absurd cc
 named_some (Some name) h = (refl, ltb-false 32 (length name) h)
 
@@ -172,7 +173,7 @@ kind_cuts designations types i k is =
     record {
       kind_is = same_local k.offset (type_offset_at types i) k.dst (eqb (flag_at types i) 1) k.name (unwrap_or (designation_at designations types i) []) k refl
           offset (flag_of k.dst ∙ ap (λ (n : ℕ). eqb n 1) (sym flag)) (sym (ap (λ (o : Option (List ℕ)). unwrap_or o []) name));
-      is_named = ap is_no_name name ∙ le-ltb 32 (length k.name) is.name_size;
+      is_named = ap (λ (o : Option (List ℕ)). option_map_or (λ name. nat_lt 32 (length name)) o true) name ∙ le-ltb 32 (length k.name) is.name_size;
       flag = subst (λ (n : ℕ). n ≤ 1) (sym flag) (flag_low k.dst);
       within = subst (λ (o : ℤ). (int_lt o (negsuc 86398) || int_lt (pos 86399) o) ≡ false) offset
           (or_from _ _ (test_from_le k.offset (negsuc 86398) is.low) (test_from_le (pos 86399) k.offset is.high));

@@ -1,8 +1,8 @@
 -- The plans of files without fault.
 use Rattle.std.proofs.Common.{◌≡◌, ◌≢◌, ℕ, ◌+◌, ◌*◌, ◌<◌, ◌≤◌, false, List, [], ◌∷◌, ◌++◌, length, get_or, All, take, drop, map, Option, Some, None, refl, sym}
-use Rattle.std.proofs.Common.{ap, subst, ◌∙◌, arith}
+use Rattle.std.proofs.Common.{ap, subst, ◌∙◌, arith, true}
 use Rattle.std.specs.Prelude.{ℤ, ◌≤ℤ◌, pos, negsuc, int_lt, nat_lt, ◌||◌, ◌↔◌}
-use Rattle.std.specs.Option.{unwrap_or, IsSomeAnd}
+use Rattle.std.specs.Option.{option_map_or, unwrap_or, IsSomeAnd}
 use Rattle.std.proofs.lemmas.Bool.{ltb-false, or_parts}
 use Rattle.std.proofs.lemmas.List.{take-append-drop, length-append, length-take, length-drop, length-map, get_or-map}
 use Rattle.std.proofs.lemmas.List.Elements.{All-get_or, All-from_get_or}
@@ -10,7 +10,7 @@ use Rattle.tzif_reader.specs.declared.counts.Counts.{Counts}
 use Rattle.tzif_reader.specs.declared.zone_file.ZoneFile.{ZoneFile}
 use Rattle.tzif_reader.specs.Layout.{AreCounts, IsKind, IsBlock, IsZoneFile, second_block_size}
 use Rattle.tzif_reader.specs.Cut.{Parts, piece, before, counts_of, parts_of, parts_in, type_offset_at, flag_at, index_at, designation_at, zone_from}
-use Rattle.tzif_reader.specs.Faults.{frame_fault, contents_fault, first_fault, is_no_name}
+use Rattle.tzif_reader.specs.Faults.{frame_fault, contents_fault, first_fault}
 use Rattle.tzif_reader.specs.Slim.{PlanLists, FitsFile, FitsType, IsSoundType, IsSoundPlan, type_bytes, short_bytes, header_bytes}
 use Rattle.tzif_reader.specs.Slim.{first_counts, first_block, counts_of_plan, block_of, footer_line, slim_of}
 use Rattle.tzif_reader.specs.Slim.{kind_of_plan, moment_of_plan, leap_of_plan, zone_of_plan}
@@ -154,7 +154,7 @@ row_piece p fits i lt =
     joined_at 6 IsBytesOf (types_text p) (map same p.types) i some_row joined (omega (arith, length-map p.types same, lt))
     ∙ ap type_bytes (get_or-map same p.types i some_row some_row lt)
 
-name_there : (o : Option (List ℕ)) → is_no_name o ≡ false → IsSomeAnd o (λ name. length name ≤ 32)
+name_there : (o : Option (List ℕ)) → option_map_or (λ name. nat_lt 32 (length name)) o true ≡ false → IsSomeAnd o (λ name. length name ≤ 32)
 name_there None h = absurd cc
 name_there (Some name) h = ltb-false 32 (length name) h
 

@@ -2,7 +2,7 @@
 use Rattle.std.specs.Prelude.{ℕ, ◌+◌, ◌-◌, ◌*◌, ◌&&◌, ◌||◌, not, List, length, pos, negsuc, int_lt}
 use Rattle.std.specs.Prelude.{int_le, Bool, true, nat_lt, nat_le, ◌==◌, slice_index, Option, Some}
 use Rattle.std.specs.Prelude.{None}
-use Rattle.std.specs.Option.{option_map}
+use Rattle.std.specs.Option.{option_map, option_map_or}
 use Rattle.std.specs.List.{starts_with}
 use Rattle.std.specs.Bool.{nat_eq}
 use Rattle.td_base.specs.FirstFault.{when, ◌or_else◌, least}
@@ -64,13 +64,10 @@ is_unordered times i = nat_lt 0 i && int_le (long_at (8 * i) times) (long_at (8 
 abbrev pub is_unknown : ℕ → List ℕ → ℕ → Bool
 is_unknown typecnt numbers i = nat_le typecnt (slice_index numbers i)
 
--- no NUL ends the name, or it is longer than 32 bytes
-abbrev pub is_no_name : Option (List ℕ) → Bool
-is_no_name None = true
-is_no_name (Some name) = nat_lt 32 (length name)
-
+-- no NUL ends the name of type i, or it is longer than 32 bytes
 abbrev pub is_unnamed : List ℕ → List ℕ → ℕ → Bool
-is_unnamed designations types i = is_no_name (designation_at designations types i)
+is_unnamed designations types i =
+    option_map_or (λ name. nat_lt 32 (length name)) (designation_at designations types i) true
 
 -- a flag of type i is neither 0 nor 1; an indicator that is not there reads as 0
 abbrev pub is_unflagged : Parts → ℕ → Bool

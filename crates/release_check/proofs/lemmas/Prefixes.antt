@@ -6,7 +6,8 @@ use Rattle.std.specs.Option.{option_map}
 use Rattle.std.proofs.lemmas.Bool.Decides.{nat_tests}
 use Rattle.std.proofs.lemmas.List.{take_all, length-take-le}
 use Rattle.td_base.specs.Views.{File, file_at}
-use Rattle.catalogue.specs.Releases.{content_data}
+use Rattle.catalogue.specs.Releases.{ContentData, content_data}
+use Rattle.catalogue.specs.Order.{rising_by}
 use Rattle.catalogue.specs.declared.release.Content.{Content}
 use Rattle.release_manifest.specs.Reading.{IsManifestText, manifest_text_fault}
 use Rattle.release_manifest.specs.declared.manifest_fault.ManifestFault.TheVariants as manifest
@@ -14,7 +15,7 @@ use Rattle.release_manifest.specs.declared.manifest_type.Manifest.{Manifest}
 use Rattle.release_manifest.specs.declared.manifest_type.ManifestZone.{ManifestZone}
 use Rattle.tzif_reader.specs.Faults.{first_fault, frame_fault}
 use Rattle.tzif_reader.specs.declared.tzif_fault.TzifFault.TheVariants as tzif
-use Rattle.release_check.specs.Folder.{content_in, content_from, content_with, unless, path_in}
+use Rattle.release_check.specs.Folder.{content_in, content_from, unless, path_in}
 use Rattle.release_check.specs.Faults.{file_fault}
 use Rattle.release_check.specs.declared.check_fault.CheckFault.{CheckFault}
 use Rattle.release_check.specs.declared.check_fault.CheckFault.TheVariants as fault
@@ -54,6 +55,10 @@ prefix-whole n whole none = ⊎_elim
     cc)
     (λ (fits : length whole ≤ 65536). take_all 65537 whole (omega arith))
     (fits_or_longer 65536 whole)
+
+-- a zone of a manifest over the bytes of its file
+abbrev pub content_with : ManifestZone → List ℕ → ContentData
+content_with z bytes = record { tzid = z.tzid; aliases = rising_by (λ a. a) z.aliases; file = bytes }
 
 -- the file of a zone, where its first bytes were read
 content_prefix : (n : ℕ) (path : List ℕ) (z : ManifestZone) (found : Option (List ℕ)) (prefix : List ℕ) (c : Content (List ℕ))
