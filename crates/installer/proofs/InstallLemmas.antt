@@ -48,6 +48,7 @@ grew old new dir c H r next s f n = record {
     ap (λ x. H ++ x ∷ []) (sym (same_last next H (release_data (λ file. file) r) n)),
   )) f.told;
   failed = λ e. absurd (cc e);
+  memory = λ e. cc e;
 }
 
 -- the same install, seen by another value
@@ -58,6 +59,7 @@ seen_as old new dir H f g a b p e = record {
   later = p.later;
   told = some_map old.files (λ files t. (t.0, t.1, e ∙ t.2)) p.told;
   failed = λ h. absurd (cc h);
+  memory = λ h. cc h;
 }
 
 -- ---- histories of published catalogues

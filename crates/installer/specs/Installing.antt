@@ -25,13 +25,14 @@ Installed files dir H history (Ok a) =
 Installed files dir H history (Err e) = GivesFault files dir H e
 
 -- A store was looked into for the folder: no file changed, the count of faults never falls, the
--- answer is tied to the files where they are told, and a failed read is answered only where the
--- store failed.
+-- answer is tied to the files where they are told, a failed read is answered only where the store
+-- failed, and want of memory is told as itself alone.
 pub record Installs {A : Type 0} (old new : StoreView) (dir : List ℕ) (H : List ReleaseData)
     (history : A → List ReleaseData) (result : Result A InstallFault) : Type 0 where
   pub later : LaterStore old new
   pub told : IfSome old.files (λ files. Installed files dir H history result)
   pub failed : IsErrOf result (fault.Check check.ReadFault) → StoreFailed old new
+  pub memory : IsErrOf result (fault.Check check.NoMemory) → ⊥
 
 -- a history with one release more, which is sound and fits
 pub record GrowsBy (H now : List ReleaseData) : Type 0 where

@@ -1,11 +1,12 @@
 //! What is wrong with a release against the history that a catalogue stands for.
-ghost use Rattle.std.specs.Prelude.{◌≡◌, ℕ, List, map, option_copied};
+ghost use Rattle.std.specs.Prelude.{◌≡◌, ℕ, List, IsErrOf, map, option_copied};
 ghost use Rattle.std.specs.List.{list_any};
 ghost use Rattle.std.specs.Str.{bytes_eq};
 ghost use Rattle.catalogue.specs.Holdings.{names_held};
 ghost use Rattle.release_check.specs.Before.{before_held, drop_fault, first_missing, place_fault};
 ghost use Rattle.release_check.specs.Before.{stamp_fault};
 ghost use Rattle.release_check.specs.Judged.{JudgesUnread};
+ghost use Rattle.release_check.specs.declared.check_fault.CheckFault.TheVariants as fault;
 
 use crate::check_fault::CheckFault;
 use catalogue::{Catalogue, MOST_PLACES};
@@ -17,8 +18,9 @@ use zone_meaning::Zone;
 
 /// Whether a release is earlier than the last one.
 pub fn judge_stamp(stamp: Moment, last: Option<&Catalogue<Zone>>) -> Result<(), CheckFault>
-    ensures { JudgesUnread (stamp_fault (before_held (option_copied last.entry)).last stamp)
+    ensures judged { JudgesUnread (stamp_fault (before_held (option_copied last.entry)).last stamp)
         result }
+    ensures memory { IsErrOf result fault.NoMemory → ⊥ }
 {
     match last {
         None => Ok(()),
@@ -77,7 +79,9 @@ fn is_among<'a>(name: &'a [u8], names: &BTreeSet<&'a [u8]>) -> bool
 
 /// Whether the history has as many releases as it may have.
 pub fn judge_places(last: Option<&Catalogue<Zone>>) -> Result<(), CheckFault>
-    ensures { JudgesUnread (place_fault (before_held (option_copied last.entry)).count) result }
+    ensures judged { JudgesUnread (place_fault (before_held (option_copied last.entry)).count)
+        result }
+    ensures memory { IsErrOf result fault.NoMemory → ⊥ }
 {
     match last {
         Some(last) if MOST_PLACES <= last.count() => Err(CheckFault::HistoryFull),

@@ -1,10 +1,11 @@
 //! What a zone of a release may mean.
-ghost use Rattle.std.specs.Prelude.{◌≡◌, false, is_err};
+ghost use Rattle.std.specs.Prelude.{◌≡◌, IsErrOf, false, is_err};
 ghost use Rattle.std.specs.Option.{option_map_or};
 ghost use Rattle.posix_footer.specs.Carried.{beyond};
 ghost use Rattle.tzif_reader.specs.Cut.{lists_of};
 ghost use Rattle.zone_meaning.specs.State.{footer_meant};
 ghost use Rattle.release_check.specs.Judged.{JudgesUnread};
+ghost use Rattle.release_check.specs.declared.check_fault.CheckFault.TheVariants as fault;
 ghost use Rattle.release_check.specs.Faults.{meaning_fault};
 
 use crate::check_fault::CheckFault;
@@ -16,7 +17,8 @@ use zone_meaning::{Zone, footer, footer_agrees};
 /// transition, a name cannot be printed, or no yearly rules say what its footer says.
 #[tactic(auto, unfolding(crate::specs::Faults::meaning_fault))]
 pub fn judge_zone(number: usize, zone: &Zone) -> Result<(), CheckFault>
-    ensures { JudgesUnread (meaning_fault number zone.now) result }
+    ensures judged { JudgesUnread (meaning_fault number zone.now) result }
+    ensures memory { IsErrOf result fault.NoMemory → ⊥ }
 {
     if !footer_agrees(zone) {
         return Err(CheckFault::FooterDisagrees(number));

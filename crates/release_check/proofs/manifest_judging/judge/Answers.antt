@@ -22,7 +22,10 @@ returns-in_err-judge_stamp c =
     let all = searches (before_held (option_copied c.args.last)) c.args.manifest.now (map (λ n. n.now) c.in_ok-names.names.items)
     (length c.as_slice-zones.result.now) c.len.result (c.in_ok-names.ensures
     ∙ ap names_in c.as_slice-zones.ensures) (ap length c.as_slice-zones.ensures) (simp length-map (search rules)) in
-    rw (p.1, p.2) (c.in_err-judge_stamp.ensures.0, judged_first _ _ _ _ (judged_later _ _ _ all c.in_ok-judge_limits.ensures) c.in_err-judge_stamp.ensures.1)
+    rw (p.1, p.2) (
+      c.in_err-judge_stamp.ensures.judged.0,
+      judged_first _ _ _ _ (judged_later _ _ _ all c.in_ok-judge_limits.ensures) c.in_err-judge_stamp.ensures.judged.1,
+    )
 
 pub returns-in_err-judge_identifiers : goal.returns-in_err-judge_identifiers
 returns-in_err-judge_identifiers c =
@@ -33,7 +36,7 @@ returns-in_err-judge_identifiers c =
     rw (p.1, p.2) (
       c.in_err-judge_identifiers.ensures.0,
       judged_first _ _ _ _
-          (judged_later _ _ _ (judged_later _ _ _ all c.in_ok-judge_limits.ensures) c.in_ok-judge_stamp.ensures)
+          (judged_later _ _ _ (judged_later _ _ _ all c.in_ok-judge_limits.ensures) c.in_ok-judge_stamp.ensures.judged)
           (λ n. sym (ap (identifier_fault 0) c.as_slice-zones.ensures) ∙ c.in_err-judge_identifiers.ensures.1 n),
     )
 
@@ -46,7 +49,7 @@ returns-in_err-kept c =
     rw (p.1, p.2) (
       c.in_err-kept.ensures.first.0,
       judged_first _ _ _ _ (judged_later _ _ _
-          (judged_later _ _ _ (judged_later _ _ _ all c.in_ok-judge_limits.ensures) c.in_ok-judge_stamp.ensures)
+          (judged_later _ _ _ (judged_later _ _ _ all c.in_ok-judge_limits.ensures) c.in_ok-judge_stamp.ensures.judged)
           (sym (ap (identifier_fault 0) c.as_slice-zones.ensures) ∙ c.in_ok-judge_identifiers.ensures))
           (λ n. sym (ap (λ xs. duplicate_fault [] (map (λ n. n.now) xs)) c.as_slice.ensures.value) ∙ c.in_err-kept.ensures.first.1 n),
     )
@@ -63,7 +66,7 @@ returns-in_err-judge_drops c =
     rw (p.1, p.2) (
       (c.in_err-judge_drops.ensures (map (λ n. n.now) c.in_ok-names.names.items) same).0,
       judged_first _ _ _ _
-          (judged_later _ _ _ (judged_later _ _ _ (judged_later _ _ _ (judged_later _ _ _ all c.in_ok-judge_limits.ensures) c.in_ok-judge_stamp.ensures)
+          (judged_later _ _ _ (judged_later _ _ _ (judged_later _ _ _ (judged_later _ _ _ all c.in_ok-judge_limits.ensures) c.in_ok-judge_stamp.ensures.judged)
           (sym (ap (identifier_fault 0) c.as_slice-zones.ensures) ∙ c.in_ok-judge_identifiers.ensures))
           (sym (ap (λ xs. duplicate_fault [] (map (λ n. n.now) xs)) c.as_slice.ensures.value)
           ∙ c.in_ok-kept.ensures.first)) (c.in_err-judge_drops.ensures (map (λ n. n.now) c.in_ok-names.names.items) same).1,
@@ -79,12 +82,13 @@ returns-in_err-judge_places c =
     (map (λ n. n.now) c.in_ok-names.names.items) =
     λ text. c.in_ok-kept.ensures.kept text ∙ ap (λ xs. list_any (bytes_eq text) (map (λ n. n.now) xs)) c.as_slice.ensures.value in
     rw (p.1, p.2) (
-      c.in_err-judge_places.ensures.0,
+      c.in_err-judge_places.ensures.judged.0,
       λ n. (judged_later _ _ _
-          (judged_later _ _ _ (judged_later _ _ _ (judged_later _ _ _ (judged_later _ _ _ all c.in_ok-judge_limits.ensures) c.in_ok-judge_stamp.ensures)
+          (judged_later _ _ _ (judged_later _ _ _ (judged_later _ _ _ (judged_later _ _ _ all c.in_ok-judge_limits.ensures) c.in_ok-judge_stamp.ensures.judged)
           (sym (ap (identifier_fault 0) c.as_slice-zones.ensures) ∙ c.in_ok-judge_identifiers.ensures))
           (sym (ap (λ xs. duplicate_fault [] (map (λ n. n.now) xs)) c.as_slice.ensures.value)
-          ∙ c.in_ok-kept.ensures.first)) (c.in_ok-judge_drops.ensures (map (λ n. n.now) c.in_ok-names.names.items) same)) ∙ c.in_err-judge_places.ensures.1 n,
+          ∙ c.in_ok-kept.ensures.first)) (c.in_ok-judge_drops.ensures (map (λ n. n.now) c.in_ok-names.names.items) same))
+          ∙ c.in_err-judge_places.ensures.judged.1 n,
     )
 
 pub returns : goal.returns
@@ -96,6 +100,6 @@ returns c =
     (map (λ n. n.now) c.in_ok-names.names.items) =
     λ text. c.in_ok-kept.ensures.kept text ∙ ap (λ xs. list_any (bytes_eq text) (map (λ n. n.now) xs)) c.as_slice.ensures.value in
     (judged_later _ _ _ (judged_later _ _ _ (judged_later _ _ _ (judged_later _ _ _ (judged_later _ _ _ all c.in_ok-judge_limits.ensures)
-    c.in_ok-judge_stamp.ensures) (sym (ap (identifier_fault 0) c.as_slice-zones.ensures)
+    c.in_ok-judge_stamp.ensures.judged) (sym (ap (identifier_fault 0) c.as_slice-zones.ensures)
     ∙ c.in_ok-judge_identifiers.ensures)) (sym (ap (λ xs. duplicate_fault [] (map (λ n. n.now) xs)) c.as_slice.ensures.value)
-    ∙ c.in_ok-kept.ensures.first)) (c.in_ok-judge_drops.ensures (map (λ n. n.now) c.in_ok-names.names.items) same)) ∙ c.in_ok-judge_places.ensures
+    ∙ c.in_ok-kept.ensures.first)) (c.in_ok-judge_drops.ensures (map (λ n. n.now) c.in_ok-names.names.items) same)) ∙ c.in_ok-judge_places.ensures.judged
