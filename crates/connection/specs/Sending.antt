@@ -31,10 +31,10 @@ pub record IsCutOff (before now : ConnView) (P : List ℕ → Type 0) : Type 0 w
   pub cut : IsCut before now reply
   pub is : P reply
 
-abbrev pub Replies : (P : List ℕ → Type 0) → ConnView → ConnView → Sent → Type 0
-Replies P before now sent.Whole = IsSent before now P
-Replies P before now sent.Cut = IsCutOff before now P
-Replies P before now sent.NoMemory = GivesUp before now
+abbrev pub SendsReply : (P : List ℕ → Type 0) → ConnView → ConnView → Sent → Type 0
+SendsReply P before now sent.Whole = IsSent before now P
+SendsReply P before now sent.Cut = IsCutOff before now P
+SendsReply P before now sent.NoMemory = GivesUp before now
 
 -- a refusal was sent, whole or cut
 abbrev pub Refuses : ConnView → ConnView → ℕ → End → Type 0

@@ -1,6 +1,6 @@
 ghost use Rattle.std.specs.Prelude.{◌≡◌, IfOk, IsTrue};
 ghost use Rattle.actions.specs.Action.{action};
-ghost use Rattle.connection.specs.Sending.{Replies};
+ghost use Rattle.connection.specs.Sending.{SendsReply};
 ghost use Rattle.http_answer.specs.Replies.{reply};
 ghost use Rattle.td_base.specs.TargetForm.{has_form};
 ghost use Rattle.json_forms.specs.PlainTexts.{IsPlainRole};
@@ -27,7 +27,7 @@ pub fn reply_to<C: Conn>(
     requires history { HasZoneHistory catalogue.now }
     requires role { IsPlainRole role.now }
     requires form { IsTrue (has_form head.now.target) }
-    ensures { Replies (λ bytes. ForEachZoneHistory catalogue.now (λ H.
+    ensures { SendsReply (λ bytes. ForEachZoneHistory catalogue.now (λ H.
         bytes ≡ reply (action H role.now head.now) head.now.head_only close))
         (C.seen conn.old) (C.seen conn.new) result }
 {

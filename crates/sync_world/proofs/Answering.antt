@@ -26,7 +26,7 @@ use Rattle.actions.specs.Getting.{get_answer, got, got_as}
 use Rattle.actions.specs.Listing.{listed, list_text, change_list, changes_since, list_answer}
 use Rattle.actions.proofs.lemmas.Chosen.{listed_is_plain}
 use Rattle.sync_core.specs.declared.heard_type.Heard.{Heard}
-use Rattle.sync_world.specs.Hearing.{HearsIn, IsHeadOf, action_service, action_asked, file_bytes}
+use Rattle.sync_world.specs.Hearing.{IsHeardIn, IsHeadOf, action_service, action_asked, file_bytes}
 use Rattle.sync_world.specs.Primaries.{file_told, told_by, list_at, list_told, changes_at, changes_of}
 use Rattle.sync_world.proofs.Names.{content_at, entry_named}
 use Rattle.sync_world.proofs.Reading.{list, list_back}
@@ -73,7 +73,7 @@ module _ (H : List ReleaseData) (history : IsHistory IsSound H) (some : 1 ≤ le
         is = sym (list_back token (map listed es) (each_stamped es all));
       }
 
-  full_heard : HearsIn (ask.List None) (list_answer H param.Absent) (list_at H (list_told H))
+  full_heard : IsHeardIn (ask.List None) (list_answer H param.Absent) (list_at H (list_told H))
   unfolding list_answer list_text list_told token
   full_heard =
       let es = filter (λ _. true) (meta H) in (
@@ -82,43 +82,43 @@ module _ (H : List ReleaseData) (history : IsHistory IsSound H) (some : 1 ≤ le
             (text_of_part es (each_filtered IsPlainEntry (λ _. true) (meta H) plain) (filtered_good (λ _. true) (meta H) (meta_good H history))),
       )
 
-  since_heard : (since : List ℕ) (o : Option ℕ) → HearsIn (ask.List (Some since)) (changes_since H o) (changes_at H o)
+  since_heard : (since : List ℕ) (o : Option ℕ) → IsHeardIn (ask.List (Some since)) (changes_since H o) (changes_at H o)
   unfolding change_list changes_of delta token
   since_heard since (Some n) = (refl, text_of_part (delta H n) (each_filtered IsPlainEntry _ (meta H) plain) (filtered_good _ (meta H) (meta_good H history)))
   since_heard since None = (refl, problem_found InvalidChangedsince)
 
   list_heard : (since : Option (List ℕ)) (head : Head) (h : Heard) → told_by action_service H (ask.List since) ≡ Some h
-      → HearsIn (ask.List since) (answer_for H Primary head (action_asked (ask.List since))) h
+      → IsHeardIn (ask.List since) (answer_for H Primary head (action_asked (ask.List since))) h
   unfolding list_answer
-  list_heard None head h e = let one : list_at H (list_told H) ≡ h = cc in subst (HearsIn (ask.List None) (list_answer H param.Absent)) one full_heard
+  list_heard None head h e = let one : list_at H (list_told H) ≡ h = cc in subst (IsHeardIn (ask.List None) (list_answer H param.Absent)) one full_heard
   list_heard (Some since) head h e =
       let one : changes_at H (place_of H since) ≡ h = cc in
-      subst (HearsIn (ask.List (Some since)) (changes_since H (place_of H since))) one (since_heard since (place_of H since))
+      subst (IsHeardIn (ask.List (Some since)) (changes_since H (place_of H since))) one (since_heard since (place_of H since))
 
 got_heard : (name : List ℕ) (o : Option EntryData) (h : Heard) → option_map file_told (option_map (file_bytes name) (option_map content_at o)) ≡ Some h
-    → HearsIn (ask.Get name) (got name o (Some (codes "application/tzif")) None param.Absent param.Absent) h
+    → IsHeardIn (ask.Get name) (got name o (Some (codes "application/tzif")) None param.Absent param.Absent) h
 got_heard name None h e = absurd (cc)
 got_heard name (Some e) h is =
     let one : file_told e.content.file ≡ h = cc in
-    subst (λ f. HearsIn (ask.Get name) (got_as f name e None param.Absent param.Absent) h) (sym tzif_chosen)
-    (subst (HearsIn (ask.Get name) (got_as (Some Rattle.negotiate.specs.declared.choosing.Format.TheVariants.Tzif) name e None param.Absent param.Absent)) one
+    subst (λ f. IsHeardIn (ask.Get name) (got_as f name e None param.Absent param.Absent) h) (sym tzif_chosen)
+    (subst (IsHeardIn (ask.Get name) (got_as (Some Rattle.negotiate.specs.declared.choosing.Format.TheVariants.Tzif) name e None param.Absent param.Absent)) one
     (refl, refl))
 
 file_heard : (H : List ReleaseData) (name : List ℕ) (head : Head) (h : Heard) → head.accept ≡ Some (codes "application/tzif") → head.none_match ≡ None
-    → told_by action_service H (ask.Get name) ≡ Some h → HearsIn (ask.Get name) (answer_for H Primary head (action_asked (ask.Get name))) h
+    → told_by action_service H (ask.Get name) ≡ Some h → IsHeardIn (ask.Get name) (answer_for H Primary head (action_asked (ask.Get name))) h
 unfolding get_answer
 file_heard H name head h accept held e =
     let o = option_and_then (slice_get (meta H)) (place_named H name) in
     let two = got_heard name o h (ap (λ z. option_map file_told (option_map (file_bytes name) z)) (entry_named H name) ∙ e) in
-    let one = subst (λ f. HearsIn (ask.Get name) (got name o (Some (codes "application/tzif")) f param.Absent param.Absent) h) (sym held) two in
-    subst (λ a. HearsIn (ask.Get name) (got name o a head.none_match param.Absent param.Absent) h) (sym accept) one
+    let one = subst (λ f. IsHeardIn (ask.Get name) (got name o (Some (codes "application/tzif")) f param.Absent param.Absent) h) (sym held) two in
+    subst (λ a. IsHeardIn (ask.Get name) (got name o a head.none_match param.Absent param.Absent) h) (sym accept) one
 
 answer_heard : (H : List ReleaseData) (a : Ask) (head : Head) (h : Heard) → IsHistory IsSound H → 1 ≤ length H → IsHeadOf a head
     → told_by action_service H a ≡ Some h
-    → HearsIn a (answer_for H Primary head (action_asked a)) h
+    → IsHeardIn a (answer_for H Primary head (action_asked a)) h
 answer_heard H (ask.List since) head h history some k e = list_heard H history some since head h e
 answer_heard H (ask.Get name) head h history some k e = file_heard H name head h k.accept k.none_match e
 
 pub told_is_heard : (H : List ReleaseData) (a : Ask) (head : Head) (h : Heard) → IsHistory IsSound H → 1 ≤ length H → IsHeadOf a head
-    → told_by action_service H a ≡ Some h → HearsIn a (action H Primary head) h
-told_is_heard H a head h history some k e = subst (λ answer. HearsIn a answer h) (sym (action_is H a head k)) (answer_heard H a head h history some k e)
+    → told_by action_service H a ≡ Some h → IsHeardIn a (action H Primary head) h
+told_is_heard H a head h history some k e = subst (λ answer. IsHeardIn a answer h) (sym (action_is H a head k)) (answer_heard H a head h history some k e)

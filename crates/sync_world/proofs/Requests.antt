@@ -10,7 +10,7 @@ use Rattle.zone_meaning.specs.Sound.{IsSound}
 use Rattle.actions.specs.Action.{action}
 use Rattle.sync_core.specs.declared.heard_type.Heard.{Heard}
 use Rattle.sync_core.specs.declared.heard_type.Heard.TheVariants as heard
-use Rattle.sync_world.specs.Hearing.{HearsIn, IsHeadOf, IsHeardOver, action_service}
+use Rattle.sync_world.specs.Hearing.{IsHeardIn, IsHeadOf, IsHeardOver, action_service}
 use Rattle.sync_world.specs.Primaries.{told_by}
 use Rattle.sync_world.specs.Worlds.{Leads, Sent, Step, SyncWorld, world_begun}
 use Rattle.sync_world.proofs.Answered.{answered}
@@ -22,7 +22,7 @@ use Rattle.sync_world.proofs.Telling.{tells_so}
 use Rattle.sync_world.proofs.Tokens.{few_places, finds, finds_no_other}
 
 pub heard_exactly : (H : List ReleaseData) (a : Ask) (head : Head) (h : Heard) → IsHistory IsSound H → 1 ≤ length H → IsHeadOf a head
-    → (told_by action_service H a ≡ Some h) ↔ HearsIn a (action H Primary head) h
+    → (told_by action_service H a ≡ Some h) ↔ IsHeardIn a (action H Primary head) h
 heard_exactly H a head h history some k =
     (told_is_heard H a head h history some k, λ hears. tells_so H a h history some (record { head = head; asks_so = k; hears = hears }))
 
@@ -33,7 +33,7 @@ some_of Q (Some x) k = (x, refl, k)
 pub requested : (H : List ReleaseData) (xs : List Step) (w : SyncWorld) (sent : Sent) (n : ℕ) (head : Head) → IsHistory IsSound H → 1 ≤ length H
     → Leads IsSound IsHeardOver (world_begun H) xs w
     → w.sent ≡ Some sent → sent.since ≤ n → n ≤ length w.history → IsHeadOf sent.ask head
-    → (h : Heard) × HearsIn sent.ask (action (take n w.history) Primary head) h × (h ≡ heard.BadToken → ⊥)
+    → (h : Heard) × IsHeardIn sent.ask (action (take n w.history) Primary head) h × (h ≡ heard.BadToken → ⊥)
 requested H xs w sent n head h some leads out from upto k =
     let i = always action_service IsSound IsHeardOver tells_so finds finds_no_other H xs w h some leads in
     let stands = subst (SentStands action_service w.history (looked_up w.mirror)) out i.state in

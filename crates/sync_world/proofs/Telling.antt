@@ -24,7 +24,7 @@ use Rattle.actions.specs.Getting.{get_answer, got, got_as}
 use Rattle.actions.specs.Listing.{listed, list_text, change_list, changes_since, list_answer}
 use Rattle.sync_core.specs.declared.heard_type.Heard.{Heard}
 use Rattle.sync_core.specs.declared.heard_type.Heard.TheVariants as heard
-use Rattle.sync_world.specs.Hearing.{HearsIn, IsHeadOf, IsHeardOver, action_service, action_asked, file_bytes}
+use Rattle.sync_world.specs.Hearing.{IsHeardIn, IsHeadOf, IsHeardOver, action_service, action_asked, file_bytes}
 use Rattle.sync_world.specs.Primaries.{file_told, told_by, list_told, changes_at, changes_of}
 use Rattle.sync_world.proofs.Names.{content_at, entry_named}
 use Rattle.sync_world.proofs.Reading.{HasStamp, list, list_read}
@@ -67,7 +67,7 @@ module _ (H : List ReleaseData) (history : IsHistory IsSound H) where
 
   -- ---- what is heard was told
 
-  full_so : (h : Heard) → HearsIn (ask.List None) (list_answer H param.Absent) h → told_by action_service H (ask.List None) ≡ Some h
+  full_so : (h : Heard) → IsHeardIn (ask.List None) (list_answer H param.Absent) h → told_by action_service H (ask.List None) ≡ Some h
   unfolding list_answer list_text list_told token
   full_so (heard.List doc) k =
       let is = list_read token (map listed (filter (λ _. true) (meta H))) doc
@@ -77,7 +77,7 @@ module _ (H : List ReleaseData) (history : IsHistory IsSound H) where
   full_so (heard.Zone bytes) k = absurd k
   full_so heard.BadToken k = absurd k
 
-  since_so : (since : List ℕ) (o : Option ℕ) (h : Heard) → HearsIn (ask.List (Some since)) (changes_since H o) h → Some (changes_at H o) ≡ Some h
+  since_so : (since : List ℕ) (o : Option ℕ) (h : Heard) → IsHeardIn (ask.List (Some since)) (changes_since H o) h → Some (changes_at H o) ≡ Some h
   unfolding change_list changes_of delta token
   since_so since (Some n) (heard.List doc) k =
       let is = list_read token (map listed (delta H n)) doc (each_stamped (delta H n) (each_filtered IsPlainEntry _ (meta H) plain)) k.1 in
@@ -88,33 +88,33 @@ module _ (H : List ReleaseData) (history : IsHistory IsSound H) where
   since_so since None (heard.Zone bytes) k = absurd k
   since_so since None heard.BadToken k = refl
 
-  list_so : (since : Option (List ℕ)) (head : Head) (h : Heard) → HearsIn (ask.List since) (answer_for H Primary head (action_asked (ask.List since))) h
+  list_so : (since : Option (List ℕ)) (head : Head) (h : Heard) → IsHeardIn (ask.List since) (answer_for H Primary head (action_asked (ask.List since))) h
       → told_by action_service H (ask.List since) ≡ Some h
   unfolding list_answer
   list_so None head h k = full_so h k
   list_so (Some since) head h k = since_so since (place_of H since) h k
 
 got_so : (name : List ℕ) (o : Option EntryData) (h : Heard)
-    → HearsIn (ask.Get name) (got name o (Some (codes "application/tzif")) None param.Absent param.Absent) h
+    → IsHeardIn (ask.Get name) (got name o (Some (codes "application/tzif")) None param.Absent param.Absent) h
     → option_map file_told (option_map (file_bytes name) (option_map content_at o)) ≡ Some h
 got_so name o (heard.List doc) k = absurd k
 got_so name o heard.BadToken k = absurd k
 got_so name None (heard.Zone bytes) k = absurd (not_missing 200 404 refl refl (sym k.0))
 got_so name (Some e) (heard.Zone bytes) k =
-    let file = subst (λ f. HearsIn (ask.Get name) (got_as f name e None param.Absent param.Absent) (heard.Zone bytes)) tzif_chosen k in
+    let file = subst (λ f. IsHeardIn (ask.Get name) (got_as f name e None param.Absent param.Absent) (heard.Zone bytes)) tzif_chosen k in
     ap (λ (b : List ℕ). Some (heard.Zone b)) file.1
 
 file_so : (H : List ReleaseData) (name : List ℕ) (head : Head) (h : Heard) → head.accept ≡ Some (codes "application/tzif") → head.none_match ≡ None
-    → HearsIn (ask.Get name) (answer_for H Primary head (action_asked (ask.Get name))) h → told_by action_service H (ask.Get name) ≡ Some h
+    → IsHeardIn (ask.Get name) (answer_for H Primary head (action_asked (ask.Get name))) h → told_by action_service H (ask.Get name) ≡ Some h
 unfolding get_answer
 file_so H name head h accept held k =
     let o = option_and_then (slice_get (meta H)) (place_named H name) in
-    let one = subst (λ a. HearsIn (ask.Get name) (got name o a head.none_match param.Absent param.Absent) h) accept k in
-    let two = subst (λ f. HearsIn (ask.Get name) (got name o (Some (codes "application/tzif")) f param.Absent param.Absent) h) held one in
+    let one = subst (λ a. IsHeardIn (ask.Get name) (got name o a head.none_match param.Absent param.Absent) h) accept k in
+    let two = subst (λ f. IsHeardIn (ask.Get name) (got name o (Some (codes "application/tzif")) f param.Absent param.Absent) h) held one in
     ap (λ z. option_map file_told (option_map (file_bytes name) z)) (sym (entry_named H name)) ∙ got_so name o h two
 
 answer_so : (H : List ReleaseData) (a : Ask) (head : Head) (h : Heard) → IsHistory IsSound H → IsHeadOf a head
-    → HearsIn a (answer_for H Primary head (action_asked a)) h → told_by action_service H a ≡ Some h
+    → IsHeardIn a (answer_for H Primary head (action_asked a)) h → told_by action_service H a ≡ Some h
 answer_so H (ask.List since) head h history k heard_it = list_so H history since head h heard_it
 answer_so H (ask.Get name) head h history k heard_it = file_so H name head h k.accept k.none_match heard_it
 
@@ -124,4 +124,4 @@ action_is H a head k = ap (answer_for H Primary head) k.target
 
 pub tells_so : (H : List ReleaseData) (a : Ask) (h : Heard) → IsHistory IsSound H → 1 ≤ length H → IsHeardOver H a h → told_by action_service H a ≡ Some h
 tells_so H a h history some k =
-    answer_so H a k.head h history k.asks_so (subst (λ answer. HearsIn a answer h) (action_is H a k.head k.asks_so) k.hears)
+    answer_so H a k.head h history k.asks_so (subst (λ answer. IsHeardIn a answer h) (action_is H a k.head k.asks_so) k.hears)

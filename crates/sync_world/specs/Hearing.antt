@@ -39,22 +39,22 @@ pub record IsHeadOf (a : Ask) (head : Head) : Type 0 where
 
 -- what is heard in an answer: a list in a document, a file in a body, and that a token is refused
 -- in a problem of this type
-abbrev pub HearsIn : Ask → Answer → Heard → Type 0
-HearsIn (ask.List token) answer (heard.List doc) =
+abbrev pub IsHeardIn : Ask → Answer → Heard → Type 0
+IsHeardIn (ask.List token) answer (heard.List doc) =
     (answer.status ≡ 200) × IsListText answer.body doc
-HearsIn (ask.List token) answer (heard.Zone bytes) = ⊥
-HearsIn (ask.List None) answer heard.BadToken = ⊥
-HearsIn (ask.List (Some token)) answer heard.BadToken =
+IsHeardIn (ask.List token) answer (heard.Zone bytes) = ⊥
+IsHeardIn (ask.List None) answer heard.BadToken = ⊥
+IsHeardIn (ask.List (Some token)) answer heard.BadToken =
     (answer.status ≡ 400) × (problem_in answer.body ≡ Some InvalidChangedsince)
-HearsIn (ask.Get name) answer (heard.List doc) = ⊥
-HearsIn (ask.Get name) answer (heard.Zone bytes) = (answer.status ≡ 200) × (answer.body ≡ bytes)
-HearsIn (ask.Get name) answer heard.BadToken = ⊥
+IsHeardIn (ask.Get name) answer (heard.List doc) = ⊥
+IsHeardIn (ask.Get name) answer (heard.Zone bytes) = (answer.status ≡ 200) × (answer.body ≡ bytes)
+IsHeardIn (ask.Get name) answer heard.BadToken = ⊥
 
 -- a request that asks so is answered over the history, and this is heard in the answer
 pub record IsHeardOver (H : List ReleaseData) (a : Ask) (h : Heard) : Type 0 where
   pub head : Head
   pub asks_so : IsHeadOf a head
-  pub hears : HearsIn a (action H Primary head) h
+  pub hears : IsHeardIn a (action H Primary head) h
 
 -- a primary that answers so knows the tokens of all its places, and has a zone's own file under
 -- each of its names

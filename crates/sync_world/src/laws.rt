@@ -14,7 +14,7 @@ ghost use Rattle.sync_core.specs.Names.{put_all};
 ghost use Rattle.sync_core.specs.Steps.{kept_entries};
 ghost use Rattle.sync_core.specs.declared.heard_type.Heard.{Heard};
 ghost use Rattle.sync_core.specs.declared.heard_type.Heard.TheVariants as heard;
-ghost use Rattle.sync_world.specs.Hearing.{HearsIn, IsHeadOf, IsHeardOver, action_service};
+ghost use Rattle.sync_world.specs.Hearing.{IsHeardIn, IsHeadOf, IsHeardOver, action_service};
 ghost use Rattle.sync_world.specs.Holding.{HoldsLast, SaysHolds};
 ghost use Rattle.sync_world.specs.Primaries.{IsPlace, IsTokenOf, ServesSo};
 ghost use Rattle.sync_world.specs.Primaries.{changes_of, list_told, told_by};
@@ -28,7 +28,7 @@ use catalogue::ZoneData;
 pub fn answers_are_heard()
     ensures { (H : List ReleaseData) (a : Ask) (head : Head) (h : Heard) → IsHistory IsSound H
         → 1 ≤ length H → IsHeadOf a head
-        → (told_by action_service H a ≡ Some h) ↔ HearsIn a (action H Primary head) h }
+        → (told_by action_service H a ≡ Some h) ↔ IsHeardIn a (action H Primary head) h }
 {}
 
 /// Each request for what is outstanding is answered, at each place from the one on at which it was
@@ -38,7 +38,7 @@ pub fn requests_are_answered()
         (n : ℕ) (head : Head)
         → IsHistory IsSound H → 1 ≤ length H → Leads IsSound IsHeardOver (world_begun H) steps w
         → w.sent ≡ Some sent → sent.since ≤ n → n ≤ length w.history → IsHeadOf sent.ask head
-        → (h : Heard) × HearsIn sent.ask (action (take n w.history) Primary head) h
+        → (h : Heard) × IsHeardIn sent.ask (action (take n w.history) Primary head) h
         × (h ≢ heard.BadToken) }
 {}
 

@@ -28,7 +28,7 @@ use Rattle.td_top.specs.Folders.{FoldersBegin, FoldersGive, GivesAfter, none, mo
 use Rattle.td_top.specs.Grammar.{check}
 use Rattle.td_top.specs.Lines.{ok_line, ok_lines, ok_lines_after, refused_line}
 use Rattle.td_top.specs.Outside.{outside}
-use Rattle.td_top.specs.Steps.{ChecksNext, EndsAt, PrintsOk, IsCheckedTo, Stands, TellsRelease}
+use Rattle.td_top.specs.Steps.{ChecksNext, EndsAt, PrintsRelease, IsCheckedTo, Stands, TellsRelease}
 use Rattle.td_top.specs.Steps.{grown}
 use Rattle.td_top.specs.Tells.{EndsLater, TellsRefused, RefusesInstall}
 use Rattle.td_top.specs.declared.status.Status.{Status}
@@ -86,7 +86,7 @@ pub comes_told : (H : List ReleaseData) (dir : List ℕ) (s t : StoreView) (old 
 comes_told H dir s t old new c (Ok next) store stands give h = record {
   store = store;
   output = writes_all_later old new (ok_line (grown H c)) written.Whole (h.1 (grown H c) stands);
-  comes = subst (λ (x : Catalogue (List ℕ)). PrintsOk s.files H dir old new x) (sym h.0)
+  comes = subst (λ (x : Catalogue (List ℕ)). PrintsRelease s.files H dir old new x) (sym h.0)
       (record { gives = give; stands = stands; line = h.1 (grown H c) stands });
 }
 comes_told H dir s t old new c (Err status.NotWritten) store stands give h = record {

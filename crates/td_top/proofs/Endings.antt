@@ -20,7 +20,7 @@ use Rattle.zone_meaning.specs.Faults.{zone_fault}
 use Rattle.zone_meaning.specs.declared.zone_fault.ZoneFault.{ZoneFault}
 use Rattle.td_top.specs.Ends.{print, CallsFor, folders_of, releases, no_release, state, no_zone}
 use Rattle.td_top.specs.Ends.{no_file, printed, served, unread, out_of_memory, IsSilent, Printed}
-use Rattle.td_top.specs.Folders.{StopsWith}
+use Rattle.td_top.specs.Folders.{StopsAtFault}
 use Rattle.td_top.specs.Grammar.{Asked, answer, at}
 use Rattle.td_top.specs.Installed.{InstallsAll}
 use Rattle.td_top.specs.Lines.{refused_line}
@@ -88,7 +88,7 @@ ends_refused asked dirs (install.Check fault.NoMemory) s t i old new end folders
 ends_refused asked dirs (install.Check fault.ReadFault) s t i old new end folders silent h r =
     ends_unread (Some asked) s t i old new end silent (h.failed refl) h.later r.0 r.1
 ends_refused asked dirs (install.Check f) s t i old new end folders silent h r =
-    let stops : (H : List ReleaseData) × StopsWith s.files dirs H f = h.came (λ e. cc) (λ e. cc) in
+    let stops : (H : List ReleaseData) × StopsAtFault s.files dirs H f = h.came (λ e. cc) (λ e. cc) in
     ends_told (Some asked) s t i old new status.Refused (refused_line (fault_text f)) end silent (no_release asked dirs stops.0 f folders stops.1) h.later r
 
 -- a history that is served, or for which there is no memory

@@ -19,7 +19,7 @@ use Rattle.publication.specs.Views.{DeskView, IsNewDesk}
 use Rattle.release_check.specs.Found.{Blames}
 use Rattle.release_check.specs.declared.check_fault.CheckFault.{CheckFault}
 use Rattle.release_check.specs.declared.check_fault.CheckFault.TheVariants as fault
-use Rattle.td_top.specs.Folders.{FoldersGive, GivesAfter, StopsWith, none, more}
+use Rattle.td_top.specs.Folders.{FoldersGive, GivesAfter, StopsAtFault, none, more}
 use Rattle.td_top.specs.Installed.{Extends, InstallsAll, InstallsRest, Refused}
 
 -- ---- rows
@@ -90,6 +90,7 @@ installs_ok s t dir H h k a b same i = record {
   later = i.later;
   told = ok_told s.files dir H h k a b same i.told;
   failed = λ e. cc;
+  memory = λ e. cc;
 }
 
 err_told : {A B : Type 0} (o : Option (List File)) (dir : List ℕ) (H : List ReleaseData) (h : A → List ReleaseData) (k : B → List ReleaseData)
@@ -105,13 +106,14 @@ installs_err {A = A} {B = B} s t dir H h k e i = record {
   later = i.later;
   told = err_told s.files dir H h k e i.told;
   failed = λ same. i.failed (err_as {A = B} {B = A} e (install.Check fault.ReadFault) same);
+  memory = λ same. i.memory (err_as {A = B} {B = A} e (install.Check fault.NoMemory) same);
 }
 
 -- ---- a row of folders
 
 pub stops_here : (files : Option (List File)) (first : List (List ℕ)) (dir : List ℕ) (rest dirs : List (List ℕ)) (H : List ReleaseData) (f : CheckFault)
     → dirs ≡ first ++ dir ∷ rest → FoldersGive files first H → GivesAfter files H dir (Err f) → f ≢ fault.NoMemory → f ≢ fault.ReadFault
-    → StopsWith files dirs H f
+    → StopsAtFault files dirs H f
 stops_here files first dir rest dirs H f is give after memory read = record {
   first = first;
   dir = dir;
@@ -169,6 +171,7 @@ pub rest_refused : {A : Type 0} (s t u : StoreView) (dirs : List (List ℕ)) (i 
 rest_refused {A = A} s t u dirs i d old now end history e less is store extends h = record {
   later = store_trans s t u store h.later;
   failed = λ same. omega (arith, store.later, h.failed (err_as {A = Unit} {B = A} e (install.Check fault.ReadFault) same));
+  memory = λ same. h.memory (err_as {A = Unit} {B = A} e (install.Check fault.NoMemory) same);
   came = refused_at s t u dirs i d (history_of old) (history_of now) history e less is store extends h;
 }
 
@@ -177,6 +180,7 @@ pub rest_done : (s t : StoreView) (dirs row : List (List ℕ)) (old now : List (
 rest_done s t dirs row old now u same store extends = record {
   later = store;
   failed = λ e. cc;
+  memory = λ e. cc;
   came = subst (λ (all : List (List ℕ)). Extends s.files all (history_of old) (history_of now)) same extends;
 }
 
@@ -199,13 +203,14 @@ pub all_refused : {A : Type 0} (s t : StoreView) (d : List ℕ) (rest dirs : Lis
 all_refused {A = A} s t d rest dirs history e is h = record {
   later = h.later;
   failed = λ same. h.failed (err_as {A = List (Catalogue (List ℕ))} {B = A} e (install.Check fault.ReadFault) same);
+  memory = λ same. h.memory (err_as {A = List (Catalogue (List ℕ))} {B = A} e (install.Check fault.NoMemory) same);
   came = first_refused s t d rest dirs history e is h;
 }
 
 -- memory ran out after some were installed
 pub all_without_memory : (s t u : StoreView) (dirs : List (List ℕ)) → LaterStore s t
     → LaterStore t u → InstallsAll dirs s u (Err install.NoMemory)
-all_without_memory s t u dirs p q = record { later = store_trans s t u p q; failed = λ same. cc; came = tt }
+all_without_memory s t u dirs p q = record { later = store_trans s t u p q; failed = λ same. cc; memory = λ same. cc; came = tt }
 
 -- one of the others is refused
 pub all_stopped : {A : Type 0} (s t u : StoreView) (d : List ℕ) (rest dirs : List (List ℕ))
@@ -220,6 +225,7 @@ all_stopped s t u d rest dirs history a list end e is h grows same others =
     record {
       later = store_trans s t u h.later others.later;
       failed = λ wrong. omega (arith, h.later.later, others.failed (err_as {A = List (Catalogue (List ℕ))} {B = Unit} e (install.Check fault.ReadFault) wrong));
+      memory = λ wrong. others.memory (err_as {A = List (Catalogue (List ℕ))} {B = Unit} e (install.Check fault.NoMemory) wrong);
       came = subst (λ (all : List (List ℕ)). Refused s.files all e) (sym is)
           (subst (λ (files : Option (List File)). Refused files (d ∷ rest) e) h.later.kept (others.came (d ∷ []) before));
     }
@@ -239,6 +245,7 @@ all_came s t u d rest dirs history a list end unit is h grows same others =
     record {
       later = store_trans s t u h.later others.later;
       failed = λ wrong. cc;
+      memory = λ wrong. cc;
       came = subst (λ (all : List (List ℕ)). FoldersGive s.files all (history_of end)) (sym is) whole;
     }
 

@@ -26,7 +26,7 @@ use Rattle.console.specs.declared.said.Said.TheVariants as said
 use Rattle.td_base.proofs.lemmas.Beginnings.{prefix_trans}
 use Rattle.td_top.specs.Outside.{outside}
 use Rattle.td_top.specs.Sessions.{AnswersLine, BeginsWhole, LaterSession}
-use Rattle.td_top.specs.Talk.{GoesOn, talk_begun, last_token, more, none}
+use Rattle.td_top.specs.Talk.{KeepsTalking, talk_begun, last_token, more, none}
 use Rattle.td_top.specs.Talking.{ComesTo, IsAt, LaterScene, Scene, TalksOver, scene, talk_text}
 use Rattle.td_top.specs.Turns.{FeedsHeld, FeedsTalk, HasNone, IsNextLine, Reaches, SaysBye}
 use Rattle.td_top.specs.Turns.{SaysText}
@@ -204,7 +204,7 @@ read_turn start s i j o x held held' new turn.NoMemory at whole input f = later_
 -- ---- a line
 
 over_more : (start : Scene) (s t : StoreView) (i : SourceView) (o p : SinkView) (x y : Session) (asked : List Line) (told : List Said) (next : Line) (a : Said)
-    → AllByRecursion GoesOn asked → LaterSink o p → TalksOver start (scene (outside s i o) x) asked told → AnswersLine s t x y next a
+    → AllByRecursion KeepsTalking asked → LaterSink o p → TalksOver start (scene (outside s i o) x) asked told → AnswersLine s t x y next a
     → TalksOver start (scene (outside t i p) y) (asked ++ next ∷ []) (told ++ a ∷ [])
 over_more start s t i o p x y asked told next a goes sink over answers = record {
   later = record {
@@ -250,7 +250,7 @@ said_whole start o p told a g h =
     (written_more start.outside.output o p (talk_text (history_of start.session.installer.list) told) (reply_text a) g h)
 
 answered : (start : Scene) (s t : StoreView) (i : SourceView) (o p : SinkView) (x y : Session) (held new : List ℕ) (next : Line) (a : Said)
-    → GoesOn next → IsAt start (scene (outside s i o) x) held → IsNextLine held new next → AnswersLine s t x y next a
+    → KeepsTalking next → IsAt start (scene (outside s i o) x) held → IsNextLine held new next → AnswersLine s t x y next a
     → WritesAll o p (reply_text a) written.Whole → IsAt start (scene (outside t i p) y) new
 answered start s t i o p x y held new next a goes at is answers h = record {
   read = at.read;
@@ -258,13 +258,13 @@ answered start s t i o p x y held new next a goes at is answers h = record {
   told = at.told ++ a ∷ [];
   consumed = at.consumed;
   gives = is at.read at.asked at.gives;
-  goes_on = all_more GoesOn at.asked next at.goes_on goes;
+  goes_on = all_more KeepsTalking at.asked next at.goes_on goes;
   over = over_more start s t i o p x y at.asked at.told next a at.goes_on (writes_all_later o p (reply_text a) written.Whole h) at.over answers;
   written = said_whole start o p at.told a at.written h;
 }
 
 said_turn : (start : Scene) (s t : StoreView) (i : SourceView) (o p : SinkView) (x y : Session) (held new : List ℕ) (next : Line) (a : Said) (r : Turn)
-    → GoesOn next → IsAt start (scene (outside s i o) x) held → IsNextLine held new next → AnswersLine s t x y next a → SaysText o p (reply_text a) r
+    → KeepsTalking next → IsAt start (scene (outside s i o) x) held → IsNextLine held new next → AnswersLine s t x y next a → SaysText o p (reply_text a) r
     → Reaches start (scene (outside t i p) y) new r
 said_turn start s t i o p x y held new next a turn.On goes at is answers h = answered start s t i o p x y held new next a goes at is answers h
 said_turn start s t i o p x y held new next a (turn.End end.NotWritten) goes at is answers h = cut_by start s t i o p x y held new next a at is answers h
@@ -275,7 +275,7 @@ said_turn start s t i o p x y held new next a turn.NoMemory goes at is answers h
 
 -- by the text that was written
 pub line_turn : (start : Scene) (s t : StoreView) (i : SourceView) (o p : SinkView) (x y : Session) (held new text : List ℕ) (next : Line) (r : Turn)
-    → GoesOn next → IsAt start (scene (outside s i o) x) held → IsNextLine held new next
+    → KeepsTalking next → IsAt start (scene (outside s i o) x) held → IsNextLine held new next
     → (b : Said) × (AnswersLine s t x y next b) × (text ≡ reply_text b) → SaysText o p text r
     → Reaches start (scene (outside t i p) y) new r
 line_turn start s t i o p x y held new text next r goes at is told h =

@@ -7,7 +7,7 @@ use Rattle.td_base.specs.declared.transfer.Written.TheVariants as written
 use Rattle.catalogue.specs.Releases.{ReleaseData}
 use Rattle.release_check.specs.FaultText.{fault_text as folder_text}
 use Rattle.release_check.specs.declared.check_fault.CheckFault.{CheckFault}
-use Rattle.td_top.specs.Folders.{FoldersBegin, FoldersGive, StopsWith}
+use Rattle.td_top.specs.Folders.{FoldersBegin, FoldersGive, StopsAtFault}
 use Rattle.td_top.specs.Lines.{ok_lines, refused_line}
 use Rattle.td_top.specs.declared.status.Status.{Status}
 use Rattle.td_top.specs.declared.status.Status.TheVariants as status
@@ -19,8 +19,8 @@ pub data Checks (dirs : List (List ℕ)) (s t : StoreView) (old new : SinkView) 
   all : (H : List ReleaseData) → FoldersGive s.files dirs H
       → WritesAll old new (ok_lines H) written.Whole → Checks dirs s t old new status.Done
   -- one folder is refused; a failed write may have cut the line that says so
-  refused : (H : List ReleaseData) (f : CheckFault) (middle : SinkView) → StopsWith s.files dirs H f
-      → WritesAll old middle (ok_lines H) written.Whole
+  refused : (H : List ReleaseData) (f : CheckFault) (middle : SinkView)
+      → StopsAtFault s.files dirs H f → WritesAll old middle (ok_lines H) written.Whole
       → Prints middle new (refused_line (folder_text f)) → Checks dirs s t old new status.Refused
   -- a failed write cut the lines of the first folders
   cut : (H : List ReleaseData) → FoldersBegin s.files dirs H

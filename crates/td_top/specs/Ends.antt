@@ -17,7 +17,7 @@ use Rattle.td_top.specs.Checks.{Checks}
 use Rattle.td_top.specs.Grammar.{Asked, answer, check, at, serve as serve_doors}
 use Rattle.td_top.specs.Outside.{Outside}
 use Rattle.td_top.specs.Served.{ServesStreams}
-use Rattle.td_top.specs.Folders.{FoldersGive, StopsWith}
+use Rattle.td_top.specs.Folders.{FoldersGive, StopsAtFault}
 use Rattle.td_top.specs.Lines.{refused_line, state_line, usage_line}
 use Rattle.td_top.specs.declared.status.Status.{Status}
 use Rattle.td_top.specs.declared.status.Status.TheVariants as status
@@ -75,7 +75,7 @@ pub data CallsFor (files : Option (List File)) : Option Asked → Called → Typ
   releases : (dirs : List (List ℕ)) (H : List ReleaseData) → FoldersGive files dirs H
       → CallsFor files (Some (answer dirs)) (serve H)
   no_release : (asked : Asked) (dirs : List (List ℕ)) (H : List ReleaseData) (f : CheckFault)
-      → folders_of asked ≡ Some dirs → StopsWith files dirs H f
+      → folders_of asked ≡ Some dirs → StopsAtFault files dirs H f
       → CallsFor files (Some asked) (print status.Refused (refused_line (folder_text f)))
   state : (path bytes : List ℕ) (m : ℤ) → IfSome files (λ fs. file_at fs path ≡ Some bytes)
       → zone_fault bytes ≡ None

@@ -30,7 +30,7 @@ pub record FoldersBegin (files : Option (List File)) (dirs : List (List ℕ)) (H
   pub give : FoldersGive files first H
 
 -- the folders before one give these releases, and that one has a fault
-pub record StopsWith (files : Option (List File)) (dirs : List (List ℕ)) (H : List ReleaseData)
+pub record StopsAtFault (files : Option (List File)) (dirs : List (List ℕ)) (H : List ReleaseData)
     (f : CheckFault) : Type 0 where
   pub first : List (List ℕ)
   pub dir : List ℕ

@@ -8,13 +8,14 @@ use Rattle.installer.specs.declared.install_fault.InstallFault.{InstallFault}
 use Rattle.installer.specs.declared.install_fault.InstallFault.TheVariants as install
 use Rattle.release_check.specs.Found.{Blames}
 use Rattle.release_check.specs.declared.check_fault.CheckFault.TheVariants as fault
-use Rattle.td_top.specs.Folders.{FoldersGive, StopsWith}
+use Rattle.td_top.specs.Folders.{FoldersGive, StopsAtFault}
 use Rattle.td_top.specs.declared.opening.Opened.{Opened}
 
 -- the folders were not all installed: one of them has this fault, unless memory or a read failed
 abbrev pub Refused : Option (List File) → List (List ℕ) → InstallFault → Type 0
 Refused files dirs install.NoMemory = ⊤
-Refused files dirs (install.Check f) = Blames f ((H : List ReleaseData) × StopsWith files dirs H f)
+Refused files dirs (install.Check f) =
+    Blames f ((H : List ReleaseData) × StopsAtFault files dirs H f)
 
 -- folders that come after others were installed, and their history is now this one
 abbrev pub Extends : Option (List File) → List (List ℕ) → List ReleaseData → List ReleaseData
@@ -28,11 +29,13 @@ RestCame files dirs old now (Ok u) = Extends files dirs old now
 RestCame files dirs old now (Err e) =
     (first : List (List ℕ)) → FoldersGive files first old → Refused files (first ++ dirs) e
 
--- folders were installed after others, up to the first that is refused
+-- folders were installed after others, up to the first that is refused; want of memory is told as
+-- itself alone
 pub record InstallsRest (dirs : List (List ℕ)) (s t : StoreView)
     (old now : List (Catalogue (List ℕ))) (result : Result Unit InstallFault) : Type 0 where
   pub later : LaterStore s t
   pub failed : IsErrOf result (install.Check fault.ReadFault) → StoreFailed s t
+  pub memory : IsErrOf result (install.Check fault.NoMemory) → ⊥
   pub came : RestCame s.files dirs (history_of old) (history_of now) result
 
 -- the catalogues that were published, where the folders were installed
@@ -46,11 +49,13 @@ abbrev pub AllCame : Option (List File) → List (List ℕ)
 AllCame files dirs (Ok list) = FoldersGive files dirs (history_of list)
 AllCame files dirs (Err e) = Refused files dirs e
 
--- the folders were installed, up to the first that is refused
+-- the folders were installed, up to the first that is refused; want of memory is told as itself
+-- alone
 pub record InstallsAll (dirs : List (List ℕ)) (s t : StoreView)
     (result : Result (List (Catalogue (List ℕ))) InstallFault) : Type 0 where
   pub later : LaterStore s t
   pub failed : IsErrOf result (install.Check fault.ReadFault) → StoreFailed s t
+  pub memory : IsErrOf result (install.Check fault.NoMemory) → ⊥
   pub came : AllCame s.files dirs result
 
 -- so many further desks were made, of the same pair

@@ -45,14 +45,14 @@ TellsRelease c old new (Err status.NoMemory) = new ≡ old
 TellsRelease c old new (Err end) = ⊥
 
 -- the folder gave the release that the catalogue holds, and its line was printed
-pub record PrintsOk (files : Option (List File)) (H : List ReleaseData) (dir : List ℕ)
+pub record PrintsRelease (files : Option (List File)) (H : List ReleaseData) (dir : List ℕ)
     (old new : SinkView) (c : Catalogue (List ℕ)) : Type 0 where
   pub gives : GivesAfter files H dir (Ok (release_held (λ file. file) c))
   pub stands : StandsFor (λ file. file) IsSound c (grown H c)
   pub line : WritesAll old new (ok_line (grown H c)) written.Whole
 
 -- the folder is refused, and the line that says so was printed, or cut by a failed write
-pub record IsRefused (files : Option (List File)) (H : List ReleaseData) (dir : List ℕ)
+pub record PrintsRefusal (files : Option (List File)) (H : List ReleaseData) (dir : List ℕ)
     (old new : SinkView) : Type 0 where
   pub why : CheckFault
   pub of_files : (why ≢ fault.NoMemory) × (why ≢ fault.ReadFault)
@@ -60,7 +60,7 @@ pub record IsRefused (files : Option (List File)) (H : List ReleaseData) (dir : 
   pub line : Prints old new (refused_line (folder_text why))
 
 -- the folder gave a release, and a failed write cut its line
-pub record CutsOk (files : Option (List File)) (H : List ReleaseData) (dir : List ℕ)
+pub record CutsRelease (files : Option (List File)) (H : List ReleaseData) (dir : List ℕ)
     (old new : SinkView) : Type 0 where
   pub release : ReleaseData
   pub gives : GivesAfter files H dir (Ok release)
@@ -71,16 +71,16 @@ abbrev pub EndsAt : List ReleaseData → List ℕ → StoreView → StoreView �
     → Status → Type 0
 EndsAt H dir s t old new status.Done = ⊥
 EndsAt H dir s t old new status.Usage = ⊥
-EndsAt H dir s t old new status.Refused = IsRefused s.files H dir old new
+EndsAt H dir s t old new status.Refused = PrintsRefusal s.files H dir old new
 EndsAt H dir s t old new status.NotRead = StoreFailed s t × (new ≡ old)
-EndsAt H dir s t old new status.NotWritten = CutsOk s.files H dir old new
+EndsAt H dir s t old new status.NotWritten = CutsRelease s.files H dir old new
 EndsAt H dir s t old new status.NotStarted = ⊥
 EndsAt H dir s t old new status.NoNetwork = ⊥
 EndsAt H dir s t old new status.NoMemory = new ≡ old
 
 abbrev pub FolderComes : List ReleaseData → List ℕ → StoreView → StoreView → SinkView → SinkView
     → Result (Catalogue (List ℕ)) Status → Type 0
-FolderComes H dir s t old new (Ok c) = PrintsOk s.files H dir old new c
+FolderComes H dir s t old new (Ok c) = PrintsRelease s.files H dir old new c
 FolderComes H dir s t old new (Err end) = EndsAt H dir s t old new end
 
 -- one folder more was checked, after a history

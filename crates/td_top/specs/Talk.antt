@@ -102,14 +102,14 @@ is_quit line.Quit = true
 is_quit line.Strange = false
 
 -- a line after which the talk goes on
-abbrev pub GoesOn : Line → Type 0
-GoesOn asked = is_quit asked ≡ false
+abbrev pub KeepsTalking : Line → Type 0
+KeepsTalking asked = is_quit asked ≡ false
 
 -- the lines one after the other, each with what it gets said; nothing follows the line that ends it
 pub data Talks (files : Option (List File)) (whole : List ReleaseData)
     : Talk → List Line → List Said → Talk → Type 0 where
   none : (t : Talk) → Talks files whole t [] [] t
   more : (t u v : Talk) (asked : List Line) (told : List Said) (next : Line) (answer : Said)
-      → Talks files whole t asked told u → AllByRecursion GoesOn asked
+      → Talks files whole t asked told u → AllByRecursion KeepsTalking asked
       → GetsAnswer files whole u next answer v
       → Talks files whole t (asked ++ next ∷ []) (told ++ answer ∷ []) v

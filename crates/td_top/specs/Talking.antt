@@ -17,7 +17,7 @@ use Rattle.console.specs.declared.said.Said.TheVariants as said
 use Rattle.catalogue.specs.Holdings.{history_of}
 use Rattle.td_top.specs.Outside.{Later, Outside}
 use Rattle.td_top.specs.Sessions.{BeginsWhole, LaterSession, StandsAt}
-use Rattle.td_top.specs.Talk.{GoesOn, Talk, Talks, talk_begun, last_token}
+use Rattle.td_top.specs.Talk.{KeepsTalking, Talk, Talks, talk_begun, last_token}
 use Rattle.td_top.specs.declared.session.Session.{Session}
 use Rattle.td_top.specs.declared.talking.TalkEnd.{TalkEnd}
 use Rattle.td_top.specs.declared.talking.TalkEnd.TheVariants as end
@@ -93,7 +93,7 @@ pub record IsAt (before now : Scene) (held : List ℕ) : Type 0 where
   pub told : List Said
   pub consumed : Consumes before.outside.input.left now.outside.input.left read
   pub gives : GivesLines read asked held
-  pub goes_on : AllByRecursion GoesOn asked
+  pub goes_on : AllByRecursion KeepsTalking asked
   pub over : TalksOver before now asked told
   pub written : WritesAll before.outside.output now.outside.output
       (talk_text (history_of before.session.installer.list) told) written.Whole
