@@ -7,11 +7,12 @@ use std::test::Fail;
 use td_base::{Bytes, Items, NoMemory};
 use tzif_reader::{LeapLine, MOST_BYTES, ZoneFile};
 
-/// Lines by time and correction, and the days from 1970-01-01 with their offsets, or the fault as it is printed.
+/// Lines by time and correction, and the days from 1970-01-01 with their offsets, or the fault as
+/// it is printed.
 type Case = (&'static [(i64, i32)], &'static [u8]);
 
-/// The first leap seconds stood at the ends of June and of December 1972. An expiry alone is a line that does not go a
-/// second on.
+/// The first leap seconds stood at the ends of June and of December 1972. An expiry alone is a line
+/// that does not go a second on.
 const CASES: [Case; 13] = [
     (&[], b"730 10;"),
     (

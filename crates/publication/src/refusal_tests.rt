@@ -1,5 +1,5 @@
-//! Publishes that the copies refuse: what was published and shown stays, and nothing is published from
-//! then on, though the copies would take it.
+//! Publishes that the copies refuse: what was published and shown stays, and nothing is published
+//! from then on, though the copies would take it.
 ghost use Rattle.std.specs.Prelude.{◌≡◌, Some, None, IfOk, refl, option_map};
 ghost use Rattle.left_right.specs.Sides.{view};
 ghost use Rattle.publication.specs.declared.view.SeatRole.TheVariants.{Desk as AtDesk};

@@ -24,7 +24,8 @@ fn put(alloc: Global, store: &mut MemoryStore, path: &str, bytes: &[u8]) -> Resu
     store.put(path, Bytes::from_slice(alloc, bytes)?)
 }
 
-/// The publisher of the release that a folder gives, or the fault as it is printed and as it is shown.
+/// The publisher of the release that a folder gives, or the fault as it is printed and as it is
+/// shown.
 fn outcome(alloc: Global, dir: &str, store: &mut MemoryStore) -> Result<Bytes, NoMemory> {
     match check(alloc, dir.as_bytes(), store, None) {
         Ok(release) => Bytes::from_slice(alloc, release.publisher.as_slice()),
@@ -41,7 +42,8 @@ fn texts_of(alloc: Global, fault: &CheckFault) -> Result<Bytes, NoMemory> {
     Ok(text)
 }
 
-/// A directory, the paths of its manifest and of its zone file, and what is told of each while it is absent.
+/// A directory, the paths of its manifest and of its zone file, and what is told of each while it
+/// is absent.
 const FOLDERS: [(&str, &str, &str, &str, &str); 2] = [
     (
         "a",

@@ -36,7 +36,8 @@ fn zone(
     })
 }
 
-/// Whether both ways of writing the list give the text, after other bytes, and `serde_json` prints it as the same.
+/// Whether both ways of writing the list give the text, after other bytes, and `serde_json` prints
+/// it as the same.
 fn writes(alloc: Global, token: &[u8], zones: &[ListZone], text: &str) -> Result<bool, Fail>
     requires token { IsPlain token.now }
     requires zones { AllByRecursion IsPlainZone zones.now }

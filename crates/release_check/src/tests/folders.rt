@@ -132,7 +132,8 @@ const FILES: [(&[u8], Plan<'static>); 14] = [
             ..NEW_YORK
         },
     ),
-    // At the last transition the footer gives another offset, flag and name; or another flag alone; or another name.
+    // At the last transition the footer gives another offset, flag and name; or another flag alone;
+    // or another name.
     (
         b"offset",
         Plan {
@@ -162,7 +163,8 @@ const FILES: [(&[u8], Plan<'static>); 14] = [
             ..NEW_YORK
         },
     ),
-    // A name that cannot be printed, in a file whose footer does not go on, and in one that no rules say.
+    // A name that cannot be printed, in a file whose footer does not go on, and in one that no
+    // rules say.
     (
         b"unnamed",
         Plan {
@@ -179,7 +181,8 @@ const FILES: [(&[u8], Plan<'static>); 14] = [
         },
     ),
     (b"beyond", BEYOND),
-    // Leap seconds at the ends of June and December 1972, with an expiry, with a wrong step, or not at midnight.
+    // Leap seconds at the ends of June and December 1972, with an expiry, with a wrong step, or not
+    // at midnight.
     (
         b"leap",
         Plan {

@@ -52,8 +52,8 @@ fn large_and_deep(rt: HostRuntime) -> Result<(), Fail> {
     Ok(())
 }
 
-/// A whole manifest, with members given twice, members that are ignored, and names that only a check of the
-/// release refuses.
+/// A whole manifest, with members given twice, members that are ignored, and names that only a
+/// check of the release refuses.
 #[test]
 fn manifests(rt: HostRuntime) -> Result<(), Fail> {
     let text = format!(in rt.alloc();
