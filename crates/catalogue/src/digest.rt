@@ -74,8 +74,8 @@ pub fn hash_sized(hasher: &mut Sha256, bytes: &[u8])
 fn hash_texts(hasher: &mut Sha256, texts: &Items<Bytes>)
     requires count { length texts.now < 2 ^ 32 }
     requires texts { AllByRecursion (λ a. length a < 2 ^ 32) texts.now }
-    ensures { (m : List ℕ) → Holds256 hasher.old m →
-        Holds256 hasher.new (m ++ to_be_bytes w32 (length texts.now) ++ concat (map sized texts.now)) }
+    ensures { (m : List ℕ) → Holds256 hasher.old m → Holds256 hasher.new
+        (m ++ to_be_bytes w32 (length texts.now) ++ concat (map sized texts.now)) }
 {
     hash_number(hasher, texts.len() as u32);
     for text in texts.as_slice() {
