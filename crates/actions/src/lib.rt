@@ -4,19 +4,25 @@
 //! its own, here and in `specs/`.
 #![tactic(auto)]
 
+// The answer to a request.
 mod answering;
-mod bounds;
+
+// The actions, and what each alone needs.
 mod choice;
 mod describing;
-mod documents;
 mod expanding;
 mod finding;
 mod getting;
 mod leap_seconds;
 mod listing;
+
+// What several actions need.
+mod bounds;
+mod documents;
 mod ranges;
 mod tags;
-#[cfg(test)]
-mod tests;
 
 pub use answering::answer;
+
+#[cfg(test)]
+mod tests;

@@ -1,26 +1,35 @@
 //! Releases of time zone data, and the catalogue that holds the last release of a history of them.
 //!
 //! `Catalogue::first` begins a history, and `Catalogue::next` adds a release to it. What a
-//! catalogue then tells, its
-//! entries, tags and tokens, is what `StandsFor` of `specs/Holdings.antt` says of that history.
+//! catalogue then tells, its entries, tags and tokens, is what `StandsFor` of `specs/Holdings.antt`
+//! says of that history.
 #![tactic(auto)]
 
-mod chain;
-mod digest;
+// A release, its zones and its limits.
+mod limits;
+mod release;
+mod zone_data;
+
+// What is held of a history, and how it begins and grows.
 mod entries;
 mod head;
 mod holding;
 mod keeping;
-mod laws;
-mod limits;
-mod lookups;
 mod making;
+mod value;
+
+// What is looked up in it.
+mod lookups;
+
+// Orders by a text, and the digests that tags and tokens are made of.
+mod chain;
+mod digest;
 mod names;
 mod order;
-mod release;
+
+// Laws, and what may cross threads.
+mod laws;
 mod send_sync;
-mod value;
-mod zone_data;
 
 pub use entries::Entry;
 pub use holding::Catalogue;

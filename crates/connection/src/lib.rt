@@ -7,21 +7,29 @@
 //! that were written. What becomes of the desk is `Enters` of specs/Entering.antt.
 #![tactic(auto)]
 
-#[cfg(test)]
-mod door_tests;
+// The work of a thread: the connections of a door.
 mod door_work;
-mod hearing;
-mod laws;
-#[cfg(test)]
-mod listed_door;
-mod replying;
-mod send_sync;
-mod sending;
+
+// One connection, turn by turn.
 mod serving;
-#[cfg(test)]
-mod tests;
 mod turn;
+
+// What a turn reads, answers and writes.
+mod hearing;
+mod replying;
+mod sending;
+
+// Laws, and what may cross threads.
+mod laws;
+mod send_sync;
 
 pub use door_work::{DoorDone, DoorWork};
 pub use laws::{nothing_needed, one_closing};
 pub use serving::serve;
+
+#[cfg(test)]
+mod door_tests;
+#[cfg(test)]
+mod listed_door;
+#[cfg(test)]
+mod tests;

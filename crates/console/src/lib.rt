@@ -6,18 +6,24 @@
 //! held, are those of `Gives`.
 #![tactic(auto)]
 
-mod laws;
+// Lines out of the operator's bytes, and what each asks for.
 mod line;
 mod lines;
 mod reading;
+
+// What the operator is told.
 mod replies;
 mod said;
+
+// Laws, and what may cross threads.
+mod laws;
 mod send_sync;
-#[cfg(test)]
-mod tests;
 
 pub use laws::{folders_are_named, goes_on, reads_written};
 pub use line::Line;
 pub use lines::Lines;
 pub use replies::{reply, short};
 pub use said::{Said, ShortLine};
+
+#[cfg(test)]
+mod tests;

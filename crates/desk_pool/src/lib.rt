@@ -6,19 +6,25 @@
 //! `specs/Flag.antt` has what a flag and its signs know, and the rule that the shared word keeps.
 #![tactic(auto)]
 
+// Works in threads of their own, beside one thing of the caller's.
 mod beside;
-mod flag;
-mod knows;
 mod pool;
 mod pool_end;
-#[cfg(test)]
-mod pool_tests;
+
+// The flag that stops them, and the rule of its shared word.
+mod flag;
+mod knows;
 mod rule;
+
+// What may cross threads.
 mod send_sync;
-#[cfg(test)]
-mod tests;
 
 pub use beside::Beside;
 pub use flag::{StopFlag, StopSign};
 pub use pool::run_beside;
 pub use pool_end::PoolEnd;
+
+#[cfg(test)]
+mod pool_tests;
+#[cfg(test)]
+mod tests;

@@ -6,27 +6,30 @@
 //! two doors (`specs/Gates.antt`).
 #![tactic(auto)]
 
-mod gate_conn;
-mod gate_door;
-mod gate_state;
-mod gates;
+// Streams and files.
+mod real_sink;
+mod real_source;
+mod real_store;
+
+// Threads.
+mod real_spawner;
+
+// A TCP listener, its doors and their connections.
 mod link;
 mod listening;
-#[cfg(test)]
-mod net_tests;
 mod passing;
 mod real_conn;
 mod real_door;
 mod real_network;
-mod real_sink;
-mod real_source;
-mod real_spawner;
-mod real_store;
+
+// Two doors in memory, for tests of two threads.
+mod gate_conn;
+mod gate_door;
+mod gate_state;
+mod gates;
+
+// What may cross threads.
 mod send_sync;
-#[cfg(test)]
-mod stream_tests;
-#[cfg(test)]
-mod thread_tests;
 
 pub use gate_conn::GateConn;
 pub use gate_door::GateDoor;
@@ -41,3 +44,10 @@ pub use real_sink::RealSink;
 pub use real_source::RealSource;
 pub use real_spawner::RealSpawner;
 pub use real_store::{LookFailure, RealStore};
+
+#[cfg(test)]
+mod net_tests;
+#[cfg(test)]
+mod stream_tests;
+#[cfg(test)]
+mod thread_tests;

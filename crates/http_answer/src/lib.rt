@@ -5,16 +5,22 @@
 //! connection. Both are defined in specs/Replies.antt, as `reply` and `fixed`.
 #![tactic(auto)]
 
+// What is answered.
 mod answer;
+mod status;
+
+// How it is written.
 mod closing;
 mod lines;
 mod putting;
-mod send_sync;
-mod status;
-#[cfg(test)]
-mod tests;
 mod writing;
+
+// What may cross threads.
+mod send_sync;
 
 pub use answer::{Answer, Kind};
 pub use closing::fixed;
 pub use writing::write;
+
+#[cfg(test)]
+mod tests;

@@ -7,20 +7,28 @@
 //! specs/Asks.antt.
 #![tactic(auto)]
 
-mod fields;
+// Heads out of the bytes of a connection.
 mod head;
 mod heads;
 mod held;
+
+// One step: where a head ends, how it is read and how it is judged.
 mod judging;
-mod laws;
-mod members;
 mod reading;
 mod scan;
-mod send_sync;
 mod step;
-#[cfg(test)]
-mod tests;
+
+// The fields of a head, and the members of their values.
+mod fields;
+mod members;
+
+// Laws, and what may cross threads.
+mod laws;
+mod send_sync;
 
 pub use head::{Head, Next};
 pub use heads::Heads;
 pub use laws::{gives, is_bounded, one_step, prefixes, refusal_stays};
+
+#[cfg(test)]
+mod tests;

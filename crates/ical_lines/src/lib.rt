@@ -3,15 +3,21 @@
 //! [`reads_back`] is the law that ties them.
 #![tactic(auto)]
 
+// Lines, written.
 mod folding;
-mod laws;
+
+// Lines, read, and why a text is none.
 mod line_fault;
 mod reading;
+
+// Laws, and what may cross threads.
+mod laws;
 mod send_sync;
-#[cfg(test)]
-mod tests;
 
 pub use folding::line;
 pub use laws::reads_back;
 pub use line_fault::BadLine;
 pub use reading::unfold;
+
+#[cfg(test)]
+mod tests;

@@ -7,9 +7,14 @@
 //! make the catalogues without publishing them.
 #![tactic(auto)]
 
-mod growing;
+// Installs, and why one is refused.
 mod install_fault;
 mod installing;
+
+// The catalogues that they publish.
+mod growing;
+
+// What may cross threads.
 mod send_sync;
 
 pub use growing::{first_in, next_in};

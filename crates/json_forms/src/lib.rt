@@ -8,25 +8,30 @@
 //! others are built as a `Value` and printed.
 #![tactic(auto)]
 
+// What a list and a problem hold, and why bytes are no list.
+mod list_fault;
+mod problem_type;
+mod zone_list;
+
+// Documents, written.
 mod capabilities_writer;
 mod expansion_writer;
-mod json_reader;
-mod laws;
 mod leap_writer;
-mod list_fault;
+mod list_writer;
+mod plain;
+mod problem_writer;
+mod tree_writer;
+
+// Documents, read.
+mod json_reader;
 mod list_judging;
 mod list_reader;
-mod list_writer;
 mod members;
-mod plain;
 mod problem_reader;
-mod problem_type;
-mod problem_writer;
+
+// Laws, and what may cross threads.
+mod laws;
 mod send_sync;
-#[cfg(test)]
-mod tests;
-mod tree_writer;
-mod zone_list;
 
 pub use capabilities_writer::capabilities_text;
 pub use expansion_writer::{ExpansionWriter, expand_text};
@@ -39,3 +44,6 @@ pub use problem_reader::read_problem;
 pub use problem_type::Problem;
 pub use problem_writer::problem_text;
 pub use zone_list::{ListDoc, ListZone, ZoneTexts};
+
+#[cfg(test)]
+mod tests;

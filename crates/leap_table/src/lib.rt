@@ -3,11 +3,16 @@
 //! are a table, and which steps it has, is `specs/LeapSteps.antt` of `tzif_reader`.
 #![tactic(auto)]
 
-mod laws;
+// The table of a file, and why its leap lines are none.
 mod leap_fault;
-mod leap_lines;
-mod send_sync;
 mod table;
+
+// Single leap lines.
+mod leap_lines;
+
+// Laws, and what may cross threads.
+mod laws;
+mod send_sync;
 
 pub use laws::{dates_are_plain, steps_are_dated};
 pub use leap_fault::LeapFault;

@@ -3,13 +3,21 @@
 //! by `specs/Tags.antt`.
 #![tactic(auto)]
 
+// The choice of a format.
 mod choosing;
-mod pieces;
 mod qualities;
-mod send_sync;
+
+// Entity tags.
 mod tags;
-#[cfg(test)]
-mod tests;
+
+// The pieces of a field.
+mod pieces;
+
+// What may cross threads.
+mod send_sync;
 
 pub use choosing::{Format, choose};
 pub use tags::none_match;
+
+#[cfg(test)]
+mod tests;

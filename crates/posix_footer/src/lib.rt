@@ -1,21 +1,28 @@
 //! POSIX TZ strings, with the rule hours from -167 to 167 that version 3 of TZif allows (RFC 9636,
 //! section 3.3.2), and the state of local time that they give.
+//!
+//! [`read`] gives the rule that a text spells, as `SpellsFooter` of `specs/Spelling.antt` says, or
+//! the first fault of the text. [`at`] gives the state of a rule at a moment, which is `state_of`
+//! of `specs/StateAt.antt`, and [`next_onset`] the next moment at which it may change.
 #![tactic(auto)]
 
+// The rule of a TZ string, and why a text is none.
 mod footer_fault;
+mod rule_types;
+
+// A TZ string, read from its text.
 mod items;
-mod laws;
-mod next_edge;
-mod onsets;
 mod parser;
 mod reading;
-mod rule_types;
-mod send_sync;
+
+// The state that it gives at a moment, and when that changes.
+mod next_edge;
+mod onsets;
 mod state_at;
-#[cfg(test)]
-mod state_tests;
-#[cfg(test)]
-mod tests;
+
+// Laws, and what may cross threads.
+mod laws;
+mod send_sync;
 
 pub use footer_fault::FooterFault;
 pub use laws::{
@@ -26,3 +33,8 @@ pub use onsets::onset;
 pub use reading::read;
 pub use rule_types::{Date, DayForm, DstRule, Edge, Footer};
 pub use state_at::at;
+
+#[cfg(test)]
+mod state_tests;
+#[cfg(test)]
+mod tests;

@@ -7,17 +7,24 @@
 //! the receipt tells. What clauses see of each is one record of specs/Views.antt.
 #![tactic(auto)]
 
+// A publisher and its desks.
 mod desk;
-mod edition;
-mod history;
 mod making;
 mod publisher;
 mod receipt;
-mod rule;
-mod send_sync;
+
+// What is shown to the desks, in two copies.
+mod edition;
 mod shown;
 mod stage;
+
+// The rules of what is shared: all that was published, and what is shown.
+mod history;
+mod rule;
 mod view;
+
+// What may cross threads.
+mod send_sync;
 
 pub use desk::Desk;
 pub use making::make;

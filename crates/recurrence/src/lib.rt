@@ -7,19 +7,22 @@
 //! `Part` are those of a VTIMEZONE.
 #![tactic(auto)]
 
+// Rules, the parts of calendars, and footers that no rules say.
+mod part_types;
+mod rule_types;
+
+// Footers, carried to rules.
 mod all_year;
 mod date_rules;
 mod footer_rules;
-mod laws;
-mod part_types;
-mod rule_types;
-mod send_sync;
 mod steady_dates;
-#[cfg(test)]
-mod test_rows;
-#[cfg(test)]
-mod tests;
+
+// The day of a rule in a year.
 mod yearly;
+
+// Laws, and what may cross threads.
+mod laws;
+mod send_sync;
 
 pub use footer_rules::carry;
 pub use laws::{
@@ -29,3 +32,8 @@ pub use laws::{
 pub use part_types::{Part, Range};
 pub use rule_types::{Carried, Form, Rule, RuleBeyond};
 pub use yearly::occurrence;
+
+#[cfg(test)]
+mod test_rows;
+#[cfg(test)]
+mod tests;

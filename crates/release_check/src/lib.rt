@@ -4,20 +4,27 @@
 //! manifest that is at hand.
 #![tactic(auto)]
 
+// A folder, judged, and its first fault.
 mod check_fault;
 mod checking;
+
+// What its manifest says, by itself and after a history.
 mod duplicates;
-mod files;
 mod form_judging;
 mod history_judging;
-mod laws;
-mod leap_files;
 mod manifest_judging;
-mod send_sync;
+
+// What the files hold that the manifest names.
+mod files;
+mod leap_files;
 mod text_copies;
 mod zone_files;
 mod zone_judging;
 mod zone_names;
+
+// Laws, and what may cross threads.
+mod laws;
+mod send_sync;
 
 pub use check_fault::{CheckFault, LeapFileFault, Limited};
 pub use checking::{check, examine};

@@ -3,17 +3,23 @@
 //! `Meaning.antt` and `Reading.antt` say, and what it refuses has the first fault of `Checks.antt`.
 #![tactic(auto)]
 
-mod laws;
+// A manifest, and why a text is none.
 mod manifest_fault;
 mod manifest_type;
+
+// A manifest, read member by member.
 mod members;
 mod reading;
-mod send_sync;
-#[cfg(test)]
-mod tests;
 mod zone_members;
+
+// Laws, and what may cross threads.
+mod laws;
+mod send_sync;
 
 pub use laws::{one_meaning, one_reading};
 pub use manifest_fault::{ManifestFault, Path};
 pub use manifest_type::{MOST_BYTES, Manifest, ManifestLeaps, ManifestZone};
 pub use reading::read;
+
+#[cfg(test)]
+mod tests;

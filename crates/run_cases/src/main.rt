@@ -2,13 +2,18 @@
 //! tells of each that ends otherwise than the table says. The table explains its own lines.
 #![tactic(auto)]
 
-mod case;
-mod ending;
-mod outside;
-mod plan;
+// The table, line by line.
 mod script;
 mod texts;
+
+// A case, what its runs differ in, and how they are to end.
+mod case;
+mod ending;
 mod trial;
+
+// The objects in memory over which it runs.
+mod outside;
+mod plan;
 mod watched;
 
 use script::Script;

@@ -6,15 +6,23 @@
 //! that it serves, which is `manifest_of` of `specs/Published.antt`.
 #![tactic(auto)]
 
-mod aliases;
+// A mirror, and what it hears.
 mod heard_type;
+mod mirror;
+
+// The list that it takes, and what it keeps of the names it knew.
+mod aliases;
 mod listed;
 mod merging;
-mod mirror;
+
+// The release that it serves.
 mod publishing;
+
+// What may cross threads.
 mod send_sync;
-#[cfg(test)]
-mod tests;
 
 pub use heard_type::{Heard, Settled};
 pub use mirror::Mirror;
+
+#[cfg(test)]
+mod tests;

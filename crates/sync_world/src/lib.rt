@@ -2,19 +2,23 @@
 //! installs, a mirror that says that it holds what the primary has holds exactly the release that
 //! answered. No program calls anything here.
 //!
-//! The world of a primary and a mirror, and its steps, are in `specs/Outside.antt`; what a mirror
+//! The world of a primary and a mirror, and its steps, are in `specs/Worlds.antt`; what a mirror
 //! hears in the answers of the actions in `specs/Hearing.antt`; that it holds a release in
 //! `specs/Holding.antt`. The law is the contract of [`mirrors_hold_releases`], and [`mirrors_hold`]
 //! says the same of any [`Primary`].
 #![tactic(auto)]
 
-mod laws;
+// The servers that a mirror may follow.
 mod primary;
-#[cfg(test)]
-mod tests;
+
+// The laws of a mirror that follows one.
+mod laws;
 
 pub use laws::{
     actions_serve, aliases_follow, answers_are_heard, asks_are_answered, mirrors_hold,
     mirrors_hold_releases, requests_are_answered, tokens_are_refused_late,
 };
 pub use primary::{Actions, Primary};
+
+#[cfg(test)]
+mod tests;

@@ -3,15 +3,21 @@
 //! [`asks_by_name`] is the law that each zone can be asked for.
 #![tactic(auto)]
 
+// What a target asks for.
 mod asked_types;
-mod laws;
+
+// A target, read: its segments, its query, and the table of both.
 mod parameters;
 mod reading;
 mod segments;
+
+// Laws, and what may cross threads.
+mod laws;
 mod send_sync;
-#[cfg(test)]
-mod tests;
 
 pub use asked_types::{Asked, Param};
 pub use laws::asks_by_name;
 pub use reading::read;
+
+#[cfg(test)]
+mod tests;

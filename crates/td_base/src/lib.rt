@@ -5,20 +5,33 @@
 //! (`specs/Transfer.antt`).
 #![tactic(auto)]
 
+// Owned lists and short texts, and what stands for lists.
 mod byte_list;
-mod digits;
-mod door;
-#[cfg(test)]
-mod door_tests;
-mod failing_calls;
-mod faulty;
-mod faulty_conn;
-mod faulty_door;
-mod faulty_network;
-mod faulty_spawner;
 mod item_list;
+mod no_memory;
+mod short_text;
+mod value;
+
+// Numbers and names, as several formats write and read them.
+mod digits;
+mod name_forms;
+
+// Streams, files and connections, and whole transfers over them.
 mod joined;
-pub mod laws;
+mod outside;
+mod report;
+mod transfer;
+
+// Doors, networks, and works in threads.
+mod door;
+mod network;
+mod running;
+mod spawner;
+mod start_thread;
+mod turn;
+mod work;
+
+// The outside in memory.
 mod memory_conn;
 mod memory_door;
 mod memory_network;
@@ -26,29 +39,19 @@ mod memory_sink;
 mod memory_source;
 mod memory_spawner;
 mod memory_store;
-mod name_forms;
-#[cfg(test)]
-mod name_table;
-mod network;
-mod no_memory;
-mod outside;
 mod piece_sizes;
-mod report;
-mod running;
+
+// The outside with calls that fail as chosen.
+mod failing_calls;
+mod faulty;
+mod faulty_conn;
+mod faulty_door;
+mod faulty_network;
+mod faulty_spawner;
+
+// Laws, and what may cross threads.
+pub mod laws;
 mod send_sync;
-mod short_text;
-mod spawner;
-#[cfg(test)]
-mod spawner_tests;
-#[cfg(test)]
-mod start_tests;
-mod start_thread;
-#[cfg(test)]
-mod tests;
-mod transfer;
-mod turn;
-mod value;
-mod work;
 
 pub use byte_list::Bytes;
 pub use digits::{put_decimal, put_hex, put_sized, read_decimal};
@@ -82,3 +85,14 @@ pub use work::Work;
 
 /// The token of a place in a history: its number in decimal, a dash and hex digits.
 pub type Token = ShortText<32>;
+
+#[cfg(test)]
+mod door_tests;
+#[cfg(test)]
+mod name_table;
+#[cfg(test)]
+mod spawner_tests;
+#[cfg(test)]
+mod start_tests;
+#[cfg(test)]
+mod tests;

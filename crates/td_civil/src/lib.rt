@@ -1,15 +1,24 @@
 //! Moments, their texts, and the state of local time: what the service knows of calendar and clock.
+//! [`moment_of`] reads the text of a moment, and [`utc_text`] writes it: it is the one that
+//! `Spells` of `specs/Stamp.antt` ties to the moment.
 #![tactic(auto)]
 
+// Moments and the calendar.
 mod calendar;
-mod date_text;
 mod day_numbers;
+mod moment_type;
+
+// States of local time.
+mod local_time;
+
+// The texts of moments and dates, and why a text is none.
+mod date_text;
 mod digits;
 mod fields;
-mod laws;
-mod local_time;
 mod moment_text;
-mod moment_type;
+
+// Laws, and what may cross threads.
+mod laws;
 mod send_sync;
 
 pub use calendar::{CivilDate, date_of_day, day_of, year_of};

@@ -1,26 +1,39 @@
 //! The top call of the program: what its words, the files of its store and its input make it write,
-//! and with which status it ends. [`run`] is the call; what words call for and how a run ends are
-//! `specs/Ends.antt` and `specs/Ends.antt`.
+//! and with which status it ends. [`run`] is the call. What words call for is `CallsFor` of
+//! `specs/Ends.antt`, and how a run ends `RunEnds` of `specs/RunEnds.antt`.
 #![tactic(auto)]
 
-mod answering;
-mod checking;
+// A run: its words, and how it ends.
 mod command;
-mod console_beside;
-mod opening;
-mod operator;
 mod outcome;
+mod running;
+mod status;
+
+// Texts that end a run.
 mod printing;
 mod refusing;
-mod running;
-mod send_sync;
-mod server;
+
+// The commands over folders and files.
+mod checking;
+mod state_line;
+
+// One connection over the standard streams.
+mod answering;
+mod opening;
 mod serving;
 mod session;
-mod state_line;
-mod status;
+
+// The talk with an operator.
+mod operator;
 mod talking;
+
+// The doors of an address, with that talk beside them.
+mod console_beside;
+mod server;
 mod works;
+
+// What may cross threads.
+mod send_sync;
 
 pub use outcome::Outcome;
 pub use running::run;

@@ -6,9 +6,8 @@
 ghost use Rattle.std.specs.Prelude.{◌≡◌};
 ghost use Rattle.std.specs.Process.{exit_status};
 
+// The words of the command line, and what is said of a failure.
 mod complaint;
-#[cfg(test)]
-mod tests;
 mod words;
 
 use complaint::{Failures, complain};
@@ -66,3 +65,6 @@ fn exit_code(status: u8) -> ExitCode
 {
     ExitCode::from(status)
 }
+
+#[cfg(test)]
+mod tests;

@@ -4,20 +4,31 @@
 //! that plan.
 #![tactic(auto)]
 
-mod block;
-mod contents;
-mod counts;
-mod frame;
-mod header;
-mod laws;
-mod numbers;
+// A zone file, and why bytes are none.
 mod reading;
-mod send_sync;
-mod slim_file;
-mod text;
 mod tzif_fault;
 mod zone;
 mod zone_file;
+
+// Its frame: the header, the blocks and the footer.
+mod block;
+mod counts;
+mod frame;
+mod header;
+
+// What its fields may hold.
+mod contents;
+
+// Numbers and texts in bytes.
+mod numbers;
+mod text;
+
+// Files of plans.
+mod slim_file;
+
+// Laws, and what may cross threads.
+mod laws;
+mod send_sync;
 
 pub use laws::{leap_lines_fit, one_zone_file, slim_file_reads_back};
 pub use reading::read;

@@ -9,19 +9,16 @@
 //! `specs/Spelled.antt` says, gives the parts back.
 #![tactic(auto)]
 
-mod calendar_text;
-#[cfg(test)]
-mod form_rows;
-mod laws;
-#[cfg(test)]
-mod plans;
+// The parts of a zone.
 mod rule_parts;
-#[cfg(test)]
-mod test_rows;
-#[cfg(test)]
-mod tests;
-mod values;
 mod zone_parts;
+
+// The text of its calendar.
+mod calendar_text;
+mod values;
+
+// Laws.
+mod laws;
 
 pub use calendar_text::write;
 pub use laws::{
@@ -29,3 +26,12 @@ pub use laws::{
 };
 pub use recurrence::{Part, Range};
 pub use zone_parts::parts;
+
+#[cfg(test)]
+mod form_rows;
+#[cfg(test)]
+mod plans;
+#[cfg(test)]
+mod test_rows;
+#[cfg(test)]
+mod tests;

@@ -1,18 +1,29 @@
 //! Zones: a zone file (RFC 9636) together with what it means, the state of local time at each
 //! moment.
+//!
+//! [`zone_of`] makes the zone of a file, or gives `zone_fault` of `specs/Faults.antt`. [`at`] gives
+//! the state at a moment, which is `zone_state` of `specs/State.antt`, and [`observances`] the
+//! changes of it in a range, which are those of `specs/Observed.antt`.
 #![tactic(auto)]
 
-mod agreement;
-mod laws;
-mod lookup;
-mod observing;
+// A zone, read from its file, and why bytes are none.
 mod reading;
 mod release_data;
-mod send_sync;
-mod stepping;
-mod walk;
 mod zone_fault;
 mod zone_type;
+
+// Its state at a moment, and whether its footer goes on from its transitions.
+mod agreement;
+mod lookup;
+
+// The observances of a range.
+mod observing;
+mod stepping;
+mod walk;
+
+// Laws, and what may cross threads.
+mod laws;
+mod send_sync;
 
 pub use agreement::footer_agrees;
 pub use laws::{last_observance_tells_the_state, names_are_printable, observances_are_the_changes};
