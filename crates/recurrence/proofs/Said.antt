@@ -8,7 +8,7 @@ use Rattle.posix_footer.specs.Lawful.{IsLawful, IsLawfulRule, IsLawfulIfAny}
 use Rattle.posix_footer.specs.StateAt.{state_by}
 use Rattle.recurrence.specs.declared.rule_types.Carried.{Carried}
 use Rattle.recurrence.specs.declared.rule_types.Carried.TheVariants as value
-use Rattle.recurrence.specs.declared.rule_types.RuleBeyond.{RuleBeyond}
+use Rattle.recurrence.specs.declared.rule_fault.RuleBeyond.{RuleBeyond}
 use Rattle.recurrence.specs.Occurs.{Says}
 use Rattle.recurrence.specs.RuleOfDate.{rule_of, carried_if_any, carry_if_any, carry_of}
 use Rattle.recurrence.proofs.lemmas.AllYear.{all_year_daylight}

@@ -15,7 +15,7 @@ use Rattle.posix_footer.specs.Onset.{first_place}
 use Rattle.recurrence.specs.declared.rule_types.Form.{Form}
 use Rattle.recurrence.specs.declared.rule_types.Form.TheVariants as form
 use Rattle.recurrence.specs.declared.rule_types.Rule.{Rule}
-use Rattle.recurrence.specs.declared.rule_types.RuleBeyond.{RuleBeyond}
+use Rattle.recurrence.specs.declared.rule_fault.RuleBeyond.{RuleBeyond}
 use Rattle.recurrence.specs.declared.rule_types.Carried.{Carried}
 use Rattle.recurrence.specs.declared.rule_types.Carried.TheVariants as carried
 

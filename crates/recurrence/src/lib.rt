@@ -9,6 +9,7 @@
 
 // Rules, the parts of calendars, and footers that no rules say.
 mod part_types;
+mod rule_fault;
 mod rule_types;
 
 // Footers, carried to rules.
@@ -30,7 +31,8 @@ pub use laws::{
     steady_dates_are,
 };
 pub use part_types::{Part, Range};
-pub use rule_types::{Carried, Form, Rule, RuleBeyond};
+pub use rule_fault::RuleBeyond;
+pub use rule_types::{Carried, Form, Rule};
 pub use yearly::occurrence;
 
 #[cfg(test)]

@@ -1,5 +1,4 @@
 use td_civil::Local;
-use thiserror::Error;
 
 /// A day of each year, and a second of that day by the clocks in force before it.
 #[derive(Clone, Copy, Debug, PartialEq, Eq)]
@@ -38,9 +37,3 @@ pub enum Carried {
         end: Rule,
     },
 }
-
-/// No yearly rules say what the footer says: its dates move with leap years or with the turn of the
-/// year.
-#[derive(Clone, Copy, Debug, PartialEq, Eq, Error)]
-#[error("rule beyond")]
-pub struct RuleBeyond;

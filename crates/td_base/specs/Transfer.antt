@@ -4,8 +4,8 @@ use Rattle.std.specs.Prelude.{IsErrOf}
 use Rattle.std.specs.Io.KnownBytes.{Appends, Consumes, IsAtEnd}
 use Rattle.td_base.specs.Views.{SourceFailed, SinkFailed, SourceView, SinkView, ConnView}
 use Rattle.td_base.specs.Views.{IsSameConn, source_of, sink_of}
-use Rattle.td_base.specs.declared.transfer.SourceFault.{SourceFault}
-use Rattle.td_base.specs.declared.transfer.SourceFault.TheVariants as fault
+use Rattle.td_base.specs.declared.source_fault.SourceFault.{SourceFault}
+use Rattle.td_base.specs.declared.source_fault.SourceFault.TheVariants as fault
 use Rattle.td_base.specs.declared.transfer.Written.{Written}
 use Rattle.td_base.specs.declared.transfer.Written.TheVariants as written
 

@@ -9,7 +9,7 @@ ghost use Rattle.td_base.specs.Transfer.{IsWhole, ReadsTo, WritesAll, Sends};
 ghost use Rattle.td_base.specs.declared.outside.FileRead.{FileRead};
 ghost use Rattle.td_base.specs.declared.outside.ReadStep.{ReadStep};
 ghost use Rattle.td_base.specs.declared.outside.WriteStep.{WriteStep};
-ghost use Rattle.td_base.specs.declared.transfer.SourceFault.{SourceFault};
+ghost use Rattle.td_base.specs.declared.source_fault.SourceFault.{SourceFault};
 ghost use Rattle.td_base.specs.declared.transfer.Written.{Written};
 
 /// What is read of a source up to a limit is the prefix of all that it tells, so long.

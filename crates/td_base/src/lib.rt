@@ -20,6 +20,7 @@ mod name_forms;
 mod joined;
 mod outside;
 mod report;
+mod source_fault;
 mod transfer;
 
 // Doors, networks, and works in threads.
@@ -78,8 +79,9 @@ pub use outside::{Conn, FileRead, ReadStep, Sink, Source, Store, WriteStep};
 pub use report::{Ask, End, MOST_PLACES, Places, Report, Role};
 pub use running::Running;
 pub use short_text::ShortText;
+pub use source_fault::SourceFault;
 pub use spawner::{Begin, Spawner};
-pub use transfer::{SourceFault, Written, read_to_end, send_whole, write_whole};
+pub use transfer::{Written, read_to_end, send_whole, write_whole};
 pub use value::Value;
 pub use work::Work;
 

@@ -1,33 +1,10 @@
 ghost use Rattle.td_base.specs.Transfer.{ReadsTo, WritesAll, Sends};
 
-use crate::{Bytes, Conn, NoMemory, ReadStep, Sink, Source, WriteStep};
+use crate::{Bytes, Conn, ReadStep, Sink, Source, SourceFault, WriteStep};
 use std::alloc::Global;
-use thiserror::Error;
 
 /// How many bytes are asked of a source at a time.
 const ROOM: usize = 4096;
-
-/// Why a source was not read to its end.
-#[derive(Clone, Copy, Debug, PartialEq, Eq, Error)]
-pub enum SourceFault {
-    /// There is no memory for the bytes.
-    #[error("out of memory")]
-    NoMemory,
-    /// The source failed.
-    #[error("a read failed")]
-    Failed,
-}
-
-impl From<NoMemory> for SourceFault {
-    ghost use Rattle.std.specs.Prelude.{◌≡◌};
-    ghost use Rattle.td_base.specs.declared.transfer.SourceFault.TheVariants as fault;
-
-    ghost from_gives = { λ _ e. e ≡ fault.NoMemory };
-
-    fn from(_: NoMemory) -> Self {
-        SourceFault::NoMemory
-    }
-}
 
 /// How a whole piece was written.
 #[derive(Clone, Copy, Debug, PartialEq, Eq)]

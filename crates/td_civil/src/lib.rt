@@ -15,6 +15,7 @@ mod local_time;
 mod date_text;
 mod digits;
 mod fields;
+mod moment_fault;
 mod moment_text;
 
 // Laws, and what may cross threads.
@@ -28,7 +29,8 @@ pub use laws::{
     years_apart,
 };
 pub use local_time::{Local, Name, Observance};
-pub use moment_text::{BadMoment, local_stamp, moment_of, utc_text};
+pub use moment_fault::BadMoment;
+pub use moment_text::{local_stamp, moment_of, utc_text};
 pub use moment_type::{HI, LO, Moment};
 
 #[cfg(test)]

@@ -6,15 +6,8 @@ ghost use Rattle.td_civil.specs.Calendar.{text_of, local_text_of};
 ghost use Rattle.td_civil.specs.Reading.{moment_in};
 ghost use Rattle.td_civil.specs.Answer.{moment_read};
 
-use crate::Moment;
 use crate::fields::Fields;
-use thiserror::Error;
-
-/// The text is not `YYYY-MM-DDTHH:MM:SSZ` of an existing date and time of day (RFC 3339, section
-/// 5.6).
-#[derive(Clone, Copy, Debug, PartialEq, Eq, Error)]
-#[error("bad moment")]
-pub struct BadMoment;
+use crate::{BadMoment, Moment};
 
 /// The moment that a text `YYYY-MM-DDTHH:MM:SSZ` spells, in the years 0000 to 9999.
 pub fn moment_of(text: &[u8]) -> Result<Moment, BadMoment>

@@ -6,7 +6,7 @@ use Rattle.posix_footer.specs.declared.rule_types.DstRule.{DstRule}
 use Rattle.posix_footer.specs.declared.rule_types.Footer.{Footer}
 use Rattle.posix_footer.specs.Carried.{is_all_year, is_carried_rule}
 use Rattle.recurrence.specs.declared.rule_types.Rule.{Rule}
-use Rattle.recurrence.specs.declared.rule_types.RuleBeyond.{RuleBeyond}
+use Rattle.recurrence.specs.declared.rule_fault.RuleBeyond.{RuleBeyond}
 use Rattle.recurrence.specs.declared.rule_types.Carried.{Carried}
 use Rattle.recurrence.specs.declared.rule_types.Carried.TheVariants as value
 use Rattle.recurrence.specs.RuleOfDate.{rule_of, carry_if_any, carry_of}

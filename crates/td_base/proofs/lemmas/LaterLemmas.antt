@@ -16,7 +16,7 @@ use Rattle.td_base.specs.declared.outside.ReadStep.TheVariants as read
 use Rattle.td_base.specs.declared.outside.WriteStep.{WriteStep}
 use Rattle.td_base.specs.declared.outside.WriteStep.TheVariants as write
 use Rattle.td_base.specs.declared.outside.FileRead.{FileRead}
-use Rattle.td_base.specs.declared.transfer.SourceFault.{SourceFault}
+use Rattle.td_base.specs.declared.source_fault.SourceFault.{SourceFault}
 use Rattle.td_base.specs.declared.transfer.Written.{Written}
 use Rattle.td_base.specs.declared.transfer.Written.TheVariants as written
 
