@@ -118,7 +118,7 @@ impl Lines {
     /// The line of the first `len` bytes, without memory unless it is to install.
     fn read_first(&self, len: usize) -> Result<Line, NoMemory>
         requires { len ≤ length self.now }
-        ensures ok { IfOk result (λ line. line ≡ line_of (take len self.now)) }
+        ensures found { IfOk result (λ line. line ≡ line_of (take len self.now)) }
         ensures memory { OnErr result (IsInstall (line_of (take len self.now))) }
     {
         read_line(*self.bytes.allocator(), &self.as_slice()[..len])

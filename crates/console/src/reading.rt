@@ -12,7 +12,7 @@ pub const MOST_BYTES: usize = 1_100;
 /// The line of the bytes before a line feed.
 #[tactic(auto, unfolding(crate::specs::Lines::line_of))]
 pub fn read_line(alloc: Global, bytes: &[u8]) -> Result<Line, NoMemory>
-    ensures ok { IfOk result (λ line. line ≡ spec.line_of bytes.now) }
+    ensures found { IfOk result (λ line. line ≡ spec.line_of bytes.now) }
     ensures memory { OnErr result (spec.IsInstall (spec.line_of bytes.now)) }
 {
     if bytes.len() > MOST_BYTES {
@@ -31,7 +31,7 @@ fn without_return(bytes: &[u8]) -> &[u8]
 /// The line of a text without an end.
 #[tactic(auto, unfolding(crate::specs::Lines::asked_in))]
 fn read_command(alloc: Global, text: &[u8]) -> Result<Line, NoMemory>
-    ensures ok { IfOk result (λ line. line ≡ spec.asked_in text.now) }
+    ensures found { IfOk result (λ line. line ≡ spec.asked_in text.now) }
     ensures memory { OnErr result (spec.IsInstall (spec.asked_in text.now)) }
 {
     if text == b"sync".as_slice() {
@@ -48,7 +48,7 @@ fn read_command(alloc: Global, text: &[u8]) -> Result<Line, NoMemory>
 
 /// The line of a text that is none of the single words.
 fn read_install(alloc: Global, text: &[u8]) -> Result<Line, NoMemory>
-    ensures ok { IfOk result (λ line. line ≡ spec.install_of text.now) }
+    ensures found { IfOk result (λ line. line ≡ spec.install_of text.now) }
     ensures memory { OnErr result (spec.IsInstall (spec.install_of text.now)) }
 {
     match text.strip_prefix(b"install ") {

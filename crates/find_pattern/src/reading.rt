@@ -34,8 +34,8 @@ fn first_piece(left: &[u8]) -> Piece
 /// The pattern that a text is read as, or the place of the first fault.
 #[tactic(auto, unfolding(crate::specs::Patterns::pattern))]
 pub fn read(alloc: Global, text: &[u8]) -> Result<Pattern, BadPattern>
-    ensures ok { IfOk result (λ p. patterns.pattern text.now ≡ Ok p) }
-    ensures refused { IfErr result
+    ensures found { IfOk result (λ p. patterns.pattern text.now ≡ Ok p) }
+    ensures fault { IfErr result
         (λ fault. fault ≢ BadPattern.NoMemory → patterns.pattern text.now ≡ Err fault) }
 {
     match text {
@@ -55,8 +55,8 @@ pub fn read(alloc: Global, text: &[u8]) -> Result<Pattern, BadPattern>
 /// What the text is read as from a place on, where a star can only be the last.
 fn read_from(alloc: Global, text: &[u8], start: usize) -> Result<Pattern, BadPattern>
     requires { start ≤ length text.now }
-    ensures ok { IfOk result (λ p. patterns.read_from start (drop start text.now) ≡ Ok p) }
-    ensures refused { IfErr result
+    ensures found { IfOk result (λ p. patterns.read_from start (drop start text.now) ≡ Ok p) }
+    ensures fault { IfErr result
         (λ fault. fault ≢ BadPattern.NoMemory
         → patterns.read_from start (drop start text.now) ≡ Err fault) }
 {

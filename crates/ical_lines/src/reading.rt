@@ -14,8 +14,8 @@ use td_base::{Bytes, Items, NoMemory};
 /// A line that begins with a space or a tab goes on with the one before it. A first line that does
 /// has none before it and stays as it is. An empty line is a line.
 pub fn unfold(alloc: Global, text: &[u8]) -> Result<Items<Bytes>, BadLine>
-    ensures ok { IfOk result (λ lines. spec.unfolded text.now ≡ Ok lines) }
-    ensures refused { IfErr result
+    ensures found { IfOk result (λ lines. spec.unfolded text.now ≡ Ok lines) }
+    ensures fault { IfErr result
         (λ fault. fault ≢ BadLine.NoMemory → spec.unfolded text.now ≡ Err fault) }
 {
     let mut lines = Items::new(alloc);

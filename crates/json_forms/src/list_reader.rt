@@ -19,7 +19,7 @@ use td_civil::{Moment, moment_of};
 /// ignored, and of a member given twice the last one counts.
 pub fn read_list(alloc: Global, bytes: &[u8]) -> Result<ListDoc, BadList>
     ensures found { IfOk result (λ list. reading.IsListText bytes.now list) }
-    ensures bad { IfErr result
+    ensures fault { IfErr result
         (λ e. e ≢ bad.NoMemory → reading.text_fault bytes.now ≡ Some (fault_place e)) }
 {
     match read_value(alloc, bytes)? {
@@ -30,9 +30,9 @@ pub fn read_list(alloc: Global, bytes: &[u8]) -> Result<ListDoc, BadList>
 
 /// The list that a value is.
 fn list_in(alloc: Global, value: &Value) -> Result<ListDoc, BadList>
-    ensures sound { IfOk result (λ _. reading.list_fault (view value.now) ≡ None) }
-    ensures is { IfOk result (λ list. list ≡ reading.list_of (view value.now)) }
-    ensures bad { IfErr result
+    ensures no_fault { IfOk result (λ _. reading.list_fault (view value.now) ≡ None) }
+    ensures found { IfOk result (λ list. list ≡ reading.list_of (view value.now)) }
+    ensures fault { IfErr result
         (λ e. e ≢ bad.NoMemory → reading.list_fault (view value.now) ≡ Some (fault_place e)) }
 {
     match list_fault(value) {

@@ -150,7 +150,7 @@ fn read_manifest<S: Store>(alloc: Global, dir: &[u8], store: &mut S) -> Result<M
 /// The manifest of a text.
 fn manifest_in(alloc: Global, text: &Bytes) -> Result<Manifest, CheckFault>
     ensures found { IfOk result (IsManifestText text.now) }
-    ensures refused { IfErr result (RefusesText text.now) }
+    ensures fault { IfErr result (RefusesText text.now) }
 {
     match release_manifest::read(alloc, text.as_slice()) {
         Ok(manifest) => Ok(manifest),

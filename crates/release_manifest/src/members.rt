@@ -53,7 +53,7 @@ pub(crate) fn read_text(
     name: &str,
     path: Path,
 ) -> Result<Bytes, ManifestFault>
-    ensures is { IfOk result
+    ensures found { IfOk result
         (λ b. option_and_then as_str (get name.now (view object.now)) ≡ Some b) }
     ensures judged { JudgesChecks result (text_checks path (get name.now (view object.now))) }
 {
@@ -69,7 +69,7 @@ pub(crate) fn read_label(
     name: &str,
     path: Path,
 ) -> Result<Bytes, ManifestFault>
-    ensures is { IfOk result (λ b. IsForm has_label_form (get name.now (view object.now)) b) }
+    ensures found { IfOk result (λ b. IsForm has_label_form (get name.now (view object.now)) b) }
     ensures judged { JudgesChecks result
         (form_checks has_label_form path (get name.now (view object.now))) }
 {
@@ -87,7 +87,7 @@ pub(crate) fn read_file_name(
     object: &Value,
     path: Path,
 ) -> Result<Bytes, ManifestFault>
-    ensures is { IfOk result
+    ensures found { IfOk result
         (λ b. IsForm has_file_name_form (get (codes "file") (view object.now)) b) }
     ensures judged { JudgesChecks result
         (form_checks has_file_name_form path (get (codes "file") (view object.now))) }
@@ -102,7 +102,7 @@ pub(crate) fn read_file_name(
 /// The moment of the release, within the bounds for which local time is known.
 #[tactic(auto, unfolding(crate::specs::Checks::form_checks, crate::specs::Checks::is_stamp_text))]
 pub(crate) fn read_stamp(object: &Value) -> Result<Moment, ManifestFault>
-    ensures is { IfOk result (λ m. IsStampOf (get (codes "stamp") (view object.now)) m) }
+    ensures found { IfOk result (λ m. IsStampOf (get (codes "stamp") (view object.now)) m) }
     ensures judged { JudgesChecks result
         (form_checks is_stamp_text path.Stamp (get (codes "stamp") (view object.now))) }
 {
@@ -116,7 +116,7 @@ pub(crate) fn read_stamp(object: &Value) -> Result<Moment, ManifestFault>
 /// The date from which the leap seconds are out of date.
 #[tactic(auto, unfolding(crate::specs::Checks::form_checks))]
 pub(crate) fn read_expiry(alloc: Global, object: &Value) -> Result<Bytes, ManifestFault>
-    ensures is { IfOk result
+    ensures found { IfOk result
         (λ b. IsForm is_date_text (get (codes "expires") (view object.now)) b) }
     ensures judged { JudgesChecks result
         (form_checks is_date_text path.Expires (get (codes "expires") (view object.now))) }

@@ -62,7 +62,7 @@ fn refusal(error: &Error) -> ManifestFault
 
 /// The manifest that a value is.
 fn read_manifest(alloc: Global, value: &Value) -> Result<Manifest, ManifestFault>
-    ensures is { IfOk result (λ m. IsManifest (view value.now) m) }
+    ensures found { IfOk result (λ m. IsManifest (view value.now) m) }
     ensures judged { JudgesChecks result (manifest_checks (view value.now)) }
 {
     check_object(value, Path::Whole)?;
@@ -83,7 +83,7 @@ fn read_manifest(alloc: Global, value: &Value) -> Result<Manifest, ManifestFault
 /// The leap seconds, of which there are none where the member is left out.
 #[tactic(auto, unfolding(crate::specs::Checks::leap_checks))]
 fn read_leaps(alloc: Global, manifest: &Value) -> Result<Option<ManifestLeaps>, ManifestFault>
-    ensures is { IfOk result
+    ensures found { IfOk result
         (λ leaps. AreLeaps (get (codes "leapseconds") (view manifest.now)) leaps) }
     ensures judged { JudgesChecks result
         (leap_checks (get (codes "leapseconds") (view manifest.now))) }
@@ -97,7 +97,7 @@ fn read_leaps(alloc: Global, manifest: &Value) -> Result<Option<ManifestLeaps>, 
 /// The leap seconds that a value is.
 #[tactic(auto, unfolding(crate::specs::Checks::leap_checks))]
 fn read_leap_members(alloc: Global, leaps: &Value) -> Result<ManifestLeaps, ManifestFault>
-    ensures is { IfOk result (λ l. IsLeaps (view leaps.now) l) }
+    ensures found { IfOk result (λ l. IsLeaps (view leaps.now) l) }
     ensures judged { JudgesChecks result (leap_checks (Some (view leaps.now))) }
 {
     check_object(leaps, Path::Leaps)?;

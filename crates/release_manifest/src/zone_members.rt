@@ -19,7 +19,7 @@ pub(crate) fn read_zones(
     alloc: Global,
     manifest: &Value,
 ) -> Result<Items<ManifestZone>, ManifestFault>
-    ensures is { IfOk result (λ zs. AreZonesOf (get (codes "zones") (view manifest.now)) zs) }
+    ensures found { IfOk result (λ zs. AreZonesOf (get (codes "zones") (view manifest.now)) zs) }
     ensures judged { JudgesChecks result (zones_checks (get (codes "zones") (view manifest.now))) }
 {
     match manifest.get("zones").and_then(Value::as_array) {
@@ -30,7 +30,7 @@ pub(crate) fn read_zones(
 
 /// The zones of the list.
 fn read_each_zone(alloc: Global, list: &[Value]) -> Result<Items<ManifestZone>, ManifestFault>
-    ensures is { IfOk result (λ zs. AllAre IsZone (items_view list.now) zs) }
+    ensures found { IfOk result (λ zs. AllAre IsZone (items_view list.now) zs) }
     ensures judged { JudgesChecks result (each_checks zone_checks 0 (items_view list.now)) }
 {
     let mut zones = Items::new(alloc);
@@ -43,7 +43,7 @@ fn read_each_zone(alloc: Global, list: &[Value]) -> Result<Items<ManifestZone>, 
 /// A zone, by its number in the list.
 #[tactic(auto, unfolding(crate::specs::Checks::zone_checks))]
 fn read_zone(alloc: Global, zone: &Value, number: usize) -> Result<ManifestZone, ManifestFault>
-    ensures is { IfOk result (λ z. IsZone (view zone.now) z) }
+    ensures found { IfOk result (λ z. IsZone (view zone.now) z) }
     ensures judged { JudgesChecks result (zone_checks number (view zone.now)) }
 {
     check_object(zone, Path::Zone(number))?;
@@ -60,7 +60,8 @@ fn read_zone(alloc: Global, zone: &Value, number: usize) -> Result<ManifestZone,
 /// The aliases of a zone, of which there are none where the member is left out.
 #[tactic(auto, unfolding(crate::specs::Checks::alias_checks))]
 fn read_aliases(alloc: Global, zone: &Value, number: usize) -> Result<Items<Bytes>, ManifestFault>
-    ensures is { IfOk result (λ texts. AreAliases (get (codes "aliases") (view zone.now)) texts) }
+    ensures found { IfOk result
+        (λ texts. AreAliases (get (codes "aliases") (view zone.now)) texts) }
     ensures judged { JudgesChecks result
         (alias_checks number (get (codes "aliases") (view zone.now))) }
 {
@@ -79,7 +80,7 @@ fn read_each_alias(
     list: &[Value],
     zone: usize,
 ) -> Result<Items<Bytes>, ManifestFault>
-    ensures is { IfOk result (λ texts. AllAre IsText (items_view list.now) texts) }
+    ensures found { IfOk result (λ texts. AllAre IsText (items_view list.now) texts) }
     ensures judged { JudgesChecks result (each_checks
         (λ n alias. text_checks (path.Alias zone n) (Some alias)) 0 (items_view list.now)) }
 {
@@ -93,7 +94,7 @@ fn read_each_alias(
 /// An alias.
 #[tactic(auto, unfolding(crate::specs::Checks::text_checks))]
 fn read_alias(alloc: Global, value: &Value, path: Path) -> Result<Bytes, ManifestFault>
-    ensures is { IfOk result (λ text. IsText (view value.now) text) }
+    ensures found { IfOk result (λ text. IsText (view value.now) text) }
     ensures judged { JudgesChecks result (text_checks path (Some (view value.now))) }
 {
     match value.as_str() {

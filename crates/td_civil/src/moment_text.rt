@@ -12,7 +12,7 @@ use crate::{BadMoment, Moment};
 /// The moment that a text `YYYY-MM-DDTHH:MM:SSZ` spells, in the years 0000 to 9999.
 pub fn moment_of(text: &[u8]) -> Result<Moment, BadMoment>
     ensures found { IfOk result (λ m. Spells text.now m.seconds) }
-    ensures bad { OnErr result ((m : ℤ) → ¬ Spells text.now m) }
+    ensures fault { OnErr result ((m : ℤ) → ¬ Spells text.now m) }
     ensures exact { moment_read result ≡ moment_in text.now }
 {
     match seconds_in(text) {

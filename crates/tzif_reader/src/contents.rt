@@ -147,8 +147,8 @@ fn is_late(times: &[u8], timecnt: usize) -> bool
 #[tactic(auto, using(td_base::proofs::lemmas::FaultLemmas::sooner, td_base::proofs::lemmas::FaultLemmas::later, td_base::proofs::lemmas::FaultLemmas::neither), unfolding(crate::specs::Faults::contents_fault))]
 pub fn check(counts: &Counts, block: &Block) -> Result<(), TzifFault>
     requires { AreSized counts.now (parts_view block.now) }
-    ensures ok { OnOk result (contents_fault counts.now (parts_view block.now) ≡ None) }
-    ensures err { IfErr result (λ e. contents_fault counts.now (parts_view block.now) ≡ Some e) }
+    ensures no_fault { OnOk result (contents_fault counts.now (parts_view block.now) ≡ None) }
+    ensures fault { IfErr result (λ e. contents_fault counts.now (parts_view block.now) ≡ Some e) }
 {
     let timecnt = counts.timecnt as usize;
     let typecnt = counts.typecnt as usize;

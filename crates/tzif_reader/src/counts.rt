@@ -46,8 +46,8 @@ impl Counts {
     /// Whether a block may have these counts.
     #[tactic(auto, unfolding(crate::specs::Faults::counts_fault))]
     pub fn check(&self) -> Result<(), TzifFault>
-        ensures ok { OnOk result (counts_fault self.now ≡ None) }
-        ensures err { IfErr result (λ e. counts_fault self.now ≡ Some e) }
+        ensures no_fault { OnOk result (counts_fault self.now ≡ None) }
+        ensures fault { IfErr result (λ e. counts_fault self.now ≡ Some e) }
     {
         if self.typecnt == 0 || self.charcnt == 0 {
             return Err(TzifFault::Counts);

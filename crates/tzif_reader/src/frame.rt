@@ -19,13 +19,13 @@ pub struct Frame {
 /// Goes over the headers and the blocks. Of the first block it looks at nothing but its length.
 #[tactic(auto, using(td_base::proofs::lemmas::FaultLemmas::sooner, td_base::proofs::lemmas::FaultLemmas::later, td_base::proofs::lemmas::FaultLemmas::neither), unfolding(crate::specs::Faults::frame_fault, crate::specs::Cut::counts_of, crate::specs::Cut::block_place))]
 pub fn frame_of(bytes: &[u8]) -> Result<Frame, TzifFault>
-    ensures fault { IfOk result (λ f. frame_fault bytes.now ≡ None) }
+    ensures no_fault { IfOk result (λ f. frame_fault bytes.now ≡ None) }
     ensures counts { IfOk result (λ f. f.counts ≡ counts_of bytes.now) }
     ensures block { IfOk result (λ f. f.block_at ≡ block_place bytes.now) }
     ensures footer { IfOk result (λ f. f.footer_at ≡ footer_place bytes.now) }
     ensures room { IfOk result (λ f. f.footer_at ≤ length bytes.now) }
     ensures size { IfOk result (λ f. f.footer_at ≡ f.block_at + second_block_size f.counts) }
-    ensures err { IfErr result (λ e. frame_fault bytes.now ≡ Some e) }
+    ensures fault { IfErr result (λ e. frame_fault bytes.now ≡ Some e) }
 {
     if bytes.len() > MOST_BYTES {
         return Err(TzifFault::TooLarge);

@@ -19,9 +19,9 @@ pub struct Header {
 /// The place after so many bytes, where the file has them.
 pub fn room(bytes: &[u8], place: usize, size: u64) -> Result<usize, TzifFault>
     requires { place ≤ length bytes.now }
-    ensures ok { IfOk result (λ end. (end ≡ place + size) × (end ≤ length bytes.now)
+    ensures found { IfOk result (λ end. (end ≡ place + size) × (end ≤ length bytes.now)
         × (room_fault place size bytes.now ≡ None)) }
-    ensures err { IfErr result (λ e. room_fault place size bytes.now ≡ Some e) }
+    ensures fault { IfErr result (λ e. room_fault place size bytes.now ≡ Some e) }
 {
     if ((bytes.len() - place) as u64) < size {
         return Err(TzifFault::Short(place));
@@ -47,11 +47,11 @@ fn counts_in(header: &[u8]) -> Counts
 #[tactic(auto, unfolding(crate::specs::Faults::header_fault))]
 pub fn header_at(bytes: &[u8], place: usize) -> Result<Header, TzifFault>
     requires { place ≤ length bytes.now }
-    ensures fault { IfOk result (λ h. header_fault place bytes.now ≡ None) }
+    ensures no_fault { IfOk result (λ h. header_fault place bytes.now ≡ None) }
     ensures room { IfOk result (λ h. place + 44 ≤ length bytes.now) }
     ensures version { IfOk result (λ h. h.version ≡ version_in (piece place 44 bytes.now)) }
     ensures counts { IfOk result (λ h. h.counts ≡ counts_in (piece place 44 bytes.now)) }
-    ensures err { IfErr result (λ e. header_fault place bytes.now ≡ Some e) }
+    ensures fault { IfErr result (λ e. header_fault place bytes.now ≡ Some e) }
 {
     room(bytes, place, HEADER_LEN as u64)?;
     let header = piece(bytes, place, HEADER_LEN);

@@ -18,9 +18,9 @@ use std::alloc::Global;
 fn footer_at(bytes: &[u8], place: usize) -> Result<&[u8], TzifFault>
     requires place { place ≡ footer_place bytes.now }
     requires room { place ≤ length bytes.now }
-    ensures fault { OnOk result (footer_fault bytes.now ≡ None) }
+    ensures no_fault { OnOk result (footer_fault bytes.now ≡ None) }
     ensures text { IfOk result (λ text. footer_of bytes.now ≡ Some text.now) }
-    ensures err { IfErr result (λ e. footer_fault bytes.now ≡ Some e) }
+    ensures fault { IfErr result (λ e. footer_fault bytes.now ≡ Some e) }
 {
     let (_, rest) = bytes.split_at(place);
     match text_between(rest) {

@@ -17,9 +17,9 @@ use tzif_reader::ZoneFile;
 /// whose footer is neither empty nor a TZ string (RFC 9636, section 3.3).
 #[tactic(auto, using(crate::proofs::Refusals::file_refused_as))]
 pub fn zone_of(alloc: Global, file: Bytes) -> Result<Zone, ZoneFault>
-    ensures ok { IfOk result (λ z. z ≡ file) }
+    ensures found { IfOk result (λ z. z ≡ file) }
     ensures no_fault { OnOk result (zone_fault file ≡ None) }
-    ensures err { IfErr result (λ e. e ≢ ZoneFault.NoMemory → zone_fault file ≡ Some e) }
+    ensures fault { IfErr result (λ e. e ≢ ZoneFault.NoMemory → zone_fault file ≡ Some e) }
 {
     let lists = tzif_reader::read(alloc, file.as_slice())?;
     let zone = zone_from_lists(file, lists)?;
@@ -31,9 +31,9 @@ pub fn zone_of(alloc: Global, file: Bytes) -> Result<Zone, ZoneFault>
 pub fn zone_from_lists(file: Bytes, lists: ZoneFile) -> Result<Zone, FooterFault>
     requires no_fault { first_fault file ≡ None }
     requires lists { lists ≡ cut.lists_of file }
-    ensures ok { IfOk result (λ z. z ≡ file) }
+    ensures found { IfOk result (λ z. z ≡ file) }
     ensures no_fault { OnOk result (zone_fault file ≡ None) }
-    ensures err { IfErr result (λ e. zone_fault file ≡ Some (ZoneFault.Footer e)) }
+    ensures fault { IfErr result (λ e. zone_fault file ≡ Some (ZoneFault.Footer e)) }
 {
     let footer = footer_in(&lists.footer)?;
     Ok(Zone {
@@ -45,10 +45,10 @@ pub fn zone_from_lists(file: Bytes, lists: ZoneFile) -> Result<Zone, FooterFault
 
 /// The footer that a text spells, if there is a text.
 fn footer_in(text: &Bytes) -> Result<Option<Footer>, FooterFault>
-    ensures ok { IfOk result (λ f. f ≡ footer_meant text.now) }
+    ensures found { IfOk result (λ f. f ≡ footer_meant text.now) }
     ensures lawful { IfOk result (λ f. IfSome f IsLawful) }
     ensures no_fault { OnOk result (footer_text_fault text.now ≡ None) }
-    ensures err { IfErr result (λ e. footer_text_fault text.now ≡ Some e) }
+    ensures fault { IfErr result (λ e. footer_text_fault text.now ≡ Some e) }
 {
     if text.len() == 0 {
         return Ok(None);

@@ -15,19 +15,19 @@ pieces-preserved c =
           (c.in-Byte.ensures.piece ∙ ap first_piece (take_rest text c.pieces.at)));
     }
 
-pub returns-in-LastStar-clause-ok : goal.returns-in-LastStar-clause-ok
-returns-in-LastStar-clause-ok c =
+pub returns-in-LastStar-clause-found : goal.returns-in-LastStar-clause-found
+returns-in-LastStar-clause-found c =
     let text = c.args.text.now in
     let more : 0 < length (drop c.pieces.at text) = rw length-drop (omega arith) in
     at_last_star text c.pieces.literal c.pieces.at _ c.pieces.invariant.so_far more
     (c.in-LastStar.ensures.piece ∙ ap first_piece (take_rest text c.pieces.at)) ∙ ap Ok (sym c.plain.ensures)
 
-pub returns-in-Fault-clause-refused : goal.returns-in-Fault-clause-refused
-returns-in-Fault-clause-refused c =
+pub returns-in-Fault-clause-fault : goal.returns-in-Fault-clause-fault
+returns-in-Fault-clause-fault c =
     let text = c.args.text.now in
     let more : 0 < length (drop c.pieces.at text) = rw length-drop (omega arith) in
     λ _. at_fault text c.pieces.literal c.pieces.at _ c.pieces.invariant.so_far more (c.in-Fault.ensures.piece ∙ ap first_piece (take_rest text c.pieces.at))
 
-pub returns-clause-ok : goal.returns-clause-ok
-returns-clause-ok c =
+pub returns-clause-found : goal.returns-clause-found
+returns-clause-found c =
     at_end c.args.text.now c.pieces.literal c.pieces.at _ c.pieces.invariant.so_far (omega arith) ∙ ap Ok (sym c.plain-2.ensures)

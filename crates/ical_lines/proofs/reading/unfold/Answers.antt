@@ -3,8 +3,8 @@ use Rattle.ical_lines.specs.LineLengths.{joined_with}
 use Rattle.ical_lines.proofs.LineLemmas.{whole, not_whole, refused_at, next_place, next_contents, all_read}
 use Rattle.ical_lines.proofs.reading.unfold.Goals as goal
 
-pub returns-in_default-clause-refused : goal.returns-in_default-clause-refused
-returns-in_default-clause-refused c =
+pub returns-in_default-clause-fault : goal.returns-in_default-clause-fault
+returns-in_default-clause-fault c =
     let left = c.lines.left.now in
     let more : 0 < length left = search rules in
     let first_is = c.split_at.ensures.front ∙ ap (λ n. take n left) c.first_line_len.ensures.len in
@@ -25,8 +25,8 @@ lines-preserved c =
       read = c.in_ok-add_line.ensures _ ∙ ap (λ ls. c.lines.lines ++ joined_with c.lines.begun ls) contents ∙ c.lines.invariant.read;
     }
 
-pub returns-clause-ok : goal.returns-clause-ok
-returns-clause-ok c =
+pub returns-clause-found : goal.returns-clause-found
+returns-clause-found c =
     let end : length c.lines.left.now ≡ 0 = search rules in
     all_read c.args.text.now c.lines.left.now _ c.lines.lines c.lines.begun end c.lines.invariant.places c.lines.invariant.read
     ∙ ap Ok (sym c.in_ok-lines.ensures)

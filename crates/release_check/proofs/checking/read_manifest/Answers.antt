@@ -12,8 +12,8 @@ pub returns-in_err-manifest-clause-found : goal.returns-in_err-manifest-clause-f
 returns-in_err-manifest-clause-found g c = λ before.
     let p = err_from_is_err_and c.from_residual-in_err-manifest.result c.from_residual-in_err-manifest.ensures.1 in
     rw (p.1, p.2) (finds_as _ _ _ _ _ _
-    (λ files. manifest_refused files c.args.dir.now before c.in_ok-text.text _ c.in_err-manifest.ensures.refused)
-    (λ e. absurd (c.in_err-manifest.ensures.refused.0 (err_is _ _ e)))
+    (λ files. manifest_refused files c.args.dir.now before c.in_ok-text.text _ c.in_err-manifest.ensures.fault)
+    (λ e. absurd (c.in_err-manifest.ensures.fault.0 (err_is _ _ e)))
     c.in_ok-text.ensures)
 
 pub returns-clause-found : goal.returns-clause-found

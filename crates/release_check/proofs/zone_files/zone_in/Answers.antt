@@ -23,7 +23,7 @@ returns-in-Err-zone_from_lists-clause-judged c =
       λ e. cc,
       λ _. file_fault-footer c.args.number c.args.file _ none
           (no_leaps c.args.file c.in-Ok.lists (c.in-Ok.ensures.exact ∙ ap lists_of c.as_slice.ensures) (omega arith))
-          c.in-Err-zone_from_lists.ensures.err,
+          c.in-Err-zone_from_lists.ensures.fault,
     )
 
 pub returns-in_err-judge_zone-clause-judged : goal.returns-in_err-judge_zone-clause-judged
@@ -35,7 +35,7 @@ returns-in_err-judge_zone-clause-judged c =
     c.in-Ok-zone_from_lists.ensures.no_fault in
     rw (p.1, p.2) (
       c.in_err-judge_zone.ensures.judged.0,
-      λ ne. is ∙ ap (meaning_fault c.args.number) (sym c.in-Ok-zone_from_lists.ensures.ok)
+      λ ne. is ∙ ap (meaning_fault c.args.number) (sym c.in-Ok-zone_from_lists.ensures.found)
           ∙ c.in_err-judge_zone.ensures.judged.1 ne,
     )
 
@@ -45,12 +45,12 @@ returns-clause-judged c =
     file_fault-meant c.args.number c.args.file none
     (no_leaps c.args.file c.in-Ok.lists (c.in-Ok.ensures.exact ∙ ap lists_of c.as_slice.ensures) (omega arith))
     c.in-Ok-zone_from_lists.ensures.no_fault
-    ∙ ap (meaning_fault c.args.number) (sym c.in-Ok-zone_from_lists.ensures.ok) ∙ c.in_ok-judge_zone.ensures.judged
+    ∙ ap (meaning_fault c.args.number) (sym c.in-Ok-zone_from_lists.ensures.found) ∙ c.in_ok-judge_zone.ensures.judged
 
 pub returns-clause-zone : goal.returns-clause-zone
 returns-clause-zone c = (
-  c.in-Ok-zone_from_lists.ensures.ok,
+  c.in-Ok-zone_from_lists.ensures.found,
   sound_zone c.args.number c.args.file c.in-Ok-zone_from_lists.ensures.no_fault
       (no_leaps c.args.file c.in-Ok.lists (c.in-Ok.ensures.exact ∙ ap lists_of c.as_slice.ensures) (omega arith))
-      (ap (meaning_fault c.args.number) (sym c.in-Ok-zone_from_lists.ensures.ok) ∙ c.in_ok-judge_zone.ensures.judged),
+      (ap (meaning_fault c.args.number) (sym c.in-Ok-zone_from_lists.ensures.found) ∙ c.in_ok-judge_zone.ensures.judged),
 )

@@ -23,10 +23,10 @@ returns-clause-fault c = member_fault _ _ _ c.if-bytes-gt-MOST_BYTES.false c.in_
 
 pub returns-clause-only : goal.returns-clause-only
 returns-clause-only c =
-    found_unless _ _ (manifest_found _ _ _ c.if-bytes-gt-MOST_BYTES.false c.in_ok-value.ensures c.read_manifest.ensures.is)
+    found_unless _ _ (manifest_found _ _ _ c.if-bytes-gt-MOST_BYTES.false c.in_ok-value.ensures c.read_manifest.ensures.found)
     (member_fault _ _ _ c.if-bytes-gt-MOST_BYTES.false c.in_ok-value.ensures c.read_manifest.ensures.judged)
 
 pub returns-clause-refused : goal.returns-clause-refused
 returns-clause-refused c =
-    refused_unless _ _ (manifest_found _ _ _ c.if-bytes-gt-MOST_BYTES.false c.in_ok-value.ensures c.read_manifest.ensures.is)
+    refused_unless _ _ (manifest_found _ _ _ c.if-bytes-gt-MOST_BYTES.false c.in_ok-value.ensures c.read_manifest.ensures.found)
     (member_fault _ _ _ c.if-bytes-gt-MOST_BYTES.false c.in_ok-value.ensures c.read_manifest.ensures.judged)

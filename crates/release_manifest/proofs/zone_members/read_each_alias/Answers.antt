@@ -13,13 +13,13 @@ returns-in_err-read_alias-clause-judged c =
 pub loop-number-preserved : goal.loop-number-preserved
 loop-number-preserved c = record {
   is = λ rest all. rw c.in_ok-push.ensures.ok (next_is _ _ _ _ _ _ c.loop-number-test.true c.index-list-number.is
-      c.loop-number.invariant.is c.in_ok-read_alias.ensures.is rest all);
+      c.loop-number.invariant.is c.in_ok-read_alias.ensures.found rest all);
   judged = c.loop-number.invariant.judged
       ∙ next_passes _ _ _ _ c.loop-number-test.true c.index-list-number.is c.in_ok-read_alias.ensures.judged;
 }
 
-pub returns-clause-is : goal.returns-clause-is
-returns-clause-is c = all_are _ _ _ _ c.loop-number-test.false c.loop-number.invariant.is
+pub returns-clause-found : goal.returns-clause-found
+returns-clause-found c = all_are _ _ _ _ c.loop-number-test.false c.loop-number.invariant.is
 
 pub returns-clause-judged : goal.returns-clause-judged
 returns-clause-judged c = c.loop-number.invariant.judged ∙ none_fails _ _ _ c.loop-number-test.false

@@ -8,5 +8,5 @@ returns-in-Some-clause-found c =
     let fits : FitsSigned w64 c.in-Some.seconds = omega (arith, signed_arith, c.in-Some.ensures.bound) in
     rw (to_z-of_z fits) (found_spells _ _ (sym c.in-Some.ensures.value))
 
-pub returns-in-None-clause-bad : goal.returns-in-None-clause-bad
-returns-in-None-clause-bad c = none_spells _ (sym c.in-None.ensures.value)
+pub returns-in-None-clause-fault : goal.returns-in-None-clause-fault
+returns-in-None-clause-fault c = none_spells _ (sym c.in-None.ensures.value)

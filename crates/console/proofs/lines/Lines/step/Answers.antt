@@ -15,4 +15,4 @@ returns-in_err-line-clause-memory c =
 pub returns-clause-steps : goal.returns-clause-steps
 returns-clause-steps c =
     let place = at_feed c.args.self.now c.in-Some.len (sym c.first_feed.ensures.place ∙ c.in-Some.is) in
-    (place.0, c.in_ok-line.ensures.ok ∙ ap line_of place.1, c.take_line.ensures ∙ place.2)
+    (place.0, c.in_ok-line.ensures.found ∙ ap line_of place.1, c.take_line.ensures ∙ place.2)
