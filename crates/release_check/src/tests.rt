@@ -1,7 +1,6 @@
 //! Folders of a store in memory.
 mod folders;
 mod histories;
-mod plans;
 mod values;
 
 use crate::{CheckFault, check};

@@ -23,7 +23,8 @@ mod contents;
 mod numbers;
 mod text;
 
-// Files of plans.
+// Files of plans, and plans of known zones for tests.
+pub mod known_plans;
 mod slim_file;
 
 // Laws, and what may cross threads.

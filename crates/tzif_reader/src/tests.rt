@@ -1,30 +1,9 @@
 use super::*;
+use crate::known_plans::{NEW_YORK, UTC};
 use std::alloc::Global;
 use std::process::Abort;
 use std::test::*;
 use td_base::{Bytes, NoMemory};
-
-const UTC: Plan<'static> = Plan {
-    times: &[],
-    numbers: &[],
-    types: &[(0, 0, 0)],
-    designations: b"UTC\0",
-    leaps: &[],
-    standard: &[],
-    ut: &[],
-    footer: b"UTC0",
-};
-
-const NEW_YORK: Plan<'static> = Plan {
-    times: &[1_173_596_400],
-    numbers: &[1],
-    types: &[(-18_000, 0, 0), (-14_400, 1, 4)],
-    designations: b"EST\0EDT\0",
-    leaps: &[],
-    standard: &[],
-    ut: &[],
-    footer: b"EST5EDT,M3.2.0,M11.1.0",
-};
 
 /// The bytes with others in their place from `place` on.
 fn edited(alloc: Global, bytes: &[u8], place: usize, with: &[u8]) -> Result<Bytes, NoMemory> {

@@ -1,8 +1,8 @@
 //! Calendars of footers whose rules take each form, from 2025 on, by a program that lists the days
 //! of each year.
-use crate::plans::CAIRO;
 use crate::test_rows::Row;
 use tzif_reader::Plan;
+use tzif_reader::known_plans::CAIRO;
 
 /// Footers with dates that their times move, and one whose daylight saving time is behind standard
 /// time.

@@ -1,45 +1,12 @@
-//! Plans of zone files for tests.
+//! Plans of zone files for tests, besides those of known zones.
 use tzif_reader::Plan;
+use tzif_reader::known_plans::{CAIRO, NEW_YORK};
 
-pub const UTC: Plan<'static> = Plan {
-    times: &[],
-    numbers: &[],
-    types: &[(0, 0, 0)],
-    designations: b"UTC\0",
-    leaps: &[],
-    standard: &[],
-    ut: &[],
-    footer: b"UTC0",
-};
-
-/// One transition, to daylight saving time on 2007-03-11.
-pub const NEW_YORK: Plan<'static> = Plan {
-    times: &[1_173_596_400],
-    numbers: &[1],
-    types: &[(-18_000, 0, 0), (-14_400, 1, 4)],
-    designations: b"EST\0EDT\0",
-    leaps: &[],
-    standard: &[],
-    ut: &[],
-    footer: b"EST5EDT,M3.2.0,M11.1.0",
-};
-
-/// The same, with a first transition long before.
+/// New York, with a first transition long before.
 pub const FAT: Plan<'static> = Plan {
     times: &[-576_460_752_303_423_488, 1_173_596_400],
     numbers: &[0, 1],
     ..NEW_YORK
-};
-
-pub const CAIRO: Plan<'static> = Plan {
-    times: &[],
-    numbers: &[],
-    types: &[(7_200, 0, 0)],
-    designations: b"EET\0",
-    leaps: &[],
-    standard: &[],
-    ut: &[],
-    footer: b"EET-2EEST,M4.5.5/0,M10.5.4/24",
 };
 
 pub const ALWAYS_DAYLIGHT: Plan<'static> = Plan {

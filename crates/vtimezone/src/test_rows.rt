@@ -1,8 +1,9 @@
 //! Calendars as they are to be, line by line. Those of `ENDS` come from a program that lists the
 //! days of each year.
-use crate::plans::{ALWAYS_DAYLIGHT, CAIRO, FAT, NEW_YORK, UTC};
+use crate::plans::{ALWAYS_DAYLIGHT, FAT};
 use td_civil::LO;
 use tzif_reader::Plan;
+use tzif_reader::known_plans::{CAIRO, NEW_YORK, UTC};
 
 /// A zone, a range, and the calendar of the zone for it.
 pub struct Row {

@@ -36,6 +36,4 @@ pub use zone_type::{Zone, file, footer, leap_count, lists};
 #[cfg(test)]
 mod observance_tests;
 #[cfg(test)]
-mod plans;
-#[cfg(test)]
 mod tests;

@@ -1,7 +1,6 @@
 //! Observances of ranges: where they begin, where the state changes, and where it does not.
 ghost use Rattle.zone_meaning.specs.Observed.{IsRange};
 
-use crate::plans::{NEW_YORK, UTC};
 use crate::{
     Changes, Zone, ZoneFault, last_observance_tells_the_state, names_are_printable, observances,
     observances_are_the_changes, zone_of,
@@ -11,6 +10,7 @@ use std::process::Abort;
 use std::test::Fail;
 use td_base::{Items, NoMemory};
 use td_civil::{HI, LO, Moment, Observance};
+use tzif_reader::known_plans::{NEW_YORK, UTC};
 use tzif_reader::{Plan, slim};
 
 /// Onset, offset before and after it, daylight saving time, name.

@@ -1,4 +1,3 @@
-use crate::plans::{CAIRO, NEW_YORK, UTC};
 use crate::{ZoneFault, at, file, leap_count, zone_from_lists, zone_of};
 use catalogue::ZoneData;
 use posix_footer::FooterFault;
@@ -6,6 +5,7 @@ use std::alloc::Global;
 use std::process::Abort;
 use std::test::Fail;
 use td_civil::{HI, LO, Moment};
+use tzif_reader::known_plans::{CAIRO, NEW_YORK, UTC};
 use tzif_reader::{Plan, TzifFault, slim};
 
 /// A moment and the state at it: offset, daylight saving time, name.

@@ -1,7 +1,7 @@
 //! Folders with their files, in a store in memory.
-use crate::tests::plans::{NEW_YORK, UTC};
 use std::alloc::Global;
 use td_base::{Bytes, MemoryStore, NoMemory};
+use tzif_reader::known_plans::{NEW_YORK, UTC};
 use tzif_reader::{Plan, slim};
 
 /// The manifests of folders.

@@ -1,6 +1,7 @@
-//! Plans of zone files for tests.
-use tzif_reader::Plan;
+//! Plans of the files of known zones, for the tests of this crate and of those above it.
+use crate::Plan;
 
+/// Etc/UTC: no transition.
 pub const UTC: Plan<'static> = Plan {
     times: &[],
     numbers: &[],
@@ -12,7 +13,8 @@ pub const UTC: Plan<'static> = Plan {
     footer: b"UTC0",
 };
 
-/// One transition, to daylight saving time on 2007-03-11.
+/// America/New_York from the rule of 2007 on: one transition, to daylight saving time on
+/// 2007-03-11.
 pub const NEW_YORK: Plan<'static> = Plan {
     times: &[1_173_596_400],
     numbers: &[1],
@@ -24,6 +26,8 @@ pub const NEW_YORK: Plan<'static> = Plan {
     footer: b"EST5EDT,M3.2.0,M11.1.0",
 };
 
+/// Africa/Cairo by the rule of 2023: no transition, and an end of daylight saving time at 24
+/// o'clock.
 pub const CAIRO: Plan<'static> = Plan {
     times: &[],
     numbers: &[],
