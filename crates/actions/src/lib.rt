@@ -25,4 +25,6 @@ mod tags;
 pub use answering::answer;
 
 #[cfg(test)]
+mod test_rows;
+#[cfg(test)]
 mod tests;
