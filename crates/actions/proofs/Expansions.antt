@@ -91,10 +91,6 @@ one_more all until rest o left old new is w begun = record {
   plain = (subst (AllByRecursion IsPlainObservance) is w.plain).1;
 }
 
-pub first_left : (rest : List Observance) (o : Observance) (left : List Observance) → rest ≡ o ∷ left → AllByRecursion IsPlainObservance rest
-    → IsPlainObservance o
-first_left rest o left is plain = (subst (AllByRecursion IsPlainObservance) is plain).0
-
 pub all_written : (all : List Observance) (until : ℤ) (rest : List Observance) (w : Written) → rest ≡ [] → IsWritten all until rest w
     → IsExpansionBegun [] until all w
 all_written all until rest w none h =

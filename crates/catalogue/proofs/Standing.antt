@@ -5,7 +5,6 @@ use Rattle.std.specs.Prelude.{replicate}
 use Rattle.std.specs.List.{AllByRecursion, list_any, slice_index_or}
 use Rattle.std.specs.Str.{bytes_eq}
 use Rattle.std.specs.Cmp.Lexicographic.{pointwise}
-use Rattle.std.proofs.lemmas.List.{map-append}
 use Rattle.std.proofs.lemmas.Simd.{map-map}
 use Rattle.std.proofs.lemmas.Slice.Eq.{bytes_eq-Decides}
 use Rattle.catalogue.specs.Releases.{ContentData, ReleaseData, same_content}
@@ -14,11 +13,6 @@ use Rattle.catalogue.specs.Histories.{IsRelease, IsHistory, EntryData, entry_fro
 use Rattle.catalogue.specs.HeldZones.{held_content, held_digest, held_entry}
 use Rattle.catalogue.specs.Holdings.{StandsFor, release_of}
 use Rattle.catalogue.specs.declared.holding.Catalogue.{Catalogue}
-
-pub entries_more : {E C D : Type 0} (show : E → D) (from : C → D) (es : List E) (e : E) (c : C) (rest : List C) (all : List D)
-    → show e ≡ from c → map show es ++ map from (c ∷ rest) ≡ all → map show (es ++ e ∷ []) ++ map from rest ≡ all
-entries_more show from es e c rest all same before =
-    rw (map-append show es (e ∷ []), same) (append_assoc (map show es) (from c ∷ []) (map from rest) ∙ before)
 
 same_bytes : (x : List ℕ) → bytes_eq x x ≡ true
 same_bytes x = (bytes_eq-Decides x x).1 refl

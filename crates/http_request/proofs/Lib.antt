@@ -4,7 +4,6 @@ pub mod HeldLemmas
 pub mod JoinLemmas
 pub mod LookLemmas
 pub mod MemberLemmas
-pub mod ReadLemmas
 pub mod ScanLemmas
 pub mod lemmas
 pub mod TakingLemmas

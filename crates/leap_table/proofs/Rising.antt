@@ -1,7 +1,7 @@
 -- Lines that are steps, one after another.
 use Rattle.std.specs.Ordering.{int_eq}
 use Rattle.std.proofs.Common.{◌≡◌, ℕ, ◌+◌, ◌<◌, Bool, true, false, ◌&&◌, ◌||◌, ◌==◌, nat_lt, List, length, ℤ, pos, ◌+ℤ◌, ◌<ℤ◌, ◌≤ℤ◌, ◌⊎◌, inl, inr, ⊎_elim}
-use Rattle.std.proofs.Common.{refl, sym, subst, ◌∙◌, ◌-◌, ◌≤◌, arith, FitsSigned, to_z, of_z, to_z-of_z, w32}
+use Rattle.std.proofs.Common.{refl, sym, subst, ◌-◌, ◌≤◌, arith, FitsSigned, to_z, of_z, to_z-of_z, w32}
 use Rattle.std.specs.Prelude.{int_lt}
 use Rattle.std.proofs.lemmas.Bool.{and_parts}
 use Rattle.std.proofs.lemmas.Bool.Decides.{Decides-int_eq, nat_tests}
@@ -46,16 +46,6 @@ correction lines i h =
     ⊎_elim
     (λ (e : is_expiry lines i ≡ true). inl (same_as_before lines i e))
     (λ (o : is_one_on lines i ≡ true). inr (eq_from _ _ o))
-    (some_one (is_expiry lines i) (is_one_on lines i) both.1)
-
-pub one_more : (lines : List LeapLine) (i : ℕ) → is_step lines i ≡ true → is_expiry lines i ≡ false
-    → (line_at lines i).correction ≡ (line_before lines i).correction +ℤ pos 1
-unfolding is_step is_one_on
-one_more lines i h none =
-    let both = and_parts (is_in_time lines i) (is_expiry lines i || is_one_on lines i) h in
-    ⊎_elim
-    (λ (e : is_expiry lines i ≡ true). absurd (let t : true ≡ false = sym e ∙ none in cc))
-    (λ (o : is_one_on lines i ≡ true). eq_from _ _ o)
     (some_one (is_expiry lines i) (is_one_on lines i) both.1)
 
 -- the line before the next

@@ -3,7 +3,7 @@
 ghost use Rattle.std.specs.Prelude.{◌≡◌, ◌+◌, ◌-◌, ◌*◌, ◌<◌, ◌≤◌, length, drop, if◌then◌else◌};
 ghost use Rattle.std.specs.Prelude.{IfSome};
 ghost use Rattle.jiff_core.specs.Calendar.{IsWithin};
-ghost use Rattle.posix_footer.specs.Items.{begins, begins_as, is_sign, behind, number_of_digits};
+ghost use Rattle.posix_footer.specs.Items.{begins, begins_as, is_sign, number_of_digits};
 ghost use Rattle.posix_footer.specs.Items.{quoted_at, name_at, number_at, part_at, clock_at};
 ghost use Rattle.posix_footer.specs.Items.{signed_at, offset_at, ahead_at, daylight_offset_at};
 ghost use Rattle.posix_footer.specs.Items.{time_at, week_at, julian_at, year_day_at, day_at};

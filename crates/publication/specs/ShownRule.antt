@@ -13,12 +13,9 @@ use Rattle.publication.specs.declared.view.SeatRole.TheVariants.{Spent, Publishe
 abbrev pub no_home : Home
 no_home = record { number = 0; log = 0; cells = 0 }
 
--- a history as a view names it, and back
+-- a history as a view names it
 abbrev pub home_of : Book → Home
 home_of b = record { number = b.number; log = b.log_name; cells = b.cells_name }
-
-abbrev pub book_of : Home → Book
-book_of h = record { number = h.number; log_name = h.log; cells_name = h.cells }
 
 -- what a copy shows: the values of a history
 abbrev pub told_of : {V : Type 0} → List V → Home → View V

@@ -1,7 +1,7 @@
 -- What reading the zones of a manifest comes to, one after another.
 use Rattle.std.proofs.Common.{◌≡◌, ◌≢◌, ℕ, ◌+◌, ◌<◌, List, [], ◌∷◌, ◌++◌, length, map, take, drop}
 use Rattle.std.proofs.Common.{get_or, Option, None, Some, Result, Ok, Err, ap, sym, ◌∙◌, refl}
-use Rattle.std.proofs.Common.{subst, append_assoc, append-nil}
+use Rattle.std.proofs.Common.{subst, append_assoc}
 use Rattle.std.proofs.lemmas.List.{at_drop_more, map-append, take_more}
 use Rattle.td_base.specs.Views.{File, file_at}
 use Rattle.catalogue.specs.Releases.{ContentData, content_data}
@@ -9,7 +9,7 @@ use Rattle.catalogue.specs.declared.release.Content.{Content}
 use Rattle.release_manifest.specs.declared.manifest_type.ManifestZone.{ManifestZone}
 use Rattle.td_base.specs.FirstFault.{◌>>=◌}
 use Rattle.release_check.specs.Folder.{content_from, content_in, contents_in, unless, path_in}
-use Rattle.release_check.specs.Found.{IsFile, IsZoneIn, AreZonesIn, IsOf, AreOf}
+use Rattle.release_check.specs.Found.{IsFile, IsZoneIn, IsOf, AreOf}
 use Rattle.release_check.specs.Faults.{file_fault}
 use Rattle.release_check.specs.declared.check_fault.CheckFault.{CheckFault}
 use Rattle.release_check.specs.declared.check_fault.CheckFault.TheVariants as fault
@@ -26,11 +26,6 @@ one_more : (before : List ContentData) (c : ContentData) (r : Result (List Conte
 one_more before c (Ok cs) = ap Ok (sym (append_assoc before (c ∷ []) cs))
 one_more before c (Err f) = refl
 
--- before the first zone
-pub contents_start : (r : Result (List ContentData) CheckFault) → after_these [] r ≡ r
-contents_start (Ok cs) = refl
-contents_start (Err f) = refl
-
 -- what the zone and those after it give, by what the zone gives
 abbrev from_zone : List File → List ℕ → List ContentData → ℕ → List ManifestZone → Result ContentData CheckFault → Result (List ContentData) CheckFault
 from_zone files dir before n zs r = after_these before (r >>= λ c. contents_in files dir (n + 1) zs >>= λ cs. Ok (c ∷ cs))
@@ -41,11 +36,6 @@ contents_step : (files : List File) (dir : List ℕ) (before : List ContentData)
     → after_these before (contents_in files dir n (z ∷ zs)) ≡ after_these (before ++ c ∷ []) (contents_in files dir (n + 1) zs)
 contents_step files dir before n z zs c is =
     ap (from_zone files dir before n zs) is ∙ one_more before c (contents_in files dir (n + 1) zs)
-
--- the fault of a zone is that of the zones
-contents_fault : (files : List File) (dir : List ℕ) (before : List ContentData) (n : ℕ) (z : ManifestZone) (zs : List ManifestZone) (f : CheckFault)
-    → content_in files dir n z ≡ Err f → after_these before (contents_in files dir n (z ∷ zs)) ≡ Err f
-contents_fault files dir before n z zs f is = ap (from_zone files dir before n zs) is
 
 -- one zone
 pub zone_absent : (files : List File) (dir : List ℕ) (n : ℕ) (z : ManifestZone) (name : List ℕ) (e : CheckFault) → name ≡ z.file
@@ -86,21 +76,6 @@ so_far_more files dir zones contents n z c inside is so_far read =
     ∙ sym (contents_step files dir (map (content_data (λ b. b)) contents) n z (drop (n + 1) zones) (content_data (λ b. b) c) read)
     ∙ ap (λ rest. after_these (map (content_data (λ b. b)) contents) (contents_in files dir n rest)) (sym (next_zone zones n z inside is))
     ∙ so_far
-
-pub so_far_fault : (files : List File) (dir : List ℕ) (zones : List ManifestZone) (contents : List (Content (List ℕ))) (n : ℕ) (z : ManifestZone)
-    (e : CheckFault)
-    → n < length zones → z ≡ get_or zones n z → SoFar files dir zones contents n → IsZoneIn dir n z (Err e) files → AreZonesIn dir zones (Err e) files
-so_far_fault files dir zones contents n z e inside is so_far read nm nr =
-    sym so_far
-    ∙ ap (λ rest. after_these (map (content_data (λ b. b)) contents) (contents_in files dir n rest)) (next_zone zones n z inside is)
-    ∙ contents_fault files dir (map (content_data (λ b. b)) contents) n z (drop (n + 1) zones) e (read nm nr)
-
-pub so_far_end : (files : List File) (dir : List ℕ) (zones : List ManifestZone) (contents : List (Content (List ℕ))) (n : ℕ)
-    → drop n zones ≡ [] → SoFar files dir zones contents n → AreZonesIn dir zones (Ok contents) files
-so_far_end files dir zones contents n none so_far =
-    sym so_far
-    ∙ ap (λ rest. after_these (map (content_data (λ b. b)) contents) (contents_in files dir n rest)) none
-    ∙ ap Ok (append-nil (map (content_data (λ b. b)) contents))
 
 -- the contents so far are of the zones so far
 of_more : (zs : List ManifestZone) (cs : List ContentData) (z : ManifestZone) (c : ContentData) → AreOf zs cs → IsOf z c → AreOf (zs ++ z ∷ []) (cs ++ c ∷ [])

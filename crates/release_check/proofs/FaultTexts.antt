@@ -1,5 +1,5 @@
 -- How faults are printed and shown.
-use Rattle.std.proofs.Common.{◌≡◌, ◌≢◌, List, [], ℕ, Bool, true, false, if◌then◌else◌, IsUtf8, refl}
+use Rattle.std.proofs.Common.{◌≡◌, List, [], ℕ, Bool, true, false, if◌then◌else◌, IsUtf8, refl}
 use Rattle.std.proofs.Common.{sym, ap, ◌∙◌, ◌<◌, arith, ℤ}
 use Rattle.std.proofs.lemmas.Str.{IsUtf8-from_is_utf8, is_utf8-from_IsUtf8, IsUtf8-from_ascii}
 use Rattle.std.specs.Str.{is_utf8}
@@ -8,17 +8,7 @@ use Rattle.td_civil.specs.Bounds.{has_meaning}
 use Rattle.td_civil.specs.Calendar.{text_of}
 use Rattle.td_civil.specs.declared.moment_type.Moment.{Moment}
 use Rattle.td_civil.proofs.lemmas.TextBytes.{text_all}
-use Rattle.release_check.specs.FaultText.{fault_text, readable, shown_text, stamp_text}
-use Rattle.release_check.specs.declared.check_fault.CheckFault.{CheckFault}
-use Rattle.release_check.specs.declared.check_fault.CheckFault.TheVariants as fault
-
-pub shown_text-is : (f : CheckFault) → ((name : List ℕ) → f ≢ fault.Duplicate name) → ((name : List ℕ) → f ≢ fault.Drops name) → ((path : List ℕ)
-    → f ≢ fault.Absent path)
-    → shown_text f ≡ fault_text f
-shown_text-is (fault.Duplicate name) no_name no_drop no_path = absurd (no_name name refl)
-shown_text-is (fault.Drops name) no_name no_drop no_path = absurd (no_drop name refl)
-shown_text-is (fault.Absent path) no_name no_drop no_path = absurd (no_path path refl)
-shown_text-is f no_name no_drop no_path = refl
+use Rattle.release_check.specs.FaultText.{readable, stamp_text}
 
 -- bytes that are a text, and bytes that are none
 pub readable-text : (bytes : List ℕ) → IsUtf8 bytes → bytes ≡ readable bytes

@@ -1,9 +1,9 @@
 -- Names of the last release that are missing, in their order.
-use Rattle.std.proofs.Common.{◌≡◌, ℕ, ◌+◌, ◌≤◌, Bool, true, false, List, [], ◌∷◌, length, drop}
-use Rattle.std.proofs.Common.{None, Some, refl, ap, sym, ◌∙◌}
+use Rattle.std.proofs.Common.{◌≡◌, ℕ, ◌+◌, Bool, true, false, List, [], ◌∷◌, drop}
+use Rattle.std.proofs.Common.{Some, refl, ap, sym, ◌∙◌}
 use Rattle.std.specs.List.{list_any, slice_get}
 use Rattle.std.specs.Str.{bytes_eq}
-use Rattle.std.proofs.lemmas.List.{at_drop_more, drop_all}
+use Rattle.std.proofs.lemmas.List.{at_drop_more}
 use Rattle.std.proofs.lemmas.Option.{slice_get_within, get_or_from_slice_get}
 use Rattle.catalogue.specs.Holdings.{names_held, release_held}
 use Rattle.catalogue.specs.declared.holding.Catalogue.{Catalogue}
@@ -36,9 +36,6 @@ pub missing_here : (old new : List (List ℕ)) (i : ℕ) (name : List ℕ) → s
     → MissingFrom old new i → first_missing old new ≡ Some (fault.Drops name)
 missing_here old new i name is h so_far =
     sym so_far ∙ ap (λ xs. first_missing xs new) (drop_step old i name is) ∙ gone new name (drop (i + 1) old) h
-
-pub missing_none : (old new : List (List ℕ)) (i : ℕ) → length old ≤ i → MissingFrom old new i → first_missing old new ≡ None
-missing_none old new i le so_far = sym so_far ∙ ap (λ xs. first_missing xs new) (drop_all i old le)
 
 -- the same of the same names, however they are kept
 one_same : (x : List ℕ) (xs a b : List (List ℕ)) (p q : Bool) → list_any (bytes_eq x) a ≡ p → list_any (bytes_eq x) b ≡ q → p ≡ q

@@ -94,20 +94,6 @@ repeats_next name xs i d inside none so_far =
     ∙ ap (duplicate_fault (map name (take i xs))) (sym (at_drop_more (map name) xs i d inside))
     ∙ so_far
 
--- one that did
-pub repeats_found : {X : Type 0} (name : X → List ℕ) (xs : List X) (i : ℕ) (d : X) → i < length xs
-    → list_any (bytes_eq (name (get_or xs i d))) (map name (take i xs)) ≡ true → RepeatsSoFar name xs i
-    → duplicate_fault [] (map name xs) ≡ Some (fault.Duplicate (name (get_or xs i d)))
-repeats_found name xs i d inside some so_far =
-    sym so_far
-    ∙ ap (duplicate_fault (map name (take i xs))) (at_drop_more (map name) xs i d inside)
-    ∙ ap (λ b. by_test b (map name (take i xs)) (name (get_or xs i d)) (map name (drop (i + 1) xs))) some
-
--- what the test of a name tells of those so far
-pub was_before : (new kept so_far : Bool) → new ≡ not kept → kept ≡ so_far → new ≡ false → so_far ≡ true
-was_before new true so_far n k f = sym k
-was_before new false so_far n k f = absurd (cc)
-
 pub was_none : (new kept so_far : Bool) → new ≡ not kept → kept ≡ so_far → new ≡ true → so_far ≡ false
 was_none new true so_far n k f = absurd (cc)
 was_none new false so_far n k f = sym k

@@ -108,7 +108,8 @@ unfoldable pub meaning_fault : ℕ → List ℕ → Option CheckFault
 meaning_fault n bytes =
     agreement_fault n bytes or_else names_fault n bytes or_else rule_fault n bytes
 
--- the first fault of the file of the zone with this number
+-- The first fault of the file of the zone with this number. It has leap lines where its list has
+-- any, of whatever kind.
 unfoldable pub file_fault : ℕ → List ℕ → Option CheckFault
 file_fault n bytes =
     option_map (fault.Tzif n) (first_fault bytes)

@@ -147,22 +147,6 @@ none_put zones ks name none = rw none (by (is_alias zones name))
     by true = refl
     by false = refl
 
-pub aliases_put : (name : List ℕ) (zs : List ListZone) (i : ℕ) (z : ListZone) (ks ls : List (List ℕ)) (whole : Bool) → i < length zs → z ≡ slice_index_or zs i z
-    → has_listed_name ls name ≡ (list_any (bytes_eq name) z.aliases || has_listed_name ks name) → (is_alias (drop i zs) name || has_listed_name ks name) ≡ whole
-    → (is_alias (drop (i + 1) zs) name || has_listed_name ls name) ≡ whole
-aliases_put name zs i z ks ls whole within item is before =
-    let front : drop i zs ≡ z ∷ drop (i + 1) zs = drop-cons zs i z within ∙ ap (λ (x : ListZone). x ∷ drop (suc i) zs) (sym item)
-    ∙ ap (λ n. z ∷ drop n zs) (one_more i) in
-    ap (λ b. is_alias (drop (i + 1) zs) name || b) is
-    ∙ exchanged (is_alias (drop (i + 1) zs) name) (list_any (bytes_eq name) z.aliases) (has_listed_name ks name)
-    ∙ sym (ap (λ (l : List ListZone). is_alias l name || has_listed_name ks name) front) ∙ before
-  where
-    exchanged : (a b c : Bool) → (a || (b || c)) ≡ ((b || a) || c)
-    exchanged true true c = refl
-    exchanged true false c = refl
-    exchanged false true c = refl
-    exchanged false false c = refl
-
 -- ---- what the list of a map is
 
 -- a zone after those that were put in before it

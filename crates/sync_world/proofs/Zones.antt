@@ -1,5 +1,5 @@
 -- What a name is in one release and what a list of its zones says of it.
-use Rattle.std.proofs.Common.{◌≡◌, ℕ, Bool, true, false, cond, ◌&&◌, ◌||◌, None, Some, List, [], ◌∷◌, ◌++◌, refl, sym, ap, ◌∙◌, subst, map, nat_lt}
+use Rattle.std.proofs.Common.{◌≡◌, ℕ, Bool, true, false, cond, ◌||◌, None, Some, List, [], ◌∷◌, ◌++◌, refl, sym, ap, ◌∙◌, subst, map, nat_lt}
 use Rattle.std.specs.Prelude.{option_map}
 use Rattle.std.specs.List.{AllByRecursion, IsDistinct, filter, list_any}
 use Rattle.std.specs.Str.{bytes_eq}
@@ -15,10 +15,6 @@ use Rattle.sync_core.specs.Steps.{is_alias}
 use Rattle.actions.specs.Listing.{listed}
 use Rattle.catalogue.specs.Lookups.{named, zone_at}
 use Rattle.sync_core.proofs.lemmas.Puts.{same_bytes, bytes_same}
-
-and_both : (a b : Bool) → (a && b) ≡ true → (a ≡ true) × (b ≡ true)
-and_both true b h = (refl, h)
-and_both false b h = absurd (cc)
 
 or_none : (a b : Bool) → (a || b) ≡ false → (a ≡ false) × (b ≡ false)
 or_none false b h = (refl, h)

@@ -24,10 +24,6 @@ segment_of_no_text raw h = segment_by (is_utf8 (percent_decode raw)) raw refl h
 abbrev pub with_before : List (List ℕ) → Option (List (List ℕ)) → Option (List (List ℕ))
 with_before prefix texts = option_map (λ ts. prefix ++ ts) texts
 
-pub with_before-none : (texts : Option (List (List ℕ))) → with_before [] texts ≡ texts
-with_before-none None = refl
-with_before-none (Some ts) = refl
-
 with_before-first : (prefix : List (List ℕ)) (text : List ℕ) (texts : Option (List (List ℕ)))
     → with_before prefix (option_map (λ ts. text ∷ ts) texts) ≡ with_before (prefix ++ text ∷ []) texts
 with_before-first prefix text None = refl

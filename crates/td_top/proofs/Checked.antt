@@ -69,11 +69,6 @@ written_nothing a = record { told = Appends-nil a.taken; later = omega arith; fa
 
 -- ---- one folder
 
--- a catalogue that stands for a history has one
-pub has_history : (last : Option (Catalogue (List ℕ))) (H : List ReleaseData) → Stands last H → IfSome last HasZoneHistory
-has_history None H s = tt
-has_history (Some c) H s = (H, s)
-
 -- a catalogue with a history stands for one
 pub some_history : (last : Option (Catalogue (List ℕ))) → IfSome last HasZoneHistory → (H : List ReleaseData) × Stands last H
 some_history None h = ([], refl)

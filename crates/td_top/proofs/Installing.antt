@@ -1,7 +1,7 @@
 -- How a row of folders is installed, one after another.
 use Rattle.std.proofs.Common.{◌≡◌, ◌≢◌, ℕ, ◌+◌, ◌-◌, ◌<◌, List, [], ◌∷◌, ◌++◌, length, take, drop}
 use Rattle.std.proofs.Common.{get_or, false, All, Option, None, Some, IfSome, IsErrOf, Result, Ok}
-use Rattle.std.proofs.Common.{Err, refl, sym, subst, ap, ◌∙◌, append_assoc, append-nil, arith}
+use Rattle.std.proofs.Common.{Err, refl, sym, subst, ap, ◌∙◌, append_assoc, arith}
 use Rattle.std.proofs.lemmas.List.{length-append, take-append-drop, take_all}
 use Rattle.std.specs.Option.{option_to_list}
 use Rattle.std.proofs.lemmas.List.Elements.{All-pop, All-weaker}
@@ -79,36 +79,6 @@ err_as e x h = let same : e ≡ x = cc in ap Err same
 
 -- ---- the history that an install tells of, by another result
 
-ok_told : {A B : Type 0} (o : Option (List File)) (dir : List ℕ) (H : List ReleaseData) (h : A → List ReleaseData) (k : B → List ReleaseData) (a : A) (b : B)
-    → k b ≡ h a → IfSome o (λ files. Installed files dir H h (Ok a)) → IfSome o (λ files. Installed files dir H k (Ok b))
-ok_told None dir H h k a b same told = tt
-ok_told (Some fs) dir H h k a b same told = (told.0, told.1, same ∙ told.2)
-
-pub installs_ok : {A B : Type 0} (s t : StoreView) (dir : List ℕ) (H : List ReleaseData) (h : A → List ReleaseData) (k : B → List ReleaseData) (a : A) (b : B)
-    → k b ≡ h a → Installs s t dir H h (Ok a) → Installs s t dir H k (Ok b)
-installs_ok s t dir H h k a b same i = record {
-  later = i.later;
-  told = ok_told s.files dir H h k a b same i.told;
-  failed = λ e. cc;
-  memory = λ e. cc;
-}
-
-err_told : {A B : Type 0} (o : Option (List File)) (dir : List ℕ) (H : List ReleaseData) (h : A → List ReleaseData) (k : B → List ReleaseData)
-    (e : InstallFault)
-    → IfSome o (λ files. Installed files dir H h (Err e)) → IfSome o (λ files. Installed files dir H k (Err e))
-err_told None dir H h k e told = tt
-err_told (Some fs) dir H h k e told = told
-
-pub installs_err : {A B : Type 0} (s t : StoreView) (dir : List ℕ) (H : List ReleaseData) (h : A → List ReleaseData) (k : B → List ReleaseData)
-    (e : InstallFault)
-    → Installs s t dir H h (Err e) → Installs s t dir H k (Err e)
-installs_err {A = A} {B = B} s t dir H h k e i = record {
-  later = i.later;
-  told = err_told s.files dir H h k e i.told;
-  failed = λ same. i.failed (err_as {A = B} {B = A} e (install.Check fault.ReadFault) same);
-  memory = λ same. i.memory (err_as {A = B} {B = A} e (install.Check fault.NoMemory) same);
-}
-
 -- ---- a row of folders
 
 pub stops_here : (files : Option (List File)) (first : List (List ℕ)) (dir : List ℕ) (rest dirs : List (List ℕ)) (H : List ReleaseData) (f : CheckFault)
@@ -123,10 +93,6 @@ stops_here files first dir rest dirs H f is give after memory read = record {
   gives = after;
   of_files = (memory, read);
 }
-
--- no folder
-pub extends_none : (files : Option (List File)) (H : List ReleaseData) → Extends files [] H H
-extends_none files H = λ first give. subst (λ (dirs : List (List ℕ)). FoldersGive files dirs H) (sym (append-nil first)) give
 
 -- one folder more
 pub extends_more : (files : Option (List File)) (dirs : List (List ℕ)) (i : ℕ) (d : List ℕ) (old now next : List ReleaseData) → i < length dirs
@@ -175,15 +141,6 @@ rest_refused {A = A} s t u dirs i d old now end history e less is store extends 
   came = refused_at s t u dirs i d (history_of old) (history_of now) history e less is store extends h;
 }
 
-pub rest_done : (s t : StoreView) (dirs row : List (List ℕ)) (old now : List (Catalogue (List ℕ))) (u : Unit) → row ≡ dirs → LaterStore s t
-    → Extends s.files row (history_of old) (history_of now) → InstallsRest dirs s t old now (Ok u)
-rest_done s t dirs row old now u same store extends = record {
-  later = store;
-  failed = λ e. cc;
-  memory = λ e. cc;
-  came = subst (λ (all : List (List ℕ)). Extends s.files all (history_of old) (history_of now)) same extends;
-}
-
 -- the first folder
 pub first_gives : (files : Option (List File)) (d : List ℕ) (H : List ReleaseData) (r : ReleaseData) → H ≡ [] ++ r ∷ [] → GivesAfter files [] d (Ok r)
     → FoldersGive files (d ∷ []) H
@@ -206,11 +163,6 @@ all_refused {A = A} s t d rest dirs history e is h = record {
   memory = λ same. h.memory (err_as {A = List (Catalogue (List ℕ))} {B = A} e (install.Check fault.NoMemory) same);
   came = first_refused s t d rest dirs history e is h;
 }
-
--- memory ran out after some were installed
-pub all_without_memory : (s t u : StoreView) (dirs : List (List ℕ)) → LaterStore s t
-    → LaterStore t u → InstallsAll dirs s u (Err install.NoMemory)
-all_without_memory s t u dirs p q = record { later = store_trans s t u p q; failed = λ same. cc; memory = λ same. cc; came = tt }
 
 -- one of the others is refused
 pub all_stopped : {A : Type 0} (s t u : StoreView) (d : List ℕ) (rest dirs : List (List ℕ))

@@ -27,7 +27,7 @@ use Rattle.zone_meaning.specs.Sound.{IsSound}
 use Rattle.zone_meaning.specs.ZoneHistories.{HasZoneHistory}
 use Rattle.td_top.specs.Folders.{GivesAfter}
 use Rattle.td_top.specs.Sessions.{AnswersLine, LaterSession, SaysRefused, SaysWhy, StandsAt}
-use Rattle.td_top.specs.Talk.{GetsAnswer, IsUnknown, Talk, TakesMemory, installed, with_release}
+use Rattle.td_top.specs.Talk.{GetsAnswer, Talk, TakesMemory, installed, with_release}
 use Rattle.td_top.specs.Talk.{last_token, no_memory, once_more, quit, refused, shown_to, status}
 use Rattle.td_top.specs.Talk.{unknown, unread}
 use Rattle.td_top.specs.Turns.{IsSaidRefusal, TellsAnswer}
@@ -88,10 +88,6 @@ pub starved : (s t : StoreView) (old new : Session) (asked : Line) → LaterStor
     → TakesMemory asked → AnswersLine s t old new asked said.NoMemory
 starved s t old new asked store later same takes =
     stays s t old new asked said.NoMemory store later same (λ files whole talk. no_memory takes refl refl)
-
--- a line that asks for nothing that is done
-pub is_unknown : (s : StoreView) (a : Session) (asked : Line) → IsUnknown asked → AnswersLine s s a a asked said.Unknown
-is_unknown s a asked is = stays s s a a asked said.Unknown (store_refl s) (session_refl a) refl (λ files whole talk. unknown is refl refl)
 
 pub is_quit : (s : StoreView) (a : Session) → AnswersLine s s a a line.Quit said.Bye
 is_quit s a = stays s s a a line.Quit said.Bye (store_refl s) (session_refl a) refl (λ files whole talk. quit refl refl refl)

@@ -1,12 +1,10 @@
 -- How runs end, by what is equal.
-use Rattle.std.proofs.Common.{◌≡◌, ◌≢◌, List, ℕ, Option, refl, subst}
+use Rattle.std.proofs.Common.{◌≡◌, ◌≢◌, List, ℕ, refl, subst}
 use Rattle.td_base.specs.Views.{SinkView}
 use Rattle.release_check.specs.FaultText.{fault_text}
 use Rattle.release_check.specs.declared.check_fault.CheckFault.{CheckFault}
 use Rattle.release_check.specs.declared.check_fault.CheckFault.TheVariants as fault
-use Rattle.td_top.specs.Grammar.{Asked}
-use Rattle.td_top.specs.Outside.{Outside}
-use Rattle.td_top.specs.Tells.{EndsLater, TellsRefused, RefusesFolder}
+use Rattle.td_top.specs.Tells.{TellsRefused, RefusesFolder}
 use Rattle.td_top.specs.declared.status.Status.{Status}
 
 -- the fault of a folder ends a run by its text, unless memory or a read failed
@@ -19,8 +17,3 @@ refuses_told f old new end memory read tells = tells
 -- a reason that is another
 pub refuses_as : (why other : List ℕ) (old new : SinkView) (end : Status) → why ≡ other → TellsRefused why old new end → TellsRefused other old new end
 refuses_as why other old new end same h = subst (λ (text : List ℕ). TellsRefused text old new end) same h
-
--- a command that is another
-pub ends_as : (asked other : Option Asked) (before after : Outside) (end : Status) → asked ≡ other
-    → EndsLater asked before after end → EndsLater other before after end
-ends_as asked other before after end same h = subst (λ (a : Option Asked). EndsLater a before after end) same h

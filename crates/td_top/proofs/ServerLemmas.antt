@@ -29,10 +29,8 @@ use Rattle.td_top.specs.Outside.{Outside}
 use Rattle.td_top.specs.Server.{ConnsTold, IsDone, LeavesStreams, OpensDoors, OpenedTold}
 use Rattle.td_top.specs.Server.{ServesDoor, ServesDoors, no_door, one_more}
 use Rattle.td_top.specs.Serving.{Concludes, LearntAll}
-use Rattle.td_top.specs.Ends.{status_for}
 use Rattle.td_top.specs.Talking.{AnswersOperator, ComesTo, LaterScene, Scene, Talked}
-use Rattle.td_top.specs.Works.{AreWorks, Learnt, WorksEnd, not_started, out_of_memory, served}
-use Rattle.td_top.specs.declared.session.Session.{Session}
+use Rattle.td_top.specs.Works.{AreWorks, WorksEnd, not_started, out_of_memory, served}
 use Rattle.td_top.specs.declared.status.Status.{Status}
 use Rattle.td_top.specs.declared.status.Status.TheVariants as status
 use Rattle.td_top.specs.declared.talking.TalkEnd.{TalkEnd}
@@ -174,18 +172,6 @@ module _ {D C : Type 0} (seen : D → DoorView) where
       concluded before now ended works dones doors is given r r' are does talked learnt
   comes_concluded before now ended works dones doors is given r r' are does talked (inr none) =
       without_memory seen (history_of before.session.installer.list) given before.outside now.outside r r' doors is none.0 none.1
-
--- all desks learnt the end of a list, which is what a session had published
-pub concludes : {D C : Type 0} (session : Session) (list : List (Catalogue (List ℕ))) (dones : List (DoorDone D C)) (ended : TalkEnd) (doors : List D)
-    (worn : Bool) (is : Status) → list ≡ session.installer.list → IsPrefix session.desk.seen list → Learnt list dones doors worn → is ≡ status_for ended worn
-    → Concludes session dones ended doors is
-concludes session list dones ended doors worn is same seen learnt e =
-    inl (record {
-      seen = subst (λ l. IsPrefix session.desk.seen l) same seen;
-      workers = subst (λ l. Learnt l dones doors (list_any (λ d. d.worn) dones)) same
-          (subst (λ w. Learnt list dones doors w) learnt.worn_is learnt);
-      ending = e ∙ ap (λ w. status_for ended w) learnt.worn_is;
-    })
 
 -- the talk beside the works, and what it was lent
 pub came : (before mid now : ConsoleView) → Ran before mid → Halted mid now → (ComesTo before.scene now.scene now.end) × (now.lent ≡ before.lent)

@@ -17,7 +17,7 @@ use Rattle.recurrence.specs.declared.rule_types.Rule.{Rule}
 use Rattle.recurrence.specs.Valid.{IsValidForm, IsFirstDay, IsMonth, IsOrdinal}
 use Rattle.jiff_core.specs.Calendar.{days_in_month}
 use Rattle.vtimezone.specs.Cutting.{Named, cut_at, cut_first, all_read, put_before}
-use Rattle.vtimezone.specs.ReadRules.{Day, number_in, month_in, months_in, numbers_in, days_in, form_read, month_days_form, recur_with, recur_of, recur_in}
+use Rattle.vtimezone.specs.ReadRules.{number_in, month_in, months_in, numbers_in, days_in, form_read, month_days_form, recur_with, recur_of, recur_in}
 use Rattle.vtimezone.specs.ReadValues.{utc_in}
 use Rattle.vtimezone.specs.Values.{utc_basic, weekday_name, seven_numbers, by_month, by_weekday, by_nth_weekday, by_month_day, by_month_days, by_year_days}
 use Rattle.vtimezone.specs.Values.{form_text, until_text, rule_text}
@@ -193,9 +193,6 @@ words_read (form.YearDays first weekday) None = refl
 words_read (form.YearDays first weekday) (Some last) = refl
 words_read (form.FixedDate month day) None = refl
 words_read (form.FixedDate month day) (Some last) = refl
-
-abbrev days : Option ℤ → ℕ → Option (Option (List Day))
-days nth weekday = Some (Some (record { nth = nth; weekday = weekday } ∷ []))
 
 alone_back : (w : ℕ) → w ≤ 6 → days_in (weekday_name w) ≡ Some (record { nth = None; weekday = w } ∷ [])
 alone_back w h = one_day (weekday_name w) (record { nth = None; weekday = w }) (weekday_uncut 44 w (inl refl) h) (weekday_alone w h)

@@ -1,7 +1,7 @@
 -- Values that are written are read back.
 use Rattle.std.proofs.Common.{◌≡◌, ◌≢◌, ℕ, zero, suc, ◌+◌, ◌*◌, ◌-◌, ◌/◌, ◌%◌, ◌^◌, ◌<◌, ◌≤◌, ◌==◌}
 use Rattle.std.proofs.Common.{nat_lt, true, false, not, ◌&&◌, if◌then◌else◌, refl, sym, ap, subst}
-use Rattle.std.proofs.Common.{◌∙◌, arith, ℤ, pos, negsuc, neg_ℤ, ◌+ℤ◌, int_lt, unsigned_abs, Option}
+use Rattle.std.proofs.Common.{◌∙◌, arith, ℤ, pos, negsuc, neg_ℤ, ◌+ℤ◌, int_lt, unsigned_abs}
 use Rattle.std.proofs.Common.{None, Some, List, [], ◌∷◌, ◌++◌, length, take, drop, decimal, get_or}
 use Rattle.std.specs.Char.{is_ascii_digit}
 use Rattle.std.specs.Fmt.{signed_decimal}
@@ -81,10 +81,6 @@ stamp_back s h =
 pub local_back : (m o : ℤ) → HasText (m +ℤ o) → local_in (local_text_of m o) ≡ Some (stamp_of (m +ℤ o))
 unfolding local_text_of
 local_back m o h = stamp_back (stamp_of (m +ℤ o)) (stamp_of_valid (m +ℤ o) h)
-
-abbrev utc_from : Option Stamp → Option Moment
-utc_from None = None
-utc_from (Some s) = Some (record { seconds = moment_at s })
 
 no_offset : (m : ℤ) → m +ℤ pos 0 ≡ m
 no_offset m = omega (arith, signed_arith)

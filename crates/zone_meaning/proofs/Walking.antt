@@ -1,7 +1,7 @@
 -- Between two moments with as many transitions begun and no onset between them, a zone's state stays.
-use Rattle.std.proofs.Common.{◌≡◌, ◌≢◌, ℕ, suc, ◌+◌, ◌<◌, ◌≤◌, min, List, length, Option, Some, None, inl, inr, refl, sym, ap, ◌∙◌, subst, arith}
+use Rattle.std.proofs.Common.{◌≡◌, ◌≢◌, ℕ, suc, ◌+◌, ◌<◌, ◌≤◌, min, List, length, Option, Some, None, refl, sym, ap, ◌∙◌, subst, arith}
 use Rattle.std.specs.Prelude.{ℤ, pos, ◌≤ℤ◌, ◌<ℤ◌, slice_index_or}
-use Rattle.std.proofs.lemmas.Bool.{ne_eqb, eq-eqb, cases_order}
+use Rattle.std.proofs.lemmas.Bool.{ne_eqb, eq-eqb}
 use Rattle.jiff_core.proofs.SignedLemmas.{signed_arith}
 use Rattle.td_civil.specs.declared.moment_type.Moment.{Moment}
 use Rattle.tzif_reader.specs.declared.zone_file.ZoneFile.{ZoneFile}
@@ -37,15 +37,6 @@ late_stays : (z : ZoneFile) (footer : Option Footer) (t u : ℤ) → t ≤ℤ u 
 late_stays z None t u h one two quiet = ap (after z) (one ∙ sym two)
 late_stays z (Some footer) t u h one two quiet =
     all_begun z footer t one ∙ footer_stays footer t u h quiet ∙ sym (all_begun z footer u two)
-
-pub state_stays : (z : ZoneFile) (footer : Option Footer) (t u : ℤ) → t ≤ℤ u → begun t z.moments ≡ begun u z.moments
-    → (begun t z.moments ≡ length z.moments → IsQuietFooter footer t u) → begun t z.moments ≤ length z.moments → state_at z footer t ≡ state_at z footer u
-state_stays z footer t u h same quiet bound =
-    elim (cases_order (begun t z.moments) (length z.moments)) [
-      | inl all ↦ late_stays z footer t u h all (sym same ∙ all) (quiet all)
-      | inr (inl lt) ↦ early z footer t (begun t z.moments) refl lt ∙ sym (early z footer u (begun t z.moments) (sym same) lt)
-      | inr (inr gt) ↦ absurd (omega arith)
-    ]
 
 -- the count is as it stands
 pub begun_is : (ms : List Moment) (t : ℤ) (n : ℕ) → AreRising ms → HaveBegun ms t n → begun t ms ≡ n

@@ -30,9 +30,6 @@ listed_is_plain e plain = record {
 pub one_shown : (shows : EntryData → Bool) (e : EntryData) (z : ListZone) → shows e ≡ true → z ≡ listed e → listed_if shows e ≡ z ∷ []
 one_shown shows e z is same = rw (is, same) refl
 
-pub none_shown : (shows : EntryData → Bool) (e : EntryData) → shows e ≡ false → listed_if shows e ≡ []
-none_shown shows e is = rw is refl
-
 -- the zones of the entries that are shown
 abbrev pub chosen : (EntryData → Bool) → List EntryData → List ListZone
 chosen shows es = map listed (filter shows es)

@@ -182,7 +182,3 @@ module _ {Z : Type 0} (bytes : Z → List ℕ) (sound : ReleaseData → Type 0) 
   kept_digest c i h lt is same =
       same_at held_digest (λ z. content_digest (held_content bytes z)) k.held i h s.digests lt is
       ∙ ap content_digest (sym (same_is c (held_content bytes h) same))
-
-  pub new_entry : (c : ContentData) (r : ReleaseData) (n : ℕ) → has_content c (release_held bytes k) ≡ false
-      → entry_from r n c ≡ entry_next H (release_held bytes k) r n c
-  new_entry c r n none = ap (λ b. if b then entry_of H (release_held bytes k) c else entry_from r n c) (sym none)

@@ -1,7 +1,7 @@
 -- Faults that are looked for one after another.
-use Rattle.std.proofs.Common.{◌≡◌, ◌≢◌, Option, None, Some, Result, Ok, Err, refl}
+use Rattle.std.proofs.Common.{◌≡◌, Option, None, Some, refl}
 use Rattle.std.specs.Option.{option_map}
-use Rattle.td_base.specs.FirstFault.{◌or_else◌, Judges}
+use Rattle.td_base.specs.FirstFault.{◌or_else◌}
 
 -- the first comes before a later one
 pub sooner : {A : Type 0} (a b : Option A) (e : A) → a ≡ Some e → (a or_else b) ≡ Some e
@@ -29,14 +29,3 @@ unmapped f (Some x) h = absurd cc
 
 pub mapped : {A B : Type 0} (f : A → B) (a : Option A) → a ≡ None → option_map f a ≡ None
 mapped f a h = rw h refl
-
--- the error of the first search is that of both
-pub judges_sooner : {F : Type 0} (no_memory : F) (a b : Option F) (e : F) → (e ≢ no_memory → a ≡ Some e)
-    → e ≢ no_memory → (a or_else b) ≡ Some e
-judges_sooner no_memory a b e h other = sooner a b e (h other)
-
--- after a search that finds none, what judges the next judges both
-pub judges_later : {T F : Type 0} (no_memory : F) (a b : Option F) (r : Result T F) → a ≡ None
-    → Judges no_memory b r → Judges no_memory (a or_else b) r
-judges_later no_memory a b (Ok y) h k = neither a b h k
-judges_later no_memory a b (Err e) h k = λ other. later a b e h (k other)

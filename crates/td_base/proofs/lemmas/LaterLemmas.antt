@@ -4,8 +4,8 @@ use Rattle.std.proofs.Common.{ℕ, List, [], ◌++◌, take, Option, None, Some,
 use Rattle.std.proofs.Common.{ap, ◌∙◌, append-nil, sym, arith}
 use Rattle.std.proofs.KnownBytes.{Consumes-nil, Consumes-trans, Appends-nil, Appends-trans}
 use Rattle.std.specs.Io.KnownBytes.{Appends, Consumes, Keeps}
-use Rattle.td_base.specs.Views.{SourceFailed, SinkFailed, StoreFailed, ConnReadFailed}
-use Rattle.td_base.specs.Views.{ConnWriteFailed, LaterSource, LaterSink, LaterStore, LaterConn}
+use Rattle.td_base.specs.Views.{SourceFailed, SinkFailed, StoreFailed}
+use Rattle.td_base.specs.Views.{LaterSource, LaterSink, LaterStore, LaterConn}
 use Rattle.td_base.specs.Views.{SourceView, SinkView, StoreView, ConnView, IsSameConn, source_of}
 use Rattle.td_base.specs.Views.{sink_of}
 use Rattle.td_base.specs.Outside.{Reads, Writes, Looks, ConnReads, ConnWrites, ReadTells}
@@ -186,15 +186,3 @@ conn_source a b p = record { gone = p.gone; consumed = p.consumed; later = p.lat
 
 pub conn_sink : (a b : ConnView) → LaterConn a b → LaterSink (sink_of a) (sink_of b)
 conn_sink a b p = p.written
-
-pub read_failed_then : (a b c : ConnView) → ConnReadFailed a b → LaterConn b c → ConnReadFailed a c
-read_failed_then a b c p q = omega (arith, p, q.later)
-
-pub read_then_failed : (a b c : ConnView) → LaterConn a b → ConnReadFailed b c → ConnReadFailed a c
-read_then_failed a b c p q = omega (arith, p.later, q)
-
-pub write_failed_then : (a b c : ConnView) → ConnWriteFailed a b → LaterConn b c → ConnWriteFailed a c
-write_failed_then a b c p q = omega (arith, p, q.written.later)
-
-pub write_then_failed : (a b c : ConnView) → LaterConn a b → ConnWriteFailed b c → ConnWriteFailed a c
-write_then_failed a b c p q = omega (arith, p.written.later, q)

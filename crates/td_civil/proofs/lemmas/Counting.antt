@@ -94,12 +94,6 @@ year_start : (y : ℕ) → 3652425 ≤ day_count (pos y) 1 1
 year_start zero = omega (arith, count_zero)
 year_start (suc y) = omega (arith, count_zero, day_count-later_year (pos 0) (pos (suc y)) (omega (arith, signed_arith)) (omega (arith, signed_arith)))
 
--- the date with that day number is the one that counting gives
-pub date_of_is : (c : Civil) (n : ℕ) → IsDated c → days_from_civil (pos c.year) c.month c.day +ℤ pos 719528 ≡ pos n → n < 3652425 → date_of n ≡ c
-date_of_is c n h e within =
-    let found = date_of_counts n within in
-    one_date (date_of n) c found.dated h (omega (arith, signed_arith, found.count, days_from_civil-day_count))
-
 -- a date of jiff with that day number is the one that counting gives
 pub plain_date_is : (d : Date) (n : ℕ) → n < 3652425 → epoch_day d +ℤ pos 4_371_587 ≡ pos (n + 3652059)
     → (d.year ≡ pos (date_of n).year) × (d.month ≡ (date_of n).month) × (d.day ≡ (date_of n).day)

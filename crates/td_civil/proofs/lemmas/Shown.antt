@@ -72,16 +72,6 @@ made_spells text s m h is shown = record {
   moment_is = stamp_of_moment m h;
 }
 
--- the local time of clocks that are so many seconds east of UTC
-pub local_text_shows : (m offset : ℤ) → HasText (m +ℤ offset) → ShowsLocal (local_text_of m offset) (m +ℤ offset)
-unfolding local_text_of
-local_text_shows m offset h = record {
-  stamp = stamp_of (m +ℤ offset);
-  valid = stamp_of_valid (m +ℤ offset) h;
-  text_is = refl;
-  moment_is = stamp_of_moment (m +ℤ offset) h;
-}
-
 pub made_local_text : (text : List ℕ) (s : Stamp) (m offset : ℤ) → text ≡ basic_spelling s → s ≡ stamp_of (m +ℤ offset) → text ≡ local_text_of m offset
 unfolding local_text_of
 made_local_text text s m offset is shown = is ∙ ap basic_spelling shown
@@ -155,21 +145,9 @@ stamp_has_text s m h e =
           (arith, signed_arith, bounds, h.hour, h.minute, h.second, days_from_civil-day_count (pos s.year) s.month s.day),
     )
 
--- and UTC shows that stamp at it
-pub stamp_of_is : (s : Stamp) (m : ℤ) → IsStamp s → m ≡ moment_at s → stamp_of m ≡ s
-stamp_of_is s m h e =
-    let range = stamp_has_text s m h e in
-    one_stamp (stamp_of m) s (stamp_of_valid m range) h (sym (stamp_of_moment m range) ∙ e)
-
 -- a moment that is spelled lies in the years 0 to 9999
 pub spelled_has_text : (text : List ℕ) (m : ℤ) → Spells text m → HasText m
 spelled_has_text text m h = stamp_has_text h.stamp m h.valid h.moment_is
-
--- a local time that is shown has the text of the moment and the offset
-pub shown_local_text : (text : List ℕ) (m offset : ℤ) → ShowsLocal text (m +ℤ offset) → text ≡ local_text_of m offset
-unfolding local_text_of
-shown_local_text text m offset h =
-    h.text_is ∙ ap basic_spelling (sym (stamp_of_is h.stamp (m +ℤ offset) h.valid h.moment_is))
 
 -- and its text is this one
 pub spelled_text : (text : List ℕ) (m : ℤ) → Spells text m → text ≡ text_of m

@@ -1,17 +1,9 @@
 -- The texts of moments: their lengths, and that each byte is from 45 to 90, a dash, a digit, a colon, T or Z.
-use Rattle.std.proofs.Common.{◌≡◌, ℕ, ◌+◌, ◌/◌, ◌%◌, ◌≤◌, length, refl, arith, ℤ, ◌+ℤ◌}
+use Rattle.std.proofs.Common.{ℕ, ◌+◌, ◌/◌, ◌%◌, ◌≤◌, arith, ℤ}
 use Rattle.std.specs.List.{All, AllByRecursion}
 use Rattle.std.proofs.lemmas.List.Elements.{All-from_recursion}
-use Rattle.td_civil.specs.Calendar.{stamp_of, text_of, local_text_of}
-use Rattle.td_civil.specs.Stamp.{Stamp, spelling, basic_spelling}
-
-pub text_length : (m : ℤ) → length (text_of m) ≡ 20
-unfolding text_of
-text_length m = refl
-
-pub local_text_length : (m offset : ℤ) → length (local_text_of m offset) ≡ 15
-unfolding local_text_of
-local_text_length m offset = refl
+use Rattle.td_civil.specs.Calendar.{stamp_of, text_of}
+use Rattle.td_civil.specs.Stamp.{Stamp, spelling}
 
 spelling_all : (P : ℕ → Type 0) → ((b : ℕ) → 45 ≤ b → b ≤ 90 → P b) → (s : Stamp) → AllByRecursion P (spelling s)
 spelling_all P h s =
@@ -70,40 +62,6 @@ spelling_all P h s =
       ),
     )
 
-basic_spelling_all : (P : ℕ → Type 0) → ((b : ℕ) → 45 ≤ b → b ≤ 90 → P b) → (s : Stamp) → AllByRecursion P (basic_spelling s)
-basic_spelling_all P h s =
-    let digit : (n : ℕ) → P (48 + n % 10) = λ n. h (48 + n % 10) (omega arith) (omega arith) in (
-      digit (s.year / 1000),
-      (
-        digit (s.year / 100),
-        (
-          digit (s.year / 10),
-          (
-            digit s.year,
-            (
-              digit (s.month / 10),
-              (
-                digit s.month,
-                (
-                  digit (s.day / 10),
-                  (
-                    digit s.day,
-                    (
-                      h 84 (omega arith) (omega arith),
-                      (
-                        digit (s.hour / 10),
-                        (digit s.hour, (digit (s.minute / 10), (digit s.minute, (digit (s.second / 10), (digit s.second, tt))))),
-                      ),
-                    ),
-                  ),
-                ),
-              ),
-            ),
-          ),
-        ),
-      ),
-    )
-
 -- what holds of the numbers from 45 to 90 holds of each byte of a text
 pub text_all_by_recursion : (P : ℕ → Type 0) → ((b : ℕ) → 45 ≤ b → b ≤ 90 → P b) → (m : ℤ) → AllByRecursion P (text_of m)
 unfolding text_of
@@ -111,11 +69,3 @@ text_all_by_recursion P h m = spelling_all P h (stamp_of m)
 
 pub text_all : (P : ℕ → Type 0) → ((b : ℕ) → 45 ≤ b → b ≤ 90 → P b) → (m : ℤ) → All P (text_of m)
 text_all P h m = All-from_recursion P (text_of m) (text_all_by_recursion P h m)
-
-pub local_text_all_by_recursion : (P : ℕ → Type 0) → ((b : ℕ) → 45 ≤ b → b ≤ 90 → P b) → (m offset : ℤ) → AllByRecursion P (local_text_of m offset)
-unfolding local_text_of
-local_text_all_by_recursion P h m offset = basic_spelling_all P h (stamp_of (m +ℤ offset))
-
-pub local_text_all : (P : ℕ → Type 0) → ((b : ℕ) → 45 ≤ b → b ≤ 90 → P b) → (m offset : ℤ) → All P (local_text_of m offset)
-local_text_all P h m offset =
-    All-from_recursion P (local_text_of m offset) (local_text_all_by_recursion P h m offset)
