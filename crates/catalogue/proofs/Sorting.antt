@@ -5,7 +5,7 @@ use Rattle.std.specs.List.Sorted.{IsSortedBy, IsStableBy, ties}
 use Rattle.std.specs.Str.{bytes_eq}
 use Rattle.std.proofs.lemmas.Slice.Eq.{bytes_eq-Decides}
 use Rattle.catalogue.specs.Order.{is_before, put_by, rising_by}
-use Rattle.catalogue.proofs.lemmas.Rising.{NeverFalls, behind, not_before_itself, none_before, never_falls}
+use Rattle.catalogue.proofs.lemmas.Rising.{NeverFalls, comes_after, not_before_itself, none_before, never_falls}
 
 map-choice : {X Y : Type 0} (f : X → Y) (b : Bool) (xs ys : List X) → map f (if b then xs else ys) ≡ (if b then map f xs else map f ys)
 map-choice f true xs ys = refl
@@ -40,7 +40,7 @@ same_text a b ab ba = by (bytes_eq a b) refl
   where
     by : (e : Bool) → bytes_eq a b ≡ e → a ≡ b
     by true e = (bytes_eq-Decides a b).0 e
-    by false e = let before = behind a b ba e in absurd (cc)
+    by false e = let before = comes_after a b ba e in absurd (cc)
 
 and_nots : (a b : Bool) → (not a && not b) ≡ true → (a ≡ false) × (b ≡ false)
 and_nots false false h = (refl, refl)

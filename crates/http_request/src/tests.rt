@@ -278,7 +278,7 @@ const LONG: &[Long] = &[
         ends: b"\r\n",
         told: b"431",
     },
-    // Empty lines in front of a head count as its line feeds.
+    // Empty lines before a head count as its line feeds.
     Long {
         begins: b"",
         part: b"\n",

@@ -1,4 +1,4 @@
--- What is spelled as an item reads as that item, whatever stands behind it that does not go on with it.
+-- What is spelled as an item reads as that item, whatever stands after it that does not go on with it.
 use Rattle.std.proofs.Common.{◌≡◌, ℕ, ◌+◌, ◌*◌, ◌≤◌, inl, inr, List, [], ◌∷◌, ◌++◌, length, Bool, true, false, ◌&&◌, Some, refl, ap, sym, ◌∙◌, subst, arith}
 use Rattle.std.proofs.Common.{nat_lt, append_assoc, ◌==◌, ℤ, pos, neg_ℤ, ◌+ℤ◌, ◌<ℤ◌, unsigned_abs, int_lt}
 use Rattle.std.specs.List.{list_all}
@@ -7,11 +7,11 @@ use Rattle.std.proofs.lemmas.Bool.Decides.{nat_tests}
 use Rattle.std.proofs.lemmas.Int.{ints}
 use Rattle.posix_footer.specs.declared.rule_types.DayForm.{DayForm}
 use Rattle.posix_footer.specs.declared.rule_types.DayForm.TheVariants as day
-use Rattle.posix_footer.specs.Items.{begins, begins_as, behind, is_sign, is_designation_byte}
+use Rattle.posix_footer.specs.Items.{begins, begins_as, after_byte, is_sign, is_designation_byte}
 use Rattle.posix_footer.specs.Items.{quoted_at, name_at, part_at, clock_at, signed_at, offset_at}
 use Rattle.posix_footer.specs.Items.{ahead_at, daylight_offset_at, begins_offset, time_at, week_at}
 use Rattle.posix_footer.specs.Items.{julian_at, year_day_at, day_at}
-use Rattle.posix_footer.specs.Spelling.{IsRun, IsUnquoted, IsQuoted, IsName, IsNumber, IsClockPart, IsBehindHours, IsClock, HasSign, IsSignedNumber, IsOffset}
+use Rattle.posix_footer.specs.Spelling.{IsRun, IsUnquoted, IsQuoted, IsName, IsNumber, IsClockPart, IsAfterHours, IsClock, HasSign, IsSignedNumber, IsOffset}
 use Rattle.posix_footer.specs.Spelling.{IsDay}
 use Rattle.posix_footer.proofs.Runs.{run_again, number_again}
 use Rattle.posix_footer.proofs.Found.{IsDaylightOffset}
@@ -26,7 +26,7 @@ pub first_of_run : (kind other : ℕ → Bool) (answer : Bool) (run rest : List 
 first_of_run kind other answer [] rest each all least = absurd (omega arith)
 first_of_run kind other answer (b ∷ bs) rest each all least = each b (first_passes (kind b) (list_all kind bs) all)
 
--- no item goes on behind it
+-- no item goes on after it
 pub record IsEnd (rest : List ℕ) : Type 0 where
   pub digit : begins_as is_ascii_digit rest ≡ false
   pub colon : begins 58 rest ≡ false
@@ -41,7 +41,7 @@ plain_again text name rest is end =
     ap (λ t. name_at (t ++ rest)) is.text_is ∙ rw first (run_again _ _ _ _ _ is.letters end)
 
 quoted_text : (name rest : List ℕ) → IsRun is_designation_byte 3 32 name → quoted_at (name ++ (62 ∷ rest)) ≡ Some (name, rest)
-unfolding quoted_at behind
+unfolding quoted_at after_byte
 quoted_text name rest is = rw (run_again is_designation_byte 3 32 name (62 ∷ rest) is refl) refl
 
 quoted_again : (text name rest : List ℕ) → IsQuoted text name → name_at (text ++ rest) ≡ Some (name, rest)
@@ -77,7 +77,7 @@ part_begins text n rest is = ap (λ t. begins_as is_ascii_digit (t ++ rest)) is.
 parts_along : (one two : List ℕ) (seconds : ℕ) (rest : List ℕ) → one ≡ two → Parts one seconds rest → Parts two seconds rest
 parts_along one two seconds rest e h = let P : List ℕ → Type 0 = λ t. Parts t seconds rest in subst P e h
 
-parts_again : (text : List ℕ) (seconds : ℕ) (rest : List ℕ) → IsBehindHours text seconds → IsEnd rest → Parts (text ++ rest) seconds rest
+parts_again : (text : List ℕ) (seconds : ℕ) (rest : List ℕ) → IsAfterHours text seconds → IsEnd rest → Parts (text ++ rest) seconds rest
 parts_again text seconds rest (inl is) end = parts_along _ _ _ _ (ap (λ t. t ++ rest) (sym is.text_is)) (record {
   minute = 0;
   second = 0;
@@ -107,18 +107,19 @@ parts_again text seconds rest (inr (inr is)) end =
       end = part_begins _ _ _ is.minute_part;
     })
 
-clock_text : (digits greatest : ℕ) (hour_text behind_text : List ℕ) (hour behind seconds : ℕ) (rest : List ℕ) → IsNumber 1 digits 0 greatest hour_text hour →
-    Parts behind_text behind rest → seconds ≡ 3600 * hour + behind → clock_at digits greatest (hour_text ++ behind_text) ≡ Some (seconds, rest)
+clock_text : (digits greatest : ℕ) (hour_text after_text : List ℕ) (hour after_hours seconds : ℕ) (rest : List ℕ)
+    → IsNumber 1 digits 0 greatest hour_text hour → Parts after_text after_hours rest → seconds ≡ 3600 * hour + after_hours
+    → clock_at digits greatest (hour_text ++ after_text) ≡ Some (seconds, rest)
 unfolding clock_at
-clock_text digits greatest hour_text behind_text hour behind seconds rest hours parts value =
+clock_text digits greatest hour_text after_text hour after_hours seconds rest hours parts value =
     let total : 3600 * hour + 60 * parts.minute + parts.second ≡ seconds = omega (arith, value, parts.value) in
-    rw (number_again 1 digits 0 greatest hour_text hour behind_text hours parts.end, parts.first_is, parts.second_is, total) refl
+    rw (number_again 1 digits 0 greatest hour_text hour after_text hours parts.end, parts.first_is, parts.second_is, total) refl
 
 clock_again : (digits greatest : ℕ) (text : List ℕ) (seconds : ℕ) (rest : List ℕ) → IsClock digits greatest text seconds → IsEnd rest →
     clock_at digits greatest (text ++ rest) ≡ Some (seconds, rest)
 clock_again digits greatest text seconds rest is end =
-    ap (λ t. clock_at digits greatest t) (ap (λ t. t ++ rest) is.text_is ∙ append_assoc is.hour_text is.behind_text rest)
-    ∙ clock_text digits greatest is.hour_text (is.behind_text ++ rest) is.hour is.behind seconds rest is.hours (parts_again _ _ _ is.parts end) is.value
+    ap (λ t. clock_at digits greatest t) (ap (λ t. t ++ rest) is.text_is ∙ append_assoc is.hour_text is.after_text rest)
+    ∙ clock_text digits greatest is.hour_text (is.after_text ++ rest) is.hour is.after_hours seconds rest is.hours (parts_again _ _ _ is.parts end) is.value
 
 digit_no_sign : (b : ℕ) → is_ascii_digit b ≡ true → is_sign b ≡ false
 digit_no_sign b h = grind (arith, nat_tests)
@@ -131,8 +132,8 @@ pub clock_begins : (other : ℕ → Bool) (answer : Bool) (digits greatest : ℕ
     → IsClock digits greatest text seconds →
     ((b : ℕ) → is_ascii_digit b ≡ true → other b ≡ answer) → begins_as other (text ++ rest) ≡ answer
 clock_begins other answer digits greatest text seconds rest is each =
-    ap (λ t. begins_as other t) (ap (λ t. t ++ rest) is.text_is ∙ append_assoc is.hour_text is.behind_text rest)
-    ∙ first_of_run is_ascii_digit other answer is.hour_text (is.behind_text ++ rest) each is.hours.digits.all (is.hours.digits.at_least)
+    ap (λ t. begins_as other t) (ap (λ t. t ++ rest) is.text_is ∙ append_assoc is.hour_text is.after_text rest)
+    ∙ first_of_run is_ascii_digit other answer is.hour_text (is.after_text ++ rest) each is.hours.digits.all (is.hours.digits.at_least)
 
 unsigned_text : (digits greatest : ℕ) (text : List ℕ) (n : ℕ) (rest : List ℕ) → IsClock digits greatest text n → IsEnd rest →
     signed_at digits greatest (text ++ rest) ≡ Some (pos n, rest)
@@ -247,7 +248,7 @@ year_day_text digits n rest is end =
 week_again : (month_text week_text weekday_text : List ℕ) (month week weekday : ℕ) (rest : List ℕ) → IsNumber 1 2 1 12 month_text month →
     IsNumber 1 2 1 5 week_text week → IsNumber 1 2 0 6 weekday_text weekday → begins_as is_ascii_digit rest ≡ false →
     day_at (77 ∷ (month_text ++ (46 ∷ (week_text ++ (46 ∷ (weekday_text ++ rest)))))) ≡ Some (day.Week month week weekday, rest)
-unfolding day_at week_at behind
+unfolding day_at week_at after_byte
 week_again month_text week_text weekday_text month week weekday rest months weeks weekdays end =
     rw (
       number_again 1 2 1 12 month_text month (46 ∷ (week_text ++ (46 ∷ (weekday_text ++ rest)))) months refl,

@@ -7,8 +7,8 @@ use Rattle.td_civil.specs.declared.local_time.Local.{Local}
 use Rattle.posix_footer.specs.declared.rule_types.Date.{Date}
 use Rattle.posix_footer.specs.declared.rule_types.DstRule.{DstRule}
 use Rattle.posix_footer.specs.declared.rule_types.Footer.{Footer}
-use Rattle.posix_footer.specs.Items.{begins, begins_as, behind}
-use Rattle.posix_footer.specs.Grammar.{time_behind, date_at, standard_at, daylight_at, dates_behind, rule_at, rule_in, footer_at, footer_in}
+use Rattle.posix_footer.specs.Items.{begins, begins_as, after_byte}
+use Rattle.posix_footer.specs.Grammar.{time_after, date_at, standard_at, daylight_at, dates_after, rule_at, rule_in, footer_at, footer_in}
 use Rattle.posix_footer.specs.Spelling.{IsName, IsOffset, IsStandard, IsDaylight, IsDay, IsSignedNumber, IsTime, IsTwo, IsDate, IsRule, IsRuleIfAny}
 use Rattle.posix_footer.specs.Spelling.{SpellsFooter}
 use Rattle.posix_footer.proofs.Again.{first_of_run, IsEnd, name_again, offset_again, offset_no_letter, daylight_offset_again, day_again, time_again}
@@ -34,7 +34,7 @@ standard_again size text state rest is end =
     ap (λ t. standard_at size t) (ap (λ t. t ++ rest) is.text_is ∙ append_assoc is.name_text is.offset_text rest)
     ∙ standard_text size is.name_text is.offset_text state rest is.name is.offset is.standard end
 
--- behind a daylight state stands `,`
+-- after a daylight state stands `,`
 no_letter : (std : ℤ) (text : List ℕ) (offset : ℤ) (rest : List ℕ) → IsDaylightOffset std text offset →
     begins_as is_ascii_alphabetic (text ++ (44 ∷ rest)) ≡ false
 no_letter std text offset rest (inl is) = offset_no_letter text offset (44 ∷ rest) is
@@ -58,24 +58,24 @@ daylight_again size std text state rest is =
     ap (λ t. daylight_at size std t) (ap (λ t. t ++ (44 ∷ rest)) is.text_is ∙ append_assoc is.name_text is.offset_text (44 ∷ rest))
     ∙ daylight_text size std is.name_text is.offset_text state rest is.name is.offset is.daylight
 
--- what may stand behind a date
+-- what may stand after a date
 record IsDateEnd (rest : List ℕ) : Type 0 where
   pub end : IsEnd rest
   pub slash : begins 47 rest ≡ false
 
-no_time : (size : ℕ) (z : ℤ) (rest : List ℕ) → z ≡ pos 7200 → begins 47 rest ≡ false → time_behind size rest ≡ Ok (z, rest)
-unfolding time_behind
+no_time : (size : ℕ) (z : ℤ) (rest : List ℕ) → z ≡ pos 7200 → begins 47 rest ≡ false → time_after size rest ≡ Ok (z, rest)
+unfolding time_after
 no_time size z rest value slash = rw slash (ap (λ y. Ok (y, rest)) (sym value))
 
 with_time : (size : ℕ) (text : List ℕ) (z : ℤ) (rest : List ℕ) → IsSignedNumber 3 167 text z → IsEnd rest
-    → time_behind size (47 ∷ (text ++ rest)) ≡ Ok (z, rest)
-unfolding time_behind
+    → time_after size (47 ∷ (text ++ rest)) ≡ Ok (z, rest)
+unfolding time_after
 with_time size text z rest is end = rw (time_again text z rest is end) refl
 
-time_behind_again : (size : ℕ) (text : List ℕ) (z : ℤ) (rest : List ℕ) → IsTime text z ⊎ IsTwo text z → IsDateEnd rest →
-    time_behind size (text ++ rest) ≡ Ok (z, rest)
-time_behind_again size text z rest (inl is) end = ap (λ t. time_behind size (t ++ rest)) is.text_is ∙ with_time size is.time_text z rest is.signed end.end
-time_behind_again size text z rest (inr is) end = ap (λ t. time_behind size (t ++ rest)) is.text_is ∙ no_time size z rest is.value end.slash
+time_after_again : (size : ℕ) (text : List ℕ) (z : ℤ) (rest : List ℕ) → IsTime text z ⊎ IsTwo text z → IsDateEnd rest →
+    time_after size (text ++ rest) ≡ Ok (z, rest)
+time_after_again size text z rest (inl is) end = ap (λ t. time_after size (t ++ rest)) is.text_is ∙ with_time size is.time_text z rest is.signed end.end
+time_after_again size text z rest (inr is) end = ap (λ t. time_after size (t ++ rest)) is.text_is ∙ no_time size z rest is.value end.slash
 
 no_digit : (text : List ℕ) (z : ℤ) (rest : List ℕ) → IsTime text z ⊎ IsTwo text z → IsDateEnd rest → begins_as is_ascii_digit (text ++ rest) ≡ false
 no_digit text z rest (inl is) end = ap (λ t. begins_as is_ascii_digit (t ++ rest)) is.text_is
@@ -85,7 +85,7 @@ date_text : (size : ℕ) (day_text time_text : List ℕ) (date : Date) (rest : L
     IsTime time_text date.time ⊎ IsTwo time_text date.time → IsDateEnd rest → date_at size (day_text ++ (time_text ++ rest)) ≡ Ok (date, rest)
 unfolding date_at
 date_text size day_text time_text date rest day time end =
-    rw (day_again day_text date.day (time_text ++ rest) day (no_digit _ _ _ time end), time_behind_again size time_text date.time rest time end) refl
+    rw (day_again day_text date.day (time_text ++ rest) day (no_digit _ _ _ time end), time_after_again size time_text date.time rest time end) refl
 
 date_again : (size : ℕ) (text : List ℕ) (date : Date) (rest : List ℕ) → IsDate text date → IsDateEnd rest → date_at size (text ++ rest) ≡ Ok (date, rest)
 date_again size text date rest is end =
@@ -98,7 +98,7 @@ last_date size text date is =
 
 rule_text : (size : ℕ) (start_text end_text : List ℕ) (rule : DstRule) → IsDate start_text rule.start → IsDate end_text rule.end →
     rule_at size rule.dst (start_text ++ (44 ∷ end_text)) ≡ Ok rule
-unfolding rule_at behind
+unfolding rule_at after_byte
 rule_text size start_text end_text rule start end =
     rw (
       date_again size start_text rule.start (44 ∷ end_text) start (record { end = comma_end end_text; slash = refl }),
@@ -108,8 +108,8 @@ rule_text size start_text end_text rule start end =
 no_zero : (n : ℕ) → (suc n == 0) ≡ false
 no_zero n = grind (arith, nat_tests)
 
-dates_again : (size : ℕ) (rest : List ℕ) → dates_behind size (44 ∷ rest) ≡ Ok rest
-unfolding dates_behind behind
+dates_again : (size : ℕ) (rest : List ℕ) → dates_after size (44 ∷ rest) ≡ Ok rest
+unfolding dates_after after_byte
 dates_again size rest = rw (no_zero (length rest)) refl
 
 rule_in_again : (size : ℕ) (std : Local) (text : List ℕ) (rule : DstRule) → IsRule std.offset text rule →

@@ -10,16 +10,16 @@ use Rattle.std.proofs.lemmas.List.Folds.{length-prefix_len}
 use Rattle.posix_footer.specs.Items.{◌>>=◌, begins_as, run_at, number_at, number_of_digits}
 use Rattle.posix_footer.specs.Spelling.{IsRun, IsNumber}
 
--- what stands at the front of a text spells a value, and the rest stands behind it
+-- what stands at the beginning of a text spells a value, and the rest stands after it
 pub record Reads {A : Type 0} (Is : List ℕ → A → Type 0) (text : List ℕ) (read : A × List ℕ) : Type 0 where
-  pub front : List ℕ
-  pub text_is : text ≡ front ++ read.1
-  pub spells : Is front read.0
+  pub prefix : List ℕ
+  pub text_is : text ≡ prefix ++ read.1
+  pub spells : Is prefix read.0
 
 -- a run that stands for itself
-pub record IsRunOf (kind : ℕ → Bool) (fewest most : ℕ) (front run : List ℕ) : Type 0 where
-  pub same : front ≡ run
-  pub bytes : IsRun kind fewest most front
+pub record IsRunOf (kind : ℕ → Bool) (fewest most : ℕ) (prefix run : List ℕ) : Type 0 where
+  pub same : prefix ≡ run
+  pub bytes : IsRun kind fewest most prefix
 
 -- the value in between
 pub record Between {A B : Type 0} (first : Option A) (then : A → Option B) (last : B) : Type 0 where
@@ -34,14 +34,14 @@ between (Some x) then last h = record { value = x; first_is = refl; then_is = h 
 one_more : (n : ℕ) → 1 + n ≡ suc n
 one_more n = omega arith
 
-front_step : (kind : ℕ → Bool) (b : ℕ) (bs : List ℕ) (v : Bool) → kind b ≡ v → list_all kind (take (prefix_len kind bs) bs) ≡ true →
+prefix_step : (kind : ℕ → Bool) (b : ℕ) (bs : List ℕ) (v : Bool) → kind b ≡ v → list_all kind (take (prefix_len kind bs) bs) ≡ true →
     list_all kind (take (cond v (1 + prefix_len kind bs) 0) (b ∷ bs)) ≡ true
-front_step kind b bs true e rest = rw (one_more (prefix_len kind bs)) (rw e rest)
-front_step kind b bs false e rest = refl
+prefix_step kind b bs true e rest = rw (one_more (prefix_len kind bs)) (rw e rest)
+prefix_step kind b bs false e rest = refl
 
-front_passes : (kind : ℕ → Bool) (text : List ℕ) → list_all kind (take (prefix_len kind text) text) ≡ true
-front_passes kind [] = refl
-front_passes kind (b ∷ bs) = front_step kind b bs (kind b) refl (front_passes kind bs)
+prefix_passes : (kind : ℕ → Bool) (text : List ℕ) → list_all kind (take (prefix_len kind text) text) ≡ true
+prefix_passes kind [] = refl
+prefix_passes kind (b ∷ bs) = prefix_step kind b bs (kind b) refl (prefix_passes kind bs)
 
 run_parts : (kind : ℕ → Bool) (fewest most count : ℕ) (text : List ℕ) (x : List ℕ × List ℕ) →
     cond (nat_le fewest count && nat_le count most) (Some (take count text, drop count text)) None ≡ Some x →
@@ -57,12 +57,12 @@ run_found kind fewest most text x h =
     let parts = run_parts kind fewest most (prefix_len kind text) text x h in
     let size : length x.0 ≡ prefix_len kind text = ap length (sym parts.2) ∙ length-prefix_len kind text in
     record {
-      front = x.0;
+      prefix = x.0;
       text_is = rw (sym parts.2, sym parts.3) (sym (take-append-drop (prefix_len kind text) text));
       spells = record {
         same = refl;
         bytes = record {
-          all = rw (sym parts.2) (front_passes kind text);
+          all = rw (sym parts.2) (prefix_passes kind text);
           at_least = rw size parts.0;
           at_most = rw size parts.1;
         };
@@ -98,19 +98,19 @@ run_again kind fewest most run rest is end =
 pub run_along : (kind : ℕ → Bool) (fewest most : ℕ) (a b : List ℕ) → a ≡ b → IsRun kind fewest most a → IsRun kind fewest most b
 run_along kind fewest most a b e h = let P : List ℕ → Type 0 = λ run. IsRun kind fewest most run in subst P e h
 
-number_from : (fewest most low high : ℕ) (text front : List ℕ) (digits : List ℕ × List ℕ) (x : ℕ × List ℕ) → text ≡ front ++ digits.1 →
-    IsRunOf is_ascii_digit fewest most front digits.0 →
+number_from : (fewest most low high : ℕ) (text prefix : List ℕ) (digits : List ℕ × List ℕ) (x : ℕ × List ℕ) → text ≡ prefix ++ digits.1 →
+    IsRunOf is_ascii_digit fewest most prefix digits.0 →
     cond (nat_le low (number_of_digits digits.0) && nat_le (number_of_digits digits.0) high) (Some (number_of_digits digits.0, digits.1)) None ≡ Some x →
     Reads (IsNumber fewest most low high) text x
-number_from fewest most low high text front digits x text_is run h =
+number_from fewest most low high text prefix digits x text_is run h =
     let parts = cond_some _ _ _ h in
     let n_is : number_of_digits digits.0 ≡ x.0 = ap (λ p. p.0) parts.1 in
     let rest_is : digits.1 ≡ x.1 = ap (λ p. p.1) parts.1 in
     let least : low ≤ number_of_digits digits.0 = grind (arith, nat_tests) in
     let greatest : number_of_digits digits.0 ≤ high = grind (arith, nat_tests) in
     record {
-      front = front;
-      text_is = text_is ∙ ap (λ rest. front ++ rest) rest_is;
+      prefix = prefix;
+      text_is = text_is ∙ ap (λ rest. prefix ++ rest) rest_is;
       spells = record {
         digits = run.bytes;
         value = sym n_is ∙ ap number_of_digits (sym run.same);
@@ -125,7 +125,7 @@ unfolding number_at
 number_found fewest most low high text x h =
     let digits = between (run_at is_ascii_digit fewest most text) _ x h in
     let read = run_found is_ascii_digit fewest most text digits.value digits.first_is in
-    number_from fewest most low high text read.front digits.value x read.text_is read.spells digits.then_is
+    number_from fewest most low high text read.prefix digits.value x read.text_is read.spells digits.then_is
 
 pub number_again : (fewest most low high : ℕ) (text : List ℕ) (n : ℕ) (rest : List ℕ) → IsNumber fewest most low high text n →
     begins_as is_ascii_digit rest ≡ false → number_at fewest most low high (text ++ rest) ≡ Some (n, rest)

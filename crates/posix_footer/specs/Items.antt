@@ -1,5 +1,5 @@
 -- The items of a TZ string (POSIX, section 8.3; the hours of a time are those of RFC 9636, section
--- 3.3.2). An item stands at the front of a text, and is a value and the text behind it. A run of
+-- 3.3.2). An item stands at the beginning of a text: it is a value and the text after it. A run of
 -- letters or of digits is taken whole, so that one which is too long is no item.
 use Rattle.std.specs.Prelude.{ℕ, ◌+◌, ◌-◌, ◌*◌, ◌^◌, List, [], ◌∷◌, length, take, drop, Bool, false}
 use Rattle.std.specs.Prelude.{◌&&◌, ◌||◌, ◌==◌, nat_le, nat_lt, if◌then◌else◌, ℤ, pos, neg_ℤ, ◌+ℤ◌}
@@ -26,9 +26,9 @@ begins_as kind (first ∷ rest) = kind first
 abbrev pub begins : ℕ → List ℕ → Bool
 begins byte text = begins_as (λ first. first == byte) text
 
--- the text behind the byte
-unfoldable pub behind : ℕ → List ℕ → Option (List ℕ)
-behind byte text = if begins byte text then Some (drop 1 text) else None
+-- the text after the byte
+unfoldable pub after_byte : ℕ → List ℕ → Option (List ℕ)
+after_byte byte text = if begins byte text then Some (drop 1 text) else None
 
 -- all the bytes of a kind that the text begins with, from fewest to most of them
 unfoldable pub run_at : (ℕ → Bool) → ℕ → ℕ → List ℕ → Option (List ℕ × List ℕ)
@@ -38,11 +38,11 @@ run_at kind fewest most text =
     then Some (take count text, drop count text)
     else None
 
--- 3 to 32 bytes between `<` and `>`, behind the `<`
+-- 3 to 32 bytes between `<` and `>`, after the `<`
 unfoldable pub quoted_at : List ℕ → Option (List ℕ × List ℕ)
 quoted_at text = do
   name ← run_at is_designation_byte 3 32 text
-  rest ← behind 62 name.1
+  rest ← after_byte 62 name.1
   Some (name.0, rest)
 
 -- a name: quoted, or 3 to 32 letters
@@ -77,7 +77,7 @@ clock_at digits greatest text = do
 abbrev pub is_sign : ℕ → Bool
 is_sign byte = (byte == 43) || (byte == 45)
 
--- such a clock with a sign in front of it, or without, which is as `+`
+-- such a clock with a sign before it, or without, which is as `+`
 unfoldable pub signed_at : ℕ → ℕ → List ℕ → Option (ℤ × List ℕ)
 signed_at digits greatest text = do
   clock ← clock_at digits greatest (if begins_as is_sign text then drop 1 text else text)
@@ -107,17 +107,17 @@ daylight_offset_at std text =
 unfoldable pub time_at : List ℕ → Option (ℤ × List ℕ)
 time_at text = signed_at 3 167 text
 
--- a month, a week and a weekday with `.` between them, behind the `M`
+-- a month, a week and a weekday with `.` between them, after the `M`
 unfoldable pub week_at : List ℕ → Option (DayForm × List ℕ)
 week_at text = do
   month ← number_at 1 2 1 12 text
-  after_month ← behind 46 month.1
+  after_month ← after_byte 46 month.1
   week ← number_at 1 2 1 5 after_month
-  after_week ← behind 46 week.1
+  after_week ← after_byte 46 week.1
   weekday ← number_at 1 2 0 6 after_week
   Some (day.Week month.0 week.0 weekday.0, weekday.1)
 
--- a day by its number, from 1 behind `J` and from 0 without it
+-- a day by its number, from 1 after `J` and from 0 without it
 unfoldable pub julian_at : List ℕ → Option (DayForm × List ℕ)
 julian_at text = do
   number ← number_at 1 3 1 365 text

@@ -1,5 +1,5 @@
 -- Which text spells which footer (POSIX, section 8.3; RFC 9636, section 3.3.2). A text is its
--- pieces one behind another.
+-- pieces one after another.
 use Rattle.std.specs.Prelude.{◌≡◌, ℕ, ◌+◌, ◌*◌, ◌<◌, ◌≤◌, ◌⊎◌, List, [], ◌∷◌, ◌++◌, length, Bool}
 use Rattle.std.specs.Prelude.{true, false, ℤ, pos, neg_ℤ, ◌+ℤ◌, ◌<ℤ◌, unsigned_abs, Option, None}
 use Rattle.std.specs.Prelude.{Some}
@@ -44,7 +44,7 @@ pub record IsClockPart (text : List ℕ) (n : ℕ) : Type 0 where
   pub text_is : text ≡ 58 ∷ digits
   pub number : IsNumber 2 2 0 59 digits n
 
--- behind the hours stand neither minutes nor seconds, or minutes alone, or both
+-- after the hours stand neither minutes nor seconds, or minutes alone, or both
 pub record IsEmpty (text : List ℕ) (seconds : ℕ) : Type 0 where
   pub text_is : text ≡ []
   pub value : seconds ≡ 0
@@ -64,19 +64,19 @@ pub record IsMinutesAndSeconds (text : List ℕ) (seconds : ℕ) : Type 0 where
   pub second_part : IsClockPart second_text second
   pub value : seconds ≡ 60 * minute + second
 
-abbrev pub IsBehindHours : List ℕ → ℕ → Type 0
-IsBehindHours text seconds =
+abbrev pub IsAfterHours : List ℕ → ℕ → Type 0
+IsAfterHours text seconds =
     IsEmpty text seconds ⊎ IsMinutes text seconds ⊎ IsMinutesAndSeconds text seconds
 
 pub record IsClock (digits greatest : ℕ) (text : List ℕ) (seconds : ℕ) : Type 0 where
   pub hour : ℕ
-  pub behind : ℕ
+  pub after_hours : ℕ
   pub hour_text : List ℕ
-  pub behind_text : List ℕ
-  pub text_is : text ≡ hour_text ++ behind_text
+  pub after_text : List ℕ
+  pub text_is : text ≡ hour_text ++ after_text
   pub hours : IsNumber 1 digits 0 greatest hour_text hour
-  pub parts : IsBehindHours behind_text behind
-  pub value : seconds ≡ 3600 * hour + behind
+  pub parts : IsAfterHours after_text after_hours
+  pub value : seconds ≡ 3600 * hour + after_hours
 
 -- no sign or `+`, and `-`
 pub record IsAsIs (sign : List ℕ) (n : ℕ) (z : ℤ) : Type 0 where

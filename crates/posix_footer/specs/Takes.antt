@@ -1,4 +1,4 @@
--- What a reader answers and leaves, against the item that stands at the front of what it read.
+-- What a reader answers and leaves, against the item with which what it read begins.
 use Rattle.std.specs.Prelude.{◌≡◌, ℕ, Bool, List, Option, None, Some, Result, Ok, Err}
 use Rattle.std.specs.Char.{is_ascii_alphabetic, is_ascii_digit}
 use Rattle.posix_footer.specs.Items.{is_designation_byte, begins_offset}

@@ -2,7 +2,7 @@ use std::error::Error;
 use std::fmt;
 
 /// Why a text is no TZ string: its first fault from the left. A fault carries the place, in bytes
-/// from the front, at which the item that is faulty or missing begins (POSIX, section 8.3; RFC
+/// from the beginning, at which the item that is faulty or missing begins (POSIX, section 8.3; RFC
 /// 9636, section 3.3.2).
 #[derive(Clone, Copy, Debug, PartialEq, Eq)]
 pub enum FooterFault {
@@ -11,11 +11,11 @@ pub enum FooterFault {
     /// No offset of less than 24 hours, or none is written and an hour ahead of standard time is no
     /// such offset.
     Offset(usize),
-    /// The text ends behind the state in daylight saving time.
+    /// The text ends after the state in daylight saving time.
     NoRule,
     /// Neither `Jn` nor `n` nor `Mm.w.d` within its ranges, or no `,` before the second date.
     Date(usize),
-    /// No time of less than 168 hours to either side, behind `/`.
+    /// No time of less than 168 hours to either side, after `/`.
     Time(usize),
     /// Something stands where the text should end, or the `,` before the dates.
     Rest(usize),

@@ -83,7 +83,7 @@ impl<'a> Parser<'a> {
         }
     }
 
-    /// The minutes or seconds behind `:`, and 0 where none stands.
+    /// The minutes or seconds after `:`, and 0 where none stands.
     #[tactic(auto, unfolding(crate::specs::Items::part_at))]
     fn part(&mut self) -> Option<u16>
         ensures size { self.new.size ≡ self.old.size }
@@ -129,7 +129,7 @@ impl<'a> Parser<'a> {
         negative
     }
 
-    /// Seconds with a sign in front, or without.
+    /// Seconds with a sign before them, or without.
     #[tactic(auto, unfolding(crate::specs::Items::signed_at))]
     fn signed(&mut self, digits: usize, greatest: u16) -> Option<i32>
         requires digits { digits ≤ 3 }
@@ -222,7 +222,7 @@ impl<'a> Parser<'a> {
         Some(DayForm::YearDay(number))
     }
 
-    /// Month, week and weekday, behind the `M`.
+    /// Month, week and weekday, after the `M`.
     #[tactic(auto, unfolding(crate::specs::Items::week_at))]
     fn week(&mut self) -> Option<DayForm>
         ensures size { self.new.size ≡ self.old.size }

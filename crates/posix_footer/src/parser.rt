@@ -1,7 +1,7 @@
-//! What is left of a text, from which items are taken at the front.
+//! What is left of a text, from whose beginning items are taken.
 ghost use Rattle.std.specs.Prelude.{◌≡◌, ◌≤◌, ◌-◌, ◌==◌, length, drop, if◌then◌else◌, IfSome};
 ghost use Rattle.std.specs.List.{prefix_len};
-ghost use Rattle.posix_footer.specs.Items.{begins, begins_as, behind, run_at};
+ghost use Rattle.posix_footer.specs.Items.{begins, begins_as, after_byte, run_at};
 ghost use Rattle.posix_footer.specs.Grammar.{place};
 ghost use Rattle.posix_footer.specs.Takes.{Skips, TakesAs, test_of};
 
@@ -77,10 +77,10 @@ impl<'a> Parser<'a> {
     }
 
     /// Takes the byte, with which what is left must begin.
-    #[tactic(auto, unfolding(crate::specs::Items::behind))]
+    #[tactic(auto, unfolding(crate::specs::Items::after_byte))]
     pub(crate) fn skip(&mut self, byte: u8) -> Option<()>
         ensures size { self.new.size ≡ self.old.size }
-        ensures value { Skips result self.new.left.now (behind byte self.old.left.now) }
+        ensures value { Skips result self.new.left.now (after_byte byte self.old.left.now) }
     {
         if self.eat(byte) { Some(()) } else { None }
     }

@@ -1,7 +1,7 @@
 //! A whole TZ string, read from the left (POSIX, section 8.3; RFC 9636, section 3.3.2).
 ghost use Rattle.std.specs.Prelude.{◌≡◌, true, false, IfOk};
-ghost use Rattle.posix_footer.specs.Grammar.{footer_in, footer_at, rule_in, rule_at, dates_behind};
-ghost use Rattle.posix_footer.specs.Grammar.{daylight_at, standard_at, date_at, time_behind};
+ghost use Rattle.posix_footer.specs.Grammar.{footer_in, footer_at, rule_in, rule_at, dates_after};
+ghost use Rattle.posix_footer.specs.Grammar.{daylight_at, standard_at, date_at, time_after};
 ghost use Rattle.posix_footer.specs.Lawful.{IsLawful, IsLawfulDate, IsLawfulOffset};
 ghost use Rattle.posix_footer.specs.Spelling.{SpellsFooter};
 ghost use Rattle.posix_footer.specs.declared.rule_types.Footer.{Footer};
@@ -41,7 +41,7 @@ impl<'a> Parser<'a> {
         }
     }
 
-    /// The rule behind a standard state, and both together.
+    /// The rule after a standard state, and both together.
     #[tactic(auto, unfolding(crate::specs::Grammar::rule_in))]
     fn with_rule(&mut self, std: Local) -> Result<Footer, FooterFault>
         requires standard { std.dst ≡ false }
@@ -98,11 +98,11 @@ impl<'a> Parser<'a> {
     }
 
     /// The `,` before the dates.
-    #[tactic(auto, unfolding(crate::specs::Grammar::dates_behind))]
+    #[tactic(auto, unfolding(crate::specs::Grammar::dates_after))]
     fn begin_dates(&mut self) -> Result<(), FooterFault>
         ensures size { self.new.size ≡ self.old.size }
         ensures exact { SkipsOrFails result self.new.left.now
-            (dates_behind self.old.size self.old.left.now) }
+            (dates_after self.old.size self.old.left.now) }
     {
         if self.is_at_end() {
             return Err(FooterFault::NoRule);
@@ -111,7 +111,7 @@ impl<'a> Parser<'a> {
         self.skip(b',').ok_or(rest)
     }
 
-    /// Both dates, behind which the text ends.
+    /// Both dates, after which the text ends.
     #[tactic(auto, unfolding(crate::specs::Grammar::rule_at))]
     fn rule(&mut self, dst: Local) -> Result<DstRule, FooterFault>
         ensures daylight { IfOk result (λ rule. rule.dst ≡ dst) }
@@ -143,13 +143,13 @@ impl<'a> Parser<'a> {
         Ok(Date { day, time })
     }
 
-    /// The time behind `/`, or two o'clock.
-    #[tactic(auto, unfolding(crate::specs::Grammar::time_behind))]
+    /// The time after `/`, or two o'clock.
+    #[tactic(auto, unfolding(crate::specs::Grammar::time_after))]
     fn time_of_day(&mut self) -> Result<i32, FooterFault>
         ensures size { self.new.size ≡ self.old.size }
         ensures range { IfOk result (λ time. IsWithin 604799 time) }
         ensures exact { TakesOrFails result self.new.left.now
-            (time_behind self.old.size self.old.left.now) }
+            (time_after self.old.size self.old.left.now) }
     {
         if !self.eat(b'/') {
             return Ok(7200);

@@ -44,20 +44,20 @@ module _ {A : Type 0} where
   sealed_more (None ∷ log) more h s = absurd (cc h)
 
   -- what has ended is the whole
-  pub ended_whole : (front log : List (Option A)) → IsPrefix front log → Sealed log → ended_in front ≡ true → front ≡ log
+  pub ended_whole : (prefix log : List (Option A)) → IsPrefix prefix log → Sealed log → ended_in prefix ≡ true → prefix ≡ log
   ended_whole [] log p s h = absurd (cc h)
-  ended_whole (x ∷ front) [] p s h = absurd (cc (p.1))
-  ended_whole (Some x ∷ front) (Some y ∷ log) p s h =
+  ended_whole (x ∷ prefix) [] p s h = absurd (cc (p.1))
+  ended_whole (Some x ∷ prefix) (Some y ∷ log) p s h =
       let heads : x ≡ y = cc (p.1) in
-      let rest = ended_whole front log (p.0, cc (p.1)) s h in
+      let rest = ended_whole prefix log (p.0, cc (p.1)) s h in
       cc (heads, rest)
-  ended_whole (None ∷ front) (None ∷ log) p s h =
-      let tail : front ++ p.0 ≡ log = cc (p.1) in
+  ended_whole (None ∷ prefix) (None ∷ log) p s h =
+      let tail : prefix ++ p.0 ≡ log = cc (p.1) in
       let n = ap length (tail ∙ s) in
-      let none : front ≡ [] = no_items front (omega (arith, n, length-append front p.0)) in
+      let none : prefix ≡ [] = no_items prefix (omega (arith, n, length-append prefix p.0)) in
       ap (λ (l : List (Option A)). None ∷ l) (none ∙ sym s)
-  ended_whole (Some x ∷ front) (None ∷ log) p s h = absurd (cc (p.1))
-  ended_whole (None ∷ front) (Some y ∷ log) p s h = absurd (cc (p.1))
+  ended_whole (Some x ∷ prefix) (None ∷ log) p s h = absurd (cc (p.1))
+  ended_whole (None ∷ prefix) (Some y ∷ log) p s h = absurd (cc (p.1))
 
   -- of two beginnings of one history, the one with fewer values
   pub fewer : (xs ys log : List (Option A)) → IsPrefix xs log → IsPrefix ys log → length (values xs) ≤ length (values ys)
@@ -120,8 +120,8 @@ module _ {V E : Type 0} (last : V → E) (stands : V → List E → Type 0) wher
   stand_from_prefix before (x ∷ xs) rest h = (h.0, stand_from_prefix (before ++ x ∷ []) xs rest h.1)
 
   -- the last value of a beginning of the history stands for it
-  pub last_stands : (front log : List (Option V)) (x : V) → IsPrefix front log → Stand last stands (values log) → last_or None (values front) ≡ Some x
-      → stands x (map last (values front))
-  last_stands front log x p h is =
-      let q = values_prefix front log p in
-      stand_from_last [] (values front) x (stand_from_prefix [] (values front) q.0 (subst (Stand last stands) (sym q.1) h)) is
+  pub last_stands : (prefix log : List (Option V)) (x : V) → IsPrefix prefix log → Stand last stands (values log) → last_or None (values prefix) ≡ Some x
+      → stands x (map last (values prefix))
+  last_stands prefix log x p h is =
+      let q = values_prefix prefix log p in
+      stand_from_last [] (values prefix) x (stand_from_prefix [] (values prefix) q.0 (subst (Stand last stands) (sym q.1) h)) is

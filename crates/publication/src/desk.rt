@@ -10,7 +10,7 @@ ghost use Rattle.publication.specs.ShownRule.{told_of};
 ghost use Rattle.publication.specs.Entering.{HasEntered};
 
 use crate::edition::Edition;
-use crate::history::{Front, learn};
+use crate::history::{Prefix, learn};
 use crate::receipt::Receipt;
 use crate::rule::{DeskReader, Entering};
 use crate::shown::Shown;
@@ -36,23 +36,23 @@ impl<V: Value> Model for Desk<V> {
     ghost Value = { DeskView V };
 
     ghost view = { λ d. record {
-      pair = d.held.front.book;
-      seen = values d.held.front.log;
-      ended = ended_in d.held.front.log;
+      pair = d.held.prefix.book;
+      seen = values d.held.prefix.log;
+      ended = ended_in d.held.prefix.log;
       entered = option_map_or (λ r. r.place.me.0.client.list) d.reader [];
       enters = option_map_or (λ r. r.place.me.0.client.enters) d.reader 0;
     } };
 
     ghost invariant = { λ d. IsSomeAnd d.reader (λ r.
         (r.place.me.0.client.role ≡ AtDesk)
-        × (r.place.me.0.client.home ≡ home_of d.held.front.book)) };
+        × (r.place.me.0.client.home ≡ home_of d.held.prefix.book)) };
 }
 
 /// What an enter found: the history up to what was shown, how many values that has, and what was
 /// shown, unless its copy was refused.
 #[derive(Drop)]
 pub struct Found<V: Value> {
-    pub front: Front<V>,
+    pub prefix: Prefix<V>,
     pub number: u32,
     pub edition: Option<Edition<V>>,
 }
@@ -60,17 +60,17 @@ pub struct Found<V: Value> {
 // What is shown, copied. Only the copy of the value's `Arc` may be refused.
 fn copy_shown<V: Value>(shown: &Shown<V>) -> Option<Found<V>>
     ensures { MatchOption result
-        (option_map (λ i. told_of (values i.front.log) (home_of i.front.book)) shown.now.edition
+        (option_map (λ i. told_of (values i.prefix.log) (home_of i.prefix.book)) shown.now.edition
         ≡ None)
-        (λ f. (option_map (λ i. told_of (values i.front.log) (home_of i.front.book))
-        shown.now.edition ≡ Some (told_of (values f.front.log) (home_of f.front.book)))
-        × (f.number ≡ length (values f.front.log))
-        × IfSome f.edition (λ i. i.front ≡ f.front)) }
+        (λ f. (option_map (λ i. told_of (values i.prefix.log) (home_of i.prefix.book))
+        shown.now.edition ≡ Some (told_of (values f.prefix.log) (home_of f.prefix.book)))
+        × (f.number ≡ length (values f.prefix.log))
+        × IfSome f.edition (λ i. i.prefix ≡ f.prefix)) }
 {
     match &shown.edition {
         None => None,
         Some(edition) => Some(Found {
-            front: edition.front.again(),
+            prefix: edition.prefix.again(),
             number: edition.number,
             edition: edition.again().ok(),
         }),
@@ -82,10 +82,10 @@ fn enter_once<V: Value>(reader: DeskReader<V>) -> (DeskReader<V>, Option<Found<V
     requires { (view reader.place).role ≡ AtDesk }
     ensures { MatchOption result.1
         (view result.0.place ≡ view reader.place)
-        (λ f. HasEntered (view reader.place) (home_of f.front.book) (values f.front.log)
+        (λ f. HasEntered (view reader.place) (home_of f.prefix.book) (values f.prefix.log)
         (view result.0.place)
-        × (f.number ≡ length (values f.front.log))
-        × IfSome f.edition (λ i. i.front ≡ f.front)) }
+        × (f.number ≡ length (values f.prefix.log))
+        × IfSome f.edition (λ i. i.prefix ≡ f.prefix)) }
 {
     match reader.enter_as::<Entering>() {
         Err(reader) => (reader, None),
@@ -99,13 +99,13 @@ fn enter_once<V: Value>(reader: DeskReader<V>) -> (DeskReader<V>, Option<Found<V
 /// A desk that holds the edition of which its reader was told.
 pub(crate) fn desk_over<V: Value>(reader: DeskReader<V>, edition: Edition<V>) -> Desk<V>
     requires role { (view reader.place).role ≡ AtDesk }
-    requires list { (view reader.place).list ≡ values edition.front.log }
-    requires home { (view reader.place).home ≡ home_of edition.front.book }
+    requires list { (view reader.place).list ≡ values edition.prefix.log }
+    requires home { (view reader.place).home ≡ home_of edition.prefix.book }
     requires enters { (view reader.place).enters ≡ 0 }
-    ensures list { (result.seen ≡ values edition.front.log)
-        × (result.entered ≡ values edition.front.log)
-        × (result.ended ≡ ended_in edition.front.log) }
-    ensures rest { (result.pair ≡ edition.front.book) × (result.enters ≡ 0) }
+    ensures list { (result.seen ≡ values edition.prefix.log)
+        × (result.entered ≡ values edition.prefix.log)
+        × (result.ended ≡ ended_in edition.prefix.log) }
+    ensures rest { (result.pair ≡ edition.prefix.book) × (result.enters ≡ 0) }
 {
     Desk {
         reader: Some(reader),
@@ -135,12 +135,12 @@ impl<V: Value> Desk<V> {
             return Err(NoMemory);
         };
         let Found {
-            front,
+            prefix,
             number,
             edition,
         } = found;
-        let mut both = self.held.front.again();
-        learn(&mut both, &front);
+        let mut both = self.held.prefix.again();
+        learn(&mut both, &prefix);
         // What is shown is never older than what the desk was told of, but the two rules are
         // apart, and neither says so. No schedule comes here.
         if number < self.held.number {
@@ -161,8 +161,8 @@ impl<V: Value> Desk<V> {
         ensures last { last_or None self.now.seen ≡ Some result.now }
         ensures stands { V.stands result.now (map V.last self.now.seen) }
     {
-        let mut seen = self.held.front.again();
-        learn(&mut seen, &self.held.front);
+        let mut seen = self.held.prefix.again();
+        learn(&mut seen, &self.held.prefix);
         &self.held.value
     }
 
@@ -182,8 +182,8 @@ impl<V: Value> Desk<V> {
             × (self.new.enters ≡ self.old.enters) }
     {
         let Receipt { edition } = receipt;
-        let mut both = self.held.front.again();
-        learn(&mut both, &edition.front);
+        let mut both = self.held.prefix.again();
+        learn(&mut both, &edition.prefix);
         if edition.ended {
             self.held = edition;
         } else if edition.number > self.held.number {

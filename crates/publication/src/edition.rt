@@ -3,7 +3,7 @@ ghost use Rattle.std.specs.List.{last_or};
 ghost use Rattle.std.specs.Arc.{arc_value};
 ghost use Rattle.publication.specs.Histories.{values, ended_in};
 
-use crate::history::Front;
+use crate::history::Prefix;
 use std::alloc::AllocError;
 use std::sync::Arc;
 use td_base::Value;
@@ -13,24 +13,24 @@ use td_base::Value;
 #[derive(Drop)]
 pub struct Edition<V: Value> {
     pub value: Arc<V>,
-    pub front: Front<V>,
+    pub prefix: Prefix<V>,
     pub number: u32,
     pub ended: bool,
-    ghost is_last: { last_or None (values front.log) ≡ Some (arc_value value) },
-    ghost numbered: { number ≡ length (values front.log) },
-    ghost marked: { ended ≡ ended_in front.log },
+    ghost is_last: { last_or None (values prefix.log) ≡ Some (arc_value value) },
+    ghost numbered: { number ≡ length (values prefix.log) },
+    ghost marked: { ended ≡ ended_in prefix.log },
 }
 
 impl<V: Value> Edition<V> {
     /// The same once more. It takes no memory, and is refused where the value has too many owners.
     pub fn again(&self) -> Result<Edition<V>, AllocError>
         ensures value { IfOk result (λ i. arc_value i.value ≡ arc_value self.now.value) }
-        ensures rest { IfOk result (λ i. (i.front ≡ self.now.front)
+        ensures rest { IfOk result (λ i. (i.prefix ≡ self.now.prefix)
             × (i.number ≡ self.now.number) × (i.ended ≡ self.now.ended)) }
     {
         Ok(Edition {
             value: Arc::try_clone(&self.value)?,
-            front: self.front.again(),
+            prefix: self.prefix.again(),
             number: self.number,
             ended: self.ended,
         })

@@ -75,55 +75,55 @@ impl<V> Plain<(), Option<V>, u64> for Ending {
     ghost state = { λ x. None };
 }
 
-/// A beginning of the history that was seen.
-pub type Front<V> = Seen<Option<V>, u64, HistoryRule<V>>;
+/// A prefix of the history, as far as it was seen.
+pub type Prefix<V> = Seen<Option<V>, u64, HistoryRule<V>>;
 
 /// The history, for the one who adds to it.
 #[derive(Drop)]
 pub struct HistoryWriter<V: Value> {
     head: Word<Option<V>, u64, HistoryRule<V>>,
-    pub front: Front<V>,
+    pub prefix: Prefix<V>,
     count: u64,
-    ghost counted: { count ≡ length front.log },
-    ghost head_is: { head ≡ head_of front.book },
+    ghost counted: { count ≡ length prefix.log },
+    ghost head_is: { head ≡ head_of prefix.book },
 }
 
 impl<V: Value> HistoryWriter<V> {
     pub fn new() -> HistoryWriter<V>
-        ensures { result.front.log ≡ [] }
+        ensures { result.prefix.log ≡ [] }
     {
-        let (front, mut first, _second) = Seen::open(Start::alone(), 0, 0);
+        let (prefix, mut first, _second) = Seen::open(Start::alone(), 0, 0);
         HistoryWriter {
             head: Word::tracked(0, &mut first),
-            front,
+            prefix,
             count: 0,
         }
     }
 
     /// Adds a value, and says whether it did.
     pub fn add(&mut self, value: &V) -> bool
-        requires going { ended_in self.old.front.log ≡ false }
+        requires going { ended_in self.old.prefix.log ≡ false }
         requires stands { V.stands value.now
-            (map V.last (values self.old.front.log ++ value.now ∷ [])) }
-        ensures book { self.new.front.book ≡ self.old.front.book }
+            (map V.last (values self.old.prefix.log ++ value.now ∷ [])) }
+        ensures book { self.new.prefix.book ≡ self.old.prefix.book }
         ensures added { MatchBool result
-            (self.new.front.log ≡ self.old.front.log ++ Some value.now ∷ [])
-            (IsPrefix self.old.front.log self.new.front.log) }
+            (self.new.prefix.log ≡ self.old.prefix.log ++ Some value.now ∷ [])
+            (IsPrefix self.old.prefix.log self.new.prefix.log) }
     {
         let Some(next) = self.count.checked_add(1) else {
             return false;
         };
         let mut offer: Offer<Option<V>, u64, HistoryRule<V>, Nothing> = self
-            .front
+            .prefix
             .plain::<Nothing, V, Adding>(value);
-        let mut pen = self.front.no_pen();
+        let mut pen = self.prefix.no_pen();
         let count = self.count;
         let found = self
             .head
             .compare_exchange::<Adding, Nothing>(
                 count,
                 next,
-                &mut self.front,
+                &mut self.prefix,
                 &mut offer,
                 &mut pen,
             );
@@ -133,26 +133,26 @@ impl<V: Value> HistoryWriter<V> {
 
     /// Adds the mark of the end, and says whether it did.
     pub fn finish(&mut self) -> bool
-        requires going { ended_in self.old.front.log ≡ false }
-        ensures book { self.new.front.book ≡ self.old.front.book }
+        requires going { ended_in self.old.prefix.log ≡ false }
+        ensures book { self.new.prefix.book ≡ self.old.prefix.book }
         ensures added { MatchBool result
-            (self.new.front.log ≡ self.old.front.log ++ None ∷ [])
-            (IsPrefix self.old.front.log self.new.front.log) }
+            (self.new.prefix.log ≡ self.old.prefix.log ++ None ∷ [])
+            (IsPrefix self.old.prefix.log self.new.prefix.log) }
     {
         let Some(next) = self.count.checked_add(1) else {
             return false;
         };
         let mut offer: Offer<Option<V>, u64, HistoryRule<V>, Nothing> = self
-            .front
+            .prefix
             .plain::<Nothing, (), Ending>(&());
-        let mut pen = self.front.no_pen();
+        let mut pen = self.prefix.no_pen();
         let count = self.count;
         let found = self
             .head
             .compare_exchange::<Ending, Nothing>(
                 count,
                 next,
-                &mut self.front,
+                &mut self.prefix,
                 &mut offer,
                 &mut pen,
             );
@@ -161,14 +161,14 @@ impl<V: Value> HistoryWriter<V> {
     }
 }
 
-/// Of two fronts of one history, the first with all that the second has.
-pub fn learn<V: Value>(front: &mut Front<V>, other: &Front<V>)
-    requires { other.now.book ≡ front.old.book }
-    ensures book { front.new.book ≡ front.old.book }
-    ensures this { IsPrefix front.old.log front.new.log }
-    ensures that { IsPrefix other.now.log front.new.log }
-    ensures seal { Sealed front.new.log }
-    ensures stand { Stand V.last V.stands (values front.new.log) }
+/// Of two prefixes of one history, the first with all that the second has.
+pub fn learn<V: Value>(prefix: &mut Prefix<V>, other: &Prefix<V>)
+    requires { other.now.book ≡ prefix.old.book }
+    ensures book { prefix.new.book ≡ prefix.old.book }
+    ensures this { IsPrefix prefix.old.log prefix.new.log }
+    ensures that { IsPrefix other.now.log prefix.new.log }
+    ensures seal { Sealed prefix.new.log }
+    ensures stand { Stand V.last V.stands (values prefix.new.log) }
 {
-    front.learn(other);
+    prefix.learn(other);
 }

@@ -19,11 +19,11 @@ use td_base::{NoMemory, Value};
 // One desk, which holds the edition that is shown.
 fn desk_of<V: Value>(stage: &mut Stage<V>, edition: &Edition<V>) -> Result<Desk<V>, NoMemory>
     requires role { (view stage.old.desk.place).role ≡ AtStage }
-    requires home { (view stage.old.desk.place).home ≡ home_of edition.now.front.book }
-    requires list { (view stage.old.desk.place).list ≡ values edition.now.front.log }
+    requires home { (view stage.old.desk.place).home ≡ home_of edition.now.prefix.book }
+    requires list { (view stage.old.desk.place).list ≡ values edition.now.prefix.log }
     ensures stage { view stage.new.desk.place ≡ view stage.old.desk.place }
-    ensures desk { IfOk result (λ d. IsNewDesk edition.now.front.book
-        (values edition.now.front.log) (ended_in edition.now.front.log) d) }
+    ensures desk { IfOk result (λ d. IsNewDesk edition.now.prefix.book
+        (values edition.now.prefix.log) (ended_in edition.now.prefix.log) d) }
 {
     let Ok(edition) = edition.again() else {
         return Err(NoMemory);
@@ -40,12 +40,12 @@ fn desks_of<V: Value>(
     desks: u32,
 ) -> Result<Vec<Desk<V>>, NoMemory>
     requires role { (view stage.old.desk.place).role ≡ AtStage }
-    requires home { (view stage.old.desk.place).home ≡ home_of edition.now.front.book }
-    requires list { (view stage.old.desk.place).list ≡ values edition.now.front.log }
+    requires home { (view stage.old.desk.place).home ≡ home_of edition.now.prefix.book }
+    requires list { (view stage.old.desk.place).list ≡ values edition.now.prefix.log }
     ensures stage { view stage.new.desk.place ≡ view stage.old.desk.place }
     ensures number { IfOk result (λ v. length v.items ≡ desks) }
-    ensures each { IfOk result (λ v. All (λ d. IsNewDesk edition.now.front.book
-        (values edition.now.front.log) (ended_in edition.now.front.log) d) v.items) }
+    ensures each { IfOk result (λ v. All (λ d. IsNewDesk edition.now.prefix.book
+        (values edition.now.prefix.log) (ended_in edition.now.prefix.log) d) v.items) }
 {
     let mut made = Vec::new(alloc);
     for _ in 0..desks {
@@ -82,8 +82,8 @@ pub fn make<V: Value, R: Wait>(
     if !history.add(added) {
         return Err(NoMemory);
     }
-    let last = edition_of(kept, &history.front, number);
-    let edition = edition_of(value, &history.front, number);
+    let last = edition_of(kept, &history.prefix, number);
+    let edition = edition_of(value, &history.prefix, number);
     let copies = (Shown { edition: None }, Shown { edition: None });
     let mut stage = open(rt, alloc, copies, edition, desks)?;
     let Ok(made) = desks_of(&mut stage, alloc, &last, desks) else {

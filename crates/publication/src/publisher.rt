@@ -8,7 +8,7 @@ ghost use Rattle.publication.specs.Histories.{values, ended_in};
 ghost use Rattle.publication.specs.ShownRule.{home_of};
 
 use crate::edition::Edition;
-use crate::history::{Front, HistoryWriter, learn};
+use crate::history::{HistoryWriter, Prefix, learn};
 use crate::receipt::Receipt;
 use crate::rule::StageOf;
 use crate::shown::{Sets, Shown};
@@ -47,30 +47,30 @@ impl<V: Value, T: Sets<V>> Model for PublisherOf<V, T> {
     ghost Value = { PublishedView V };
 
     ghost view = { λ p. record {
-      pair = p.history.front.book;
-      list = values p.last.front.log;
+      pair = p.history.prefix.book;
+      list = values p.last.prefix.log;
     } };
 
     ghost invariant = { λ p.
         IsSomeAnd p.stage (λ w.
         (w.desk.place.me.0.client.role ≡ AtStage)
-        × (w.desk.place.me.0.client.home ≡ home_of p.history.front.book)
-        × (w.desk.place.me.0.client.list ≡ values p.last.front.log))
-        × (p.last.front.book ≡ p.history.front.book)
+        × (w.desk.place.me.0.client.home ≡ home_of p.history.prefix.book)
+        × (w.desk.place.me.0.client.list ≡ values p.last.prefix.log))
+        × (p.last.prefix.book ≡ p.history.prefix.book)
         × (p.stuck ≡ false
-        → (p.history.front.log ≡ p.last.front.log) × (ended_in p.last.front.log ≡ false)) };
+        → (p.history.prefix.log ≡ p.last.prefix.log) × (ended_in p.last.prefix.log ≡ false)) };
 }
 
 /// An edition of a value that was just added.
-pub(crate) fn edition_of<V: Value>(value: Arc<V>, front: &Front<V>, number: u32) -> Edition<V>
-    requires last { last_or None (values front.now.log) ≡ Some (arc_value value) }
-    requires number { number ≡ length (values front.now.log) }
-    requires going { ended_in front.now.log ≡ false }
-    ensures { (result.front ≡ front.now) × (arc_value result.value ≡ arc_value value) }
+pub(crate) fn edition_of<V: Value>(value: Arc<V>, prefix: &Prefix<V>, number: u32) -> Edition<V>
+    requires last { last_or None (values prefix.now.log) ≡ Some (arc_value value) }
+    requires number { number ≡ length (values prefix.now.log) }
+    requires going { ended_in prefix.now.log ≡ false }
+    ensures { (result.prefix ≡ prefix.now) × (arc_value result.value ≡ arc_value value) }
 {
     Edition {
         value,
-        front: front.again(),
+        prefix: prefix.again(),
         number,
         ended: false,
     }
@@ -110,9 +110,9 @@ impl<V: Value, T: Sets<V>> PublisherOf<V, T> {
         if !self.history.add(added) {
             return Err(NoMemory);
         }
-        let told = edition_of(told, &self.history.front, number);
-        let kept = edition_of(kept, &self.history.front, number);
-        let edition = edition_of(value, &self.history.front, number);
+        let told = edition_of(told, &self.history.prefix, number);
+        let kept = edition_of(kept, &self.history.prefix, number);
+        let edition = edition_of(value, &self.history.prefix, number);
         let (stage, shown) = show(rt, self.stage.take().unwrap(), edition);
         match replace(&mut self.stage, Some(stage)) {
             None => {}
@@ -131,8 +131,8 @@ impl<V: Value, T: Sets<V>> PublisherOf<V, T> {
         ensures last { last_or None self.now.list ≡ Some result.now }
         ensures stands { V.stands result.now (map V.last self.now.list) }
     {
-        let mut seen = self.last.front.again();
-        learn(&mut seen, &self.last.front);
+        let mut seen = self.last.prefix.again();
+        learn(&mut seen, &self.last.prefix);
         &self.last.value
     }
 
@@ -162,8 +162,8 @@ impl<V: Value, T: Sets<V>> PublisherOf<V, T> {
             return Err(NoMemory);
         }
         let number = last.number;
-        let told = marked(told, &history.front, number);
-        let edition = marked(last.value, &history.front, number);
+        let told = marked(told, &history.prefix, number);
+        let edition = marked(last.value, &history.prefix, number);
         let (stage, shown) = show(rt, stage, edition);
         let Ok(()) = shown else {
             drop(stage.take(rt));
@@ -192,15 +192,15 @@ impl<V: Value, T: Sets<V>> PublisherOf<V, T> {
 }
 
 // An edition of the value published last, with the mark of the end.
-fn marked<V: Value>(value: Arc<V>, front: &Front<V>, number: u32) -> Edition<V>
-    requires last { last_or None (values front.now.log) ≡ Some (arc_value value) }
-    requires number { number ≡ length (values front.now.log) }
-    requires ended { ended_in front.now.log ≡ true }
-    ensures { (result.front ≡ front.now) × (arc_value result.value ≡ arc_value value) }
+fn marked<V: Value>(value: Arc<V>, prefix: &Prefix<V>, number: u32) -> Edition<V>
+    requires last { last_or None (values prefix.now.log) ≡ Some (arc_value value) }
+    requires number { number ≡ length (values prefix.now.log) }
+    requires ended { ended_in prefix.now.log ≡ true }
+    ensures { (result.prefix ≡ prefix.now) × (arc_value result.value ≡ arc_value value) }
 {
     Edition {
         value,
-        front: front.again(),
+        prefix: prefix.again(),
         number,
         ended: true,
     }
@@ -220,11 +220,11 @@ impl<V: Value, T: Sets<V>> Model for EndedOf<V, T> {
     ghost Value = { PublishedView V };
 
     ghost view = { λ e. record {
-      pair = e.edition.front.book;
-      list = values e.edition.front.log;
+      pair = e.edition.prefix.book;
+      list = values e.edition.prefix.log;
     } };
 
-    ghost invariant = { λ e. ended_in e.edition.front.log ≡ true };
+    ghost invariant = { λ e. ended_in e.edition.prefix.log ≡ true };
 }
 
 impl<V: Value, T: Sets<V>> EndedOf<V, T> {

@@ -16,8 +16,8 @@ impl<V: Value> Model for Receipt<V> {
     ghost Value = { ReceiptView V };
 
     ghost view = { λ r. record {
-      pair = r.edition.front.book;
-      list = values r.edition.front.log;
-      ended = ended_in r.edition.front.log;
+      pair = r.edition.prefix.book;
+      list = values r.edition.prefix.log;
+      ended = ended_in r.edition.prefix.log;
     } };
 }

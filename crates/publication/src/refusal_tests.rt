@@ -34,9 +34,9 @@ impl Absorb<Edition<Tally>> for Fragile {
     type State = Option<View<Tally>>;
 
     ghost state = { λ x.
-        option_map (λ i. told_of (values i.front.log) (home_of i.front.book)) x.edition };
+        option_map (λ i. told_of (values i.prefix.log) (home_of i.prefix.book)) x.edition };
 
-    ghost applied = { λ _ op. Some (told_of (values op.front.log) (home_of op.front.book)) };
+    ghost applied = { λ _ op. Some (told_of (values op.prefix.log) (home_of op.prefix.book)) };
 
     fn absorb_first(
         &mut self,
@@ -54,7 +54,7 @@ impl Absorb<Edition<Tally>> for Fragile {
 
 impl Sets<Tally> for Fragile {
     ghost content = { λ x.
-        option_map (λ i. told_of (values i.front.log) (home_of i.front.book)) x.edition };
+        option_map (λ i. told_of (values i.prefix.log) (home_of i.prefix.book)) x.edition };
 
     ghost of_state = { λ s. s };
 
@@ -101,8 +101,8 @@ fn make_fragile<R: Wait>(
     if !history.add(added) {
         return Err(NoMemory);
     }
-    let last = edition_of(kept, &history.front, 1);
-    let edition = edition_of(value, &history.front, 1);
+    let last = edition_of(kept, &history.prefix, 1);
+    let edition = edition_of(value, &history.prefix, 1);
     let copies = (vacant(refused.0), vacant(refused.1));
     let mut stage = open(rt, alloc, copies, edition, 1)?;
     let Ok(reader) = new_reader(&mut stage) else {

@@ -23,7 +23,7 @@ pub trait Sets<V: Value>: Absorb<Edition<V>> + Drop {
     ghost content_is: { (x : Self) → content x ≡ of_state (Self.state x) };
 
     ghost sets: { (s : Self.State) (op : _) → of_state (Self.applied s op)
-        ≡ Some (told_of (values op.front.log) (home_of op.front.book)) };
+        ≡ Some (told_of (values op.prefix.log) (home_of op.prefix.book)) };
 }
 
 /// One copy: nothing until the first value is shown.
@@ -36,9 +36,9 @@ impl<V: Value> Absorb<Edition<V>> for Shown<V> {
     type State = Option<View<V>>;
 
     ghost state = { λ x.
-        option_map (λ i. told_of (values i.front.log) (home_of i.front.book)) x.edition };
+        option_map (λ i. told_of (values i.prefix.log) (home_of i.prefix.book)) x.edition };
 
-    ghost applied = { λ _ op. Some (told_of (values op.front.log) (home_of op.front.book)) };
+    ghost applied = { λ _ op. Some (told_of (values op.prefix.log) (home_of op.prefix.book)) };
 
     fn absorb_first(
         &mut self,
@@ -52,7 +52,7 @@ impl<V: Value> Absorb<Edition<V>> for Shown<V> {
 
 impl<V: Value> Sets<V> for Shown<V> {
     ghost content = { λ x.
-        option_map (λ i. told_of (values i.front.log) (home_of i.front.book)) x.edition };
+        option_map (λ i. told_of (values i.prefix.log) (home_of i.prefix.book)) x.edition };
 
     ghost of_state = { λ s. s };
 

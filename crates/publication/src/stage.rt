@@ -22,10 +22,10 @@ pub(crate) fn show<V: Value, T: Sets<V>, R: Wait>(
     edition: Edition<V>,
 ) -> (StageOf<V, T>, Result<(), AllocError>)
     requires role { (view stage.desk.place).role ≡ AtStage }
-    requires longer { IsPrefix (view stage.desk.place).list (values edition.front.log) }
-    requires home { home_of edition.front.book ≡ (view stage.desk.place).home }
+    requires longer { IsPrefix (view stage.desk.place).list (values edition.prefix.log) }
+    requires home { home_of edition.prefix.book ≡ (view stage.desk.place).home }
     ensures list { MatchResult result.1
-        (λ _. (view result.0.desk.place).list ≡ values edition.front.log)
+        (λ _. (view result.0.desk.place).list ≡ values edition.prefix.log)
         (λ _. (view result.0.desk.place).list ≡ (view stage.desk.place).list) }
     ensures rest { ((view result.0.desk.place).role ≡ AtStage)
         × ((view result.0.desk.place).home ≡ (view stage.desk.place).home) }
@@ -51,11 +51,11 @@ pub(crate) fn open<V: Value, T: Sets<V>, R: Wait>(
     desks: u32,
 ) -> Result<StageOf<V, T>, NoMemory>
     requires desks { 0 < desks }
-    requires some_value { 0 < length (values edition.front.log) }
+    requires some_value { 0 < length (values edition.prefix.log) }
     requires vacant { T.content copies.0 ≡ None }
     requires alike { T.state copies.0 ≡ T.state copies.1 }
     ensures { IfOk result (λ s.
-        view s.desk.place ≡ opened (home_of edition.front.book) (values edition.front.log)) }
+        view s.desk.place ≡ opened (home_of edition.prefix.book) (values edition.prefix.log)) }
 {
     let (first, second) = copies;
     let Ok(stage) = StageOf::<V, T>::new(alloc, first, second, desks as usize) else {

@@ -126,20 +126,20 @@ role (c ∷ cs) t d = by (role cs t (rest_distinct c cs d)) (bytes_eq t c.tzid) 
         let rest = absent cs t (head_apart c cs t d (rw (e, h))) in
         an_alias c (record { at = rw e rest.at; named = rw (e, h); has = h; there = rw (same_itself c) })
 
-    behind : bytes_eq t c.tzid ≡ false → has_text c.aliases t ≡ false → Role cs t → Role (c ∷ cs) t
-    behind e h (a_zone z is) = a_zone z (record {
+    after_zone : bytes_eq t c.tzid ≡ false → has_text c.aliases t ≡ false → Role cs t → Role (c ∷ cs) t
+    after_zone e h (a_zone z is) = a_zone z (record {
       at = rw e is.at;
       named = rw (e, h) is.named;
       is = is.is;
       there = more_there z c cs is.there;
       not_alias = rw h is.not_alias;
     })
-    behind e h (an_alias z is) = an_alias z (record { at = rw e is.at; named = rw (e, h) is.named; has = is.has; there = more_there z c cs is.there })
-    behind e h (no_name is) = no_name (absent (c ∷ cs) t (rw e (list_any-append (bytes_eq t) c.aliases (names_of cs) ∙ rw h is.not_name)))
+    after_zone e h (an_alias z is) = an_alias z (record { at = rw e is.at; named = rw (e, h) is.named; has = is.has; there = more_there z c cs is.there })
+    after_zone e h (no_name is) = no_name (absent (c ∷ cs) t (rw e (list_any-append (bytes_eq t) c.aliases (names_of cs) ∙ rw h is.not_name)))
 
     other : Role cs t → (b : Bool) → has_text c.aliases t ≡ b → bytes_eq t c.tzid ≡ false → Role (c ∷ cs) t
     other rest true h e = alias e h
-    other rest false h e = behind e h rest
+    other rest false h e = after_zone e h rest
 
     by : Role cs t → (b : Bool) → bytes_eq t c.tzid ≡ b → Role (c ∷ cs) t
     by rest true e = first e

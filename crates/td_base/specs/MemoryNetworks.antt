@@ -19,7 +19,7 @@ pub record TellsNew (door : DoorView) : Type 0 where
   pub faults : door.faults ≡ 0
 
 -- a network: the doors that it has, each by the inputs of its connections, the calls that it
--- granted, and how many it did not for want of doors
+-- granted, and how many it did not, having too few doors
 pub record MemoryNetworkState : Type 0 where
   pub doors : List (List (List ℕ))
   pub opened : List Opened

@@ -1,4 +1,4 @@
--- Bytes behind their own length.
+-- Bytes after their own length.
 use Rattle.std.specs.Prelude.{ℕ, List, ◌++◌, length}
 use Rattle.std.specs.Int.{to_be_bytes, w32}
 

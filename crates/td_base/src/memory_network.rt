@@ -93,7 +93,7 @@ impl<D: Door> MemoryNetwork<D> {
 }
 
 impl<D: Door + Drop> MemoryNetwork<D> {
-    /// Adds a door that tells its content and was not asked yet, behind those that it has.
+    /// Adds a door that tells its content and was not asked yet, after those that it has.
     pub fn push(&mut self, door: D) -> Result<(), NoMemory>
         requires new { IsNewDoor (D.seen door) }
         requires told { IsSome (D.seen door).content }

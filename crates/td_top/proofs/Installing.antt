@@ -77,8 +77,6 @@ blames s t dir H history f h = blamed s.files dir H history f h.told
 err_as : {A B : Type 0} (e x : InstallFault) → IsErrOf {T = A} (Err e) x → IsErrOf {T = B} (Err e) x
 err_as e x h = let same : e ≡ x = cc in ap Err same
 
--- ---- the history that an install tells of, by another result
-
 -- ---- a row of folders
 
 pub stops_here : (files : Option (List File)) (first : List (List ℕ)) (dir : List ℕ) (rest dirs : List (List ℕ)) (H : List ReleaseData) (f : CheckFault)

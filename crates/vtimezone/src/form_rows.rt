@@ -16,7 +16,7 @@ pub const FORMS: [Row; 6] = [
         until: None,
         tzid: b"X",
         alias_of: None,
-        front: b"TZID:X|",
+        head: b"TZID:X|",
         parts: &[
             b"BEGIN:STANDARD|DTSTART:20250101T020000|TZOFFSETFROM:+0200|\
             TZOFFSETTO:+0200|TZNAME:IST|END:STANDARD|",
@@ -43,7 +43,7 @@ pub const FORMS: [Row; 6] = [
         until: None,
         tzid: b"X",
         alias_of: None,
-        front: b"TZID:X|",
+        head: b"TZID:X|",
         parts: &[
             b"BEGIN:DAYLIGHT|DTSTART:20250101T000000|TZOFFSETFROM:+0000|\
             TZOFFSETTO:+0000|TZNAME:GMT|END:DAYLIGHT|",
@@ -69,7 +69,7 @@ pub const FORMS: [Row; 6] = [
         until: None,
         tzid: b"X",
         alias_of: None,
-        front: b"TZID:X|",
+        head: b"TZID:X|",
         parts: &[
             b"BEGIN:STANDARD|DTSTART:20241231T220000|TZOFFSETFROM:-0200|\
             TZOFFSETTO:-0200|TZNAME:-02|END:STANDARD|",
@@ -96,7 +96,7 @@ pub const FORMS: [Row; 6] = [
         until: None,
         tzid: b"X",
         alias_of: None,
-        front: b"TZID:X|",
+        head: b"TZID:X|",
         parts: &[
             b"BEGIN:DAYLIGHT|DTSTART:20241231T210000|TZOFFSETFROM:-0300|\
             TZOFFSETTO:-0300|TZNAME:-03|END:DAYLIGHT|",
@@ -124,7 +124,7 @@ pub const FORMS: [Row; 6] = [
         until: None,
         tzid: b"X",
         alias_of: None,
-        front: b"TZID:X|",
+        head: b"TZID:X|",
         parts: &[
             b"BEGIN:STANDARD|DTSTART:20250101T020000|TZOFFSETFROM:+0200|\
             TZOFFSETTO:+0200|TZNAME:EET|END:STANDARD|",
@@ -152,7 +152,7 @@ pub const FORMS: [Row; 6] = [
         until: None,
         tzid: b"X",
         alias_of: None,
-        front: b"TZID:X|",
+        head: b"TZID:X|",
         parts: &[
             b"BEGIN:STANDARD|DTSTART:20250101T033000|TZOFFSETFROM:+0330|\
             TZOFFSETTO:+0330|TZNAME:+0330|END:STANDARD|",

@@ -66,7 +66,7 @@ fn wanted(alloc: Global, row: &Row) -> Result<Bytes, NoMemory> {
         &mut text,
         b"BEGIN:VCALENDAR|VERSION:2.0|PRODID:-//tzdistd//RFC 7808//EN|BEGIN:VTIMEZONE|",
     )?;
-    append_lines(&mut text, row.front)?;
+    append_lines(&mut text, row.head)?;
     for part in row.parts {
         append_lines(&mut text, part)?;
     }

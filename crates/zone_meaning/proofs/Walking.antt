@@ -1,4 +1,4 @@
--- Between two moments with as many transitions begun and no onset between them, a zone's state stays.
+-- The turns of a walk: the next transition, and after the last one the next onset of the footer.
 use Rattle.std.proofs.Common.{◌≡◌, ◌≢◌, ℕ, suc, ◌+◌, ◌<◌, ◌≤◌, min, List, length, Option, Some, None, refl, sym, ap, ◌∙◌, subst, arith}
 use Rattle.std.specs.Prelude.{ℤ, pos, ◌≤ℤ◌, ◌<ℤ◌, slice_index_or}
 use Rattle.std.proofs.lemmas.Bool.{ne_eqb, eq-eqb}

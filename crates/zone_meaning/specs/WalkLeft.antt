@@ -27,7 +27,7 @@ abbrev pub HandsOut : List Observance → Option Observance → List Observance 
 HandsOut old None new = old ≡ new
 HandsOut old (Some o) new = old ≡ o ∷ new
 
--- an observance, if there is one, and a list behind it
+-- an observance, if there is one, and a list after it
 abbrev pub with_first_if_any : Option Observance → List Observance → List Observance
 with_first_if_any None rest = rest
 with_first_if_any (Some o) rest = o ∷ rest

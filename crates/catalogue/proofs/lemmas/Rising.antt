@@ -23,9 +23,9 @@ lt-less Less h = refl
 lt-less Equal h = absurd (cc)
 lt-less Greater h = absurd (cc)
 
--- a text that is not before another, and is another, is behind it
-pub behind : (x y : List ℕ) → is_before y x ≡ false → bytes_eq x y ≡ false → is_before x y ≡ true
-behind x y not_before other = by (slice_cmp nat_cmp x y) refl
+-- a text that is not before another, and is another, comes after it
+pub comes_after : (x y : List ℕ) → is_before y x ≡ false → bytes_eq x y ≡ false → is_before x y ≡ true
+comes_after x y not_before other = by (slice_cmp nat_cmp x y) refl
   where
     by : (o : Ordering) → slice_cmp nat_cmp x y ≡ o → is_before x y ≡ true
     by Less e = ap is_lt e
@@ -109,7 +109,7 @@ never_falls text (x ∷ xs) = never_falls_put text x (rising_by text xs) (never_
 all_before : (x : List ℕ) (ys : List (List ℕ)) → AllByRecursion (λ y. is_before y x ≡ false) ys → AllByRecursion (λ y. bytes_eq x y ≡ false) ys
     → AllByRecursion (λ y. is_before x y ≡ true) ys
 all_before x [] h d = tt
-all_before x (y ∷ ys) h d = (behind x y h.0 d.0, all_before x ys h.1 d.1)
+all_before x (y ∷ ys) h d = (comes_after x y h.0 d.0, all_before x ys h.1 d.1)
 
 pub rises : (xs : List (List ℕ)) → NeverFalls xs → IsDistinct bytes_eq xs → IsRising xs
 unfolding IsDistinct

@@ -9,19 +9,19 @@ use Rattle.posix_footer.specs.declared.rule_types.DstRule.{DstRule}
 use Rattle.posix_footer.specs.declared.rule_types.Footer.{Footer}
 use Rattle.posix_footer.specs.Grammar.{footer_in}
 use Rattle.posix_footer.specs.Lawful.{IsLawfulDay, IsLawfulDate, IsLawfulOffset, IsLawfulRule, IsLawfulIfAny, IsLawful}
-use Rattle.posix_footer.specs.Spelling.{IsBehindHours, IsClock, HasSign, IsSignedNumber, IsOffset, IsHourAhead, IsDay, IsTime, IsTwo, IsDate, IsRule}
+use Rattle.posix_footer.specs.Spelling.{IsAfterHours, IsClock, HasSign, IsSignedNumber, IsOffset, IsHourAhead, IsDay, IsTime, IsTwo, IsDate, IsRule}
 use Rattle.posix_footer.specs.Spelling.{IsRuleIfAny, SpellsFooter}
 use Rattle.posix_footer.proofs.FoundWhole.{footer_found}
 
-behind_bound : (text : List ℕ) (seconds : ℕ) → IsBehindHours text seconds → seconds < 3600
-behind_bound text seconds (inl none) = omega (arith, none.value)
-behind_bound text seconds (inr (inl minutes)) = omega (arith, minutes.value, minutes.part.number.at_most)
-behind_bound text seconds (inr (inr both)) =
+after_hours_bound : (text : List ℕ) (seconds : ℕ) → IsAfterHours text seconds → seconds < 3600
+after_hours_bound text seconds (inl none) = omega (arith, none.value)
+after_hours_bound text seconds (inr (inl minutes)) = omega (arith, minutes.value, minutes.part.number.at_most)
+after_hours_bound text seconds (inr (inr both)) =
     omega (arith, both.value, both.minute_part.number.at_most, both.second_part.number.at_most)
 
 clock_bound : (digits greatest : ℕ) (text : List ℕ) (seconds : ℕ) → IsClock digits greatest text seconds → seconds < 3600 * greatest + 3600
 clock_bound digits greatest text seconds is =
-    omega (arith, is.value, is.hours.at_most, behind_bound is.behind_text is.behind is.parts)
+    omega (arith, is.value, is.hours.at_most, after_hours_bound is.after_text is.after_hours is.parts)
 
 sign_keeps : (sign : List ℕ) (n : ℕ) (z : ℤ) → HasSign sign n z → unsigned_abs z ≡ n
 sign_keeps sign n z (inl same) = omega (arith, signed_arith, same.value)

@@ -9,7 +9,7 @@ use Rattle.std.proofs.lemmas.Cmp.{nat_list_cmp_total}
 use Rattle.std.specs.Str.{bytes_eq}
 use Rattle.std.specs.Option.{option_or}
 use Rattle.std.proofs.lemmas.Slice.Eq.{bytes_eq-Decides}
-use Rattle.catalogue.proofs.lemmas.Rising.{behind}
+use Rattle.catalogue.proofs.lemmas.Rising.{comes_after}
 use Rattle.catalogue.specs.Order.{is_before, IsRising}
 use Rattle.sync_core.specs.Names.{put_in, put_all, at_text}
 
@@ -196,7 +196,7 @@ one_list text (x ∷ xs) (y ∷ ys) r s h = by (one_list text xs ys r.1 s.1) (by
             let wrong : None ≡ Some y = sym none ∙ h (text y) ∙ there in
             absurd (cc)
         other false k e =
-            let first : is_before (text x) (text y) ≡ true = behind (text x) (text y) k e in
+            let first : is_before (text x) (text y) ≡ true = comes_after (text x) (text y) k e in
             let none : at_text text (y ∷ ys) (text x) ≡ None = not_found text (text x) (y ∷ ys) (first, before_all (text x) (text y) (map text ys) first s.0) in
             let wrong : None ≡ Some x = sym none ∙ sym (h (text x)) ∙ here in
             absurd (cc)

@@ -1,4 +1,4 @@
--- The texts of moments: their lengths, and that each byte is from 45 to 90, a dash, a digit, a colon, T or Z.
+-- The texts of moments: each byte is from 45 to 90, a dash, a digit, a colon, T or Z.
 use Rattle.std.proofs.Common.{ℕ, ◌+◌, ◌/◌, ◌%◌, ◌≤◌, arith, ℤ}
 use Rattle.std.specs.List.{All, AllByRecursion}
 use Rattle.std.proofs.lemmas.List.Elements.{All-from_recursion}

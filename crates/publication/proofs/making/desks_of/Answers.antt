@@ -10,6 +10,6 @@ loop-preserved g c =
     let more = c.in-Ok.ensures.items in (
       c.desk_of.ensures.stage ∙ kept.0,
       omega (arith, ap length more, length-append c.loop.made.items (c.in_ok-desk.desk ∷ []), kept.1),
-      rw more (All-push (λ d. IsNewDesk c.args.edition.now.front.book (values c.args.edition.now.front.log) (ended_in c.args.edition.now.front.log) d)
+      rw more (All-push (λ d. IsNewDesk c.args.edition.now.prefix.book (values c.args.edition.now.prefix.log) (ended_in c.args.edition.now.prefix.log) d)
           c.loop.made.items c.in_ok-desk.desk kept.2 c.in_ok-desk.ensures.desk),
     )

@@ -6,4 +6,4 @@ use Rattle.publication.proofs.making.desks_of.Given as goal
 
 abbrev pub invariant-loop : goal.invariant-loop
 invariant-loop g l = (view l.stage.desk.place ≡ view l.fn.stage.desk.place) × (length l.made.items ≡ l.counter)
-    × All (λ d. IsNewDesk l.fn.edition.front.book (values l.fn.edition.front.log) (ended_in l.fn.edition.front.log) d) l.made.items
+    × All (λ d. IsNewDesk l.fn.edition.prefix.book (values l.fn.edition.prefix.log) (ended_in l.fn.edition.prefix.log) d) l.made.items

@@ -13,7 +13,7 @@ returns-then-edition-clause-seen g c =
 pub returns-then-edition-clause-larger : goal.returns-then-edition-clause-larger
 returns-then-edition-clause-larger g c =
     let mine = rw (ap (λ s. s.log) c.again-both.ensures) at c.learn.ensures.this in
-    let most : length (values c.self.inside.held.front.log) ≤ length (values c.receipt.inside.edition.front.log) =
+    let most : length (values c.self.inside.held.prefix.log) ≤ length (values c.receipt.inside.edition.prefix.log) =
     prefix_length _ _ (ended_has_all _ _ _ mine c.learn.ensures.that c.learn.ensures.seal (sym c.receipt.inside.edition.marked
     ∙ c.if-edition.true)) in
     rw (← c.self.view_is, ← c.receipt.view_is) (omega (arith, most))
@@ -22,7 +22,7 @@ pub returns-then-edition-clause-ended : goal.returns-then-edition-clause-ended
 returns-then-edition-clause-ended g c =
     let mine = rw (ap (λ s. s.log) c.again-both.ensures) at c.learn.ensures.this in
     let ended = sym c.receipt.inside.edition.marked ∙ c.if-edition.true in
-    rw (← c.self.view_is) (λ (h : ended_in c.self.inside.held.front.log ≡ true). (
+    rw (← c.self.view_is) (λ (h : ended_in c.self.inside.held.prefix.log ≡ true). (
       both_whole _ _ _ mine c.learn.ensures.that c.learn.ensures.seal h
           ended,
       ended,
@@ -37,7 +37,7 @@ returns-then-edition-self-clause-seen g c =
 pub returns-then-edition-self-clause-ended : goal.returns-then-edition-self-clause-ended
 returns-then-edition-self-clause-ended g c =
     let mine = rw (ap (λ s. s.log) c.again-both.ensures) at c.learn.ensures.this in
-    rw (← c.self.view_is) (λ (h : ended_in c.self.inside.held.front.log ≡ true).
+    rw (← c.self.view_is) (λ (h : ended_in c.self.inside.held.prefix.log ≡ true).
     let most = no_longer _ _ _ mine c.learn.ensures.that c.learn.ensures.seal h in
     absurd (omega (arith, most, c.if-edition-self.true, c.receipt.inside.edition.numbered, c.self.inside.held.numbered)))
 

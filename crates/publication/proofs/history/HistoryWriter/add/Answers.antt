@@ -12,6 +12,6 @@ compare_exchange-found-requires g c =
       pen.0 ∙ sym (ap (λ w. w.book) h),
       offer.0,
       rw (ap (λ w. w.key) h, pen.1, offer.1, offer.3)
-          (value_moves _ _ c.args.self.now.front.log c.args.value.now c.args.self.now.count _ (sym c.args.self.now.counted) c.in-Some.ensures.1
+          (value_moves _ _ c.args.self.now.prefix.log c.args.value.now c.args.self.now.count _ (sym c.args.self.now.counted) c.in-Some.ensures.1
           c.requires.going c.requires.stands),
     )

@@ -12,5 +12,5 @@ compare_exchange-found-requires g c =
       pen.0 ∙ sym (ap (λ w. w.book) h),
       offer.0,
       rw (ap (λ w. w.key) h, pen.1, offer.1, offer.3)
-          (mark_moves _ _ c.args.self.now.front.log c.args.self.now.count _ (sym c.args.self.now.counted) c.in-Some.ensures.1 c.requires.going),
+          (mark_moves _ _ c.args.self.now.prefix.log c.args.self.now.count _ (sym c.args.self.now.counted) c.in-Some.ensures.1 c.requires.going),
     )
