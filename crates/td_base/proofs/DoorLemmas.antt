@@ -67,5 +67,7 @@ gives_conn old new conn rest e fresh after = rw (after, e) record {
   unfailed = record { reads = fresh.reads; writes = fresh.writes };
   last = refl;
   later = omega arith;
+  once = omega arith;
+  steady = λ _. refl;
   failed = λ h. absurd cc h;
 }

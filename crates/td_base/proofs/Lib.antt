@@ -1,3 +1,4 @@
+pub mod CutLemmas
 pub mod DoorLemmas
 pub mod lemmas
 pub mod FaultyLemmas

@@ -1,5 +1,6 @@
--- What contracts see of the doors through which connections come, and of a network that opens them:
--- what it tells, None where it tells nothing, and how often it failed so far.
+-- What contracts see of the doors through which connections come, and of a network that opens them
+-- and that reaches other servers: what it tells, None where it tells nothing, and how often it failed
+-- so far.
 use Rattle.std.specs.Prelude.{ℕ, List, Option}
 use Rattle.td_base.specs.Views.{ConnView}
 use Rattle.td_base.specs.declared.door.DoorAnswer.{DoorAnswer}
@@ -28,11 +29,15 @@ pub record Opening : Type 0 where
   pub address : List ℕ
   pub doors : ℕ
 
--- a network: the doors that it will give, each by the inputs of its connections, and those that it
--- gave
+-- a network: the doors that it will give, each by the inputs of its connections, and where it gave
+-- how many; how many upstreams it will give, and the addresses at which it gave one; and how many
+-- calls it had of the two kinds, whatever came of them
 pub record NetworkContent : Type 0 where
   pub doors : List (List (List ℕ))
   pub opened : List Opening
+  pub upstreams : ℕ
+  pub reached : List (List ℕ)
+  pub calls : ℕ
 
 pub record NetworkView : Type 0 where
   pub content : Option NetworkContent

@@ -1,9 +1,9 @@
--- What one call does to a door, and to a network. Of content that an object does not tell nothing
--- is said.
+-- What one call does to a door, and what a call for doors does to a network. Of content that an
+-- object does not tell nothing is said.
 use Rattle.std.specs.Prelude.{◌≡◌, ℕ, ◌+◌, ◌≤◌, List, [], ◌∷◌, ◌++◌, length, map, take, drop, All}
-use Rattle.std.specs.Prelude.{⊤, Option, None, Some, IfSome}
+use Rattle.std.specs.Prelude.{⊤, Option, None, Some, IfSome, Bool, true, false}
 use Rattle.std.specs.Global.{Vec}
-use Rattle.td_base.specs.Views.{Rose, ConnView}
+use Rattle.td_base.specs.Views.{Rose, ConnView, one_more}
 use Rattle.td_base.specs.DoorViews.{DoorContent, DoorView, NetworkContent, NetworkView}
 use Rattle.td_base.specs.declared.door.Accepted.{Accepted}
 use Rattle.td_base.specs.declared.door.Accepted.TheVariants as accepted
@@ -58,14 +58,22 @@ answer_of accepted.Idle = answer.Idle
 answer_of accepted.Ended = answer.Ended
 answer_of accepted.Failed = answer.Failed
 
--- one call for the next connection: the count of faults never falls, and the call failed only where
--- it rose
+abbrev pub is_failed_accept : {C : Type 0} → Accepted C → Bool
+is_failed_accept (accepted.Given conn) = false
+is_failed_accept accepted.Idle = false
+is_failed_accept accepted.Ended = false
+is_failed_accept accepted.Failed = true
+
+-- one call for the next connection: it failed only where the count of faults rose, by one at the
+-- most, and every other answer leaves it
 pub record Accepts {C : Type 0} (seen : C → ConnView) (old new : DoorView) (result : Accepted C)
     : Type 0 where
   pub told : AcceptTold seen old.content new.content result
   pub unfailed : GivenUnfailed seen result
   pub last : new.last ≡ Some (answer_of result)
   pub later : old.faults ≤ new.faults
+  pub once : new.faults ≤ old.faults + 1
+  pub steady : is_failed_accept result ≡ false → new.faults ≡ old.faults
   pub failed : result ≡ accepted.Failed → Rose old.faults new.faults
 
 -- a connection is out: it was given and was not handed back
@@ -100,15 +108,30 @@ pub record IsNewDoor (door : DoorView) : Type 0 where
 abbrev pub new_content : List (List ℕ) → DoorContent
 new_content inputs = record { given = []; coming = inputs; finished = [] }
 
+-- the network after one more call, which gave nothing
+abbrev pub called : NetworkContent → NetworkContent
+called content = record content { calls = one_more content.calls }
+
+-- the network after one more call, which gave so many doors at an address
+abbrev pub opened_at : List ℕ → ℕ → NetworkContent → NetworkContent
+opened_at address n content = record (called content) {
+  doors = drop n content.doors;
+  opened = content.opened ++ record { address = address; doors = n } ∷ [];
+}
+
+abbrev pub is_failed_call : {T : Type 0} → Made T → Bool
+is_failed_call (made.Given value) = false
+is_failed_call made.Failed = true
+is_failed_call made.NoMemory = false
+
 module _ {D : Type 0} (seen : D → DoorView) where
   abbrev pub OpenTells : NetworkContent → NetworkContent → List ℕ → ℕ → Made (Vec D) → Type 0
   OpenTells old new address n (made.Given doors) =
-      (new.doors ≡ drop n old.doors)
-      × (new.opened ≡ old.opened ++ record { address = address; doors = n } ∷ [])
+      (new ≡ opened_at address n old)
       × (map (λ d. (seen d).content) doors.items
       ≡ map (λ inputs. Some (new_content inputs)) (take n old.doors))
-  OpenTells old new address n made.Failed = new ≡ old
-  OpenTells old new address n made.NoMemory = new ≡ old
+  OpenTells old new address n made.Failed = new ≡ called old
+  OpenTells old new address n made.NoMemory = new ≡ called old
 
   abbrev pub OpenTold : Option NetworkContent → Option NetworkContent → List ℕ → ℕ
       → Made (Vec D) → Type 0
@@ -124,10 +147,13 @@ module _ {D : Type 0} (seen : D → DoorView) where
   OpenFits n made.Failed = ⊤
   OpenFits n made.NoMemory = ⊤
 
--- one call for doors: the count of faults never falls, and the call failed only where it rose
+-- one call for doors: it failed only where the count of faults rose, by one at the most, and every
+-- other answer leaves it
 pub record Opens {D : Type 0} (seen : D → DoorView) (old new : NetworkView) (address : List ℕ)
     (n : ℕ) (result : Made (Vec D)) : Type 0 where
   pub told : OpenTold seen old.content new.content address n result
   pub fits : OpenFits seen n result
   pub later : old.faults ≤ new.faults
+  pub once : new.faults ≤ old.faults + 1
+  pub steady : is_failed_call result ≡ false → new.faults ≡ old.faults
   pub failed : result ≡ made.Failed → Rose old.faults new.faults

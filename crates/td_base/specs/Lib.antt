@@ -5,12 +5,15 @@ pub mod Memory
 pub mod MemoryDoorFields
 pub mod MemoryDoors
 pub mod MemoryNetworks
+pub mod MemoryUpstreams
 pub mod Names
 pub mod Outside
 pub mod Sized
 pub mod Stored
 pub mod TargetForm
+pub mod Texts
 pub mod Transfer
 pub mod Turns
+pub mod Upstreams
 pub mod Views
 pub mod Works

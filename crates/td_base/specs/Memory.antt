@@ -2,11 +2,7 @@
 use Rattle.std.specs.Prelude.{◌≡◌, ℕ, ◌+◌, ◌-◌, ◌^◌, List, [], ◌∷◌, take, min, max, ⊤, Bool, true}
 use Rattle.std.specs.Prelude.{false, if◌then◌else◌, Some, nat_eq}
 use Rattle.std.specs.List.{list_any}
-use Rattle.td_base.specs.Views.{SourceView, SinkView, StoreView, ConnView}
-use Rattle.td_base.specs.declared.outside.ReadStep.{ReadStep}
-use Rattle.td_base.specs.declared.outside.ReadStep.TheVariants as read
-use Rattle.td_base.specs.declared.outside.WriteStep.{WriteStep}
-use Rattle.td_base.specs.declared.outside.WriteStep.TheVariants as write
+use Rattle.td_base.specs.Views.{SourceView, SinkView, StoreView, ConnView, one_more}
 use Rattle.td_base.specs.declared.outside.FileRead.{FileRead}
 use Rattle.td_base.specs.declared.outside.FileRead.TheVariants as file
 use Rattle.td_base.specs.declared.spawner.Begin.{Begin}
@@ -51,10 +47,6 @@ pub record CallState : Type 0 where
   pub calls : ℕ
   pub faults : ℕ
 
--- one more, up to the last value of 64 bits
-abbrev pub one_more : ℕ → ℕ
-one_more n = min (n + 1) (2 ^ 64 - 1)
-
 -- the next call is to fail
 abbrev pub is_chosen : CallState → Bool
 is_chosen s = list_any (nat_eq (one_more s.calls)) s.failing
@@ -66,21 +58,6 @@ counted s failed = record {
   calls = one_more s.calls;
   faults = if failed then one_more s.faults else s.faults;
 }
-
-abbrev pub is_failed_read : ReadStep → Bool
-is_failed_read (read.Got n) = false
-is_failed_read read.End = false
-is_failed_read read.Failed = true
-
-abbrev pub is_failed_write : WriteStep → Bool
-is_failed_write (write.Took n) = false
-is_failed_write write.Failed = true
-
-abbrev pub is_failed_look : FileRead → Bool
-is_failed_look (file.Found bytes) = false
-is_failed_look file.Absent = false
-is_failed_look file.Failed = true
-is_failed_look file.NoMemory = false
 
 abbrev pub is_refused_begin : Begin → Bool
 is_refused_begin begin.InThread = false

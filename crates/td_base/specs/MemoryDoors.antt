@@ -1,5 +1,5 @@
 -- What contracts see of a door in memory, and of a door of which chosen calls fail.
-use Rattle.std.specs.Prelude.{◌≡◌, ℕ, List, [], ◌∷◌, ◌++◌, take, drop, map, Bool, true, false}
+use Rattle.std.specs.Prelude.{◌≡◌, ℕ, List, [], ◌∷◌, ◌++◌, take, drop, map}
 use Rattle.std.specs.Prelude.{Option, Some}
 use Rattle.td_base.specs.DoorViews.{DoorView, Finished}
 use Rattle.td_base.specs.Doors.{answer_of}
@@ -104,9 +104,3 @@ module _ {D : Type 0} where
     last = s.last;
     faults = s.calls.faults;
   }
-
-abbrev pub is_failed_accept : {C : Type 0} → Accepted C → Bool
-is_failed_accept (accepted.Given conn) = false
-is_failed_accept accepted.Idle = false
-is_failed_accept accepted.Ended = false
-is_failed_accept accepted.Failed = true

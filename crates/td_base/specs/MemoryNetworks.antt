@@ -1,11 +1,11 @@
 -- What contracts see of a network in memory, and of one of which chosen calls fail.
-use Rattle.std.specs.Prelude.{◌≡◌, ℕ, List, [], map, Bool, true, false, Option, None, Some}
-use Rattle.td_base.specs.DoorViews.{DoorContent, DoorView, NetworkView, Opening}
+use Rattle.std.specs.Prelude.{◌≡◌, ℕ, List, [], map, Option, None, Some}
+use Rattle.std.specs.Option.{option_map}
+use Rattle.td_base.specs.DoorViews.{DoorContent, DoorView, NetworkContent, NetworkView, Opening}
 use Rattle.td_base.specs.Doors.{new_content}
 use Rattle.td_base.specs.Memory.{FaultyState}
+use Rattle.td_base.specs.Upstreams.{UpstreamView}
 use Rattle.td_base.specs.declared.memory_network.Opened.{Opened}
-use Rattle.td_base.specs.declared.network.Made.{Made}
-use Rattle.td_base.specs.declared.network.Made.TheVariants as made
 
 -- the inputs of the connections that are still to come, none where nothing is told
 abbrev pub coming_in : Option DoorContent → List (List ℕ)
@@ -18,29 +18,45 @@ pub record TellsNew (door : DoorView) : Type 0 where
   pub last : door.last ≡ None
   pub faults : door.faults ≡ 0
 
--- a network: the doors that it has, each by the inputs of its connections, the calls that it
--- granted, and how many it did not, having too few doors
+-- another server that tells its exchanges, of which there is none yet
+pub record TellsNone (upstream : UpstreamView) : Type 0 where
+  pub told : upstream.told ≡ Some []
+  pub faults : upstream.faults ≡ 0
+
+-- a network: the doors that it has, each by the inputs of its connections, and where it opened how
+-- many; how many upstreams it has, and the addresses at which it gave one; how many calls it had,
+-- and how many of them it did not grant, having too few
 pub record MemoryNetworkState : Type 0 where
   pub doors : List (List (List ℕ))
   pub opened : List Opened
+  pub upstreams : ℕ
+  pub reached : List (List ℕ)
+  pub calls : ℕ
   pub faults : ℕ
 
 abbrev pub opening_of : Opened → Opening
 opening_of o = record { address = o.address; doors = o.doors }
 
-abbrev pub memory_network : MemoryNetworkState → NetworkView
-memory_network n = record {
-  content = Some (record { doors = n.doors; opened = map opening_of n.opened });
-  faults = n.faults;
+abbrev pub network_content : MemoryNetworkState → NetworkContent
+network_content n = record {
+  doors = n.doors;
+  opened = map opening_of n.opened;
+  upstreams = n.upstreams;
+  reached = n.reached;
+  calls = n.calls;
 }
 
+abbrev pub memory_network : MemoryNetworkState → NetworkView
+memory_network n = record { content = Some (network_content n); faults = n.faults }
+
 -- a network of which chosen calls fail: it tells what the network inside tells, and has its own
--- count of faults
+-- counts of calls and of faults
+abbrev pub with_calls : ℕ → NetworkContent → NetworkContent
+with_calls calls content = record content { calls = calls }
+
 module _ {S : Type 0} where
   abbrev pub faulty_network : (S → NetworkView) → FaultyState S → NetworkView
-  faulty_network seen s = record { content = (seen s.inner).content; faults = s.calls.faults }
-
-abbrev pub is_failed_opening : {T : Type 0} → Made T → Bool
-is_failed_opening (made.Given value) = false
-is_failed_opening made.Failed = true
-is_failed_opening made.NoMemory = false
+  faulty_network seen s = record {
+    content = option_map (with_calls s.calls.calls) (seen s.inner).content;
+    faults = s.calls.faults;
+  }

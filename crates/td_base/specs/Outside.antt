@@ -1,6 +1,7 @@
 -- What one call does to an object of the outside. Of content that an object does not tell nothing
 -- is said.
-use Rattle.std.specs.Prelude.{◌≡◌, ℕ, ◌<◌, ◌≤◌, List, length, take, ⊤, Option, None, Some}
+use Rattle.std.specs.Prelude.{◌≡◌, ℕ, ◌+◌, ◌<◌, ◌≤◌, List, length, take, ⊤, Option, None, Some}
+use Rattle.std.specs.Prelude.{Bool, true, false}
 use Rattle.std.specs.Option.{option_map}
 use Rattle.std.specs.Io.KnownBytes.{Appends, Consumes, IsAtEnd, Keeps}
 use Rattle.td_base.specs.Views.{SourceFailed, SinkFailed, StoreFailed, File, file_at, SourceView}
@@ -25,11 +26,19 @@ ReadTells old new (read.Got n) room = Consumes old new (take n room)
 ReadTells old new read.End room = Keeps old new × IsAtEnd new
 ReadTells old new read.Failed room = Keeps old new
 
--- one read into the room: the count of faults never falls, and a read failed only where it rose
+abbrev pub is_failed_read : ReadStep → Bool
+is_failed_read (read.Got n) = false
+is_failed_read read.End = false
+is_failed_read read.Failed = true
+
+-- one read into the room: a read failed only where the count of faults rose, by one at the most, and
+-- one that did not fail leaves it
 pub record Reads (old new : SourceView) (result : ReadStep) (room : List ℕ) : Type 0 where
   pub fits : ReadFits result room
   pub told : ReadTells old.left new.left result room
   pub later : old.faults ≤ new.faults
+  pub once : new.faults ≤ old.faults + 1
+  pub steady : is_failed_read result ≡ false → new.faults ≡ old.faults
   pub failed : result ≡ read.Failed → SourceFailed old new
 
 -- the number of bytes that a write took is at least one and within the piece
@@ -42,11 +51,18 @@ abbrev pub WriteTells : Option (List ℕ) → Option (List ℕ) → WriteStep �
 WriteTells old new (write.Took n) piece = Appends old new (take n piece)
 WriteTells old new write.Failed piece = Keeps old new
 
--- one write of the piece: the count of faults never falls, and a write failed only where it rose
+abbrev pub is_failed_write : WriteStep → Bool
+is_failed_write (write.Took n) = false
+is_failed_write write.Failed = true
+
+-- one write of the piece: a write failed only where the count of faults rose, by one at the most, and
+-- one that did not fail leaves it
 pub record Writes (old new : SinkView) (result : WriteStep) (piece : List ℕ) : Type 0 where
   pub fits : WriteFits result piece
   pub told : WriteTells old.taken new.taken result piece
   pub later : old.faults ≤ new.faults
+  pub once : new.faults ≤ old.faults + 1
+  pub steady : is_failed_write result ≡ false → new.faults ≡ old.faults
   pub failed : result ≡ write.Failed → SinkFailed old new
 
 -- no more bytes were read than were asked for
@@ -66,13 +82,21 @@ FileTells (Some files) path most file.Absent = file_at files path ≡ None
 FileTells (Some files) path most file.Failed = ⊤
 FileTells (Some files) path most file.NoMemory = ⊤
 
--- one look at a file: no file changes, the count of faults never falls, and a file was not read
--- only where it rose
+abbrev pub is_failed_look : FileRead → Bool
+is_failed_look (file.Found bytes) = false
+is_failed_look file.Absent = false
+is_failed_look file.Failed = true
+is_failed_look file.NoMemory = false
+
+-- one look at a file: no file changes; a file was not read only where the count of faults rose, by
+-- one at the most, and every other answer leaves it
 pub record Looks (old new : StoreView) (path : List ℕ) (most : ℕ) (result : FileRead) : Type 0 where
   pub kept : new.files ≡ old.files
   pub fits : FileFits most result
   pub told : FileTells old.files path most result
   pub later : old.faults ≤ new.faults
+  pub once : new.faults ≤ old.faults + 1
+  pub steady : is_failed_look result ≡ false → new.faults ≡ old.faults
   pub failed : result ≡ file.Failed → StoreFailed old new
 
 -- the bytes that reads have given grow by those that a read gave

@@ -1,5 +1,6 @@
 -- What reading a whole source and writing a whole text do.
-use Rattle.std.specs.Prelude.{◌≡◌, ℕ, ◌<◌, ◌≤◌, List, length, take, Option, Result, MatchResult}
+use Rattle.std.specs.Prelude.{◌≡◌, ℕ, ◌+◌, ◌<◌, ◌≤◌, List, length, take, Option, Result, OnOk}
+use Rattle.std.specs.Prelude.{MatchResult}
 use Rattle.std.specs.Prelude.{IsErrOf}
 use Rattle.std.specs.Io.KnownBytes.{Appends, Consumes, IsAtEnd}
 use Rattle.td_base.specs.Views.{SourceFailed, SinkFailed, SourceView, SinkView, ConnView}
@@ -28,6 +29,8 @@ pub record ReadsTo (most : ℕ) (old new : SourceView) (result : Result (List �
   pub bytes :
       MatchResult result (IsWhole most old.left new.left) (λ _. IsPart most old.left new.left)
   pub later : old.faults ≤ new.faults
+  pub once : new.faults ≤ old.faults + 1
+  pub steady : OnOk result (new.faults ≡ old.faults)
   pub failed : IsErrOf result fault.Failed → SourceFailed old new
 
 -- the bytes taken grew by all of the text, or by a prefix of it where the sink failed
@@ -39,6 +42,8 @@ WritesTell old new text written.Cut = (n : ℕ) × Appends old new (take n text)
 pub record WritesAll (old new : SinkView) (text : List ℕ) (result : Written) : Type 0 where
   pub told : WritesTell old.taken new.taken text result
   pub later : old.faults ≤ new.faults
+  pub once : new.faults ≤ old.faults + 1
+  pub steady : result ≡ written.Whole → new.faults ≡ old.faults
   pub failed : result ≡ written.Cut → SinkFailed old new
 
 -- a text was written to a connection, whole or cut by a failed write, and nothing was read of it

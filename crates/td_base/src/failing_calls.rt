@@ -1,5 +1,6 @@
 ghost use Rattle.std.specs.Prelude.{◌≡◌, ◌≤◌, false};
-ghost use Rattle.td_base.specs.Memory.{CallState, is_chosen, counted, one_more};
+ghost use Rattle.td_base.specs.Memory.{CallState, is_chosen, counted};
+ghost use Rattle.td_base.specs.Views.{one_more};
 
 use crate::Items;
 use std::marker::Model;

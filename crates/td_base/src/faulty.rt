@@ -1,7 +1,8 @@
 ghost use Rattle.std.specs.Prelude.{◌≡◌, ◌<◌, length, true, false};
-ghost use Rattle.td_base.specs.Memory.{is_chosen, counted, is_failed_read, is_failed_write};
-ghost use Rattle.td_base.specs.Memory.{is_failed_look, faulty_source, faulty_sink, faulty_store};
-ghost use Rattle.td_base.specs.Outside.{Reads, Writes, Looks};
+ghost use Rattle.td_base.specs.Memory.{is_chosen, counted, faulty_source, faulty_sink};
+ghost use Rattle.td_base.specs.Memory.{faulty_store};
+ghost use Rattle.td_base.specs.Outside.{Reads, Writes, Looks, is_failed_read, is_failed_write};
+ghost use Rattle.td_base.specs.Outside.{is_failed_look};
 
 use crate::failing_calls::FailingCalls;
 use crate::{FileRead, Items, ReadStep, Sink, Source, Store, WriteStep};

@@ -1,7 +1,6 @@
 ghost use Rattle.std.specs.Prelude.{◌≡◌, ◌<◌, length, true, false};
-ghost use Rattle.td_base.specs.Memory.{is_chosen, counted, is_failed_read, is_failed_write};
-ghost use Rattle.td_base.specs.Memory.{faulty_conn};
-ghost use Rattle.td_base.specs.Outside.{ConnReads, ConnWrites};
+ghost use Rattle.td_base.specs.Memory.{is_chosen, counted, faulty_conn};
+ghost use Rattle.td_base.specs.Outside.{ConnReads, ConnWrites, is_failed_read, is_failed_write};
 
 use crate::failing_calls::FailingCalls;
 use crate::{Conn, Items, ReadStep, WriteStep};

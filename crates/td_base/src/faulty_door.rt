@@ -1,7 +1,7 @@
 ghost use Rattle.std.specs.Prelude.{◌≡◌, Some, None, true, false};
-ghost use Rattle.td_base.specs.Doors.{Accepts, Finishes, HasOut, answer_of};
+ghost use Rattle.td_base.specs.Doors.{Accepts, Finishes, HasOut, answer_of, is_failed_accept};
 ghost use Rattle.td_base.specs.Memory.{counted, is_chosen};
-ghost use Rattle.td_base.specs.MemoryDoors.{faulty_door, is_failed_accept};
+ghost use Rattle.td_base.specs.MemoryDoors.{faulty_door};
 
 use crate::failing_calls::FailingCalls;
 use crate::{Accepted, Door, DoorAnswer, Items, Report};

@@ -1,6 +1,7 @@
 ghost use Rattle.std.specs.Prelude.{◌≡◌, ◌≤◌, true, false};
 ghost use Rattle.td_base.specs.Views.{Rose};
-ghost use Rattle.td_base.specs.Memory.{counted, is_chosen, is_refused_begin, one_more};
+ghost use Rattle.td_base.specs.Memory.{counted, is_chosen, is_refused_begin};
+ghost use Rattle.td_base.specs.Views.{one_more};
 
 use crate::{Begin, Faulty, Spawner};
 

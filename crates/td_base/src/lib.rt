@@ -16,6 +16,9 @@ mod value;
 mod digits;
 mod name_forms;
 
+// Texts of a head's fields.
+pub mod texts;
+
 // Streams, files and connections, and whole transfers over them.
 mod joined;
 mod outside;
@@ -23,13 +26,14 @@ mod report;
 mod source_fault;
 mod transfer;
 
-// Doors, networks, and works in threads.
+// Doors, other servers, networks, and works in threads.
 mod door;
 mod network;
 mod running;
 mod spawner;
 mod start_thread;
 mod turn;
+mod upstream;
 mod work;
 
 // The outside in memory.
@@ -40,6 +44,7 @@ mod memory_sink;
 mod memory_source;
 mod memory_spawner;
 mod memory_store;
+mod memory_upstream;
 mod piece_sizes;
 
 // The outside with calls that fail as chosen.
@@ -49,6 +54,7 @@ mod faulty_conn;
 mod faulty_door;
 mod faulty_network;
 mod faulty_spawner;
+mod faulty_upstream;
 
 // Laws, and what may cross threads.
 pub mod laws;
@@ -69,6 +75,7 @@ pub use memory_sink::MemorySink;
 pub use memory_source::MemorySource;
 pub use memory_spawner::MemorySpawner;
 pub use memory_store::MemoryStore;
+pub use memory_upstream::MemoryUpstream;
 pub use name_forms::{
     MOST_FILE_NAME_BYTES, MOST_IDENTIFIER_BYTES, MOST_LABEL_BYTES, MOST_PATH_BYTES, is_file_name,
     is_identifier, is_label, is_path_word,
@@ -82,19 +89,9 @@ pub use short_text::ShortText;
 pub use source_fault::SourceFault;
 pub use spawner::{Begin, Spawner};
 pub use transfer::{Written, read_to_end, send_whole, write_whole};
+pub use upstream::{Exchange, Exchanged, Upstream};
 pub use value::Value;
 pub use work::Work;
 
 /// The token of a place in a history: its number in decimal, a dash and hex digits.
 pub type Token = ShortText<32>;
-
-#[cfg(test)]
-mod door_tests;
-#[cfg(test)]
-mod name_table;
-#[cfg(test)]
-mod spawner_tests;
-#[cfg(test)]
-mod start_tests;
-#[cfg(test)]
-mod tests;

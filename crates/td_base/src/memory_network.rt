@@ -1,12 +1,15 @@
-ghost use Rattle.std.specs.Prelude.{◌≡◌, ◌≢◌, ◌<◌, ◌≤◌, [], ◌∷◌, ◌++◌, length, map};
+ghost use Rattle.std.specs.Prelude.{◌≡◌, ◌≢◌, ◌<◌, ◌≤◌, ◌+◌, ◌-◌, [], ◌∷◌, ◌++◌, length, map};
 ghost use Rattle.std.specs.Prelude.{IsSome, IfOk, OnOk, OnErr};
-ghost use Rattle.td_base.specs.Doors.{IsNewDoor, OpenFits, OpenTells, Opens};
-ghost use Rattle.td_base.specs.Memory.{one_more};
-ghost use Rattle.td_base.specs.MemoryNetworks.{coming_in, memory_network, opening_of};
+ghost use Rattle.td_base.specs.Doors.{IsNewDoor, OpenFits, OpenTells, Opens, opened_at};
+ghost use Rattle.td_base.specs.MemoryNetworks.{TellsNone, coming_in, memory_network};
+ghost use Rattle.td_base.specs.MemoryNetworks.{network_content};
+ghost use Rattle.td_base.specs.Upstreams.{Reaches};
+ghost use Rattle.td_base.specs.Views.{one_more};
 ghost use Rattle.td_base.specs.declared.network.Made.TheVariants as made;
 
-use crate::{Bytes, Door, Made, Network, NoMemory};
+use crate::{Bytes, Door, Made, Network, NoMemory, Upstream};
 use std::alloc::Global;
+use std::collections::VecDeque;
 use std::marker::Model;
 use std::mem::replace;
 
@@ -17,49 +20,77 @@ pub struct Opened {
     pub doors: u32,
 }
 
-/// A network in memory: doors that tell their content, which it gives in their order, whatever the
-/// address. It tells them and where it opened which, and fails only where it has too few.
+/// A network in memory: doors and other servers that tell their content, which it gives in their
+/// order, whatever the address. It tells what it has, what it gave where, and how often it was
+/// called, and fails only where it has too few.
 #[derive(Debug, Drop)]
-pub struct MemoryNetwork<D: Door> {
+pub struct MemoryNetwork<D: Door, U: Upstream> {
     doors: Vec<D>,
     opened: Vec<Opened>,
+    upstreams: VecDeque<U>,
+    reached: Vec<Bytes>,
+    calls: u64,
     faults: u64,
 }
 
-impl<D: Door> Model for MemoryNetwork<D> {
-    ghost use Rattle.std.specs.Prelude.{All, map};
+impl<D: Door, U: Upstream> Model for MemoryNetwork<D, U> {
+    ghost use Rattle.std.specs.Prelude.{length, map};
     ghost use Rattle.td_base.specs.MemoryNetworks.{MemoryNetworkState};
 
     ghost Value = { MemoryNetworkState };
 
-    ghost use Rattle.td_base.specs.MemoryNetworks.{TellsNew, coming_in};
+    ghost use Rattle.td_base.specs.MemoryNetworks.{coming_in};
 
     ghost view = { λ n. record {
       doors = map (λ d. coming_in (D.seen d).content) n.doors.items;
       opened = n.opened.items;
+      upstreams = length n.upstreams.items;
+      reached = n.reached.items;
+      calls = n.calls;
       faults = n.faults;
     } };
 
-    ghost invariant = { λ n. All (λ d. TellsNew (D.seen d)) n.doors.items };
+    ghost use Rattle.std.specs.Prelude.{All};
+    ghost use Rattle.td_base.specs.MemoryNetworks.{TellsNew, TellsNone};
+
+    ghost invariant = { λ n. All (λ d. TellsNew (D.seen d)) n.doors.items
+        × All (λ u. TellsNone (U.seen u)) n.upstreams.items };
 }
 
-impl<D: Door> MemoryNetwork<D> {
-    /// A network without doors.
-    pub fn new(alloc: Global) -> MemoryNetwork<D>
-        ensures { result ≡ record { doors = []; opened = []; faults = 0 } }
+impl<D: Door, U: Upstream> MemoryNetwork<D, U> {
+    /// A network without doors and upstreams.
+    pub fn new(alloc: Global) -> MemoryNetwork<D, U>
+        ensures { result ≡ record {
+          doors = [];
+          opened = [];
+          upstreams = 0;
+          reached = [];
+          calls = 0;
+          faults = 0;
+        } }
     {
         MemoryNetwork {
             doors: Vec::new(alloc),
             opened: Vec::new(alloc),
+            upstreams: VecDeque::new(alloc),
+            reached: Vec::new(alloc),
+            calls: 0,
             faults: 0,
         }
     }
 
-    /// What it granted, in the order of the calls.
+    /// The doors that it granted, in the order of the calls.
     pub fn opened(&self) -> &[Opened]
         ensures { result.now ≡ self.now.opened }
     {
         self.opened.as_slice()
+    }
+
+    /// The addresses at which it gave an upstream, in the order of the calls.
+    pub fn reached(&self) -> &[Bytes]
+        ensures { result.now ≡ self.now.reached }
+    {
+        self.reached.as_slice()
     }
 
     /// How many doors it still has.
@@ -72,11 +103,11 @@ impl<D: Door> MemoryNetwork<D> {
     /// The first doors, of which there must be so many.
     fn give(&mut self, alloc: Global, address: &[u8], number: u32) -> Result<Vec<D>, NoMemory>
         requires { number ≤ length self.old.doors }
-        ensures tells { IfOk result (λ doors. OpenTells D.seen
-            (record { doors = self.old.doors; opened = map opening_of self.old.opened })
-            (record { doors = self.new.doors; opened = map opening_of self.new.opened })
+        ensures tells { IfOk result (λ doors. OpenTells D.seen (network_content self.old)
+            (record (network_content self.new) { calls = one_more self.old.calls })
             address.now number (made.Given doors)) }
         ensures fits { IfOk result (λ doors. OpenFits D.seen number (made.Given doors)) }
+        ensures calls { self.new.calls ≡ self.old.calls }
         ensures faults { self.new.faults ≡ self.old.faults }
         ensures err { OnErr result (self.new ≡ self.old) }
     {
@@ -90,9 +121,30 @@ impl<D: Door> MemoryNetwork<D> {
         });
         Ok(given)
     }
+
+    /// The first upstream, of which there must be one.
+    fn reach(&mut self, alloc: Global, address: &[u8]) -> Result<U, NoMemory>
+        requires { 0 < self.old.upstreams }
+        ensures gives { IfOk result (λ upstream. TellsNone (U.seen upstream)) }
+        ensures ok { OnOk result (self.new ≡ record self.old {
+          upstreams = self.old.upstreams - 1;
+          reached = self.old.reached ++ address.now ∷ [];
+        }) }
+        ensures err { OnErr result (self.new ≡ self.old) }
+    {
+        let address = Bytes::from_slice(alloc, address)?;
+        self.reached.reserve(1)?;
+        match self.upstreams.pop_front() {
+            Some(upstream) => {
+                self.reached.push_reserved(address);
+                Ok(upstream)
+            }
+            None => Err(NoMemory),
+        }
+    }
 }
 
-impl<D: Door + Drop> MemoryNetwork<D> {
+impl<D: Door + Drop, U: Upstream> MemoryNetwork<D, U> {
     /// Adds a door that tells its content and was not asked yet, after those that it has.
     pub fn push(&mut self, door: D) -> Result<(), NoMemory>
         requires new { IsNewDoor (D.seen door) }
@@ -107,8 +159,24 @@ impl<D: Door + Drop> MemoryNetwork<D> {
     }
 }
 
-impl<D: Door> Network for MemoryNetwork<D> {
+impl<D: Door, U: Upstream + Drop> MemoryNetwork<D, U> {
+    /// Adds an upstream that tells its exchanges and was asked nothing yet, after those that it has.
+    pub fn push_upstream(&mut self, upstream: U) -> Result<(), NoMemory>
+        requires { TellsNone (U.seen upstream) }
+        ensures ok { OnOk result (self.new ≡ record self.old {
+          upstreams = self.old.upstreams + 1;
+        }) }
+        ensures err { OnErr result (self.new ≡ self.old) }
+    {
+        self.upstreams.push_back(upstream)?;
+        Ok(())
+    }
+}
+
+impl<D: Door, U: Upstream> Network for MemoryNetwork<D, U> {
     type Door = D;
+
+    type Up = U;
 
     ghost seen = { memory_network };
 
@@ -119,16 +187,45 @@ impl<D: Door> Network for MemoryNetwork<D> {
         // It fails at nothing else than too few doors.
         ensures fewer { length self.old.doors < number
             → (result ≡ Made.Failed)
-            × (self.new ≡ record self.old { faults = one_more self.old.faults }) }
+            × (self.new ≡ record self.old {
+              calls = one_more self.old.calls;
+              faults = one_more self.old.faults;
+            }) }
         ensures enough { number ≤ length self.old.doors
             → (result ≢ Made.Failed) × (self.new.faults ≡ self.old.faults) }
     {
+        self.calls = self.calls.saturating_add(1);
         if self.doors.len() < number as usize {
             self.faults = self.faults.saturating_add(1);
             return Made::Failed;
         }
         match self.give(alloc, address, number) {
             Ok(doors) => Made::Given(doors),
+            Err(NoMemory) => Made::NoMemory,
+        }
+    }
+
+    fn upstream(&mut self, alloc: Global, address: &[u8]) -> Made<U>
+        ensures reaches { Reaches U.seen (memory_network self.old) (memory_network self.new)
+            address.now result }
+
+        // It fails at nothing else than having none.
+        ensures none { self.old.upstreams ≡ 0
+            → (result ≡ Made.Failed)
+            × (self.new ≡ record self.old {
+              calls = one_more self.old.calls;
+              faults = one_more self.old.faults;
+            }) }
+        ensures some { 0 < self.old.upstreams
+            → (result ≢ Made.Failed) × (self.new.faults ≡ self.old.faults) }
+    {
+        self.calls = self.calls.saturating_add(1);
+        if self.upstreams.is_empty() {
+            self.faults = self.faults.saturating_add(1);
+            return Made::Failed;
+        }
+        match self.reach(alloc, address) {
+            Ok(upstream) => Made::Given(upstream),
             Err(NoMemory) => Made::NoMemory,
         }
     }

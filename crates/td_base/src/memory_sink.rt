@@ -1,5 +1,6 @@
 ghost use Rattle.std.specs.Prelude.{◌≡◌, ◌+◌, ◌<◌, ◌≤◌, ◌==◌, [], length, min, drop, IfOk};
-ghost use Rattle.td_base.specs.Memory.{SinkState, one_more, piece_size, sink_view};
+ghost use Rattle.td_base.specs.Memory.{SinkState, piece_size, sink_view};
+ghost use Rattle.td_base.specs.Views.{one_more};
 ghost use Rattle.td_base.specs.Outside.{Writes};
 
 use crate::piece_sizes::PieceSizes;

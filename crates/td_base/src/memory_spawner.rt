@@ -1,6 +1,6 @@
 ghost use Rattle.std.specs.Prelude.{◌≡◌, ◌≤◌};
 ghost use Rattle.td_base.specs.Views.{Rose};
-ghost use Rattle.td_base.specs.Memory.{one_more};
+ghost use Rattle.td_base.specs.Views.{one_more};
 
 use crate::{Begin, Spawner};
 

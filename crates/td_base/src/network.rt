@@ -1,7 +1,8 @@
 ghost use Rattle.td_base.specs.DoorViews.{NetworkView};
 ghost use Rattle.td_base.specs.Doors.{Opens};
+ghost use Rattle.td_base.specs.Upstreams.{Reaches};
 
-use crate::Door;
+use crate::{Door, Upstream};
 use std::alloc::Global;
 
 /// What a [`Network`] made of a call.
@@ -15,10 +16,12 @@ pub enum Made<T> {
     NoMemory,
 }
 
-/// What opens doors at addresses. One in memory tells which doors it will give and which it gave;
-/// the real network tells nothing.
+/// What opens doors at addresses, and reaches other servers at theirs. One in memory tells what it
+/// will give and what it gave; the real network tells nothing.
 pub trait Network {
     type Door: Door;
+
+    type Up: Upstream;
 
     ghost seen: { Self → NetworkView };
 
@@ -26,4 +29,8 @@ pub trait Network {
     fn doors(&mut self, alloc: Global, address: &[u8], number: u32) -> Made<Vec<Self::Door>>
         ensures opens { Opens Self.Door.seen (seen self.old) (seen self.new) address.now number
             result };
+
+    /// The server at an address, of which nothing was asked yet.
+    fn upstream(&mut self, alloc: Global, address: &[u8]) -> Made<Self::Up>
+        ensures reaches { Reaches Self.Up.seen (seen self.old) (seen self.new) address.now result };
 }

@@ -66,11 +66,13 @@ impl Places {
     }
 }
 
-/// How a connection ended, and where its requests were answered.
+/// How a connection ended, where its requests were answered, and how many of the answers were
+/// computed for it, since none was kept.
 #[derive(Debug, Drop, PartialEq, Eq)]
 pub struct Report {
     pub end: End,
     pub places: Places,
+    pub computed: u64,
 }
 
 /// What a server is: one that publishes its own releases, or one that follows another server at

@@ -1,10 +1,10 @@
 //! The types of this crate may be sent to other threads and shared with them, generic ones where
 //! their parts may.
 use crate::{
-    Accepted, Ask, Bytes, Door, DoorAnswer, DoorStep, End, Faulty, FaultyConn, FaultyDoor,
-    FileRead, Items, Made, MemoryConn, MemoryDoor, MemoryNetwork, MemorySink, MemorySource,
-    MemorySpawner, MemoryStore, NoMemory, Opened, Places, ReadStep, Report, Role, Served,
-    ShortText, SourceFault, Token, WriteStep, Written,
+    Accepted, Ask, Begin, Bytes, Door, DoorAnswer, DoorStep, End, Exchange, Exchanged, Faulty,
+    FaultyConn, FaultyDoor, FileRead, Items, Made, MemoryConn, MemoryDoor, MemoryNetwork,
+    MemorySink, MemorySource, MemorySpawner, MemoryStore, MemoryUpstream, NoMemory, Opened, Places,
+    ReadStep, Report, Role, Served, ShortText, SourceFault, Token, Upstream, WriteStep, Written,
 };
 
 fn is_shared<T: Send + Sync>() {}
@@ -33,6 +33,10 @@ fn types_are_shared() {
     is_shared::<MemoryDoor>();
     is_shared::<Opened>();
     is_shared::<MemorySpawner>();
+    is_shared::<Begin>();
+    is_shared::<Exchange>();
+    is_shared::<Exchanged>();
+    is_shared::<MemoryUpstream>();
 }
 
 fn generic_types_are_shared<T: Send + Sync, const N: usize>() {
@@ -45,6 +49,6 @@ fn generic_types_are_shared<T: Send + Sync, const N: usize>() {
     is_shared::<Made<T>>();
 }
 
-fn networks_are_shared<D: Door + Send + Sync>() {
-    is_shared::<MemoryNetwork<D>>();
+fn networks_are_shared<D: Door + Send + Sync, U: Upstream + Send + Sync>() {
+    is_shared::<MemoryNetwork<D, U>>();
 }

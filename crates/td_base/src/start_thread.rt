@@ -1,7 +1,7 @@
 ghost use Rattle.td_base.specs.Works.{BeginsWork, work_of};
 
 use crate::running::Running;
-use crate::turn::{KeepsWork, Turn, take_turn};
+use crate::turn::{KeepsWork, Turn, run_or_return};
 use crate::work::Work;
 use std::alloc::Global;
 use std::snapshot::Snapshot;
@@ -46,7 +46,7 @@ where
     let promise = KeepsWork {
         work: Snapshot::of(&work),
     };
-    match builder.spawn_with(&rt, promise, move || take_turn(rt, work, word)) {
+    match builder.spawn_with(&rt, promise, move || run_or_return(rt, work, word)) {
         Ok(handle) => Ok(Running::InThread(handle)),
         Err(closure) => {
             refused.store(true, Ordering::SeqCst);

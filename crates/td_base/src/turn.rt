@@ -25,7 +25,7 @@ impl<W: Work> Promise<Turn<W, W::Done>> for KeepsWork<W> {
 }
 
 /// Does the work, unless the word says that no thread was made for it.
-pub fn take_turn<W: Work, R: Wait + Drop>(
+pub fn run_or_return<W: Work, R: Wait + Drop>(
     rt: R,
     work: W,
     refused: Arc<AtomicBool, Global>,

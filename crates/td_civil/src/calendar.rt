@@ -1,11 +1,12 @@
 ghost use Rattle.std.specs.Prelude.{◌≡◌, ◌↔◌, ◌+ℤ◌, pos, neg_ℤ, unsigned_abs, IsSome, IfSome};
-ghost use Rattle.jiff_core.specs.Calendar.{IsBetween, IsCivilDate, days_from_civil};
+ghost use Rattle.jiff_core.specs.Calendar.{IsBetween, IsCivilDate, IsEpochDay, days_from_civil};
 ghost use Rattle.td_civil.specs.Bounds.{IsWithinBounds};
 ghost use Rattle.td_civil.specs.Calendar.{stamp_of, date_of, HasDay, IsInYear};
 
 use crate::Moment;
 use crate::day_numbers::{date_after, day_number};
 use crate::fields::Fields;
+use jiff::civil;
 
 /// The year in UTC.
 pub fn year_of(m: Moment) -> i32
@@ -26,6 +27,15 @@ pub fn day_of(year: i32, month: u8, day: u8) -> Option<i64>
         return None;
     }
     day_number(year.unsigned_abs(), month as u32, day as u32)
+}
+
+/// The day number of 1 January of a year from 1798 to 9999, counted from 1970-01-01.
+pub fn new_year_day(year: i16) -> i64
+    requires { IsBetween (pos 1798) (pos 9999) year }
+    ensures value { result ≡ days_from_civil year 1 1 }
+    ensures bound { IsEpochDay result }
+{
+    i64::from(civil::date(year, 1, 1).to_plain().to_unix_epoch_day())
 }
 
 /// A date of the proleptic Gregorian calendar.

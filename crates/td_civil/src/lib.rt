@@ -22,7 +22,7 @@ mod moment_text;
 mod laws;
 mod send_sync;
 
-pub use calendar::{CivilDate, date_of_day, day_of, year_of};
+pub use calendar::{CivilDate, date_of_day, day_of, new_year_day, year_of};
 pub use date_text::is_date;
 pub use laws::{
     bounds_are, is_spelled, is_text_of, one_moment, one_text, reads_back, same_states, some_year,

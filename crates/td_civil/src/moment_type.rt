@@ -1,3 +1,6 @@
+ghost use Rattle.std.specs.Prelude.{◌≡◌, ◌↔◌, IsTrue};
+ghost use Rattle.td_civil.specs.Bounds.{HasMeaning, has_meaning};
+
 /// A moment: whole seconds from 1970-01-01T00:00:00Z, without leap seconds.
 #[derive(Clone, Copy, Debug, PartialEq, Eq, PartialOrd, Ord, Hash)]
 pub struct Moment {
@@ -9,3 +12,13 @@ pub const LO: i64 = -5_364_662_400;
 
 /// The end of the moments that have a meaning here, 9999-01-01T00:00:00Z.
 pub const HI: i64 = 253_370_764_800;
+
+impl Moment {
+    /// Whether it has a meaning here.
+    pub fn has_meaning(self) -> bool
+        ensures test { result ≡ has_meaning self.seconds }
+        ensures meant { IsTrue result ↔ HasMeaning self.seconds }
+    {
+        LO <= self.seconds && self.seconds < HI
+    }
+}

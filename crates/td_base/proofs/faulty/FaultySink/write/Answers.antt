@@ -1,5 +1,5 @@
-use Rattle.std.proofs.Common.{ap, ◌∙◌}
-use Rattle.td_base.specs.Memory.{one_more}
+use Rattle.std.proofs.Common.{ap, ◌∙◌, rules}
+use Rattle.td_base.specs.Views.{one_more}
 use Rattle.td_base.proofs.FaultyLemmas.{chosen_write, other_write}
 use Rattle.td_base.proofs.faulty.FaultySink.write.Goals as goal
 
@@ -13,6 +13,6 @@ returns-then-begin-clause-write g c =
 pub returns-then-eq-clause-write : goal.returns-then-eq-clause-write
 returns-then-eq-clause-write g c =
     rw (← c.self.view_is)
-    (other_write _ _ _ _ _ _ c.write-step.ensures.write
+    (other_write _ _ _ _ _ _ c.write-step.ensures.write (search rules)
     (c.count_fault-then-eq.ensures.faults ∙ ap one_more c.begin.ensures.faults)
     (rw (← c.begin.ensures.faults) c.count_fault-then-eq.ensures.later))

@@ -1,5 +1,5 @@
-use Rattle.std.proofs.Common.{ap, ◌∙◌}
-use Rattle.td_base.specs.Memory.{one_more}
+use Rattle.std.proofs.Common.{ap, ◌∙◌, rules}
+use Rattle.td_base.specs.Views.{one_more}
 use Rattle.td_base.proofs.FaultyLemmas.{chosen_conn_read, other_conn_read}
 use Rattle.td_base.proofs.faulty_conn.FaultyConnConn.read.Goals as goal
 
@@ -13,6 +13,6 @@ returns-then-begin-clause-read g c =
 pub returns-then-eq-clause-read : goal.returns-then-eq-clause-read
 returns-then-eq-clause-read g c =
     rw (← c.self.view_is)
-    (other_conn_read _ _ _ _ _ _ _ c.read-step.ensures.read
+    (other_conn_read _ _ _ _ _ _ _ c.read-step.ensures.read (search rules)
     (c.count_fault-then-eq.ensures.faults ∙ ap one_more c.begin.ensures.faults)
     (rw (← c.begin.ensures.faults) c.count_fault-then-eq.ensures.later))

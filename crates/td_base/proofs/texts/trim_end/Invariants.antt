@@ -1,0 +1,9 @@
+use Rattle.std.proofs.Common.{◌≡◌, reverse, length}
+use Rattle.td_base.specs.Texts.{skip_blanks}
+use Rattle.td_base.proofs.texts.trim_end.Given as goal
+
+abbrev pub invariant-blanks : goal.invariant-blanks
+invariant-blanks l = skip_blanks (reverse l.left) ≡ skip_blanks (reverse l.text)
+
+abbrev pub decreases-blanks : goal.decreases-blanks
+decreases-blanks l = length l.left
