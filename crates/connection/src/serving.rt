@@ -44,7 +44,11 @@ pub fn serve<C: Conn>(
 {
     let mut places = Places::new();
     let end = serve_requests(alloc, role, desk, conn, &mut places);
-    Report { end, places }
+    Report {
+        end,
+        places,
+        computed: 0,
+    }
 }
 
 /// Answers request by request, and tells the places.

@@ -1,3 +1,4 @@
 pub mod Gates
 pub mod Opened
 pub mod RealDoors
+pub mod RealUpstreams

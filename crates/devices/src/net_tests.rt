@@ -34,6 +34,7 @@ fn report(end: End) -> Report {
     Report {
         end,
         places: Places::new(),
+        computed: 0,
     }
 }
 

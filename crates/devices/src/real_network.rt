@@ -1,16 +1,18 @@
-ghost use Rattle.std.specs.Prelude.{◌≡◌, ◌≤◌, None, All, IfOk, length};
+ghost use Rattle.std.specs.Prelude.{◌≡◌, ◌≤◌, ◌+◌, None, All, IfOk, length};
 ghost use Rattle.td_base.specs.Views.{Rose};
 ghost use Rattle.td_base.specs.Doors.{IsNewDoor};
 ghost use Rattle.devices.specs.RealDoors.{door_view};
 
 use crate::listening::Listening;
 use crate::real_door::RealDoor;
+use crate::real_upstream::RealUpstream;
 use std::alloc::{AllocError, AllocFailed, Global};
 use std::io::{Error, ErrorKind};
 use std::net::{Net, TcpListener, TcpStream};
 use std::str;
 use std::sync::Arc;
-use td_base::{Bytes, Door, Made, Network};
+use std::time::Clock;
+use td_base::{Bytes, Door, Made, Network, NoMemory};
 
 /// At which address no door was opened last, if there was memory to keep it, and why.
 #[derive(Debug, Drop)]
@@ -75,6 +77,7 @@ impl<'a, R> RealNetwork<'a, R> {
     /// Counts a call that failed.
     fn fail(&mut self, alloc: Global, address: &[u8], kind: ErrorKind)
         ensures later { self.old.faults ≤ self.new.faults }
+        ensures once { self.new.faults ≤ self.old.faults + 1 }
         ensures rose { Rose self.old.faults self.new.faults }
     {
         self.faults = self.faults.saturating_add(1);
@@ -83,8 +86,11 @@ impl<'a, R> RealNetwork<'a, R> {
     }
 }
 
-impl<'a, R: Net<Listener = TcpListener, Stream = TcpStream>> Network for RealNetwork<'a, R> {
+impl<'a, R: Net<Listener = TcpListener, Stream = TcpStream> + Clock> Network
+    for RealNetwork<'a, R> {
     type Door = RealDoor;
+
+    type Up = RealUpstream<'a, R>;
 
     ghost seen = { λ n. record { content = None; faults = n.faults } };
 
@@ -98,6 +104,14 @@ impl<'a, R: Net<Listener = TcpListener, Stream = TcpStream>> Network for RealNet
                 self.fail(alloc, address, kind);
                 Made::Failed
             }
+        }
+    }
+
+    /// The server at the address, which is reached by each exchange anew; so this call never fails.
+    fn upstream(&mut self, alloc: Global, address: &[u8]) -> Made<RealUpstream<'a, R>> {
+        match Bytes::from_slice(alloc, address) {
+            Ok(address) => Made::Given(RealUpstream::new(self.rt, address)),
+            Err(NoMemory) => Made::NoMemory,
         }
     }
 }

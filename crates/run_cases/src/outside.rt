@@ -7,7 +7,7 @@ use crate::plan::{ConnPlan, DoorPlan, StepPlan};
 use std::alloc::Global;
 use td_base::{
     Bytes, FaultyConn, FaultyDoor, Items, MemoryConn, MemoryDoor, MemoryNetwork, MemorySink,
-    MemorySource, MemoryStore, NoMemory,
+    MemorySource, MemoryStore, MemoryUpstream, NoMemory,
 };
 
 /// A file of the store.
@@ -59,7 +59,7 @@ pub fn network_of(
     alloc: Global,
     plans: &[DoorPlan],
     sizes: Sizes,
-) -> Result<MemoryNetwork<FaultyDoor<MemoryDoor>>, NoMemory> {
+) -> Result<MemoryNetwork<FaultyDoor<MemoryDoor>, MemoryUpstream>, NoMemory> {
     let mut network = MemoryNetwork::new(alloc);
     for plan in plans {
         network.push(door_of(alloc, plan, sizes)?)?;

@@ -28,12 +28,17 @@ impl<N: Drop> WatchedNetwork<N> {
 
 impl<N: Network> Network for WatchedNetwork<N> {
     type Door = N::Door;
+    type Up = N::Up;
 
     ghost seen = { λ w. N.seen w.inner };
 
     fn doors(&mut self, alloc: Global, address: &[u8], number: u32) -> Made<Vec<N::Door>> {
         keep(alloc, &mut self.asked, address, number);
         self.inner.doors(alloc, address, number)
+    }
+
+    fn upstream(&mut self, alloc: Global, address: &[u8]) -> Made<N::Up> {
+        self.inner.upstream(alloc, address)
     }
 }
 

@@ -8,7 +8,7 @@ use devices::{GateDoor, RealSink, RealSource, RealSpawner, RealStore, gate_pair}
 use std::alloc::Global;
 use std::io;
 use std::io::{Error, ErrorKind};
-use td_base::{Bytes, End, MemoryNetwork, NoMemory};
+use td_base::{Bytes, End, MemoryNetwork, MemoryUpstream, NoMemory};
 
 /// For how many turns a read waits for the other connection.
 const TURNS: u32 = 1_000_000;
@@ -43,7 +43,7 @@ fn out_of_memory(_: NoMemory) -> Error {
 }
 
 /// The two doors, at any address.
-fn gates(alloc: Global) -> Result<MemoryNetwork<GateDoor>, NoMemory> {
+fn gates(alloc: Global) -> Result<MemoryNetwork<GateDoor, MemoryUpstream>, NoMemory> {
     let (left, right) = gate_pair(alloc, TURNS)?;
     let mut network = MemoryNetwork::new(alloc);
     network.push(left)?;

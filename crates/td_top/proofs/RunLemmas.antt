@@ -38,7 +38,7 @@ ends_opened : (address : List ℕ) (workers : ℕ) (opening : List ReleaseData) 
     → OpenedEnds address workers opening before after doors is
 ends_opened address workers opening before after given doors is opens (served history ds ended worn operator over) =
     served_opened ds ended worn (record { history = history; operator = operator; given = given; opened = opens; served = over })
-ends_opened address workers opening before after given doors is opens (not_started left rose) = not_started_opened left rose
+ends_opened address workers opening before after given doors is opens (not_started left rose) = not_started_opened given left opens rose
 ends_opened address workers opening before after given doors is opens out_of_memory = out_of_memory_opened
 
 pub served_beside : (address : List ℕ) (workers : ℕ) (session : Session) (works : List WorkView) (given doors : List DoorView) (is : Status)
@@ -115,8 +115,8 @@ opened_from address workers opening s t i o n r after doors is store (served_ope
       opened = h.opened;
       served = h.served;
     })
-opened_from address workers opening s t i o n r after doors is store (no_network left rose) = no_network left rose
-opened_from address workers opening s t i o n r after doors is store (not_started_opened left rose) = not_started_opened left rose
+opened_from address workers opening s t i o n r after doors is store (no_network left told rose) = no_network left told rose
+opened_from address workers opening s t i o n r after doors is store (not_started_opened given left opens rose) = not_started_opened given left opens rose
 opened_from address workers opening s t i o n r after doors is store out_of_memory_opened = out_of_memory_opened
 
 -- the doors of an address were served, once the folders had given their releases

@@ -26,7 +26,7 @@ use Rattle.publication.specs.Views.{DeskView}
 use Rattle.td_base.proofs.lemmas.Beginnings.{prefix_self}
 use Rattle.td_top.specs.Consoles.{ConsoleView, Halted, Ran}
 use Rattle.td_top.specs.Outside.{Outside}
-use Rattle.td_top.specs.Server.{ConnsTold, IsDone, LeavesStreams, OpensDoors, OpenedTold}
+use Rattle.td_top.specs.Server.{CalledTold, ConnsTold, IsDone, LeavesStreams, OpensDoors, OpenedTold}
 use Rattle.td_top.specs.Server.{ServesDoor, ServesDoors, no_door, one_more}
 use Rattle.td_top.specs.Serving.{Concludes, LearntAll}
 use Rattle.td_top.specs.Talking.{AnswersOperator, ComesTo, LaterScene, Scene, Talked}
@@ -188,10 +188,17 @@ comes_later before now None h = h
 module _ {D : Type 0} (seen : D → DoorView) where
   opened_told : (before now : Option NetworkContent) (address : List ℕ) (n : ℕ) (doors : Vec D) → length (map seen doors.items) ≡ n
       → OpenTold seen before now address n (made.Given doors) → OpenedTold before now address (map seen doors.items)
-  opened_told (Some before) (Some now) address n doors many h = rw many (h.0, h.1, map-map (λ d. d.content) seen doors.items ∙ h.2)
+  opened_told (Some before) (Some now) address n doors many h = rw many (h.0, map-map (λ d. d.content) seen doors.items ∙ h.1)
   opened_told (Some before) None address n doors many h = absurd h
   opened_told None (Some now) address n doors many h = absurd h
   opened_told None None address n doors many h = tt
+
+  -- a call that failed gave nothing
+  pub called_told : (before now : Option NetworkContent) (address : List ℕ) (n : ℕ) → OpenTold seen before now address n made.Failed → CalledTold before now
+  called_told (Some before) (Some now) address n h = h
+  called_told (Some before) None address n h = absurd h
+  called_told None (Some now) address n h = absurd h
+  called_told None None address n h = tt
 
   all_new : (doors : List D) → All (λ d. IsNewDoor (seen d)) doors → All IsNewDoor (map seen doors)
   all_new [] h = All-nil IsNewDoor

@@ -1,9 +1,9 @@
 -- How doors are served beside a talk with an operator, who installs further releases meanwhile.
-use Rattle.std.specs.Prelude.{◌≡◌, ℕ, ◌⊎◌, List, [], ◌∷◌, ◌++◌, length, map, take, drop, All, Bool}
+use Rattle.std.specs.Prelude.{◌≡◌, ℕ, ◌⊎◌, List, [], ◌∷◌, ◌++◌, length, map, take, All, Bool}
 use Rattle.std.specs.Prelude.{true, false, ◌||◌, ⊤, Option, None, Some}
 use Rattle.td_base.specs.Views.{Rose, RoseBy}
 use Rattle.td_base.specs.DoorViews.{DoorContent, DoorView, Finished, NetworkContent, NetworkView}
-use Rattle.td_base.specs.Doors.{IsNewDoor, new_content}
+use Rattle.td_base.specs.Doors.{IsNewDoor, called, new_content, opened_at}
 use Rattle.td_base.specs.declared.door.DoorAnswer.TheVariants as answer
 use Rattle.td_base.specs.declared.report.Role.TheVariants as role
 use Rattle.catalogue.specs.Releases.{ReleaseData}
@@ -59,15 +59,21 @@ pub data ServesDoors (H : List ReleaseData) : List DoorView → List DoorView �
 abbrev pub OpenedTold : Option NetworkContent → Option NetworkContent → List ℕ → List DoorView
     → Type 0
 OpenedTold (Some before) (Some now) address doors =
-    (now.doors ≡ drop (length doors) before.doors)
-    × (now.opened ≡ before.opened ++ record { address = address; doors = length doors } ∷ [])
+    (now ≡ opened_at address (length doors) before)
     × (map (λ d. d.content) doors
     ≡ map (λ inputs. Some (new_content inputs)) (take (length doors) before.doors))
 OpenedTold (Some before) None address doors = ⊥
 OpenedTold None (Some now) address doors = ⊥
 OpenedTold None None address doors = ⊤
 
--- the network was asked once for so many doors at an address, and gave these, which are new
+-- a network that tells its calls was called once, and gave nothing
+abbrev pub CalledTold : Option NetworkContent → Option NetworkContent → Type 0
+CalledTold (Some before) (Some now) = now ≡ called before
+CalledTold (Some before) None = ⊥
+CalledTold None (Some now) = ⊥
+CalledTold None None = ⊤
+
+-- the network was called once, for so many doors at an address, and gave these, which are new
 pub record OpensDoors (before now : NetworkView) (address : List ℕ) (number : ℕ)
     (doors : List DoorView) : Type 0 where
   pub many : length doors ≡ number
@@ -99,10 +105,13 @@ pub data OpenedEnds (address : List ℕ) (workers : ℕ) (opening : List Release
       → OpenedEnds address workers opening before after doors (status_for ended worn)
   -- before anything was read or written, because the network failed
   no_network : LeavesStreams before.outside after.outside
+      → CalledTold before.network.content after.network.content
       → Rose before.network.faults after.network.faults
       → OpenedEnds address workers opening before after [] status.NoNetwork
   -- before anything was read or written, because a worker was not started
-  not_started : LeavesStreams before.outside after.outside → Rose before.spawner after.spawner
+  not_started : (given : List DoorView) → LeavesStreams before.outside after.outside
+      → OpensDoors before.network after.network address workers given
+      → Rose before.spawner after.spawner
       → OpenedEnds address workers opening before after [] status.NotStarted
   -- at any time, because memory ran out
   out_of_memory : OpenedEnds address workers opening before after [] status.NoMemory

@@ -2,7 +2,7 @@ use Rattle.std.proofs.Common.{refl, rules}
 use Rattle.td_top.specs.Server.{no_network, out_of_memory}
 use Rattle.td_top.proofs.RunLemmas.{given_up, served_beside}
 use Rattle.td_top.proofs.WorkLemmas.{has_works}
-use Rattle.td_top.proofs.ServerLemmas.{none_given, opens_doors}
+use Rattle.td_top.proofs.ServerLemmas.{called_told, none_given, opens_doors}
 use Rattle.td_top.proofs.server.serve_opened.Goals as goal
 
 pub works_for-requires-clause-new : goal.works_for-requires-clause-new
@@ -23,7 +23,7 @@ pub returns-in-Failed : goal.returns-in-Failed
 returns-in-Failed g c =
     given_up g.N.Door.Door.seen c.args.address.now c.args.workers _ _ _ _ _ _ _ _ c.give_up-in-Failed.ensures.status c.give_up-in-Failed.ensures.doors
     c.in-Failed.ensures.opens.later
-    (no_network (refl, refl) (c.in-Failed.ensures.opens.failed refl))
+    (no_network (refl, refl) (called_told g.N.Door.Door.seen _ _ _ _ c.in-Failed.ensures.opens.told) (c.in-Failed.ensures.opens.failed refl))
 
 pub returns-in-NoMemory : goal.returns-in-NoMemory
 returns-in-NoMemory g c =

@@ -1,0 +1,64 @@
+ghost use Rattle.std.specs.Prelude.{◌≡◌, ◌≤◌, None, length, IfOk};
+ghost use Rattle.td_base.specs.Upstreams.{IsNewUpstream};
+ghost use Rattle.devices.specs.RealUpstreams.{upstream_view};
+
+use crate::asking::{AskFault, ask};
+use std::alloc::Global;
+use std::io::ErrorKind;
+use std::net::{Net, TcpStream};
+use std::time::Clock;
+use td_base::{Bytes, Exchanged, Upstream};
+
+/// Another server, at an address as that of [`RealNetwork`](crate::RealNetwork). Each exchange opens
+/// a connection of its own, of which it takes what comes until the peer sends no more or so many
+/// bytes as are wanted came. It tells nothing. Its faults count the exchanges that failed.
+#[derive(Drop)]
+pub struct RealUpstream<'a, R> {
+    rt: &'a R,
+    address: Bytes,
+    faults: u64,
+    failure: Option<ErrorKind>,
+}
+
+impl<'a, R> RealUpstream<'a, R> {
+    /// The server at an address, which is looked up at each exchange.
+    pub(crate) fn new(rt: &'a R, address: Bytes) -> RealUpstream<'a, R>
+        ensures { IsNewUpstream (upstream_view result) }
+    {
+        RealUpstream {
+            rt,
+            address,
+            faults: 0,
+            failure: None,
+        }
+    }
+
+    /// Why the exchange that failed last did so.
+    pub fn failure(&self) -> Option<ErrorKind>
+        ensures { result ≡ self.now.failure }
+    {
+        self.failure
+    }
+}
+
+impl<'a, R: Net<Stream = TcpStream> + Clock> Upstream for RealUpstream<'a, R> {
+    ghost seen = { upstream_view };
+
+    fn exchange(&mut self, alloc: Global, request: &[u8], most: u64) -> Exchanged {
+        match ask(
+            self.rt,
+            alloc,
+            self.address.as_slice(),
+            request,
+            most as usize,
+        ) {
+            Ok(answer) => Exchanged::Got(answer),
+            Err(AskFault::NoMemory) => Exchanged::NoMemory,
+            Err(AskFault::System(kind)) => {
+                self.faults = self.faults.saturating_add(1);
+                self.failure = Some(kind);
+                Exchanged::Failed
+            }
+        }
+    }
+}
