@@ -61,11 +61,19 @@ pub written_more : (a b c : SinkView) (one two : List ℕ) → WritesAll a b one
 written_more a b c one two p q = record {
   told = Appends-trans a.taken b.taken c.taken one two p.told q.told;
   later = omega (arith, p.later, q.later);
+  once = omega (arith, p.steady refl, q.once);
+  steady = λ _. q.steady refl ∙ p.steady refl;
   failed = λ e. cc;
 }
 
 pub written_nothing : (a : SinkView) → WritesAll a a [] written.Whole
-written_nothing a = record { told = Appends-nil a.taken; later = omega arith; failed = λ e. cc }
+written_nothing a = record {
+  told = Appends-nil a.taken;
+  later = omega arith;
+  once = omega arith;
+  steady = λ _. refl;
+  failed = λ e. cc;
+}
 
 -- ---- one folder
 
@@ -186,6 +194,8 @@ cut_more a b c one two p q = record {
         (Appends-trans a.taken b.taken c.taken one (take q.told.0 two) p.told q.told.1),
   );
   later = omega (arith, p.later, q.later);
+  once = omega (arith, p.steady refl, q.once);
+  steady = λ e. cc;
   failed = λ e. omega (arith, p.later, q.failed refl);
 }
 

@@ -1,6 +1,6 @@
 -- How a run ends over all that is outside it.
 use Rattle.std.proofs.Common.{◌≡◌, ℕ, ◌≤◌, List, [], map, Option, Some, Ok, refl, sym, subst, arith}
-use Rattle.td_base.specs.Views.{RoseBy, File, LaterStore, SinkView, SourceView, StoreView}
+use Rattle.td_base.specs.Views.{File, LaterStore, SinkView, SourceView, StoreView}
 use Rattle.td_base.specs.DoorViews.{DoorView, NetworkView}
 use Rattle.td_base.proofs.lemmas.LaterLemmas.{sink_refl, source_refl, store_refl, store_trans}
 use Rattle.catalogue.specs.Releases.{ReleaseData}
@@ -84,9 +84,6 @@ ends_by s t i o now asked ignored end.InputEnded h = h
 ends_by s t i o now asked ignored end.NotRead h = h
 ends_by s t i o now asked ignored end.NotWritten h = h
 
-rose_by_earlier : (n a b c : ℕ) → RoseBy n b c → a ≤ b → RoseBy n a c
-rose_by_earlier n a b c h k = omega (arith, h, k)
-
 operated_from : (opening whole : List ReleaseData) (s t : StoreView) (i : SourceView) (o : SinkView) (now : Outside) (ended : TalkEnd) → LaterStore s t
     → AnswersOperator opening whole (outside t i o) now ended → AnswersOperator opening whole (outside s i o) now ended
 operated_from opening whole s t i o now ended store h = record {
@@ -98,7 +95,9 @@ operated_from opening whole s t i o now ended store h = record {
   reads = h.reads;
   talks = subst (λ (files : Option (List File)). Talks files whole (talk_begun opening) h.asked h.told h.last) store.kept h.talks;
   published = h.published;
-  unread = rose_by_earlier h.last.unread s.faults t.faults now.store.faults h.unread store.later;
+  ready = h.ready;
+  since = store_trans s t h.ready store h.since;
+  unread = h.unread;
   written = h.written;
   ends = ends_by s t i o now h.asked h.ignored ended h.ends;
 }

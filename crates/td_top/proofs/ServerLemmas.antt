@@ -24,6 +24,7 @@ use Rattle.catalogue.specs.Holdings.{history_of}
 use Rattle.logbook.specs.Pages.{Book}
 use Rattle.publication.specs.Views.{DeskView}
 use Rattle.td_base.proofs.lemmas.Beginnings.{prefix_self}
+use Rattle.td_base.proofs.lemmas.LaterLemmas.{store_refl}
 use Rattle.td_top.specs.Consoles.{ConsoleView, Halted, Ran}
 use Rattle.td_top.specs.Outside.{Outside}
 use Rattle.td_top.specs.Server.{CalledTold, ConnsTold, IsDone, LeavesStreams, OpensDoors, OpenedTold}
@@ -56,6 +57,8 @@ operated before now ended seen t =
       reads = t.reads;
       talks = talk.2;
       published = talk.1.published;
+      ready = before.outside.store;
+      since = store_refl before.outside.store;
       unread = talk.1.unread;
       written = t.written;
       ends = t.ends;

@@ -27,7 +27,7 @@ use Rattle.td_base.proofs.lemmas.Beginnings.{prefix_trans}
 use Rattle.td_top.specs.Outside.{outside}
 use Rattle.td_top.specs.Sessions.{AnswersLine, BeginsWhole, LaterSession}
 use Rattle.td_top.specs.Talk.{KeepsTalking, talk_begun, last_token, more, none}
-use Rattle.td_top.specs.Talking.{ComesTo, IsAt, LaterScene, Scene, TalksOver, scene, talk_text}
+use Rattle.td_top.specs.Talking.{ComesTo, IsAt, LaterScene, Scene, TalksOver, at_ready, at_reply, scene, talk_text}
 use Rattle.td_top.specs.Turns.{FeedsHeld, FeedsTalk, HasNone, IsNextLine, Reaches, SaysBye}
 use Rattle.td_top.specs.Turns.{SaysText}
 use Rattle.td_top.specs.declared.talking.Turn.{Turn}
@@ -35,7 +35,7 @@ use Rattle.td_top.specs.declared.talking.Turn.TheVariants as turn
 use Rattle.td_top.specs.declared.session.Session.{Session}
 use Rattle.td_top.specs.declared.talking.TalkEnd.{TalkEnd}
 use Rattle.td_top.specs.declared.talking.TalkEnd.TheVariants as end
-use Rattle.td_top.proofs.Checked.{cut_more, written_more}
+use Rattle.td_top.proofs.Checked.{written_more}
 use Rattle.td_top.proofs.LineLemmas.{session_refl, session_trans}
 
 -- ---- histories
@@ -123,7 +123,7 @@ cut_at_once s i o p x text knows is h gives = record {
   told = [];
   reads = (Consumes-nil i.left, refl);
   over = nothing_asked s i o p x knows (writes_all_later o p text written.Cut h);
-  written = as_text o p text (talk_text (history_of x.installer.list) []) written.Cut (is ∙ first_text (history_of x.installer.list)) h;
+  written = at_ready (as_text o p text (reply_text (said.Ready (last_token (history_of x.installer.list)))) written.Cut is h);
   ends = tt;
 }
 
@@ -173,7 +173,7 @@ input_done start s i j o x held held' at whole input consumed ended = record {
   reads = (consumed_on start.outside.input.left i.left j.left at.read at.consumed consumed, (whole at.read at.asked at.gives).1 ∙ sym (append-nil at.asked));
   over = over_input start s i j o x at.asked at.told input at.over;
   written = at.written;
-  ends = (refl, ended);
+  ends = (at.goes_on, refl, ended);
 }
 
 input_failed : (start : Scene) (s : StoreView) (i j : SourceView) (o : SinkView) (x : Session) (held held' : List ℕ)
@@ -187,7 +187,7 @@ input_failed start s i j o x held held' at whole input consumed failed = record 
   reads = (consumed_on start.outside.input.left i.left j.left at.read at.consumed consumed, (whole at.read at.asked at.gives).1 ∙ sym (append-nil at.asked));
   over = over_input start s i j o x at.asked at.told input at.over;
   written = at.written;
-  ends = (refl, source_then_failed start.outside.input i j at.over.later.outside.input failed);
+  ends = (at.goes_on, refl, source_then_failed start.outside.input i j at.over.later.outside.input failed);
 }
 
 -- a turn that reads
@@ -234,10 +234,7 @@ cut_by start s t i o p x y held new next a at is answers h = record {
   told = at.told ++ a ∷ [];
   reads = (at.consumed, lines_held at.read new (at.asked ++ next ∷ []) (is at.read at.asked at.gives));
   over = over_more start s t i o p x y at.asked at.told next a at.goes_on (writes_all_later o p (reply_text a) written.Cut h) at.over answers;
-  written = as_text start.outside.output p (talk_text (history_of start.session.installer.list) at.told ++ reply_text a)
-      (talk_text (history_of start.session.installer.list) (at.told ++ a ∷ [])) written.Cut
-      (text_more (history_of start.session.installer.list) at.told a)
-      (cut_more start.outside.output o p (talk_text (history_of start.session.installer.list) at.told) (reply_text a) at.written h);
+  written = at_reply at.told a o at.written h;
   ends = tt;
 }
 

@@ -2,9 +2,9 @@
 use Rattle.std.specs.Prelude.{◌≡◌, ℕ, List, [], ◌∷◌, ◌++◌, flat_map, ⊤, Option, None, Some}
 use Rattle.std.specs.Io.KnownBytes.{Consumes, IsAtEnd}
 use Rattle.std.specs.List.{AllByRecursion}
-use Rattle.td_base.specs.Views.{RoseBy, SourceFailed, SourceView}
+use Rattle.td_base.specs.Views.{LaterStore, RoseBy, SinkView, SourceFailed, SourceView}
+use Rattle.td_base.specs.Views.{StoreView}
 use Rattle.td_base.specs.Transfer.{WritesAll}
-use Rattle.td_base.specs.declared.transfer.Written.{Written}
 use Rattle.td_base.specs.declared.transfer.Written.TheVariants as written
 use Rattle.catalogue.specs.Releases.{ReleaseData}
 use Rattle.console.specs.Lines.{lines_of}
@@ -53,21 +53,34 @@ ReadsLines before now read asked ignored =
     Consumes before.left now.left read × (lines_of read ≡ asked ++ ignored)
 
 -- why a talk ended: the last line asked for it; the input ended, or a read of it failed, after all
--- its lines; or a write failed
+-- its lines, none of which asked for the end; or a write failed
 abbrev pub EndsBy : Outside → Outside → List Line → List Line → TalkEnd → Type 0
 EndsBy before now asked ignored end.Quit =
     (first : List Line) × (asked ≡ first ++ line.Quit ∷ [])
-EndsBy before now asked ignored end.InputEnded = (ignored ≡ []) × IsAtEnd now.input.left
+EndsBy before now asked ignored end.InputEnded =
+    AllByRecursion KeepsTalking asked × (ignored ≡ []) × IsAtEnd now.input.left
 EndsBy before now asked ignored end.NotRead =
-    (ignored ≡ []) × SourceFailed before.input now.input
+    AllByRecursion KeepsTalking asked × (ignored ≡ []) × SourceFailed before.input now.input
 EndsBy before now asked ignored end.NotWritten = ⊤
 
--- all that is said was written, unless the talk ended by a failed write, which cut it
-abbrev pub how_written : TalkEnd → Written
-how_written end.Quit = written.Whole
-how_written end.InputEnded = written.Whole
-how_written end.NotRead = written.Whole
-how_written end.NotWritten = written.Cut
+-- a failed write cut what was said last, and all before it was written: no line after it got
+-- anything said
+pub data IsCut (opening : List ReleaseData) (old new : SinkView) : List Said → Type 0 where
+  at_ready : WritesAll old new (reply_text (said.Ready (last_token opening))) written.Cut
+      → IsCut opening old new []
+  at_reply : (first : List Said) (last : Said) (middle : SinkView)
+      → WritesAll old middle (talk_text opening first) written.Whole
+      → WritesAll middle new (reply_text last) written.Cut
+      → IsCut opening old new (first ++ last ∷ [])
+
+-- all that is said was written, unless the talk ended by a failed write, which cut the last of it
+abbrev pub WritesTalk : TalkEnd → List ReleaseData → SinkView → SinkView → List Said → Type 0
+WritesTalk end.Quit opening old new told = WritesAll old new (talk_text opening told) written.Whole
+WritesTalk end.InputEnded opening old new told =
+    WritesAll old new (talk_text opening told) written.Whole
+WritesTalk end.NotRead opening old new told =
+    WritesAll old new (talk_text opening told) written.Whole
+WritesTalk end.NotWritten opening old new told = IsCut opening old new told
 
 -- the lines that an operator wrote were answered, one after the other, up to an end
 pub record Talked (before now : Scene) (ended : TalkEnd) : Type 0 where
@@ -77,8 +90,8 @@ pub record Talked (before now : Scene) (ended : TalkEnd) : Type 0 where
   pub told : List Said
   pub reads : ReadsLines before.outside.input now.outside.input read asked ignored
   pub over : TalksOver before now asked told
-  pub written : WritesAll before.outside.output now.outside.output
-      (talk_text (history_of before.session.installer.list) told) (how_written ended)
+  pub written : WritesTalk ended (history_of before.session.installer.list)
+      before.outside.output now.outside.output told
   pub ends : EndsBy before.outside now.outside asked ignored ended
 
 -- what a talk came to: an end, or memory ran out, and then nothing is said but what any calls do
@@ -100,6 +113,7 @@ pub record IsAt (before now : Scene) (held : List ℕ) : Type 0 where
 
 -- An operator's lines were answered, while the history of the run grew from its opening: the lines
 -- stand in the bytes that were read, in order and up to an end, and what they got said was written.
+-- The store failed at least so often since the server was ready as lines were told.
 pub record AnswersOperator (opening whole : List ReleaseData) (before now : Outside)
     (ended : TalkEnd) : Type 0 where
   pub read : List ℕ
@@ -110,6 +124,8 @@ pub record AnswersOperator (opening whole : List ReleaseData) (before now : Outs
   pub reads : ReadsLines before.input now.input read asked ignored
   pub talks : Talks before.store.files whole (talk_begun opening) asked told last
   pub published : last.published ≡ whole
-  pub unread : RoseBy last.unread before.store.faults now.store.faults
-  pub written : WritesAll before.output now.output (talk_text opening told) (how_written ended)
+  pub ready : StoreView
+  pub since : LaterStore before.store ready
+  pub unread : RoseBy last.unread ready.faults now.store.faults
+  pub written : WritesTalk ended opening before.output now.output told
   pub ends : EndsBy before now asked ignored ended
