@@ -88,6 +88,7 @@ pub use running::Running;
 pub use short_text::ShortText;
 pub use source_fault::SourceFault;
 pub use spawner::{Begin, Spawner};
+pub use start_thread::start_by;
 pub use transfer::{Written, read_to_end, send_whole, write_whole};
 pub use upstream::{Exchange, Exchanged, Upstream};
 pub use value::Value;
