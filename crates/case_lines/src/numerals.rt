@@ -1,0 +1,41 @@
+use crate::CaseFault;
+use hex::FromHexError;
+use std::alloc::Global;
+use std::str;
+use td_base::read_decimal;
+
+/// The number that a word writes in decimal.
+pub fn number(word: &[u8]) -> Result<u64, CaseFault> {
+    read_decimal(word).ok_or(CaseFault::Strange)
+}
+
+/// The numbers that a word writes in decimal, with a comma between two; a dash stands for none.
+pub fn numbers(alloc: Global, word: &[u8]) -> Result<Vec<u64>, CaseFault> {
+    let mut all = Vec::new(alloc);
+    if word != b"-".as_slice() {
+        for piece in word.split(|byte| *byte == b',') {
+            all.push(number(piece)?)?;
+        }
+    }
+    Ok(all)
+}
+
+/// The number that a word writes in decimal, after a `-` if it is below zero.
+pub fn signed(word: &[u8]) -> Result<i64, CaseFault> {
+    let Ok(text) = str::from_utf8(word) else {
+        return Err(CaseFault::Strange);
+    };
+    match text.parse::<i64>() {
+        Ok(n) => Ok(n),
+        Err(_) => Err(CaseFault::Strange),
+    }
+}
+
+/// The bytes that a word writes in hex digits, two a byte.
+pub fn hex_bytes(alloc: Global, word: &[u8]) -> Result<Vec<u8>, CaseFault> {
+    match hex::decode(alloc, word) {
+        Ok(bytes) => Ok(bytes),
+        Err(FromHexError::OutOfMemory) => Err(CaseFault::NoMemory),
+        Err(_) => Err(CaseFault::Strange),
+    }
+}

@@ -1,0 +1,99 @@
+use crate::texts::cut;
+use crate::{CaseFault, Texts, hex_bytes, number, signed};
+use std::alloc::{AllocError, Global};
+use std::marker::Model;
+use std::str;
+
+/// A line of a table, with what its texts stand for. Contracts see the answer that is expected, if
+/// one is.
+#[derive(Drop)]
+pub struct Row {
+    kind: String,
+    words: Vec<Vec<u8>>,
+    /// The line before the answer, as it stands in the table.
+    pub(crate) title: String,
+    /// The answer that is expected, if one is.
+    pub(crate) expected: Option<Vec<u8>>,
+}
+
+impl Model for Row {
+    ghost use Rattle.std.specs.Prelude.{List, ℕ, Option, option_map};
+
+    ghost Value = { Option (List ℕ) };
+
+    ghost view = { λ r. option_map (λ e. e.items) r.expected };
+}
+
+impl Row {
+    /// What a line says.
+    pub(crate) fn read(alloc: Global, texts: &Texts, line: &str) -> Result<Row, CaseFault> {
+        let (front, expected) = match line.split_once(" = ") {
+            Some((front, answer)) => (front, Some(texts.meaning(answer)?)),
+            None => (line, None),
+        };
+        let (kind, rest) = cut(front);
+        let mut words = Vec::new(alloc);
+        if front.len() > kind.len() {
+            for word in rest.split(' ') {
+                words.push(texts.meaning(word)?)?;
+            }
+        }
+        Ok(Row {
+            kind: kind.to_string(alloc)?,
+            words,
+            title: front.to_string(alloc)?,
+            expected,
+        })
+    }
+
+    /// A line that cannot be read.
+    pub(crate) fn strange(alloc: Global, line: &str) -> Result<Row, AllocError> {
+        Ok(Row {
+            kind: String::new(alloc),
+            words: Vec::new(alloc),
+            title: line.to_string(alloc)?,
+            expected: None,
+        })
+    }
+
+    /// The first word as it stands in the table, which names the kind of the case.
+    pub fn kind(&self) -> &str {
+        self.kind.as_str()
+    }
+
+    /// The words after the first.
+    pub fn words(&self) -> &[Vec<u8>] {
+        self.words.as_slice()
+    }
+
+    /// The word at this place, from 0.
+    pub fn word(&self, at: usize) -> Result<&[u8], CaseFault> {
+        match self.words.get(at) {
+            Some(word) => Ok(word.as_slice()),
+            None => Err(CaseFault::Strange),
+        }
+    }
+
+    /// The word at this place as a text.
+    pub fn text(&self, at: usize) -> Result<&str, CaseFault> {
+        match str::from_utf8(self.word(at)?) {
+            Ok(text) => Ok(text),
+            Err(_) => Err(CaseFault::Strange),
+        }
+    }
+
+    /// The word at this place as a number.
+    pub fn number(&self, at: usize) -> Result<u64, CaseFault> {
+        number(self.word(at)?)
+    }
+
+    /// The word at this place as a number that may be below zero.
+    pub fn signed(&self, at: usize) -> Result<i64, CaseFault> {
+        signed(self.word(at)?)
+    }
+
+    /// The word at this place as the bytes whose hex digits it has.
+    pub fn hex(&self, alloc: Global, at: usize) -> Result<Vec<u8>, CaseFault> {
+        hex_bytes(alloc, self.word(at)?)
+    }
+}

@@ -1,0 +1,106 @@
+ghost use Rattle.std.specs.Prelude.{◌≡◌, ◌↔◌, IfOk, IsNone, IsOkAnd, is_none};
+ghost use Rattle.case_lines.specs.Judging.{IsExpected, after_row};
+
+use crate::texts::cut;
+use crate::{Answer, CaseFault, Row, Tally, Texts, written};
+use std::alloc::{AllocError, Global};
+use std::marker::Model;
+
+/// A table that is read line by line.
+#[derive(Drop)]
+pub struct Table {
+    alloc: Global,
+    texts: Texts,
+    tally: Tally,
+}
+
+impl Model for Table {
+    ghost use Rattle.case_lines.specs.declared.tally.Tally.{Tally};
+
+    ghost Value = { Tally };
+
+    ghost view = { λ t. t.tally };
+}
+
+impl Table {
+    /// A table of which nothing was read.
+    pub fn new(alloc: Global) -> Table
+        ensures { result ≡ record { cases = 0; right = 0 } }
+    {
+        Table {
+            alloc,
+            texts: Texts::new(alloc),
+            tally: Tally::new(),
+        }
+    }
+
+    /// What the next line says; None if it is empty, a comment or names a text. A line that cannot
+    /// be read is a row of the empty kind.
+    pub fn row(&mut self, line: &str) -> Result<Option<Row>, AllocError>
+        ensures { self.new ≡ self.old }
+    {
+        match self.read(line) {
+            Ok(row) => Ok(row),
+            Err(CaseFault::NoMemory) => Err(AllocError),
+            Err(CaseFault::Strange) => Ok(Some(Row::strange(self.alloc, line)?)),
+        }
+    }
+
+    fn read(&mut self, line: &str) -> Result<Option<Row>, CaseFault>
+        ensures { self.new ≡ self.old }
+    {
+        let (word, rest) = cut(line);
+        if word.is_empty() || word == "#" || self.texts.define(word, rest)? {
+            return Ok(None);
+        }
+        Ok(Some(Row::read(self.alloc, &self.texts, line)?))
+    }
+
+    /// Counts a row for which an answer is expected, and gives what is to be told of it, if its
+    /// answer is another.
+    pub fn judge(&mut self, row: &Row, answer: Answer) -> Result<Option<String>, AllocError>
+        ensures told { IfOk result (λ told.
+            IsNone told ↔ IsOkAnd answer (λ given. IsExpected row.now given.items)) }
+        ensures counted { IfOk result (λ told.
+            self.new ≡ after_row self.old row.now (is_none told)) }
+    {
+        let told = match answer {
+            Ok(answer) => difference(self.alloc, row, answer.as_slice())?,
+            Err(CaseFault::NoMemory) => return Err(AllocError),
+            Err(CaseFault::Strange) => Some(strange(self.alloc, row)?),
+        };
+        if row.expected.is_some() {
+            self.tally.count(told.is_none());
+        }
+        Ok(told)
+    }
+
+    /// How many answers were right until now.
+    pub fn tally(&self) -> Tally
+        ensures { result ≡ self.now }
+    {
+        self.tally
+    }
+}
+
+/// What is to be told of an answer that is not the expected one.
+fn difference(alloc: Global, row: &Row, answer: &[u8]) -> Result<Option<String>, AllocError>
+    ensures { IfOk result (λ told. IsNone told ↔ IsExpected row.now answer.now) }
+{
+    let expected = match &row.expected {
+        Some(expected) => expected.as_slice(),
+        None => b"",
+    };
+    if answer == expected {
+        return Ok(None);
+    }
+    let (title, given) = (row.title.as_str(), written(alloc, answer)?);
+    let expected = written(alloc, expected)?;
+    Ok(Some(format!(in alloc; "{title}: {expected} is expected, and {given} is given")?))
+}
+
+/// What is told of a row that says nothing.
+fn strange(alloc: Global, row: &Row) -> Result<String, AllocError> {
+    let title = row.title.as_str();
+    format!(in alloc; "strange line: {title}")
+}
