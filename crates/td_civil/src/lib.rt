@@ -32,6 +32,3 @@ pub use local_time::{Local, Name, Observance};
 pub use moment_fault::BadMoment;
 pub use moment_text::{local_stamp, moment_of, utc_text};
 pub use moment_type::{HI, LO, Moment};
-
-#[cfg(test)]
-mod tests;

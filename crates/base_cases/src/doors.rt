@@ -1,0 +1,100 @@
+//! Doors in memory, some of whose calls fail.
+ghost use Rattle.std.specs.Prelude.{IfOk};
+ghost use Rattle.base_cases.specs.Settled.{IsSettled, IsUnasked};
+ghost use Rattle.td_base.specs.MemoryDoors.{faulty_door, memory_door};
+
+use crate::conns::echo;
+use crate::given;
+use case_lines::{Answer, CaseFault, Row};
+use std::alloc::Global;
+use td_base::{Accepted, Door, DoorAnswer, End, FaultyDoor, MemoryDoor, Places, Report};
+
+/// `door ROOM SCRIPT FAILING CALLS`: what so many calls for a connection give, each of which is
+/// echoed once and handed back; and what is still to come, for how many more there is room, and
+/// what those that are back have given and taken. The script has `idle` and inputs, with a comma
+/// between two.
+pub fn door(alloc: Global, row: &Row) -> Answer {
+    let mut door = faulty(alloc, row)?;
+    let mut out = Vec::new(alloc);
+    let calls = row.number(3)?;
+    'calls: for _ in 0..calls {
+        let answer = serve(&mut door);
+        out.extend_from_slice(format!(in alloc; "{answer:?}|")?.as_bytes())?;
+    }
+    tell(alloc, &mut out, door.inner())?;
+    Ok(out)
+}
+
+fn faulty(alloc: Global, row: &Row) -> Result<FaultyDoor<MemoryDoor>, CaseFault>
+    ensures { IfOk result (λ door. IsSettled (faulty_door memory_door door)) }
+{
+    let door = scripted(alloc, row.number(0)?, row.word(1)?)?;
+    Ok(FaultyDoor::new(door, given::calls(alloc, row.word(2)?)?))
+}
+
+/// A door of this script.
+fn scripted(alloc: Global, room: u64, script: &[u8]) -> Result<MemoryDoor, CaseFault>
+    ensures { IfOk result IsUnasked }
+{
+    let mut door = MemoryDoor::new(alloc, room as usize)?;
+    'steps: for step in script.split(|byte| *byte == b',') {
+        push(alloc, &mut door, step)?;
+    }
+    Ok(door)
+}
+
+/// Adds a step.
+fn push(alloc: Global, door: &mut MemoryDoor, step: &[u8]) -> Result<(), CaseFault>
+    ensures { IsUnasked door.old → IsUnasked door.new }
+{
+    if step == b"idle".as_slice() {
+        door.push_idle()?;
+        return Ok(());
+    }
+    if door.room() == 0 {
+        return Err(CaseFault::Strange);
+    }
+    let conn = given::conn(alloc, step)?;
+    door.push_conn(conn)?;
+    Ok(())
+}
+
+#[tactic(auto, using(crate::proofs::BackLemmas::is_out, crate::proofs::BackLemmas::is_back, crate::proofs::BackLemmas::is_idle, crate::proofs::BackLemmas::is_ended, crate::proofs::BackLemmas::is_failed))]
+/// Asks for the next connection, echoes what comes of it once, and hands it back.
+fn serve<D: Door>(door: &mut D) -> DoorAnswer
+    requires { IsSettled (D.seen door.old) }
+    ensures { IsSettled (D.seen door.new) }
+{
+    match door.accept() {
+        Accepted::Given(mut conn) => {
+            echo(&mut conn);
+            door.finish(conn, report());
+            DoorAnswer::Given
+        }
+        Accepted::Idle => DoorAnswer::Idle,
+        Accepted::Ended => DoorAnswer::Ended,
+        Accepted::Failed => DoorAnswer::Failed,
+    }
+}
+
+fn report() -> Report {
+    Report {
+        end: End::Closed,
+        places: Places::new(),
+        computed: 0,
+    }
+}
+
+/// Appends what is told of a door.
+fn tell(alloc: Global, out: &mut Vec<u8>, door: &MemoryDoor) -> Result<(), CaseFault> {
+    let (coming, room) = (door.coming(), door.room());
+    out.extend_from_slice(format!(in alloc; " coming {coming} room {room}")?.as_bytes())?;
+    for served in door.finished() {
+        let conn = served.conn.inner();
+        out.extend_from_slice(b" given ")?;
+        out.extend_from_slice(conn.source.given())?;
+        out.extend_from_slice(b" taken ")?;
+        out.extend_from_slice(conn.sink.taken())?;
+    }
+    Ok(())
+}

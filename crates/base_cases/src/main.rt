@@ -1,0 +1,129 @@
+//! Tries what `td_base` and `td_civil` offer over the cases of a table on standard input, and tells
+//! of each whose answer is not the expected one. The table explains its own lines.
+#![tactic(auto)]
+
+// Numbers, names and texts.
+mod lists;
+mod names;
+mod numbers;
+mod texts;
+
+// Objects in memory.
+mod conns;
+mod doors;
+mod given;
+mod networks;
+mod stores;
+mod streams;
+mod works;
+
+// Moments and local time.
+mod moments;
+mod states;
+
+use case_lines::{Answer, CaseFault, Row, Table};
+use std::alloc::Global;
+use std::io;
+use std::sync::Wait;
+use std::thread::Threads;
+
+fn main(rt: HostRuntime) -> io::Result<()> {
+    let alloc = rt.alloc();
+    let mut table = Table::new(alloc);
+    for line in rt.lines(alloc) {
+        let line = line?;
+        if let Some(row) = table.row(line.as_str())? {
+            let answer = answer(&rt, alloc, &row);
+            if let Some(told) = table.judge(&row, answer)? {
+                println!(rt; "{told}")?;
+            }
+        }
+    }
+    let tally = table.tally();
+    println!(rt; "{tally}")
+}
+
+/// What is answered to a row.
+fn answer<R: Threads + Wait + Copy + Send + 'static>(rt: &R, alloc: Global, row: &Row) -> Answer {
+    match row.kind() {
+        "joined-work" => works::joined(rt, alloc, row),
+        "threaded-work" => works::threaded(rt, alloc, row),
+        "refused-work" => works::refused(rt, alloc, row),
+        "source"
+        | "sink"
+        | "read-to-end"
+        | "write-whole"
+        | "store"
+        | "conn"
+        | "joined"
+        | "door"
+        | "network"
+        | "upstream" => of_objects(alloc, row),
+        "moment"
+        | "utc"
+        | "local"
+        | "year"
+        | "before"
+        | "day"
+        | "date"
+        | "is-date"
+        | "state"
+        | "laws" => of_moments(alloc, row),
+        _ => of_texts(alloc, row),
+    }
+}
+
+fn of_objects(alloc: Global, row: &Row) -> Answer {
+    match row.kind() {
+        "source" => streams::source(alloc, row),
+        "sink" => streams::sink(alloc, row),
+        "read-to-end" => streams::to_end(alloc, row),
+        "write-whole" => streams::whole(alloc, row),
+        "store" => stores::store(alloc, row),
+        "conn" => conns::conn(alloc, row),
+        "joined" => conns::joined(alloc, row),
+        "door" => doors::door(alloc, row),
+        "network" => networks::network(alloc, row),
+        "upstream" => networks::upstream(alloc, row),
+        _ => Err(CaseFault::Strange),
+    }
+}
+
+fn of_moments(alloc: Global, row: &Row) -> Answer {
+    match row.kind() {
+        "moment" => moments::read(alloc, row),
+        "utc" => moments::utc(alloc, row),
+        "local" => moments::local(alloc, row),
+        "year" => moments::year(alloc, row),
+        "before" => moments::before(alloc, row),
+        "day" => moments::day(alloc, row),
+        "date" => moments::date(alloc, row),
+        "is-date" => moments::judge(alloc, row),
+        "state" => states::state(alloc, row),
+        "laws" => states::laws(alloc),
+        _ => Err(CaseFault::Strange),
+    }
+}
+
+fn of_texts(alloc: Global, row: &Row) -> Answer {
+    match row.kind() {
+        "decimal" => numbers::decimal(alloc, row),
+        "hex" => numbers::hex(alloc, row),
+        "sized" => numbers::sized(alloc, row),
+        "read-decimal" => numbers::read(alloc, row),
+        "identifier" => names::identifier(alloc, row),
+        "file-name" => names::file_name(alloc, row),
+        "label" => names::label(alloc, row),
+        "path-word" => names::path_word(alloc, row),
+        "bytes" => lists::bytes(alloc, row),
+        "compare" => lists::compare(alloc, row),
+        "items" => lists::items(alloc, row),
+        "short" => lists::short(alloc, row),
+        "places" => lists::places(alloc, row),
+        "cut" => texts::cut(alloc, row),
+        "trim" => texts::trim(alloc, row),
+        "part" => texts::part(alloc, row),
+        "any-case" => texts::any_case(alloc, row),
+        _ => Err(CaseFault::Strange),
+    }
+}

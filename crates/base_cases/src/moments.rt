@@ -1,0 +1,84 @@
+//! Moments, dates and their texts.
+ghost use Rattle.std.specs.Prelude.{IfOk};
+ghost use Rattle.td_civil.specs.Bounds.{IsWithinBounds};
+
+use case_lines::{Answer, CaseFault, Row, shown};
+use std::alloc::Global;
+use td_civil::{
+    BadMoment, HI, LO, Moment, date_of_day, day_of, is_date, local_stamp, moment_of, utc_text,
+    year_of,
+};
+
+/// `moment TEXT`: the seconds of the moment that it spells.
+pub fn read(alloc: Global, row: &Row) -> Answer {
+    match moment_of(row.word(0)?) {
+        Ok(Moment { seconds }) => Ok(format!(in alloc; "{seconds}")?.into_bytes()),
+        Err(BadMoment) => Ok(BadMoment.to_string(alloc)?.into_bytes()),
+    }
+}
+
+/// `utc SECONDS`: the text of a moment.
+pub fn utc(alloc: Global, row: &Row) -> Answer {
+    Ok(Vec::from_slice(alloc, &utc_text(moment(row)?))?)
+}
+
+/// `local SECONDS OFFSET`: the local time of a moment.
+pub fn local(alloc: Global, row: &Row) -> Answer {
+    let (moment, offset) = (moment(row)?, row.signed(1)?);
+    if offset < -86_399 || 86_399 < offset {
+        return Err(CaseFault::Strange);
+    }
+    Ok(Vec::from_slice(alloc, &local_stamp(moment, offset as i32))?)
+}
+
+/// `year SECONDS`: the year of a moment.
+pub fn year(alloc: Global, row: &Row) -> Answer {
+    shown(alloc, &year_of(moment(row)?))
+}
+
+/// The moment of the first word, which must have a meaning.
+fn moment(row: &Row) -> Result<Moment, CaseFault>
+    ensures { IfOk result (λ m. IsWithinBounds m.seconds) }
+{
+    let seconds = row.signed(0)?;
+    if seconds < LO || HI < seconds {
+        return Err(CaseFault::Strange);
+    }
+    Ok(Moment { seconds })
+}
+
+/// `before SECONDS SECONDS`: whether the first moment is before the second.
+pub fn before(alloc: Global, row: &Row) -> Answer {
+    let other = Moment {
+        seconds: row.signed(1)?,
+    };
+    shown(alloc, &(moment(row)? < other))
+}
+
+/// `day YEAR MONTH DAY`: the number of a day.
+pub fn day(alloc: Global, row: &Row) -> Answer {
+    let year = i32::try_from(row.signed(0)?)
+        .ok()
+        .ok_or(CaseFault::Strange)?;
+    shown(alloc, &day_of(year, byte(row, 1)?, byte(row, 2)?))
+}
+
+fn byte(row: &Row, at: usize) -> Result<u8, CaseFault> {
+    u8::try_from(row.number(at)?).ok().ok_or(CaseFault::Strange)
+}
+
+/// `date NUMBER`: the year, the month and the day of a day's number.
+pub fn date(alloc: Global, row: &Row) -> Answer {
+    let number = row.signed(0)?;
+    if number < -719_528 || 2_932_896 < number {
+        return Err(CaseFault::Strange);
+    }
+    let date = date_of_day(number);
+    let (year, month, day) = (date.year, date.month, date.day);
+    Ok(format!(in alloc; "{year} {month} {day}")?.into_bytes())
+}
+
+/// `is-date TEXT`: whether it is a date.
+pub fn judge(alloc: Global, row: &Row) -> Answer {
+    shown(alloc, &is_date(row.word(0)?))
+}

@@ -1,0 +1,34 @@
+//! Digits and lengths, written and read.
+use case_lines::{Answer, CaseFault, Row, shown};
+use std::alloc::Global;
+use td_base::{Bytes, put_decimal, put_hex, put_sized, read_decimal};
+
+/// `decimal NUMBER`: it in digits, after an `x`.
+pub fn decimal(alloc: Global, row: &Row) -> Answer {
+    let mut out = Bytes::from_slice(alloc, b"x")?;
+    put_decimal(&mut out, row.number(0)?)?;
+    Ok(out.into_vec())
+}
+
+/// `hex BYTES`: their digits, after an `x`.
+pub fn hex(alloc: Global, row: &Row) -> Answer {
+    let mut out = Bytes::from_slice(alloc, b"x")?;
+    put_hex(&mut out, row.word(0)?)?;
+    Ok(out.into_vec())
+}
+
+/// `sized BYTES`: their length and they, after an `x`.
+pub fn sized(alloc: Global, row: &Row) -> Answer {
+    let mut out = Bytes::from_slice(alloc, b"x")?;
+    let bytes = row.word(0)?;
+    if bytes.len() > u32::MAX as usize {
+        return Err(CaseFault::Strange);
+    }
+    put_sized(&mut out, bytes)?;
+    Ok(out.into_vec())
+}
+
+/// `read-decimal TEXT`: the number that it writes.
+pub fn read(alloc: Global, row: &Row) -> Answer {
+    shown(alloc, &read_decimal(row.word(0)?))
+}

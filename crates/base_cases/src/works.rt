@@ -1,0 +1,124 @@
+//! Works that are done in threads, or when they are joined.
+ghost use Rattle.std.specs.Prelude.{◌≡◌, ◌*◌, IfOk, IfErr};
+
+use crate::given;
+use case_lines::{Answer, CaseFault, Row};
+use std::alloc::Global;
+use std::sync::Wait;
+use std::thread::{Builder, Threads};
+use td_base::{Begin, Faulty, MemorySpawner, Spawner, Work, start_by};
+
+/// A work that doubles its number.
+#[derive(Debug, Drop)]
+struct Doubling {
+    number: u32,
+}
+
+impl Work for Doubling {
+    type Done = u64;
+
+    ghost does = { λ work done. done ≡ 2 * work.number };
+
+    fn run<R: Wait>(self, _rt: &R) -> u64 {
+        u64::from(self.number) * 2
+    }
+}
+
+/// `joined-work FAILING NUMBER ..`: what comes of doubling each number when works are done as they
+/// are joined, and those of these starts are handed back.
+pub fn joined<R: Threads + Wait + Copy + Send + 'static>(
+    rt: &R,
+    alloc: Global,
+    row: &Row,
+) -> Answer {
+    let failing = given::calls(alloc, row.word(0)?)?;
+    let mut spawner = Faulty::new(MemorySpawner::new(), failing);
+    let mut out = Vec::new(alloc);
+    for word in row.words().get(1..).unwrap_or(&[]) {
+        let result = double(rt, alloc, &mut spawner, number(word.as_slice())?);
+        out.extend_from_slice(format!(in alloc; "{result:?}|")?.as_bytes())?;
+    }
+    Ok(out)
+}
+
+/// `threaded-work NUMBER`: what comes of doubling it in a thread.
+pub fn threaded<R: Threads + Wait + Copy + Send + 'static>(
+    rt: &R,
+    alloc: Global,
+    row: &Row,
+) -> Answer {
+    let mut spawner = ThreadSpawner { refused: 0 };
+    let result = double(rt, alloc, &mut spawner, number(row.word(0)?)?);
+    let refused = spawner.refused;
+    Ok(format!(in alloc; "{result:?}, {refused} refused")?.into_bytes())
+}
+
+/// `refused-work NUMBER`: what comes of doubling it in a thread whose stack would take all memory.
+pub fn refused<R: Threads + Wait + Copy + Send + 'static>(
+    rt: &R,
+    alloc: Global,
+    row: &Row,
+) -> Answer {
+    let huge = Builder::new().stack_size(usize::MAX);
+    let number = number(row.word(0)?)?;
+    let back = match start_by(huge, rt, alloc, Doubling { number }) {
+        Ok(running) => Ok(ThreadSpawner { refused: 0 }.join(rt, running)),
+        Err(work) => Err(work.number),
+    };
+    Ok(format!(in alloc; "{back:?}")?.into_bytes())
+}
+
+fn number(word: &[u8]) -> Result<u32, CaseFault> {
+    let number = case_lines::number(word)?;
+    u32::try_from(number).ok().ok_or(CaseFault::Strange)
+}
+
+/// What begins each work in a thread, and counts those for which none could be made.
+#[derive(Drop)]
+struct ThreadSpawner {
+    refused: u64,
+}
+
+impl Spawner for ThreadSpawner {
+    ghost faults = { λ s. s.refused };
+
+    fn begin(&mut self) -> Begin {
+        Begin::InThread
+    }
+
+    fn refuse(&mut self) {
+        self.refused = self.refused.saturating_add(1);
+    }
+}
+
+/// What came of doubling a number: the double, or the number where the work was handed back.
+fn double<S: Spawner, R: Threads + Wait + Copy + Send + 'static>(
+    rt: &R,
+    alloc: Global,
+    spawner: &mut S,
+    number: u32,
+) -> Result<u64, u32>
+    ensures done { IfOk result (λ done. done ≡ 2 * number) }
+    ensures back { IfErr result (λ back. back ≡ number) }
+{
+    match do_one(rt, alloc, spawner, Doubling { number }) {
+        Ok(done) => Ok(done),
+        Err(back) => Err(back.number),
+    }
+}
+
+/// Starts a work and joins it.
+fn do_one<W, S, R>(rt: &R, alloc: Global, spawner: &mut S, work: W) -> Result<W::Done, W>
+where
+    W: Work + Send + Drop + 'static,
+    W::Done: Send + Drop + 'static,
+    S: Spawner,
+    R: Threads + Wait + Copy + Send + 'static,
+    ensures done { IfOk result (λ done. W.does work done) }
+    ensures back { IfErr result (λ back. back ≡ work) }
+{
+    match spawner.start(rt, alloc, work) {
+        Ok(running) => Ok(spawner.join(rt, running)),
+        Err(back) => Err(back),
+    }
+}
