@@ -33,8 +33,3 @@ pub use onsets::onset;
 pub use reading::read;
 pub use rule_types::{Date, DayForm, DstRule, Edge, Footer};
 pub use state_at::at;
-
-#[cfg(test)]
-mod state_tests;
-#[cfg(test)]
-mod tests;

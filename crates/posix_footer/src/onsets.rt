@@ -1,6 +1,6 @@
 //! The moments at which daylight saving time begins and ends in a year.
 ghost use Rattle.std.specs.Prelude.{◌≡◌, ◌≤◌, ◌<◌, pos, negsuc, neg_ℤ};
-ghost use Rattle.jiff_core.specs.Calendar.{IsBetween, IsEpochDay, days_from_civil};
+ghost use Rattle.jiff_core.specs.Calendar.{IsBetween, IsEpochDay};
 ghost use Rattle.jiff_core.specs.Date.{IsYmd};
 ghost use Rattle.jiff_core.specs.Weekday.{sunday_zero};
 ghost use Rattle.posix_footer.specs.Lawful.{IsLawfulDay, IsLawfulDate, IsLawfulOffset};
@@ -9,7 +9,7 @@ ghost use Rattle.posix_footer.specs.Onset as spec;
 
 use crate::{Date, DayForm, DstRule, Edge};
 use jiff::civil::{self, Weekday};
-use td_civil::Moment;
+use td_civil::{Moment, new_year_day};
 
 /// The moment at which daylight saving time begins or ends in a year from 1798 to 9999 (POSIX,
 /// section 8.3). It begins when clocks of standard time show the start's day and time, and ends
@@ -48,23 +48,14 @@ fn day_number(form: DayForm, year: i16) -> i64
     ensures bound { IsBetween (neg_ℤ (pos 4_371_587)) (pos 2_933_261) result }
 {
     match form {
-        DayForm::Julian(n) => first_day(year) + i64::from(days_before(year, n)),
-        DayForm::YearDay(n) => first_day(year) + i64::from(n),
+        DayForm::Julian(n) => new_year_day(year) + i64::from(days_before(year, n)),
+        DayForm::YearDay(n) => new_year_day(year) + i64::from(n),
         DayForm::Week {
             month,
             week,
             weekday,
         } => week_day(year, month, week, weekday),
     }
-}
-
-/// The day number of 1 January.
-fn first_day(year: i16) -> i64
-    requires { IsBetween (pos 1798) (pos 9999) year }
-    ensures value { result ≡ days_from_civil year 1 1 }
-    ensures bound { IsEpochDay result }
-{
-    i64::from(civil::date(year, 1, 1).to_plain().to_unix_epoch_day())
 }
 
 /// How many days after 1 January the nth day comes, where 29 February is not counted.

@@ -1,4 +1,4 @@
-//! Plans of the files of known zones, for the tests of this crate and of those above it.
+//! Plans of the files of known zones, for the tests of crates above this one.
 use crate::Plan;
 
 /// Etc/UTC: no transition.

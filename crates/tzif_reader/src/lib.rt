@@ -36,6 +36,3 @@ pub use reading::read;
 pub use slim_file::{Plan, slim};
 pub use tzif_fault::TzifFault;
 pub use zone_file::{LeapLine, MOST_BYTES, MOST_TRANSITIONS, ZoneFile};
-
-#[cfg(test)]
-mod tests;

@@ -1,4 +1,4 @@
-ghost use Rattle.std.specs.Prelude.{◌≡◌, ◌≢◌, ◌≤◌, length, IfOk, OnOk, IfErr, None, Some};
+ghost use Rattle.std.specs.Prelude.{◌≡◌, ◌≢◌, ◌≤◌, length, IfOk, OnOk, IfErr, None, Some, Err};
 ghost use Rattle.tzif_reader.specs.Layout.{IsZoneFile};
 ghost use Rattle.tzif_reader.specs.Cut.{lists_of, footer_of, footer_place};
 ghost use Rattle.tzif_reader.specs.Faults.{first_fault, footer_fault};
@@ -41,6 +41,7 @@ fn zone_or_fault(alloc: Global, bytes: &[u8]) -> Result<ZoneFile, TzifFault>
     ensures exact { IfOk result (λ z. z ≡ lists_of bytes.now) }
     ensures no_fault { OnOk result (first_fault bytes.now ≡ None) }
     ensures fault { IfErr result (λ e. e ≢ NoMemory → first_fault bytes.now ≡ Some e) }
+    ensures judged { (e : TzifFault) → first_fault bytes.now ≡ Some e → result ≡ Err e }
 {
     let frame = frame_of(bytes)?;
     let text = piece(bytes, frame.block_at, frame.footer_at - frame.block_at);
@@ -63,6 +64,8 @@ pub fn read(alloc: Global, bytes: &[u8]) -> Result<ZoneFile, TzifFault>
     ensures exact { IfOk result (λ z. z ≡ lists_of bytes.now) }
     ensures no_fault { OnOk result (first_fault bytes.now ≡ None) }
     ensures fault { IfErr result (λ e. e ≢ NoMemory → first_fault bytes.now ≡ Some e) }
+    // A fault is told before any memory is taken.
+    ensures judged { (e : TzifFault) → first_fault bytes.now ≡ Some e → result ≡ Err e }
 {
     zone_or_fault(alloc, bytes)
 }

@@ -1,0 +1,52 @@
+//! Tables of leap seconds.
+use crate::plans::leap_lines;
+use case_lines::{Answer, CaseFault, Row};
+use catalogue::Leaps;
+use leap_table::from_file;
+use std::alloc::Global;
+use td_base::{Bytes, Items};
+use tzif_reader::{LeapLine, MOST_BYTES, ZoneFile};
+
+/// `leaps LINES`: the days from 1970-01-01 with their offsets, and the bytes and the date that were
+/// given with the lines; or the fault of these.
+pub fn steps(alloc: Global, row: &Row) -> Answer {
+    let file = file_with(alloc, row.word(0)?)?;
+    if file.leaps.len() > MOST_BYTES {
+        return Err(CaseFault::Strange);
+    }
+    match from_file(alloc, &file, b"the file", b"2025-12-28") {
+        Ok(table) => told(alloc, &table),
+        Err(fault) => Ok(fault.to_string(alloc)?.into_bytes()),
+    }
+}
+
+/// A file with these leap lines and nothing else.
+fn file_with(alloc: Global, word: &[u8]) -> Result<ZoneFile, CaseFault> {
+    let mut leaps = Items::new(alloc);
+    for (at, correction) in leap_lines(alloc, word)?.as_slice() {
+        leaps.push(LeapLine {
+            at: *at,
+            correction: *correction,
+        })?;
+    }
+    Ok(ZoneFile {
+        moments: Items::new(alloc),
+        numbers: Bytes::new(alloc),
+        kinds: Items::new(alloc),
+        leaps,
+        footer: Bytes::new(alloc),
+    })
+}
+
+fn told(alloc: Global, table: &Leaps) -> Answer {
+    let mut out = Vec::new(alloc);
+    for step in table.steps.as_slice() {
+        let (day, offset) = (step.day, step.offset);
+        out.extend_from_slice(format!(in alloc; "{day} {offset};")?.as_bytes())?;
+    }
+    out.push(b' ')?;
+    out.extend_from_slice(table.file.as_slice())?;
+    out.push(b' ')?;
+    out.extend_from_slice(table.expires.as_slice())?;
+    Ok(out)
+}

@@ -1,0 +1,69 @@
+//! Slim files of plans.
+use case_lines::{Answer, CaseFault, Row, signed};
+use std::alloc::Global;
+use td_base::texts;
+use tzif_reader::{Plan, slim};
+
+/// `slim TIMES NUMBERS TYPES DESIGNATIONS LEAPS STANDARD UT FOOTER`: the file of a plan. Times have
+/// a comma between two; a type is `OFFSET:FLAG:PLACE`, and a leap line `TIME:CORRECTION`; a dash
+/// stands for none.
+pub fn slim_file(alloc: Global, row: &Row) -> Answer {
+    let times = times(alloc, row.word(0)?)?;
+    let types = types(alloc, row.word(2)?)?;
+    let leaps = leap_lines(alloc, row.word(4)?)?;
+    let plan = Plan {
+        times: times.as_slice(),
+        numbers: row.word(1)?,
+        types: types.as_slice(),
+        designations: row.word(3)?,
+        leaps: leaps.as_slice(),
+        standard: row.word(5)?,
+        ut: row.word(6)?,
+        footer: row.word(7)?,
+    };
+    Ok(slim(alloc, &plan)?.into_vec())
+}
+
+fn times(alloc: Global, word: &[u8]) -> Result<Vec<i64>, CaseFault> {
+    let mut times = Vec::new(alloc);
+    if word != b"-".as_slice() {
+        for piece in word.split(|byte| *byte == b',') {
+            times.push(signed(piece)?)?;
+        }
+    }
+    Ok(times)
+}
+
+fn types(alloc: Global, word: &[u8]) -> Result<Vec<(i32, u8, u8)>, CaseFault> {
+    let mut types = Vec::new(alloc);
+    for piece in word.split(|byte| *byte == b',') {
+        types.push(one_type(piece)?)?;
+    }
+    Ok(types)
+}
+
+fn one_type(text: &[u8]) -> Result<(i32, u8, u8), CaseFault> {
+    let (offset, rest) = texts::cut(text, b':');
+    let (flag, place) = texts::cut(rest.unwrap_or(&[]), b':');
+    Ok((short(offset)?, byte(flag)?, byte(place.unwrap_or(&[]))?))
+}
+
+/// The leap lines of a word.
+pub fn leap_lines(alloc: Global, word: &[u8]) -> Result<Vec<(i64, i32)>, CaseFault> {
+    let mut lines = Vec::new(alloc);
+    if word != b"-".as_slice() {
+        for piece in word.split(|byte| *byte == b',') {
+            let (time, correction) = texts::cut(piece, b':');
+            lines.push((signed(time)?, short(correction.unwrap_or(&[]))?))?;
+        }
+    }
+    Ok(lines)
+}
+
+fn short(text: &[u8]) -> Result<i32, CaseFault> {
+    i32::try_from(signed(text)?).ok().ok_or(CaseFault::Strange)
+}
+
+fn byte(text: &[u8]) -> Result<u8, CaseFault> {
+    u8::try_from(signed(text)?).ok().ok_or(CaseFault::Strange)
+}
