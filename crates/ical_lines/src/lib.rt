@@ -1,6 +1,6 @@
 //! Content lines of iCalendar (RFC 5545, section 3.1): [`line`] writes one folded, as
 //! `specs/Lines.antt` says, and [`unfold`] reads lines back, as `specs/Unfolding.antt` says.
-//! [`reads_back`] is the law that ties them.
+//! [`reads_back`] is the law that ties them, and [`lines_fit`] that no line is too long.
 #![tactic(auto)]
 
 // Lines, written.
@@ -15,9 +15,6 @@ mod laws;
 mod send_sync;
 
 pub use folding::line;
-pub use laws::reads_back;
+pub use laws::{lines_fit, reads_back};
 pub use line_fault::BadLine;
 pub use reading::unfold;
-
-#[cfg(test)]
-mod tests;

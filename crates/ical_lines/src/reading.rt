@@ -1,6 +1,6 @@
 //! Content lines, read.
 ghost use Rattle.std.specs.Prelude.{◌≡◌, ◌≢◌, ◌<◌, ◌≤◌, [], ◌++◌, ◌∷◌, ℕ, List, Ok, Err, IfOk};
-ghost use Rattle.std.specs.Prelude.{IfErr, IsTrue, length, if◌then◌else◌, Some, None};
+ghost use Rattle.std.specs.Prelude.{IfErr, IsErr, IsTrue, length, map, if◌then◌else◌, Some, None};
 ghost use Rattle.std.specs.Prelude.{option_copied};
 ghost use Rattle.ical_lines.specs.Unfolding as spec;
 ghost use Rattle.ical_lines.specs.LineLengths.{line_len, joined_with};
@@ -12,21 +12,47 @@ use td_base::{Bytes, Items, NoMemory};
 /// The content lines of a text, unfolded and without their ends.
 ///
 /// A line that begins with a space or a tab goes on with the one before it. A first line that does
-/// has none before it and stays as it is. An empty line is a line.
+/// has none before it and stays as it is. An empty line is a line. A text is judged before any
+/// memory is taken.
 pub fn unfold(alloc: Global, text: &[u8]) -> Result<Items<Bytes>, BadLine>
     ensures found { IfOk result (λ lines. spec.unfolded text.now ≡ Ok lines) }
+    ensures judged { IsErr (spec.unfolded text.now) → result ≡ spec.unfolded text.now }
     ensures fault { IfErr result
         (λ fault. fault ≢ BadLine.NoMemory → spec.unfolded text.now ≡ Err fault) }
+{
+    if let Some(place) = first_bad(text) {
+        return Err(BadLine::BadLine(place));
+    }
+    let lines = joined(alloc, text)?;
+    Ok(lines)
+}
+
+/// Where the first line begins that does not end with CRLF, if there is one.
+fn first_bad(text: &[u8]) -> Option<usize>
+    ensures { result ≡ spec.first_bad 0 (spec.cut_lines text.now) }
+{
+    let mut left = text;
+    'lines: while !left.is_empty() {
+        let (line, rest) = left.split_at(first_line_len(left));
+        if !is_whole(line) {
+            return Some(text.len() - left.len());
+        }
+        left = rest;
+    }
+    None
+}
+
+/// The lines of a text of which each ends with CRLF, unfolded.
+fn joined(alloc: Global, text: &[u8]) -> Result<Items<Bytes>, NoMemory>
+    ensures { IfOk result (λ lines. lines
+        ≡ spec.joined (map spec.content (spec.cut_lines text.now))) }
 {
     let mut lines = Items::new(alloc);
     let mut begun = None;
     let mut left = text;
     'lines: while !left.is_empty() {
         let (line, rest) = left.split_at(first_line_len(left));
-        let Some(content) = content_of(line) else {
-            return Err(BadLine::BadLine(text.len() - left.len()));
-        };
-        begun = Some(add_line(alloc, &mut lines, begun, content)?);
+        begun = Some(add_line(alloc, &mut lines, begun, content_of(line))?);
         left = rest;
     }
     let lines = close(lines, begun)?;
@@ -47,17 +73,19 @@ fn first_line_len(text: &[u8]) -> usize
     text.len()
 }
 
-/// The line without its end, if that is CRLF.
+/// Whether the line ends with CRLF.
 #[tactic(auto, unfolding(crate::specs::Unfolding::is_whole))]
-fn content_of(line: &[u8]) -> Option<&[u8]>
-    ensures { option_copied result
-        ≡ (if spec.is_whole line.now then Some (spec.content line.now) else None) }
+fn is_whole(line: &[u8]) -> bool
+    ensures { result ≡ spec.is_whole line.now }
 {
-    let at = line.len().saturating_sub(2);
-    if &line[at..] == b"\r\n".as_slice() {
-        return Some(&line[..at]);
-    }
-    None
+    &line[line.len().saturating_sub(2)..] == b"\r\n".as_slice()
+}
+
+/// The line without its end.
+fn content_of(line: &[u8]) -> &[u8]
+    ensures { result.now ≡ spec.content line.now }
+{
+    &line[..line.len().saturating_sub(2)]
 }
 
 /// Reads one more line, where the last may still go on, and answers the line that may go on now.

@@ -1,8 +1,9 @@
 -- Lines that were written, read back.
-use Rattle.std.proofs.Common.{◌≡◌, ℕ, ◌+◌, ◌-◌, ◌==◌, Bool, true, false, not, ◌&&◌, cond, List, [], ◌∷◌, ◌++◌, length, map, Option, Some, None, Ok, refl, sym}
+use Rattle.std.proofs.Common.{◌≡◌, ℕ, ◌+◌, ◌-◌, ◌==◌, Bool, true, false, not, ◌&&◌, cond, List, [], ◌∷◌, ◌++◌, length, map, Option, Some, None, Ok, refl, sym, subst, ◌≢◌, ◌≤◌}
 use Rattle.std.proofs.Common.{ap, ◌∙◌, append_assoc, arith}
-use Rattle.std.specs.List.{list_all, flat_map, onto_first}
+use Rattle.std.specs.List.{AllByRecursion, list_all, flat_map, onto_first}
 use Rattle.std.specs.Str.{bytes_eq}
+use Rattle.std.proofs.lemmas.Bool.{cond_both, eqb-false}
 use Rattle.std.proofs.lemmas.List.{append-nil, map-append, take_at, drop_at, length-append}
 use Rattle.std.proofs.lemmas.List.Folds.{list_all-append}
 use Rattle.ical_lines.specs.Lines.{most_octets, folded, content_line, written}
@@ -170,3 +171,33 @@ reads_back lines h =
     ∙ ap (λ p. read_as p (joined (map content (map ended (all_lines lines))))) (none_bad (all_lines lines) 0)
     ∙ ap (λ ls. Ok (joined ls)) (contents-ended (all_lines lines))
     ∙ ap Ok (joined_all lines None h)
+
+-- ---- none of them is too long
+abbrev Fit : List (List ℕ) → Type 0
+Fit lines = AllByRecursion (λ line. length line ≤ 77) lines
+
+fit-append : (xs ys : List (List ℕ)) → Fit xs → Fit ys → Fit (xs ++ ys)
+fit-append [] ys h k = k
+fit-append (x ∷ xs) ys h k = (h.0, fit-append xs ys h.1 k)
+
+ended_fits : (line : List ℕ) → length line ≤ most_octets → length (ended line) ≤ 77
+ended_fits line h = omega (arith, length-append line (13 ∷ 10 ∷ []))
+
+line_fits : (bs : List ℕ) (room : ℕ) (prefix : List ℕ) → length prefix + room ≤ most_octets → Fit (map ended (lines_of room prefix bs))
+unfolding lines_of
+line_fits [] room prefix h = (ended_fits prefix (omega arith), tt)
+line_fits (b ∷ bs) room prefix h =
+    cond_both (room == 0) (prefix ∷ lines_of (most_octets - 2) (32 ∷ b ∷ []) bs) (lines_of (room - 1) (prefix ++ b ∷ []) bs) (λ ls. Fit (map ended ls))
+    (λ full. (ended_fits prefix (omega arith), line_fits bs (most_octets - 2) (32 ∷ b ∷ []) (omega arith)))
+    (λ more. let some : room ≢ 0 = eqb-false room 0 more in
+    line_fits bs (room - 1) (prefix ++ b ∷ []) (omega (arith, length-append prefix (b ∷ []), some)))
+
+all_fit : (lines : List (List ℕ)) → Fit (map ended (all_lines lines))
+unfolding all_lines
+all_fit [] = tt
+all_fit (line ∷ lines) =
+    subst Fit (sym (map-append ended (lines_of most_octets [] line) (all_lines lines)))
+    (fit-append (map ended (lines_of most_octets [] line)) (map ended (all_lines lines)) (line_fits line most_octets [] (omega arith)) (all_fit lines))
+
+pub lines_fit : (lines : List (List ℕ)) → list_all is_plain lines ≡ true → Fit (cut_lines (written lines))
+lines_fit lines h = subst Fit (sym (cut_all lines h)) (all_fit lines)
