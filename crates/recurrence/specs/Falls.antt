@@ -1,15 +1,16 @@
 -- The days on which a yearly rule falls (RFC 5545, section 3.3.10).
-use Rattle.std.specs.Prelude.{◌≡◌, ℕ, ◌+◌, ◌-◌, ◌/◌, ◌≤◌, ◌<◌, ℤ, pos, negsuc, ◌+ℤ◌, ◌≤ℤ◌, ◌<ℤ◌}
+use Rattle.std.specs.Prelude.{◌≡◌, ℕ, ◌+◌, ◌-◌, ◌/◌, ◌≤◌, ℤ, pos, negsuc, ◌+ℤ◌, ◌≤ℤ◌, ◌<ℤ◌}
 use Rattle.jiff_core.specs.Calendar.{days_in_month, days_in_year, day_of_year, days_from_civil}
 use Rattle.jiff_core.specs.Calendar.{IsCivilDate}
 use Rattle.posix_footer.specs.Onset.{weekday_from_sunday}
 use Rattle.recurrence.specs.declared.rule_types.Form.{Form}
 use Rattle.recurrence.specs.declared.rule_types.Form.TheVariants as form
 
--- the nth seven days of a month of that many days, or the last seven
+-- among the nth seven days of a month of that many days, counted from 1 at its start, or from -1
+-- at its end, on the way back
 abbrev pub IsNth : ℤ → ℕ → ℕ → Type 0
 IsNth (pos n) length day = (day - 1) / 7 + 1 ≡ n
-IsNth (negsuc n) length day = length < day + 7
+IsNth (negsuc n) length day = (length - day) / 7 ≡ n
 
 -- among the seven days of a year of that many days that begin with a day, counted from 1 at the
 -- year's start, or from -1 at its end, on the way back

@@ -11,6 +11,13 @@ use crate::{Form, Rule};
 use jiff_core::civil::Date as PlainDate;
 use posix_footer::{Date, DayForm};
 
+/// 1 January 2001, with which a year without 29 February begins, in days after the first day of
+/// `jiff_core`'s dates, 1 January of the year -9999.
+const FIRST_OF_2001: u32 = 4_382_910;
+
+/// The last place in such a year, from 0, that comes before March.
+const LAST_OF_FEBRUARY: u16 = 58;
+
 /// The rule of a date.
 pub(crate) fn rule_of(date: Date) -> Rule
     requires lawful { IsLawfulDate date }
@@ -96,7 +103,7 @@ fn row_form(place: u16, weekday: u8) -> Form
             first: first.day as u8,
             weekday,
         }
-    } else if place <= 58 {
+    } else if place <= LAST_OF_FEBRUARY {
         Form::YearDays {
             first: place as i16 + 1,
             weekday,
@@ -115,5 +122,5 @@ fn common_date(place: u16) -> PlainDate
     ensures month { result.month ≡ (rules.common_date place).month }
     ensures day { result.day ≡ (rules.common_date place).day }
 {
-    PlainDate::from_days_since_min(u32::from(place) + 4_382_910)
+    PlainDate::from_days_since_min(FIRST_OF_2001 + u32::from(place))
 }

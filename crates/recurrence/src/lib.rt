@@ -3,8 +3,8 @@
 //!
 //! `carry` gives what a footer says of each year, wherever yearly rules can say it
 //! (`specs/Carried.antt` of `posix_footer`); by `specs/Occurs.antt` its rules fall on the footer's
-//! changes in every year. `occurrence` is the day on which a rule falls in a year. `Range` and
-//! `Part` are those of a VTIMEZONE.
+//! changes in every year. A rule that is `valid` falls on one day of each year, and `occurrence` is
+//! that day. `Range` and `Part` are those of a VTIMEZONE.
 #![tactic(auto)]
 
 // Rules, the parts of calendars, and footers that no rules say.
@@ -18,7 +18,8 @@ mod date_rules;
 mod footer_rules;
 mod steady_dates;
 
-// The day of a rule in a year.
+// Which rules fall on one day of each year, and on which.
+mod validity;
 mod yearly;
 
 // Laws, and what may cross threads.
@@ -33,9 +34,5 @@ pub use laws::{
 pub use part_types::{Part, Range};
 pub use rule_fault::RuleBeyond;
 pub use rule_types::{Carried, Form, Rule};
+pub use validity::valid;
 pub use yearly::occurrence;
-
-#[cfg(test)]
-mod test_rows;
-#[cfg(test)]
-mod tests;

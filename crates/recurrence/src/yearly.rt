@@ -1,12 +1,18 @@
 //! The day of a rule in a year.
-ghost use Rattle.std.specs.Prelude.{◌≡◌, ◌+◌, ◌-◌, ◌≤◌, pos, neg_ℤ, ◌+ℤ◌};
-ghost use Rattle.jiff_core.specs.Calendar.{IsBetween, IsEpochDay, days_in_month, days_from_civil};
+ghost use Rattle.std.specs.Prelude.{◌≡◌, ◌+◌, ◌-◌, ◌≤◌, pos, ◌+ℤ◌};
+ghost use Rattle.jiff_core.specs.Calendar.{IsBetween, IsWithin, IsEpochDay, days_in_month};
+ghost use Rattle.jiff_core.specs.Calendar.{days_from_civil};
 ghost use Rattle.recurrence.specs.Valid.{IsMonth, IsOrdinal, IsFirstDay, IsValidForm, IsValid};
 ghost use Rattle.recurrence.specs.Occurs.{IsOccurrence};
 ghost use Rattle.recurrence.specs.Row as row;
 
 use crate::{Form, Rule};
 use jiff::civil;
+use td_civil::new_year_day;
+
+/// How many days before 1970-01-01 a Sunday fell that comes before all dates of `jiff`. The first
+/// of them is 1 January of the year -9999.
+const EARLY_SUNDAY: i64 = 4_371_588;
 
 /// The day number of the rule's one day in the year, counted from 1970-01-01, and the second of
 /// that day by the clocks in force before it. It takes no memory.
@@ -40,22 +46,20 @@ fn day_in_year(form: Form, year: i16) -> i64
             weekday,
         } => first_on(first_of_month(year, month) + i64::from(first) - 1, weekday),
         Form::YearDays { first, weekday } => {
-            first_on(
-                first_of_month(year, 1) + first_of_days(year, first),
-                weekday,
-            )
+            first_on(new_year_day(year) + first_of_days(year, first), weekday)
         }
         Form::FixedDate { month, day } => first_of_month(year, month) + i64::from(day) - 1,
     }
 }
 
-/// The first day from a day on that falls on the weekday.
+/// The first day from a day on that falls on the weekday. The day is no further from 1970-01-01
+/// than the early Sunday.
 fn first_on(day: i64, weekday: u8) -> i64
-    requires day { IsBetween (neg_ℤ (pos 4_371_587)) (pos 2_934_000) day }
+    requires day { IsWithin 4_371_588 day }
     requires weekday { weekday ≤ 6 }
     ensures { result ≡ day +ℤ pos (row.days_ahead weekday day) }
 {
-    let since = (day + 4_371_588) as u32;
+    let since = (day + EARLY_SUNDAY) as u32;
     day + i64::from((u32::from(weekday) + 7 - since % 7) % 7)
 }
 
@@ -70,7 +74,7 @@ fn first_of_month(year: i16, month: u8) -> i64
     i64::from(first.to_plain().to_unix_epoch_day())
 }
 
-/// How many days into the month the nth seven days begin, or the last for -1.
+/// How many days into the month the nth seven days begin, or the last seven for -1.
 fn first_of_weeks(year: i16, month: u8, nth: i8) -> i64
     requires year_in { IsBetween (pos 1800) (pos 9999) year }
     requires month { IsMonth month }

@@ -27,9 +27,9 @@ first_on-requires-in-MonthDays-clause-day c =
 
 pub first_on-requires-in-YearDays-clause-day : goal.first_on-requires-in-YearDays-clause-day
 first_on-requires-in-YearDays-clause-day c = (
-  omega (arith, signed_arith, c.first_of_month-in-YearDays.ensures.bound, c.first_of_days.ensures.bound),
+  omega (arith, signed_arith, c.new_year_day.ensures.bound, c.first_of_days.ensures.bound),
   omega
-      (arith, signed_arith, c.first_of_month-in-YearDays.ensures.bound, c.first_of_days.ensures.bound),
+      (arith, signed_arith, c.new_year_day.ensures.bound, c.first_of_days.ensures.bound),
 )
 
 -- a 64-bit number as it is passed on
@@ -91,13 +91,13 @@ returns-in-YearDays c =
     let h : IsValidForm (form.YearDays from w) = subst IsValidForm c.in-YearDays.is c.requires.valid in
     let fits : FitsSigned w64 c.first_on-in-YearDays.result = search rules in
     let fits_from : FitsSigned w16 from = search rules in
-    let first = c.first_of_month-in-YearDays.result in
+    let first = c.new_year_day.result in
     let after = c.first_of_days.result in
-    let first_is : first ≡ days_from_civil y 1 1 = simp (to_z-of_z c.ranges.year) at c.first_of_month-in-YearDays.ensures.value in
+    let first_is : first ≡ days_from_civil y 1 1 = simp (to_z-of_z c.ranges.year) at c.new_year_day.ensures.value in
     let after_is : after ≡ pos (row_first (form.YearDays from 0) y) = simp
     (to_z-of_z c.ranges.year, to_z-of_z fits_from) at c.first_of_days.ensures.value in
     let arg : to_z w64 (of_z w64 (to_z w64 (of_z w64 first) +ℤ to_z w64 (of_z w64 after))) ≡ first +ℤ after = omega
-    (arith, signed_arith, c.first_of_month-in-YearDays.ensures.bound, c.first_of_days.ensures.bound) in
+    (arith, signed_arith, c.new_year_day.ensures.bound, c.first_of_days.ensures.bound) in
     let start = year_days_start from w y first after (first +ℤ after) first_is after_is refl in
     let is = from_ahead w _ (first +ℤ after) c.first_on-in-YearDays.result arg c.first_on-in-YearDays.ensures in
     rw (to_z-of_z fits) (occurs_as c.args.form (form.YearDays from w) y c.first_on-in-YearDays.result c.in-YearDays.is
