@@ -10,6 +10,7 @@ use Rattle.td_base.specs.Names.{is_identifier}
 use Rattle.catalogue.specs.Order.{is_before, put_by, rising_by}
 use Rattle.catalogue.specs.Releases.{ContentData, ReleaseData, names_of, content_as_is, content_data, release_as_is, release_data}
 use Rattle.catalogue.specs.Histories.{Fits, last_release, has_name}
+use Rattle.catalogue.specs.declared.limits.TheConstants.{MOST_NAMES}
 use Rattle.catalogue.specs.declared.release.Release.{Release}
 use Rattle.catalogue.specs.declared.release.Content.{Content}
 use Rattle.catalogue.proofs.Lengths.{and-left, and-right}
@@ -231,6 +232,6 @@ fits_in_any_order bytes H r fits = record {
     length-map r.zones (content_data bytes),
     length-map r.zones (content_as_is bytes),
   );
-  names = in_any_order bytes (λ names. length names ≤ 4096) (length_exchanges 4096) r.zones fits.names;
+  names = in_any_order bytes (λ names. length names ≤ MOST_NAMES) (length_exchanges MOST_NAMES) r.zones fits.names;
   places = fits.places;
 }

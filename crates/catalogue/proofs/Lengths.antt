@@ -6,6 +6,7 @@ use Rattle.std.proofs.lemmas.List.Folds.{list_all-append}
 use Rattle.td_base.specs.Names.{is_identifier, is_path, is_segment, segments}
 use borrow.Author.Tests.{leb-true}
 use Rattle.catalogue.specs.Releases.{ContentData, names_of, IsShort}
+use Rattle.catalogue.specs.declared.limits.TheConstants.{MOST_NAMES}
 
 pub and-left : (a b : Bool) → (a && b) ≡ true → a ≡ true
 and-left true b h = refl
@@ -29,7 +30,7 @@ short_aliases (x ∷ xs) h = (
       (and-right (is_identifier x) (list_all is_identifier xs) h),
 )
 
-pub short_contents : (cs : List ContentData) → list_all is_identifier (names_of cs) ≡ true → length (names_of cs) ≤ 4096
+pub short_contents : (cs : List ContentData) → list_all is_identifier (names_of cs) ≡ true → length (names_of cs) ≤ MOST_NAMES
     → AllByRecursion (λ c. length c.file < 2 ^ 32) cs → AllByRecursion IsShort cs
 short_contents [] h few files = tt
 short_contents (c ∷ cs) h few files =

@@ -6,7 +6,7 @@ use Rattle.std.specs.List.{AllByRecursion, list_any, slice_index_or}
 use Rattle.std.specs.Str.{bytes_eq}
 use Rattle.std.specs.Cmp.Lexicographic.{pointwise}
 use Rattle.std.proofs.lemmas.Simd.{map-map}
-use Rattle.std.proofs.lemmas.Slice.Eq.{bytes_eq-Decides}
+use Rattle.std.proofs.lemmas.Cmp.{nat_list_eq_equiv}
 use Rattle.catalogue.specs.Releases.{ContentData, ReleaseData, same_content}
 use Rattle.catalogue.specs.Digests.{chain_of, content_digest, linked, token_text}
 use Rattle.catalogue.specs.Histories.{IsRelease, IsHistory, EntryData, entry_from, entry_of, has_content, last_change, meta, token_of, tokens_of}
@@ -14,15 +14,12 @@ use Rattle.catalogue.specs.HeldZones.{held_content, held_digest, held_entry}
 use Rattle.catalogue.specs.Holdings.{StandsFor, release_of}
 use Rattle.catalogue.specs.declared.holding.Catalogue.{Catalogue}
 
-same_bytes : (x : List ℕ) → bytes_eq x x ≡ true
-same_bytes x = (bytes_eq-Decides x x).1 refl
-
 same_texts : (xs : List (List ℕ)) → pointwise bytes_eq xs xs ≡ true
 same_texts [] = refl
-same_texts (x ∷ xs) = rw (same_bytes x) (same_texts xs)
+same_texts (x ∷ xs) = rw (nat_list_eq_equiv.refl x) (same_texts xs)
 
 same_itself : (c : ContentData) → same_content c c ≡ true
-same_itself c = rw (same_bytes c.tzid, same_texts c.aliases) (same_bytes c.file)
+same_itself c = rw (nat_list_eq_equiv.refl c.tzid, same_texts c.aliases) (nat_list_eq_equiv.refl c.file)
 
 or_true : (b : Bool) → (b || true) ≡ true
 or_true true = refl

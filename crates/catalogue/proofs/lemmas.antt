@@ -1,5 +1,6 @@
 -- Lemmas that proofs of other crates may cite.
 pub mod Rising
+pub mod DigitTexts
 pub mod PlainEntries
 pub mod NameIndex
 pub mod LastRelease

@@ -8,7 +8,7 @@ use Rattle.std.specs.Str.{bytes_eq}
 use Rattle.td_base.specs.Names.{is_identifier}
 use Rattle.catalogue.specs.Releases.{ContentData, ReleaseData, same_content, names_of, IsInOrder}
 use Rattle.catalogue.specs.Digests.{tag_of, chain_of, token_text}
-use Rattle.catalogue.specs.declared.limits.TheConstants.{MOST_ZONES, MOST_NAMES, MOST_PLACES}
+use Rattle.catalogue.specs.declared.limits.TheConstants.{MOST_ZONES, MOST_NAMES, MOST_RELEASES}
 
 abbrev pub last_release : List ReleaseData → Option ReleaseData
 last_release H = last_or None H
@@ -27,7 +27,7 @@ pub record FitsAfter (before : Option ReleaseData) (count : ℕ) (r : ReleaseDat
   pub kept : IfSome before (λ last. IsTrue (list_all (has_name r) (names_of last.contents)))
   pub zones : length r.contents ≤ MOST_ZONES
   pub names : length (names_of r.contents) ≤ MOST_NAMES
-  pub places : count < MOST_PLACES
+  pub places : count < MOST_RELEASES
 
 -- the release may follow the history
 abbrev pub Fits : List ReleaseData → ReleaseData → Type 0

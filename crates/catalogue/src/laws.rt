@@ -1,12 +1,13 @@
 //! Laws of the definitions of this crate, each the contract of a function that does nothing.
 ghost use Rattle.std.specs.Prelude.{◌≡◌, ◌∷◌, ◌++◌, [], ℕ, List, Some, ◌<◌, ◌≤◌, ◌^◌, length};
+ghost use Rattle.std.specs.Prelude.{IsTrue};
 ghost use Rattle.std.specs.List.{AllByRecursion};
 ghost use Rattle.td_base.specs.Names.{IsPlain};
 ghost use Rattle.catalogue.specs.Releases.{ReleaseData, release_as_is, release_data};
 ghost use Rattle.catalogue.specs.Histories.{Fits, FitsAfter, IsHistory, IsRelease, meta, token_of};
 ghost use Rattle.catalogue.specs.Holdings.{StandsFor, place_count, release_held};
 ghost use Rattle.catalogue.specs.Lookups.{place_of};
-ghost use Rattle.catalogue.specs.Plain.{IsPlainEntry};
+ghost use Rattle.catalogue.specs.Plain.{HasTokenForm, IsPlainEntry, is_token};
 ghost use Rattle.catalogue.specs.declared.holding.Catalogue.{Catalogue};
 ghost use Rattle.catalogue.specs.declared.release.Release.{Release};
 
@@ -42,9 +43,12 @@ pub fn entries_are_plain<Z: ZoneData>()
         AllByRecursion IsPlainEntry (meta H) }
 {}
 
-/// Each token is plain.
+/// Each token has the form of one, and so it is plain, short and without spaces.
 pub fn tokens_are_plain()
-    ensures { (H : List ReleaseData) (n : ℕ) → n < 2 ^ 32 → IsPlain (token_of H n) }
+    ensures form { (H : List ReleaseData) (n : ℕ) → n < 2 ^ 32 → HasTokenForm n (token_of H n) }
+    ensures plain { (H : List ReleaseData) (n : ℕ) → n < 2 ^ 32 → IsPlain (token_of H n) }
+    ensures token { (H : List ReleaseData) (n : ℕ) → n < 2 ^ 32
+        → IsTrue (is_token (token_of H n)) }
 {}
 
 /// The token of a place finds that place.

@@ -37,7 +37,7 @@ pub use laws::{
     entries_are_plain, fits_what_is_held, histories_grow, order_is_free, tokens_are_apart,
     tokens_are_plain, tokens_find_places,
 };
-pub use limits::{MOST_NAMES, MOST_PLACES, MOST_ZONES};
+pub use limits::{MOST_NAMES, MOST_RELEASES, MOST_ZONES};
 pub use release::{Content, LeapStep, Leaps, Release};
 pub use value::ReleaseMark;
 pub use zone_data::ZoneData;

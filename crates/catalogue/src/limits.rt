@@ -7,4 +7,4 @@ pub const MOST_ZONES: usize = 1024;
 pub const MOST_NAMES: usize = 4096;
 
 /// The most releases that a history may have.
-pub const MOST_PLACES: u32 = 4096;
+pub const MOST_RELEASES: u32 = 4096;

@@ -1,7 +1,9 @@
-ghost use Rattle.std.specs.Prelude.{◌≡◌, ◌∷◌, ◌++◌, [], IfOk, Some, map};
+ghost use Rattle.std.specs.Prelude.{◌≡◌, ◌<◌, ◌+◌, ◌^◌, ◌∷◌, ◌++◌, [], List, IfOk, Some, length};
+ghost use Rattle.std.specs.Prelude.{map};
 ghost use Rattle.std.specs.List.{AllByRecursion};
-ghost use Rattle.catalogue.specs.Releases.{IsShort, content_as_is, release_data};
-ghost use Rattle.catalogue.specs.Digests.{content_digest};
+ghost use Rattle.catalogue.specs.Releases.{ContentData, HasLengths, IsShort, content_as_is};
+ghost use Rattle.catalogue.specs.Releases.{release_data};
+ghost use Rattle.catalogue.specs.Digests.{content_digest, linked, token_text};
 ghost use Rattle.catalogue.specs.Histories.{Fits, FitsAfter, entry_from};
 ghost use Rattle.catalogue.specs.HeldZones.{held_digest, held_entry};
 ghost use Rattle.catalogue.specs.Holdings.{ForEachHistory, StandsFor, place_count, release_held};
@@ -77,6 +79,66 @@ fn copy_tokens(alloc: Global, tokens: &Items<Token>) -> Result<Items<Token>, NoM
     Ok(copied)
 }
 
+/// A release without its zones, and its zones.
+fn parted<Z>(release: Release<Z>) -> (Head, Items<Content<Z>>)
+    ensures head { result.0 ≡ record {
+      stamp = release.stamp;
+      publisher = release.publisher;
+      version = release.version;
+      leaps = release.leaps;
+    } }
+    ensures zones { result.1 ≡ release.zones }
+{
+    let Release {
+        stamp,
+        publisher,
+        version,
+        zones,
+        leaps,
+    } = release;
+    let head = Head {
+        stamp,
+        publisher,
+        version,
+        leaps,
+    };
+    (head, zones)
+}
+
+/// The catalogue of the place after those of the tokens, of which this head and these zones are
+/// held, from the chain value of the place before it.
+fn closed<Z: Drop>(
+    alloc: Global,
+    head: Head,
+    held: Items<Arc<Held<Z>>>,
+    before: &[u8; 32],
+    tokens: Items<Token>,
+) -> Result<Catalogue<Z>, NoMemory>
+    requires lengths { HasLengths (release_of head []) }
+    requires zones { length held < 2 ^ 32 }
+    requires places { length tokens + 1 < 2 ^ 32 }
+    ensures held { IfOk result (λ c. (c.head ≡ head) × (c.held ≡ held)) }
+    ensures count { IfOk result (λ c. c.count ≡ length tokens + 1) }
+    ensures chain { IfOk result (λ c. (contents : List ContentData) →
+        map held_digest held ≡ map content_digest contents →
+        c.chain ≡ linked before.now (release_of head contents)) }
+    ensures tokens { IfOk result (λ c. c.tokens ≡ tokens ++ token_text c.count c.chain ∷ []) }
+{
+    let place = tokens.len() as u32 + 1;
+    let chain = link(before, &head, held.as_slice());
+    let names = all_names(alloc, held.as_slice())?;
+    let mut tokens = tokens;
+    tokens.push(token(place, &chain))?;
+    Ok(Catalogue {
+        head,
+        held,
+        chain,
+        count: place,
+        tokens,
+        names,
+    })
+}
+
 impl<Z: ZoneData + Drop> Catalogue<Z> {
     /// The catalogue of a history of one release. The zones and the aliases of each may stand in
     /// any order.
@@ -86,38 +148,15 @@ impl<Z: ZoneData + Drop> Catalogue<Z> {
         ensures { IfOk result (λ c.
             StandsFor Z.bytes Z.sound c (release_data Z.bytes release ∷ [])) }
     {
-        let Release {
-            stamp,
-            publisher,
-            version,
-            zones,
-            leaps,
-        } = release;
-        let head = Head {
-            stamp,
-            publisher,
-            version,
-            leaps,
-        };
+        let (head, zones) = parted(release);
         let contents = in_order(alloc, zones)?;
         let held = all_changed(alloc, contents, 1, &head)?;
-        let chain = link(&[0; 32], &head, held.as_slice());
-        let names = all_names(alloc, held.as_slice())?;
-        let mut tokens = Items::new(alloc);
-        tokens.push(token(1, &chain))?;
-        Ok(Catalogue {
-            head,
-            held,
-            chain,
-            count: 1,
-            tokens,
-            names,
-        })
+        let catalogue = closed(alloc, head, held, &[0; 32], Items::new(alloc))?;
+        Ok(catalogue)
     }
 
     /// The catalogue of the same history with one release more. The zones and the aliases of each
-    /// may stand in any
-    /// order. A zone whose content stays keeps its entry.
+    /// may stand in any order. A zone whose content stays keeps its entry.
     pub fn next(&self, alloc: Global, release: Release<Z>) -> Result<Catalogue<Z>, NoMemory>
         requires sound { Z.sound (release_data Z.bytes release) }
         requires fits { FitsAfter (Some (release_held Z.bytes self.now)) (place_count self.now)
@@ -125,33 +164,11 @@ impl<Z: ZoneData + Drop> Catalogue<Z> {
         ensures { IfOk result (λ c. ForEachHistory Z.bytes Z.sound self.now (λ H.
             StandsFor Z.bytes Z.sound c (H ++ release_data Z.bytes release ∷ []))) }
     {
-        let Release {
-            stamp,
-            publisher,
-            version,
-            zones,
-            leaps,
-        } = release;
-        let head = Head {
-            stamp,
-            publisher,
-            version,
-            leaps,
-        };
-        let place = self.count + 1;
+        let (head, zones) = parted(release);
         let contents = in_order(alloc, zones)?;
-        let held = self.all_next(alloc, contents, place, &head)?;
-        let chain = link(&self.chain, &head, held.as_slice());
-        let names = all_names(alloc, held.as_slice())?;
-        let mut tokens = copy_tokens(alloc, &self.tokens)?;
-        tokens.push(token(place, &chain))?;
-        Ok(Catalogue {
-            head,
-            held,
-            chain,
-            count: place,
-            tokens,
-            names,
-        })
+        let held = self.all_next(alloc, contents, self.count + 1, &head)?;
+        let tokens = copy_tokens(alloc, &self.tokens)?;
+        let catalogue = closed(alloc, head, held, &self.chain, tokens)?;
+        Ok(catalogue)
     }
 }

@@ -23,7 +23,7 @@ pub struct LeapStep {
 pub struct Leaps {
     /// The bytes of the file that it was read from.
     pub file: Bytes,
-    /// The date, `YYYY-MM-DD`, up to which the table is known to hold.
+    /// The date, `YYYY-MM-DD`, from which the table is out of date.
     pub expires: Bytes,
     pub steps: Items<LeapStep>,
 }

@@ -142,7 +142,7 @@ all_next A x r (c ∷ cs) all =
     ap (λ e. e ∷ map (entry_of ((A ++ x ∷ []) ++ r ∷ []) r) cs) (one_next A x r c all.0)
     ∙ ap (λ es. entry_next (A ++ x ∷ []) x r (length (A ++ x ∷ []) + 1) c ∷ es) (all_next A x r cs all.1)
 
-last_added : (o : Option ReleaseData) (H : List ReleaseData) (r : ReleaseData) → last_or o (H ++ r ∷ []) ≡ Some r
+pub last_added : (o : Option ReleaseData) (H : List ReleaseData) (r : ReleaseData) → last_or o (H ++ r ∷ []) ≡ Some r
 last_added o [] r = refl
 last_added o (h ∷ hs) r = last_added (Some h) hs r
 

@@ -7,7 +7,7 @@ use Rattle.std.specs.List.{AllByRecursion, IsDistinct, list_any, position_from}
 use Rattle.std.specs.List.Sorted.{IsSortedBy, IsNonDecreasingBy, IsPartitionPoint}
 use Rattle.std.specs.FinMap.{slice_cmp-IsAntisymmetric, nat_cmp-IsAntisymmetric}
 use Rattle.std.proofs.lemmas.Bool.{cases_lt}
-use Rattle.std.proofs.lemmas.Cmp.{nat_list_cmp_total, tied_itself}
+use Rattle.std.proofs.lemmas.Cmp.{nat_list_cmp_total, nat_list_eq_equiv, tied_itself}
 use Rattle.std.proofs.lemmas.List.Sorted.{searchable_from_sorted}
 use Rattle.std.specs.Str.{bytes_eq}
 use Rattle.std.proofs.lemmas.Slice.Eq.{bytes_eq-Decides}
@@ -48,9 +48,6 @@ or_true : (b : Bool) → (b || true) ≡ true
 or_true true = refl
 or_true false = refl
 
-same_bytes : (x : List ℕ) → bytes_eq x x ≡ true
-same_bytes x = (bytes_eq-Decides x x).1 refl
-
 none_of : (name : List ℕ) (texts : List (List ℕ)) → AllByRecursion (λ y. bytes_eq name y ≡ false) texts → is_one name texts ≡ false
 none_of name [] all = refl
 none_of name (x ∷ xs) all = rw all.0 (none_of name xs all.1)
@@ -90,7 +87,7 @@ here texts rest k front (x ∷ xs) is =
     (one, here texts rest k (front ++ x ∷ []) xs (is ∙ sym (Rattle.std.proofs.Common.append_assoc front (x ∷ []) xs)))
   where
     any_there : (front : List (List ℕ)) (x : List ℕ) (xs : List (List ℕ)) → is_one x (front ++ x ∷ xs) ≡ true
-    any_there [] x xs = rw (same_bytes x)
+    any_there [] x xs = rw (nat_list_eq_equiv.refl x)
     any_there (y ∷ ys) x xs = rw (any_there ys x xs) (or_true (bytes_eq x y))
 
 later : (texts : List (List ℕ)) (rest : List (List (List ℕ))) (k : ℕ) (names : List Name)

@@ -5,6 +5,7 @@ use Rattle.std.specs.List.{filter, find, list_all, position_or_len, range_with_l
 use Rattle.std.specs.Fmt.{decimal}
 use Rattle.std.specs.Str.{bytes_eq}
 use Rattle.std.proofs.lemmas.Bool.{cases_lt}
+use Rattle.std.proofs.lemmas.Cmp.{nat_list_eq_equiv}
 use Rattle.std.proofs.lemmas.Bool.Decides.{nat_tests}
 use Rattle.std.proofs.lemmas.Fmt.{decimal_by_steps, decimal_injective}
 use Rattle.std.proofs.lemmas.List.Folds.{list_all-append}
@@ -67,9 +68,6 @@ tokens_apart G H m n hm hn e =
 
 -- ---- finding
 
-same_bytes : (x : List ℕ) → bytes_eq x x ≡ true
-same_bytes x = (bytes_eq-Decides x x).1 refl
-
 -- a text that only one number has is found there
 found : (f : ℕ → List ℕ) (m a l : ℕ) → a ≤ m → m < a + l → ((k : ℕ) → a ≤ k → k < a + l → f k ≡ f m → k ≡ m)
     → find (λ k. bytes_eq (f k) (f m)) (range_with_len a l) ≡ Some m
@@ -79,7 +77,7 @@ found f m a (suc l) low high one = by (found f m (a + 1) l) (bytes_eq (f a) (f m
     later : a ≤ m → bytes_eq (f a) (f m) ≡ false → a + 1 ≤ m
     later le e = elim (cases_lt a m) [
       | inl lt ↦ omega arith
-      | inr ge ↦ let same : a ≡ m = omega arith in absurd (cc (subst (λ k. bytes_eq (f k) (f m) ≡ true) (sym same) (same_bytes (f m))))
+      | inr ge ↦ let same : a ≡ m = omega arith in absurd (cc (subst (λ k. bytes_eq (f k) (f m) ≡ true) (sym same) (nat_list_eq_equiv.refl (f m))))
     ]
 
     by : (a + 1 ≤ m → m < a + 1 + l → ((k : ℕ) → a + 1 ≤ k → k < a + 1 + l → f k ≡ f m → k ≡ m)

@@ -1,7 +1,7 @@
 use Rattle.std.proofs.Common.{ap, ◌∙◌, ◌<◌, ◌-◌, length, arith, get_or}
 use Rattle.std.proofs.lemmas.List.FromFn.{get_or-map-range_with_len, length-map-range_with_len}
 use Rattle.catalogue.specs.Histories.{tokens_of, token_of}
-use Rattle.catalogue.proofs.lemmas.PlainEntries.{token_plain}
+use Rattle.catalogue.proofs.lemmas.DigitTexts.{token_plain}
 use Rattle.catalogue.proofs.holding.Catalogue.token.Goals as goal
 
 token_is : goal.returns-clause-token
