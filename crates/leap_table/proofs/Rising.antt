@@ -8,6 +8,7 @@ use Rattle.std.proofs.lemmas.Bool.Decides.{Decides-int_eq, nat_tests}
 use Rattle.std.proofs.lemmas.Int.{ints}
 use Rattle.tzif_reader.specs.LeapSteps.{line_at, line_before, second_of, is_expiry, is_in_time, is_one_on, is_step}
 use Rattle.tzif_reader.specs.declared.zone_file.LeapLine.{LeapLine}
+use Rattle.tzif_reader.specs.declared.zone_file.TheConstants.{MOST_BYTES}
 use Rattle.leap_table.specs.Steps.{HasRisen}
 
 lt_from : (x y : ℤ) → int_lt x y ≡ true → x <ℤ y
@@ -82,7 +83,7 @@ has_risen lines i h risen = subst (λ (l : LeapLine). HasRisen l (i + 1)) (sym (
 
 -- and its correction fits
 pub few_seconds : (lines : List LeapLine) (i n : ℕ) (l : LeapLine) → l ≡ line_at lines i → is_step lines i ≡ true → HasRisen (line_before lines i) i
-    → i < n → n ≤ 65536 → to_z w32 (of_z w32 l.correction) ≤ℤ pos 65536
+    → i < n → n ≤ MOST_BYTES → to_z w32 (of_z w32 l.correction) ≤ℤ pos MOST_BYTES
 few_seconds lines i n l is h risen inside few =
     let next = risen_next lines i h risen in
     let low : pos 0 ≤ℤ (line_at lines i).correction = next.low in

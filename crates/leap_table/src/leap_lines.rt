@@ -6,6 +6,7 @@ ghost use Rattle.std.specs.Ordering.{int_eq};
 ghost use Rattle.leap_table.specs.Faults.{table_cause};
 ghost use Rattle.leap_table.specs.Steps.{HasRisen, step_pairs};
 ghost use Rattle.tzif_reader.specs.LeapSteps as spec;
+ghost use Rattle.tzif_reader.specs.declared.zone_file.TheConstants.{MOST_BYTES};
 
 use crate::LeapFault;
 use catalogue::LeapStep;
@@ -59,7 +60,7 @@ fn is_in_time(lines: &[LeapLine], number: usize) -> bool
 #[tactic(auto, unfolding(tzif_reader::specs::LeapSteps::is_one_on))]
 fn is_one_on(lines: &[LeapLine], number: usize) -> bool
     requires inside { number < length lines.now }
-    requires few { length lines.now ≤ 65536 }
+    requires few { length lines.now ≤ MOST_BYTES }
     requires risen { HasRisen (spec.line_before lines.now number) number }
     ensures { result ≡ spec.is_one_on lines.now number }
 {
@@ -71,7 +72,7 @@ fn is_one_on(lines: &[LeapLine], number: usize) -> bool
 #[tactic(auto, unfolding(tzif_reader::specs::LeapSteps::is_step))]
 fn is_step(lines: &[LeapLine], number: usize) -> bool
     requires inside { number < length lines.now }
-    requires few { length lines.now ≤ 65536 }
+    requires few { length lines.now ≤ MOST_BYTES }
     requires risen { HasRisen (spec.line_before lines.now number) number }
     ensures { result ≡ spec.is_step lines.now number }
 {
@@ -81,7 +82,7 @@ fn is_step(lines: &[LeapLine], number: usize) -> bool
 /// The second of UTC at which the correction of a line begins, after the line before.
 fn second_after(line: LeapLine, before: LeapLine) -> i64
     requires line { (pos 0 ≤ℤ line.at) × (line.at <ℤ HI) }
-    requires before { (pos 0 ≤ℤ before.correction) × (before.correction ≤ℤ pos 65536) }
+    requires before { (pos 0 ≤ℤ before.correction) × (before.correction ≤ℤ pos MOST_BYTES) }
     ensures { result ≡ line.at -ℤ before.correction }
 {
     line.at - before.correction as i64
@@ -96,7 +97,7 @@ fn begins_day(second: i64) -> bool
 
 /// The step of a correction that begins at a second of UTC.
 fn step_from(second: i64, correction: i32) -> LeapStep
-    requires { correction ≤ℤ pos 65536 }
+    requires { correction ≤ℤ pos MOST_BYTES }
     ensures { step_pairs (result ∷ [])
         ≡ (int_div_euclid second (pos 86400), pos 10 +ℤ correction) ∷ [] }
 {
@@ -110,7 +111,7 @@ fn step_from(second: i64, correction: i32) -> LeapStep
 #[tactic(auto, unfolding(tzif_reader::specs::LeapSteps::is_no_line, tzif_reader::specs::LeapSteps::is_midnight))]
 pub fn step_at(lines: &[LeapLine], number: usize) -> Result<Option<LeapStep>, LeapFault>
     requires inside { number < length lines.now }
-    requires few { length lines.now ≤ 65536 }
+    requires few { length lines.now ≤ MOST_BYTES }
     requires risen { HasRisen (spec.line_before lines.now number) number }
     ensures step { IfOk result (λ step.
         step_pairs (option_to_list step) ≡ spec.step_of lines.now number) }

@@ -17,6 +17,3 @@ mod send_sync;
 pub use laws::{dates_are_plain, steps_are_dated};
 pub use leap_fault::LeapFault;
 pub use table::from_file;
-
-#[cfg(test)]
-mod tests;

@@ -15,8 +15,8 @@ use std::alloc::Global;
 use td_base::{Bytes, Items};
 use tzif_reader::{LeapLine, ZoneFile};
 
-/// The table of leap seconds of a zone file, with the bytes of that file and the date up to which
-/// the table is known to hold. A file that was read has no more leap lines than bytes may be in it
+/// The table of leap seconds of a zone file, with the bytes of that file and the date from which
+/// the table is out of date. A file that was read has no more leap lines than bytes may be in it
 /// (`leap_lines_fit` of `tzif_reader`).
 pub fn from_file(
     alloc: Global,
@@ -58,7 +58,7 @@ fn steps_of(alloc: Global, lines: &[LeapLine]) -> Result<Items<LeapStep>, LeapFa
 /// Appends the step of a line, unless the line tells how long the table holds.
 fn add_step(steps: &mut Items<LeapStep>, lines: &[LeapLine], number: usize) -> Result<(), LeapFault>
     requires inside { number < length lines.now }
-    requires few { length lines.now ≤ 65536 }
+    requires few { length lines.now ≤ MOST_BYTES }
     requires risen { HasRisen (line_before lines.now number) number }
     ensures step { OnOk result
         (step_pairs steps.new ≡ step_pairs steps.old ++ step_of lines.now number) }
