@@ -4,3 +4,4 @@ pub mod lemmas
 pub mod RangeMeaning
 pub mod Refusals
 pub mod Walking
+pub mod ZoneNames

@@ -5,10 +5,14 @@ use Rattle.catalogue.specs.Holdings.{ForEachHistory, HasHistory}
 use Rattle.catalogue.specs.declared.holding.Catalogue.{Catalogue}
 use Rattle.zone_meaning.specs.Sound.{IsSound}
 
+-- the bytes of a zone's file, as which a zone is seen
+abbrev pub zone_bytes : List ℕ → List ℕ
+zone_bytes zone = zone
+
 -- a fact of each history that the catalogue stands for
 abbrev pub ForEachZoneHistory : Catalogue (List ℕ) → (List ReleaseData → Type 0) → Type 0
-ForEachZoneHistory c P = ForEachHistory (λ file. file) IsSound c P
+ForEachZoneHistory c P = ForEachHistory zone_bytes IsSound c P
 
 -- the catalogue stands for some history
 abbrev pub HasZoneHistory : Catalogue (List ℕ) → Type 0
-HasZoneHistory c = HasHistory (λ file. file) IsSound c
+HasZoneHistory c = HasHistory zone_bytes IsSound c

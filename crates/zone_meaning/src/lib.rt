@@ -12,9 +12,11 @@ mod release_data;
 mod zone_fault;
 mod zone_type;
 
-// Its state at a moment, and whether its footer goes on from its transitions.
+// Its state at a moment, whether its footer goes on from its transitions, and whether its names can
+// be printed.
 mod agreement;
 mod lookup;
+mod zone_names;
 
 // The observances of a range.
 mod observing;
@@ -31,9 +33,5 @@ pub use lookup::at;
 pub use observing::{Changes, observances};
 pub use reading::{zone_from_lists, zone_of};
 pub use zone_fault::ZoneFault;
+pub use zone_names::has_printable_names;
 pub use zone_type::{Zone, file, footer, leap_count, lists};
-
-#[cfg(test)]
-mod observance_tests;
-#[cfg(test)]
-mod tests;

@@ -1,10 +1,11 @@
 //! A zone is read from its file.
-ghost use Rattle.std.specs.Prelude.{◌≡◌, ◌≢◌, None, Some, IfOk, IfErr, OnOk};
+ghost use Rattle.std.specs.Prelude.{◌≡◌, ◌≢◌, None, Some, Err, IfOk, IfErr, OnOk};
 ghost use Rattle.posix_footer.specs.Lawful.{IsLawful};
 ghost use Rattle.std.specs.Option.{IfSome};
 ghost use Rattle.tzif_reader.specs.Cut as cut;
 ghost use Rattle.tzif_reader.specs.Faults.{first_fault};
-ghost use Rattle.zone_meaning.specs.Faults.{footer_text_fault, zone_fault};
+ghost use Rattle.tzif_reader.specs.declared.tzif_fault.TzifFault.{TzifFault};
+ghost use Rattle.zone_meaning.specs.Faults.{footer_text_fault, in_file, zone_fault};
 ghost use Rattle.zone_meaning.specs.State.{footer_meant};
 
 use crate::{Zone, ZoneFault};
@@ -20,6 +21,8 @@ pub fn zone_of(alloc: Global, file: Bytes) -> Result<Zone, ZoneFault>
     ensures found { IfOk result (λ z. z ≡ file) }
     ensures no_fault { OnOk result (zone_fault file ≡ None) }
     ensures fault { IfErr result (λ e. e ≢ ZoneFault.NoMemory → zone_fault file ≡ Some e) }
+    // That the bytes are no zone file is told before any memory is taken.
+    ensures judged { (e : TzifFault) → first_fault file ≡ Some e → result ≡ Err (in_file e) }
 {
     let lists = tzif_reader::read(alloc, file.as_slice())?;
     let zone = zone_from_lists(file, lists)?;
