@@ -1,20 +1,21 @@
--- The text of a calendar spells its parts.
-use Rattle.std.proofs.Common.{◌≡◌, ℕ, Bool, true, false, not, refl, sym, ap, ◌∙◌, arith, append-nil}
-use Rattle.std.proofs.Common.{ℤ, pos, ◌+ℤ◌, ◌-ℤ◌, Option, None, Some, List, [], ◌∷◌, ◌++◌, codes}
+-- The text of a calendar spells what was written.
+use Rattle.std.proofs.Common.{◌≡◌, ℕ, suc, ◌<◌, ◌-◌, Bool, true, false, not, ◌&&◌, refl, sym, ap, ◌∙◌, append_assoc, arith}
+use Rattle.std.proofs.Common.{ℤ, pos, ◌+ℤ◌, ◌-ℤ◌, Option, None, Some, List, [], ◌∷◌, ◌++◌, codes, length, take, drop}
 use Rattle.std.specs.Int.{int_rem_euclid}
-use Rattle.std.specs.List.{list_all, flat_map, AllByRecursion}
+use Rattle.std.specs.List.{All, list_all, flat_map, AllByRecursion}
 use Rattle.std.specs.Option.{IfSome, option_map, option_and_then}
 use Rattle.std.specs.Result.{result_ok}
 use Rattle.std.specs.Str.{bytes_eq}
-use Rattle.std.proofs.lemmas.Bool.{cond-false, and_from, and_parts, not-true}
+use Rattle.std.proofs.lemmas.Bool.{cond-true, and_from, and_parts}
 use Rattle.std.proofs.lemmas.Bool.Decides.{nat_tests}
-use Rattle.std.proofs.lemmas.List.Folds.{list_all-append}
+use Rattle.std.proofs.Math.Seq.{drop-append_seam}
+use Rattle.std.proofs.lemmas.List.{length-append, take_at, drop_at}
 use Rattle.jiff_core.proofs.SignedLemmas.{signed_arith}
 use Rattle.td_civil.specs.declared.moment_type.Moment.{Moment}
-use Rattle.td_civil.specs.Bounds.{HasText}
+use Rattle.td_civil.specs.Bounds.{HasText, IsWithinBounds}
 use Rattle.td_civil.specs.Calendar.{stamp_of, local_text_of}
 use Rattle.td_civil.specs.Stamp.{moment_at}
-use Rattle.td_civil.proofs.lemmas.Shown.{elapsed_is, local_bounds_text, stamp_of_moment}
+use Rattle.td_civil.proofs.lemmas.Shown.{bounds_text, elapsed_is, local_bounds_text, stamp_of_moment}
 use Rattle.ical_lines.specs.Unfolding.{is_feed}
 use Rattle.recurrence.specs.declared.part_types.Part.{Part}
 use Rattle.recurrence.specs.declared.rule_types.Rule.{Rule}
@@ -25,13 +26,13 @@ use Rattle.vtimezone.specs.Cutting.{Named, cut_first, all_read, put_before}
 use Rattle.vtimezone.specs.ReadRules.{Recur, recur_in}
 use Rattle.vtimezone.specs.ReadValues.{is_safe, local_in, offset_in, text_value}
 use Rattle.vtimezone.specs.Spellable.{IsSafe, IsSpellable}
-use Rattle.vtimezone.specs.Spelled.{shown_at, second_of_day, part_with, part_of_lines, is_line}
-use Rattle.vtimezone.specs.Spelled.{parts_among, after_begin, before_end, inside, zone_lines}
-use Rattle.vtimezone.specs.Spelled.{spelled_by, spelled}
+use Rattle.vtimezone.specs.Spelled.{shown_at, second_of_day, part_with, part_of_lines, is_end}
+use Rattle.vtimezone.specs.Spelled.{parts_among, inside, spelling_with, zone_spelled}
+use Rattle.vtimezone.specs.Spelled.{calendar_spelled, spelled_by, spelled}
 use Rattle.vtimezone.specs.Values.{offset_text, utc_basic, rule_text}
 use Rattle.vtimezone.proofs.ReadBack.{calendar_read_back}
 use Rattle.vtimezone.proofs.RulesBack.{read_append, recur_back}
-use Rattle.vtimezone.proofs.ValuesBack.{local_back, offset_back, text_back}
+use Rattle.vtimezone.proofs.ValuesBack.{local_back, utc_back, offset_back, text_back}
 
 abbrev pub named : List ℕ → List ℕ → Named
 named name value = record { name = name; value = value }
@@ -201,121 +202,64 @@ lines_cut tzid alias_of ps until =
     (read_append f (head_lines tzid) (alias_lines alias_of) (head_named tzid) (alias_named alias_of) (head_cut tzid) (alias_cut alias_of)) (end_cut until))
     (parts_cut ps)) tail_cut
 
--- lines of which none ends the component
-abbrev goes_on : List ℕ → List Named → Bool
-goes_on component ls = list_all (λ l. not (is_line (codes "END") component l)) ls
+-- ---- components
 
-all_same : (o : Option (List Named)) → o ≡ option_map (λ zs. [] ++ zs) o
-all_same None = refl
-all_same (Some zs) = refl
+inside_whole : (component : List ℕ) (xs : List Named) → bytes_eq component component ≡ true
+    → inside component (named (codes "BEGIN") component ∷ (xs ++ named (codes "END") component ∷ [])) ≡ Some xs
+unfolding inside
+inside_whole component xs same =
+    let end = named (codes "END") component ∷ [] in
+    let long = length-append xs end in
+    let last : drop (length (xs ++ end) - 1) (xs ++ end) ≡ end = drop_at xs end (length (xs ++ end) - 1) (omega arith) in
+    let front : take (length (xs ++ end) - 1) (xs ++ end) ≡ xs = take_at xs end (length (xs ++ end) - 1) (omega arith) in
+    cond-true (bytes_eq component component && is_end component (drop (length (xs ++ end) - 1) (xs ++ end)))
+    (Some (take (length (xs ++ end) - 1) (xs ++ end))) None
+    (and_from _ _ same (ap (is_end component) last ∙ same))
+    ∙ ap Some front
 
-one_before : (x : Named) (xs : List Named) (o : Option (List Named))
-    → put_before (Some x) (option_map (λ zs. xs ++ zs) o) ≡ option_map (λ zs. (x ∷ xs) ++ zs) o
-one_before x xs None = refl
-one_before x xs (Some zs) = refl
+-- the lines of the time zone
+abbrev zone_named : List ℕ → Option (List ℕ) → Option Moment → List Part → List Named
+zone_named tzid alias_of until ps = named (codes "TZID") tzid ∷ alias_named alias_of ++ end_named until ++ flat_map part_named ps
 
-goes_on_past : (component : List ℕ) (xs ys : List Named) → goes_on component xs ≡ true
-    → before_end component (xs ++ ys) ≡ option_map (λ zs. xs ++ zs) (before_end component ys)
-unfolding before_end
-goes_on_past component [] ys h = all_same (before_end component ys)
-goes_on_past component (x ∷ xs) ys h =
-    let both = and_parts (not (is_line (codes "END") component x)) (goes_on component xs) h in
-    cond-false (is_line (codes "END") component x) (Some []) (put_before (Some x) (before_end component (xs ++ ys)))
-    (not-true (is_line (codes "END") component x) both.0)
-    ∙ ap (put_before (Some x)) (goes_on_past component xs ys both.1) ∙ one_before x xs (before_end component ys)
-
-part_goes_on : (component : List ℕ) (dst : Bool) (start : Moment) (from to : ℤ) (name : List ℕ) (rule : Option Rule) (until : Option Moment)
-    → bytes_eq (kind_of dst) component ≡ false → goes_on component (group_named dst start from to name rule until) ≡ true
-part_goes_on component dst start from to name None until h = and_from (not (bytes_eq (kind_of dst) component)) true (ap not h) refl
-part_goes_on component dst start from to name (Some rule) until h = and_from (not (bytes_eq (kind_of dst) component)) true (ap not h) refl
-
--- neither group has the component's name
-abbrev pub IsOuter : List ℕ → Type 0
-IsOuter component = (dst : Bool) → bytes_eq (kind_of dst) component ≡ false
-
-parts_go_on : (component : List ℕ) (ps : List Part) → IsOuter component → goes_on component (flat_map part_named ps) ≡ true
-parts_go_on component [] h = refl
-parts_go_on component (p ∷ ps) h =
-    list_all-append (λ l. not (is_line (codes "END") component l)) (part_named p) (flat_map part_named ps)
-    ∙ and_from (goes_on component (part_named p)) (goes_on component (flat_map part_named ps))
-    (part_goes_on component p.dst p.start p.from p.to p.name p.rule p.until (h p.dst)) (parts_go_on component ps h)
-
-outer_calendar : IsOuter (codes "VCALENDAR")
-outer_calendar true = refl
-outer_calendar false = refl
-
-outer_zone : IsOuter (codes "VTIMEZONE")
-outer_zone true = refl
-outer_zone false = refl
-
-alias_goes_on : (component : List ℕ) (alias_of : Option (List ℕ)) → goes_on component (alias_named alias_of) ≡ true
-alias_goes_on component None = refl
-alias_goes_on component (Some tzid) = refl
-
-end_goes_on : (component : List ℕ) (until : Option Moment) → goes_on component (end_named until) ≡ true
-end_goes_on component None = refl
-end_goes_on component (Some end) = refl
-
-both_go_on : (component : List ℕ) (xs ys : List Named) → goes_on component xs ≡ true → goes_on component ys ≡ true → goes_on component (xs ++ ys) ≡ true
-both_go_on component xs ys x y =
-    list_all-append (λ l. not (is_line (codes "END") component l)) xs ys ∙ and_from (goes_on component xs) (goes_on component ys) x y
-
--- lines before the parts, and the parts
-abbrev with_parts : List Named → Option (List ℕ) → Option Moment → List Part → List Named
-with_parts front alias_of until ps = front ++ alias_named alias_of ++ end_named until ++ flat_map part_named ps
-
-with_parts_goes_on : (component : List ℕ) (front : List Named) (alias_of : Option (List ℕ)) (until : Option Moment) (ps : List Part)
-    → goes_on component front ≡ true → IsOuter component → goes_on component (with_parts front alias_of until ps) ≡ true
-with_parts_goes_on component front alias_of until ps h outer =
-    both_go_on component (front ++ alias_named alias_of ++ end_named until) (flat_map part_named ps)
-    (both_go_on component (front ++ alias_named alias_of) (end_named until)
-    (both_go_on component front (alias_named alias_of) h (alias_goes_on component alias_of)) (end_goes_on component until))
-    (parts_go_on component ps outer)
-
-abbrev in_calendar : List ℕ → List Named
-in_calendar tzid =
+abbrev body_named : List ℕ → Option (List ℕ) → Option Moment → List Part → List Named
+body_named tzid alias_of until ps =
     named (codes "VERSION") (codes "2.0") ∷ named (codes "PRODID") (codes "-//tzdistd//RFC 7808//EN")
-    ∷ named (codes "BEGIN") (codes "VTIMEZONE") ∷ named (codes "TZID") tzid ∷ []
-
-abbrev in_zone : List ℕ → List Named
-in_zone tzid = named (codes "TZID") tzid ∷ []
+    ∷ named (codes "BEGIN") (codes "VTIMEZONE") ∷ zone_named tzid alias_of until ps ++ named (codes "END") (codes "VTIMEZONE") ∷ []
 
 calendar_inside : (tzid : List ℕ) (alias_of : Option (List ℕ)) (ps : List Part) (until : Option Moment)
-    → inside (codes "VCALENDAR") (all_named tzid alias_of ps until)
-    ≡ Some (with_parts (in_calendar tzid) alias_of until ps ++ named (codes "END") (codes "VTIMEZONE") ∷ [])
-unfolding after_begin before_end
+    → inside (codes "VCALENDAR") (all_named tzid alias_of ps until) ≡ Some (body_named tzid alias_of until ps)
 calendar_inside tzid alias_of ps until =
-    let body = with_parts (in_calendar tzid) alias_of until ps in
-    goes_on_past (codes "VCALENDAR") body tail_named
-    (with_parts_goes_on (codes "VCALENDAR") (in_calendar tzid) alias_of until ps refl outer_calendar)
+    let zone = zone_named tzid alias_of until ps in
+    let ends = named (codes "END") (codes "VTIMEZONE") ∷ [] in
+    ap (λ ls. inside (codes "VCALENDAR") (named (codes "BEGIN") (codes "VCALENDAR") ∷ named (codes "VERSION") (codes "2.0")
+    ∷ named (codes "PRODID") (codes "-//tzdistd//RFC 7808//EN") ∷ named (codes "BEGIN") (codes "VTIMEZONE") ∷ ls))
+    (sym (append_assoc zone ends (named (codes "END") (codes "VCALENDAR") ∷ [])))
+    ∙ inside_whole (codes "VCALENDAR") (body_named tzid alias_of until ps) refl
 
-zone_inside : (tzid : List ℕ) (alias_of : Option (List ℕ)) (ps : List Part) (until : Option Moment)
-    → inside (codes "VTIMEZONE") (with_parts (in_calendar tzid) alias_of until ps ++ named (codes "END") (codes "VTIMEZONE") ∷ [])
-    ≡ Some (with_parts (in_zone tzid) alias_of until ps)
-unfolding after_begin before_end
-zone_inside tzid alias_of ps until =
-    let body = with_parts (in_zone tzid) alias_of until ps in
-    goes_on_past (codes "VTIMEZONE") body (named (codes "END") (codes "VTIMEZONE") ∷ [])
-    (with_parts_goes_on (codes "VTIMEZONE") (in_zone tzid) alias_of until ps refl outer_zone)
-    ∙ ap Some (append-nil body)
+-- what its lines give, where they have a part
+lines_with : (tzid : List ℕ) (alias_of : Option (List ℕ)) (until : Option Moment) (p : Part) (ps : List Part) → IsSafe tzid → IfSome alias_of IsSafe
+    → IfSome until (λ m. IsWithinBounds m.seconds)
+    → zone_spelled (zone_named tzid alias_of until (p ∷ ps))
+    ≡ spelling_with (Some tzid) (Some alias_of) (Some until) (parts_among None [] (flat_map part_named (p ∷ ps)))
+unfolding zone_spelled
+lines_with tzid None None p ps id also within = rw (text_back tzid id) refl
+lines_with tzid None (Some end) p ps id also within = rw (text_back tzid id, utc_back end (bounds_text end.seconds within)) refl
+lines_with tzid (Some alias_of) None p ps id also within = rw (text_back tzid id, text_back alias_of also) refl
+lines_with tzid (Some alias_of) (Some end) p ps id also within =
+    rw (text_back tzid id, text_back alias_of also, utc_back end (bounds_text end.seconds within)) refl
 
-parts_alone : (tzid : List ℕ) (alias_of : Option (List ℕ)) (ps : List Part) (until : Option Moment)
-    → parts_among None [] (with_parts (in_zone tzid) alias_of until ps) ≡ parts_among None [] (flat_map part_named ps)
-unfolding parts_among
-parts_alone tzid None ps None = refl
-parts_alone tzid None ps (Some end) = refl
-parts_alone tzid (Some alias_of) ps None = refl
-parts_alone tzid (Some alias_of) ps (Some end) = refl
-
-lines_spell : (tzid : List ℕ) (alias_of : Option (List ℕ)) (ps : List Part) (until : Option Moment) → AllByRecursion IsSpellable ps
-    → spelled_by (calendar_lines tzid alias_of ps until) ≡ Some ps
-unfolding spelled_by
-lines_spell tzid alias_of ps until h =
-    ap (λ o. option_and_then (parts_among None []) (option_and_then zone_lines o)) (lines_cut tzid alias_of ps until)
-    ∙ ap (λ o. option_and_then (parts_among None []) (option_and_then (inside (codes "VTIMEZONE")) o)) (calendar_inside tzid alias_of ps until)
-    ∙ ap (option_and_then (parts_among None [])) (zone_inside tzid alias_of ps until)
-    ∙ parts_alone tzid alias_of ps until
-    ∙ parts_read ps h
+lines_spell : (tzid : List ℕ) (alias_of : Option (List ℕ)) (p : Part) (ps : List Part) (until : Option Moment) → IsSafe tzid → IfSome alias_of IsSafe
+    → IfSome until (λ m. IsWithinBounds m.seconds) → AllByRecursion IsSpellable (p ∷ ps)
+    → spelled_by (calendar_lines tzid alias_of (p ∷ ps) until)
+    ≡ Some (record { tzid = tzid; alias_of = alias_of; until = until; parts = p ∷ ps })
+unfolding spelled_by calendar_spelled
+lines_spell tzid alias_of p ps until id also within h =
+    let zone = zone_named tzid alias_of until (p ∷ ps) in
+    ap (λ o. option_and_then calendar_spelled (option_and_then (inside (codes "VCALENDAR")) o)) (lines_cut tzid alias_of (p ∷ ps) until)
+    ∙ ap (option_and_then calendar_spelled) (calendar_inside tzid alias_of (p ∷ ps) until)
+    ∙ ap (option_and_then zone_spelled) (inside_whole (codes "VTIMEZONE") zone refl)
+    ∙ lines_with tzid alias_of until p ps id also within
+    ∙ ap (spelling_with (Some tzid) (Some alias_of) (Some until)) (parts_read (p ∷ ps) h)
 
 -- ---- the text
 
@@ -328,12 +272,33 @@ safe_line (b ∷ bs) h =
     let both = and_parts (is_safe b) (list_all is_safe bs) h in
     and_from (not (is_feed b)) (list_all (λ b. not (is_feed b)) bs) (safe_byte b both.0) (safe_line bs both.1)
 
+safe_lines : (t : Option (List ℕ)) → IfSome t IsSafe → IfSome t IsLineText
+safe_lines None h = tt
+safe_lines (Some text) h = safe_line text h
+
 readable : (ps : List Part) → AllByRecursion IsSpellable ps → AllByRecursion IsReadable ps
 readable [] h = tt
 readable (p ∷ ps) h = (record { name = safe_line p.name h.0.name; rule = h.0.writable.rule }, readable ps h.1)
 
-pub calendar_spelled : (tzid : List ℕ) (alias_of : Option (List ℕ)) (ps : List Part) (until : Option Moment) → IsLineText tzid → IfSome alias_of IsLineText
-    → AllByRecursion IsSpellable ps → spelled (calendar tzid alias_of ps until) ≡ Some ps
-calendar_spelled tzid alias_of ps until h also each =
-    ap (λ o. option_and_then spelled_by (result_ok o)) (calendar_read_back tzid alias_of ps until h also (readable ps each))
-    ∙ lines_spell tzid alias_of ps until each
+each_spellable : (ps : List Part) → All IsSpellable ps → AllByRecursion IsSpellable ps
+each_spellable [] h = tt
+each_spellable (p ∷ ps) h = (h 0 p (omega arith), each_spellable ps (λ i d lt. h (suc i) d (omega arith)))
+
+pub calendar_back : (tzid : List ℕ) (alias_of : Option (List ℕ)) (ps : List Part) (until : Option Moment) → IsSafe tzid → IfSome alias_of IsSafe
+    → IfSome until (λ m. IsWithinBounds m.seconds) → 0 < length ps → All IsSpellable ps
+    → spelled (calendar tzid alias_of ps until) ≡ Some (record { tzid = tzid; alias_of = alias_of; until = until; parts = ps })
+calendar_back tzid alias_of [] until id also within some all = absurd (omega arith)
+calendar_back tzid alias_of (p ∷ ps) until id also within some all =
+    let each = each_spellable (p ∷ ps) all in
+    ap (λ o. option_and_then spelled_by (result_ok o))
+    (calendar_read_back tzid alias_of (p ∷ ps) until (safe_line tzid id) (safe_lines alias_of also) (readable (p ∷ ps) each))
+    ∙ lines_spell tzid alias_of p ps until id also within each
+
+-- and so does what is appended
+pub appended_back : (old new tzid : List ℕ) (alias_of : Option (List ℕ)) (ps : List Part) (until : Option Moment) → IsSafe tzid → IfSome alias_of IsSafe
+    → IfSome until (λ m. IsWithinBounds m.seconds) → 0 < length ps → All IsSpellable ps → new ≡ old ++ calendar tzid alias_of ps until
+    → spelled (drop (length old) new) ≡ Some (record { tzid = tzid; alias_of = alias_of; until = until; parts = ps })
+appended_back old new tzid alias_of ps until id also within some all e =
+    ap (λ t. spelled (drop (length old) t)) e
+    ∙ ap spelled (drop-append_seam old (calendar tzid alias_of ps until))
+    ∙ calendar_back tzid alias_of ps until id also within some all

@@ -22,7 +22,8 @@ use Rattle.recurrence.specs.RuleOfDate.{rule_of}
 use Rattle.recurrence.specs.Occurs.{FallsAt, moment_of}
 use Rattle.recurrence.specs.InForce.{state_of_part, NotAfter, IsRuleOnset, IsOnsetBy, IsOnset, IsInForce}
 use Rattle.vtimezone.proofs.Whole.{IsUntil, IsRulePart, AreRuleParts}
-use Rattle.vtimezone.specs.PartsOf.{offset_before, date_of_edge, IsBeforeEnd}
+use Rattle.vtimezone.specs.PartsOf.{offset_before, date_of_edge}
+use Rattle.vtimezone.specs.Ranges.{IsBeforeEnd}
 use Rattle.recurrence.proofs.lemmas.Onsets.{keeps_onsets}
 use Rattle.recurrence.proofs.lemmas.InYear.{AreOrdered, onset_in_year, onsets_ordered}
 use Rattle.vtimezone.proofs.Newest.{IsNewest, newest_first, newest_second, newest_before, state_of_newest}

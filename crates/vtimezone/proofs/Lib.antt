@@ -1,3 +1,4 @@
+pub mod lemmas
 pub mod CalendarBack
 pub mod CarriedPair
 pub mod InForce
@@ -10,8 +11,7 @@ pub mod ReadBack
 pub mod RuleParts
 pub mod RulesBack
 pub mod Singles
+pub mod Spellable
 pub mod ValuesBack
 pub mod Whole
-pub mod Writable
 pub mod ZoneRange
-pub mod ZoneSpelled

@@ -63,17 +63,28 @@ cut_each s x (w ∷ ws) h each =
     let both = and_parts (uncut s w) (are_uncut s ws) each in
     cut_more s x (w ++ after_each s ws) h ∙ ap (λ l. x ∷ l) (cut_each s w ws both.0 both.1)
 
+pub joined_uncut : (s t : ℕ) (ws : List (List ℕ)) → not (t == s) ≡ true → are_uncut s ws ≡ true → uncut s (after_each t ws) ≡ true
+joined_uncut s t [] h each = refl
+joined_uncut s t (w ∷ ws) h each =
+    let both = and_parts (uncut s w) (are_uncut s ws) each in
+    uncut-append s (t ∷ w) (after_each t ws) (and_from (not (t == s)) (uncut s w) h both.0) (joined_uncut s t ws h both.1)
+
 -- ---- numbers have no separator
 
--- a comma or a semicolon
+-- what ends a line, or a word of a rule
+abbrev pub EndsWord : ℕ → Type 0
+EndsWord s = (s ≡ 10) ⊎ (s ≡ 59)
+
+-- or a comma
 abbrev pub IsSeparator : ℕ → Type 0
-IsSeparator s = (s ≡ 44) ⊎ (s ≡ 59)
+IsSeparator s = (s ≡ 44) ⊎ EndsWord s
 
 digit_uncut : (s n : ℕ) → IsSeparator s → n < 10 → not (48 + n == s) ≡ true
 digit_uncut s n (inl is) h = grind (arith, nat_tests)
-digit_uncut s n (inr is) h = grind (arith, nat_tests)
+digit_uncut s n (inr (inl is)) h = grind (arith, nat_tests)
+digit_uncut s n (inr (inr is)) h = grind (arith, nat_tests)
 
-byte_uncut : (s b : ℕ) → not (b == s) ≡ true → uncut s (b ∷ []) ≡ true
+pub byte_uncut : (s b : ℕ) → not (b == s) ≡ true → uncut s (b ∷ []) ≡ true
 byte_uncut s b h = and_from (not (b == s)) true h refl
 
 decimal_uncut : (s n : ℕ) → IsSeparator s → n < 2 ^ 64 → uncut s (decimal n) ≡ true
@@ -83,7 +94,12 @@ decimal_uncut s n is h =
 
 minus_uncut : (s : ℕ) → IsSeparator s → not (45 == s) ≡ true
 minus_uncut s (inl is) = rw is refl
-minus_uncut s (inr is) = rw is refl
+minus_uncut s (inr (inl is)) = rw is refl
+minus_uncut s (inr (inr is)) = rw is refl
+
+comma_uncut : (s : ℕ) → EndsWord s → not (44 == s) ≡ true
+comma_uncut s (inl is) = rw is refl
+comma_uncut s (inr is) = rw is refl
 
 pub signed_uncut : (s : ℕ) (z : ℤ) → IsSeparator s → unsigned_abs z ≤ 1000 → uncut s (signed_decimal z) ≡ true
 signed_uncut s (pos n) is h = decimal_uncut s n is (omega (arith, signed_arith))
@@ -92,7 +108,8 @@ signed_uncut s (negsuc n) is h =
 
 letter_uncut : (s b : ℕ) → IsSeparator s → 65 ≤ b → not (b == s) ≡ true
 letter_uncut s b (inl is) le = grind (arith, nat_tests)
-letter_uncut s b (inr is) le = grind (arith, nat_tests)
+letter_uncut s b (inr (inl is)) le = grind (arith, nat_tests)
+letter_uncut s b (inr (inr is)) le = grind (arith, nat_tests)
 
 letters_uncut : (s a b : ℕ) → IsSeparator s → 65 ≤ a → 65 ≤ b → uncut s (a ∷ b ∷ []) ≡ true
 letters_uncut s a b is one two =
@@ -109,7 +126,7 @@ weekday_uncut s (suc (suc (suc (suc (suc zero))))) is h = letters_uncut s 70 82 
 weekday_uncut s (suc (suc (suc (suc (suc (suc zero)))))) is h = letters_uncut s 83 65 is (omega arith) (omega arith)
 weekday_uncut s (suc (suc (suc (suc (suc (suc (suc w))))))) is h = absurd (omega arith)
 
-two_uncut : (s n : ℕ) → IsSeparator s → uncut s (two_digits n) ≡ true
+pub two_uncut : (s n : ℕ) → IsSeparator s → uncut s (two_digits n) ≡ true
 two_uncut s n is =
     and_from (not (48 + n / 10 % 10 == s)) (uncut s ((48 + n % 10) ∷ [])) (digit_uncut s (n / 10 % 10) is (omega arith))
     (byte_uncut s (48 + n % 10) (digit_uncut s (n % 10) is (omega arith)))
@@ -119,25 +136,28 @@ four_uncut s n is =
     and_from (not (48 + n / 1000 % 10 == s)) (uncut s ((48 + n / 100 % 10) ∷ two_digits n)) (digit_uncut s (n / 1000 % 10) is (omega arith))
     (and_from (not (48 + n / 100 % 10 == s)) (uncut s (two_digits n)) (digit_uncut s (n / 100 % 10) is (omega arith)) (two_uncut s n is))
 
-pub utc_uncut : (m : ℤ) → uncut 59 (utc_basic m) ≡ true
-unfolding utc_basic local_text_of
-utc_uncut m =
-    let s = stamp_of (m +ℤ pos 0) in
-    let is : IsSeparator 59 = inr refl in
-    let month = four_digits s.year ++ two_digits s.month in
-    let day = month ++ two_digits s.day in
-    let hour = day ++ 84 ∷ two_digits s.hour in
-    let minute = hour ++ two_digits s.minute in
-    uncut-append 59 (minute ++ two_digits s.second) (codes "Z")
-    (uncut-append 59 minute (two_digits s.second)
-    (uncut-append 59 hour (two_digits s.minute)
-    (uncut-append 59 day (84 ∷ two_digits s.hour)
-    (uncut-append 59 month (two_digits s.day)
-    (uncut-append 59 (four_digits s.year) (two_digits s.month) (four_uncut 59 s.year is) (two_uncut 59 s.month is))
-    (two_uncut 59 s.day is))
-    (two_uncut 59 s.hour is))
-    (two_uncut 59 s.minute is))
-    (two_uncut 59 s.second is)) refl
+pub local_uncut : (s : ℕ) (m o : ℤ) → IsSeparator s → uncut s (local_text_of m o) ≡ true
+unfolding local_text_of
+local_uncut s m o is =
+    let t = stamp_of (m +ℤ o) in
+    let month = four_digits t.year ++ two_digits t.month in
+    let day = month ++ two_digits t.day in
+    let hour = day ++ 84 ∷ two_digits t.hour in
+    let minute = hour ++ two_digits t.minute in
+    uncut-append s minute (two_digits t.second)
+    (uncut-append s hour (two_digits t.minute)
+    (uncut-append s day (84 ∷ two_digits t.hour)
+    (uncut-append s month (two_digits t.day)
+    (uncut-append s (four_digits t.year) (two_digits t.month) (four_uncut s t.year is) (two_uncut s t.month is))
+    (two_uncut s t.day is))
+    (and_from (not (84 == s)) (uncut s (two_digits t.hour)) (letter_uncut s 84 is (omega arith)) (two_uncut s t.hour is)))
+    (two_uncut s t.minute is))
+    (two_uncut s t.second is)
+
+pub utc_uncut : (s : ℕ) (m : ℤ) → IsSeparator s → uncut s (utc_basic m) ≡ true
+unfolding utc_basic
+utc_uncut s m is =
+    uncut-append s (local_text_of m (pos 0)) (codes "Z") (local_uncut s m (pos 0) is) (byte_uncut s 90 (letter_uncut s 90 is (omega arith)))
 
 -- ---- lists of numbers and of weekdays
 
@@ -187,11 +207,11 @@ seven_are z = simp (append_assoc, append-nil)
 abbrev AreShort : ℕ → ℕ → ℤ → Type 0
 AreShort places most z = (k : ℕ) → k ≤ 6 → IsShort places most (z +ℤ pos k)
 
-texts_uncut : (z : ℤ) (k n : ℕ) (places most : ℕ) → AreShort places most z → k + n ≤ 7 → are_uncut 44 (texts_after z k n) ≡ true
-texts_uncut z k zero places most h le = refl
-texts_uncut z k (suc n) places most h le =
-    and_from (uncut 44 (signed_decimal (z +ℤ pos k))) (are_uncut 44 (texts_after z (suc k) n))
-    (signed_uncut 44 (z +ℤ pos k) (inl refl) ((h k (omega arith)).small)) (texts_uncut z (suc k) n places most h (omega arith))
+texts_uncut : (s : ℕ) (z : ℤ) (k n : ℕ) (places most : ℕ) → IsSeparator s → AreShort places most z → k + n ≤ 7 → are_uncut s (texts_after z k n) ≡ true
+texts_uncut s z k zero places most is h le = refl
+texts_uncut s z k (suc n) places most is h le =
+    and_from (uncut s (signed_decimal (z +ℤ pos k))) (are_uncut s (texts_after z (suc k) n))
+    (signed_uncut s (z +ℤ pos k) is ((h k (omega arith)).small)) (texts_uncut s z (suc k) n places most is h (omega arith))
 
 texts_read : (z : ℤ) (k n : ℕ) (places most : ℕ) → AreShort places most z → k + n ≤ 7
     → all_read (number_in places most) (texts_after z k n) ≡ Some (numbers_after z k n)
@@ -207,25 +227,20 @@ pub seven_back : (z : ℤ) (places most : ℕ) → AreShort places most z → nu
 seven_back z places most h =
     let P : ℤ → Type 0 = λ n. IsShort places most n in
     let first : IsShort places most z = subst P (no_more z) (h 0 (omega arith)) in
-    let cut = cut_each 44 (signed_decimal z) (next_texts z) (signed_uncut 44 z (inl refl) first.small) (texts_uncut z 1 6 places most h (omega arith)) in
+    let cut = cut_each 44 (signed_decimal z) (next_texts z) (signed_uncut 44 z (inl refl) first.small)
+    (texts_uncut 44 z 1 6 places most (inl refl) h (omega arith)) in
     ap (numbers_in places most) (seven_are z)
     ∙ ap (all_read (number_in places most)) cut
     ∙ read_more (number_in places most) (signed_decimal z) (next_texts z) z (next_numbers z) (short_back places most z first)
     (texts_read z 1 6 places most h (omega arith))
 
-after_uncut : (z : ℤ) (k n : ℕ) (places most : ℕ) → AreShort places most z → k + n ≤ 7 → uncut 59 (after_each 44 (texts_after z k n)) ≡ true
-after_uncut z k zero places most h le = refl
-after_uncut z k (suc n) places most h le =
-    uncut-append 59 (44 ∷ signed_decimal (z +ℤ pos k)) (after_each 44 (texts_after z (suc k) n))
-    (signed_uncut 59 (z +ℤ pos k) (inr refl) ((h k (omega arith)).small)) (after_uncut z (suc k) n places most h (omega arith))
-
-pub seven_uncut : (z : ℤ) (places most : ℕ) → AreShort places most z → uncut 59 (seven_numbers z) ≡ true
-seven_uncut z places most h =
+pub seven_uncut : (s : ℕ) (z : ℤ) (places most : ℕ) → EndsWord s → AreShort places most z → uncut s (seven_numbers z) ≡ true
+seven_uncut s z places most is h =
     let P : ℤ → Type 0 = λ n. IsShort places most n in
     let first : IsShort places most z = subst P (no_more z) (h 0 (omega arith)) in
-    ap (uncut 59) (seven_are z)
-    ∙ uncut-append 59 (signed_decimal z) (after_each 44 (next_texts z)) (signed_uncut 59 z (inr refl) first.small)
-    (after_uncut z 1 6 places most h (omega arith))
+    ap (uncut s) (seven_are z)
+    ∙ uncut-append s (signed_decimal z) (after_each 44 (next_texts z)) (signed_uncut s z (inr is) first.small)
+    (joined_uncut s 44 (next_texts z) (comma_uncut s is) (texts_uncut s z 1 6 places most (inr is) h (omega arith)))
 
 one_later : (z : ℤ) (k : ℕ) → int_eq (z +ℤ pos (suc k)) ((z +ℤ pos k) +ℤ pos 1) ≡ true
 one_later z k = grind (arith, ints)

@@ -22,7 +22,8 @@ use Rattle.vtimezone.specs.ReadValues.{utc_in}
 use Rattle.vtimezone.specs.Values.{utc_basic, weekday_name, seven_numbers, by_month, by_weekday, by_nth_weekday, by_month_day, by_month_days, by_year_days}
 use Rattle.vtimezone.specs.Values.{form_text, until_text, rule_text}
 use Rattle.vtimezone.proofs.ValuesBack.{all_digits, utc_back}
-use Rattle.vtimezone.proofs.NumbersBack.{cut_last, short_back, uncut, uncut-append, after_each, are_uncut, cut_each, signed_uncut, weekday_uncut, utc_uncut}
+use Rattle.vtimezone.proofs.NumbersBack.{cut_last, short_back, uncut, uncut-append, after_each, are_uncut, cut_each, joined_uncut, EndsWord, signed_uncut}
+use Rattle.vtimezone.proofs.NumbersBack.{weekday_uncut, utc_uncut}
 use Rattle.vtimezone.proofs.NumbersBack.{read_more, IsShort, one_number_back, next_numbers, seven_back, seven_uncut, row_back, weekday_alone, nth_weekday}
 use Rattle.vtimezone.proofs.NumbersBack.{one_day}
 
@@ -241,35 +242,63 @@ until_back : (until : Option Moment) → IfSome until (λ m. IsWithinBounds m.se
 until_back None h = refl
 until_back (Some last) h = ap (option_map Some) (utc_back last (bounds_text last.seconds h))
 
-form_uncut : (f : Form) → IsValidForm f → are_uncut 59 (form_words f) ≡ true
-form_uncut (form.NthDay month nth weekday) h =
+-- ---- the words have no semicolon, and no line feed
+
+word_uncut : (s : ℕ) (name text : List ℕ) → EndsWord s → uncut 10 name ≡ true → uncut 59 name ≡ true → uncut s text ≡ true → uncut s (name ++ text) ≡ true
+word_uncut s name text (inl is) one two h = uncut-append s name text (ap (λ n. uncut n name) is ∙ one) h
+word_uncut s name text (inr is) one two h = uncut-append s name text (ap (λ n. uncut n name) is ∙ two) h
+
+one_word : (s : ℕ) (w : List ℕ) → uncut s w ≡ true → are_uncut s (w ∷ []) ≡ true
+one_word s w h = and_from (uncut s w) true h refl
+
+month_word : (s m : ℕ) → EndsWord s → IsMonth m → uncut s (codes "BYMONTH=" ++ signed_decimal (pos m)) ≡ true
+month_word s m is h =
+    word_uncut s (codes "BYMONTH=") (signed_decimal (pos m)) is refl refl (signed_uncut s (pos m) (inr is) ((month_short m h).small))
+
+weekday_word : (s w : ℕ) → EndsWord s → w ≤ 6 → uncut s (codes "BYDAY=" ++ weekday_name w) ≡ true
+weekday_word s w is h = word_uncut s (codes "BYDAY=") (weekday_name w) is refl refl (weekday_uncut s w (inr is) h)
+
+form_uncut : (s : ℕ) (f : Form) → EndsWord s → IsValidForm f → are_uncut s (form_words f) ≡ true
+form_uncut s (form.NthDay month nth weekday) is h =
+    let day = signed_decimal nth ++ weekday_name weekday in
     let place = place_short nth h.1 in
-    and_from _ _ (signed_uncut 59 (pos month) (inr refl) ((month_short month h.0).small))
-    (and_from _ true (uncut-append 59 (signed_decimal nth) (weekday_name weekday) (signed_uncut 59 nth (inr refl) place.small)
-    (weekday_uncut 59 weekday (inr refl) h.2)) refl)
-form_uncut (form.MonthDays month first weekday) h =
-    and_from _ _ (signed_uncut 59 (pos month) (inr refl) ((month_short month h.0).small))
-    (and_from _ _ (seven_uncut (pos first) 2 31 (λ k le. month_days_short month first k h.1.0 h.1.1 le))
-    (and_from _ true (weekday_uncut 59 weekday (inr refl) h.2) refl))
-form_uncut (form.YearDays first weekday) h =
-    and_from _ _ (seven_uncut first 3 366 (first_small first h.0)) (and_from _ true (weekday_uncut 59 weekday (inr refl) h.1) refl)
-form_uncut (form.FixedDate month day) h =
+    and_from _ _ (month_word s month is h.0)
+    (one_word s (codes "BYDAY=" ++ day) (word_uncut s (codes "BYDAY=") day is refl refl
+    (uncut-append s (signed_decimal nth) (weekday_name weekday) (signed_uncut s nth (inr is) place.small) (weekday_uncut s weekday (inr is) h.2))))
+form_uncut s (form.MonthDays month first weekday) is h =
+    and_from _ _ (month_word s month is h.0)
+    (and_from _ _ (word_uncut s (codes "BYMONTHDAY=") (seven_numbers (pos first)) is refl refl
+    (seven_uncut s (pos first) 2 31 is (λ k le. month_days_short month first k h.1.0 h.1.1 le)))
+    (one_word s (codes "BYDAY=" ++ weekday_name weekday) (weekday_word s weekday is h.2)))
+form_uncut s (form.YearDays first weekday) is h =
+    and_from _ _ (word_uncut s (codes "BYYEARDAY=") (seven_numbers first) is refl refl (seven_uncut s first 3 366 is (first_small first h.0)))
+    (one_word s (codes "BYDAY=" ++ weekday_name weekday) (weekday_word s weekday is h.1))
+form_uncut s (form.FixedDate month day) is h =
     let long = days_in_month_bounds (pos 2001) month in
     let date = small_number day 31 h.1.0 (omega (arith, h.1, long)) (omega arith) in
-    and_from _ _ (signed_uncut 59 (pos month) (inr refl) ((month_short month h.0).small))
-    (and_from _ true (signed_uncut 59 (pos day) (inr refl) date.small) refl)
+    and_from _ _ (month_word s month is h.0)
+    (one_word s (codes "BYMONTHDAY=" ++ signed_decimal (pos day)) (word_uncut s (codes "BYMONTHDAY=") (signed_decimal (pos day)) is refl refl
+    (signed_uncut s (pos day) (inr is) date.small)))
 
-until_uncut : (until : Option Moment) → are_uncut 59 (until_words until) ≡ true
-until_uncut None = refl
-until_uncut (Some last) = and_from _ true (utc_uncut last.seconds) refl
+until_uncut : (s : ℕ) (until : Option Moment) → EndsWord s → are_uncut s (until_words until) ≡ true
+until_uncut s None is = refl
+until_uncut s (Some last) is =
+    one_word s (codes "UNTIL=" ++ utc_basic last.seconds)
+    (word_uncut s (codes "UNTIL=") (utc_basic last.seconds) is refl refl (utc_uncut s last.seconds (inr is)))
+
+words_uncut : (s : ℕ) (f : Form) (until : Option Moment) → EndsWord s → IsValidForm f → are_uncut s (words_of f until) ≡ true
+words_uncut s f until is h = list_all-append (uncut s) (form_words f) (until_words until) ∙ and_from _ _ (form_uncut s f is h) (until_uncut s until is)
+
+pub rule_on_a_line : (rule : Rule) (until : Option Moment) → IsValidForm rule.form → uncut 10 (rule_text rule until) ≡ true
+rule_on_a_line rule until h =
+    ap (uncut 10) (rule_joined rule until) ∙ joined_uncut 10 59 (words_of rule.form until) refl (words_uncut 10 rule.form until (inl refl) h)
 
 pub recur_back : (rule : Rule) (until : Option Moment) → IsValidForm rule.form → IfSome until (λ m. IsWithinBounds m.seconds)
     → recur_in (rule_text rule until) ≡ Some (record { form = rule.form; until = until })
 unfolding recur_in
 recur_back rule until h within =
     let f = rule.form in
-    let whole = list_all-append (uncut 59) (form_words f) (until_words until) ∙ and_from _ _ (form_uncut f h) (until_uncut until) in
-    let cut = cut_each 59 (codes "FREQ=YEARLY") (words_of f until) refl whole in
+    let cut = cut_each 59 (codes "FREQ=YEARLY") (words_of f until) refl (words_uncut 59 f until (inr refl) h) in
     ap (λ t. option_and_then recur_of (all_read (cut_first 61) (cut_at 59 t))) (rule_joined rule until)
     ∙ ap (λ ws. option_and_then recur_of (all_read (cut_first 61) ws)) cut
     ∙ ap (option_and_then recur_of) (words_cut f until)

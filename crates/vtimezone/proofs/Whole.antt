@@ -14,7 +14,8 @@ use Rattle.posix_footer.specs.StateAt.{state_after, state_by, state_of}
 use Rattle.recurrence.specs.declared.part_types.Part.{Part}
 use Rattle.recurrence.specs.InForce.{state_of_part, GivesState}
 use Rattle.recurrence.specs.RuleOfDate.{rule_of}
-use Rattle.vtimezone.specs.PartsOf.{offset_before, date_of_edge, IsBeforeEnd, IsEndOf}
+use Rattle.vtimezone.specs.PartsOf.{offset_before, date_of_edge}
+use Rattle.vtimezone.specs.Ranges.{IsBeforeEnd, IsEndOf}
 
 -- the last of a change's onsets, from a year on, that comes before b
 pub record IsLastBefore (rule : DstRule) (std : ℤ) (at : Edge) (y0 b u : ℤ) : Type 0 where

@@ -28,7 +28,7 @@ use Rattle.zone_meaning.specs.Rules.{FollowsRules, by_footer_or}
 use Rattle.zone_meaning.proofs.lemmas.RuleLemmas.{zone_follows}
 use Rattle.recurrence.specs.InForce.{GivesState}
 use Rattle.recurrence.specs.declared.part_types.Range.{Range}
-use Rattle.vtimezone.specs.PartsOf.{IsEndOf, IsAmong}
+use Rattle.vtimezone.specs.Ranges.{IsEndOf, IsAmong, end_in}
 use Rattle.vtimezone.proofs.Whole.{IsRange, IsLawfulAndCarried, goes_on}
 use Rattle.recurrence.proofs.lemmas.AllYear.{year_9999}
 use Rattle.posix_footer.specs.Grammar.{footer_in}
@@ -36,7 +36,7 @@ use Rattle.posix_footer.specs.declared.footer_fault.FooterFault.{FooterFault}
 use Rattle.posix_footer.proofs.lemmas.Lawfulness.{read_lawful}
 use Rattle.std.specs.Result.{result_ok}
 use Rattle.vtimezone.proofs.PartsMean.{parts_from_mean}
-use Rattle.vtimezone.specs.ZoneParts.{latest, rule_year, end_in, range_parts}
+use Rattle.vtimezone.specs.ZoneParts.{latest, rule_year, range_parts}
 
 -- where one type or the footer gives the state from a moment on, it goes on from there
 by_one : (state : ℤ → Local) (z : ZoneFile) (footer : Option Footer) (last : ℤ) (number : ℕ)

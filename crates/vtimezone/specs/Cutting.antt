@@ -1,5 +1,6 @@
 -- Lists of octets, cut at separators.
-use Rattle.std.specs.Prelude.{ℕ, ◌==◌, List, [], ◌∷◌, if◌then◌else◌, Option, None, Some}
+use Rattle.std.specs.Prelude.{ℕ, ◌==◌, List, [], ◌∷◌, Bool, false, if◌then◌else◌, Option, None}
+use Rattle.std.specs.Prelude.{Some}
 use Rattle.std.specs.List.{slice_split}
 use Rattle.std.specs.Option.{option_map}
 use Rattle.std.specs.Str.{bytes_eq}
@@ -47,3 +48,8 @@ abbrev pub one_if_any : {B : Type 0} → (List ℕ → Option B) → List (List 
 one_if_any read [] = Some None
 one_if_any read (value ∷ []) = option_map Some (read value)
 one_if_any read values = None
+
+-- whether there is one value, and it is this
+abbrev pub only_is : List ℕ → List (List ℕ) → Bool
+only_is text (value ∷ []) = bytes_eq value text
+only_is text values = false

@@ -2,6 +2,7 @@ pub mod CalendarText
 pub mod Cutting
 pub mod LastYear
 pub mod PartsOf
+pub mod Ranges
 pub mod ReadRules
 pub mod ReadValues
 pub mod Spellable

@@ -1,11 +1,8 @@
 -- The parts of a VTIMEZONE (RFC 5545, section 3.6.5): one for each change before a year, and from
 -- that year on the rules of a footer.
-use Rattle.std.specs.Prelude.{◌≤ℤ◌, ◌<ℤ◌, ℕ, zero, suc, List, [], ◌∷◌, ◌++◌, map, if◌then◌else◌, ℤ}
-use Rattle.std.specs.Prelude.{pos, ◌+ℤ◌, ◌-ℤ◌, ◌*ℤ◌, int_lt, unsigned_abs, Option, None, Some}
-use Rattle.std.specs.Prelude.{option_map, ⊤}
+use Rattle.std.specs.Prelude.{ℕ, zero, suc, List, [], ◌∷◌, ◌++◌, map, if◌then◌else◌, ℤ, pos, ◌+ℤ◌}
+use Rattle.std.specs.Prelude.{◌-ℤ◌, ◌*ℤ◌, int_lt, unsigned_abs, Option, None, Some}
 use Rattle.jiff_core.specs.Calendar.{days_from_civil}
-use Rattle.td_civil.specs.Bounds.{HasMeaning, IsWithinBounds}
-use Rattle.td_civil.specs.declared.moment_type.TheConstants.{HI}
 use Rattle.td_civil.specs.declared.moment_type.Moment.{Moment}
 use Rattle.td_civil.specs.declared.local_time.Local.{Local}
 use Rattle.td_civil.specs.declared.local_time.Observance.{Observance}
@@ -22,8 +19,8 @@ use Rattle.recurrence.specs.declared.part_types.Part.{Part}
 use Rattle.recurrence.specs.RuleOfDate.{rule_of}
 
 -- the moment at which a year begins in UTC
-abbrev pub part_begin : ℤ → ℤ
-part_begin year = days_from_civil year 1 1 *ℤ pos 86400
+abbrev pub year_begin : ℤ → ℤ
+year_begin year = days_from_civil year 1 1 *ℤ pos 86400
 
 -- the part of one change
 abbrev pub single_of : Observance → Part
@@ -97,36 +94,11 @@ rules_of (Some footer) y0 b = rules_if_any footer.std footer.dst y0 b
 
 -- where the single parts end: at the turn of a year, or at the end of the range where that comes
 -- first
-abbrev pub part_end : ℤ → Option ℤ → ℤ
-part_end turn None = turn
-part_end turn (Some b) = if int_lt b turn then b else turn
+abbrev pub singles_end : ℤ → Option ℤ → ℤ
+singles_end turn None = turn
+singles_end turn (Some b) = if int_lt b turn then b else turn
 
 -- the parts for a range from a to b: single ones before the year y0, and rules from that year on
 unfoldable pub parts_from : (ℤ → Local) → Option Footer → ℤ → Option ℤ → ℤ → List Part
 parts_from state footer a b y0 =
-    map single_of (observed state a (part_end (part_begin y0) b)) ++ rules_of footer y0 b
-
--- the end of a range, if there is one, comes after its start, and not after the moments that have a
--- meaning
-abbrev pub IsEndOf : ℤ → Option ℤ → Type 0
-IsEndOf a None = ⊤
-IsEndOf a (Some b) = (a <ℤ b) × (b ≤ℤ HI)
-
--- a moment comes before the end, where there is one
-abbrev pub IsBeforeEnd : Option ℤ → ℤ → Type 0
-IsBeforeEnd None t = ⊤
-IsBeforeEnd (Some b) t = t <ℤ b
-
--- a moment of the range
-pub record IsAmong (a : ℤ) (b : Option ℤ) (t : ℤ) : Type 0 where
-  pub from : a ≤ℤ t
-  pub before : IsBeforeEnd b t
-  pub meant : HasMeaning t
-
-abbrev pub seconds_if_any : Option Moment → Option ℤ
-seconds_if_any moment = option_map (λ m. m.seconds) moment
-
--- the end of a range, if there is one, is no later than the moments that have a meaning
-abbrev pub IsMeantIfAny : Option Moment → Type 0
-IsMeantIfAny None = ⊤
-IsMeantIfAny (Some end) = IsWithinBounds end.seconds
+    map single_of (observed state a (singles_end (year_begin y0) b)) ++ rules_of footer y0 b

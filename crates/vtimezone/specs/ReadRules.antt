@@ -12,6 +12,7 @@ use Rattle.td_civil.specs.declared.moment_type.Moment.{Moment}
 use Rattle.recurrence.specs.declared.rule_types.Form.{Form}
 use Rattle.recurrence.specs.declared.rule_types.Form.TheVariants as form
 use Rattle.vtimezone.specs.Cutting.{Named, cut_at, cut_first, values_of, all_read, one_if_any}
+use Rattle.vtimezone.specs.Cutting.{only_is}
 use Rattle.vtimezone.specs.ReadValues.{utc_in}
 
 -- one to so many digits, after a sign or none, and without the sign a number from 1 to `most`
@@ -123,10 +124,6 @@ is_word w =
     bytes_eq w.name (codes "FREQ") || bytes_eq w.name (codes "UNTIL")
     || bytes_eq w.name (codes "BYMONTH") || bytes_eq w.name (codes "BYMONTHDAY")
     || bytes_eq w.name (codes "BYYEARDAY") || bytes_eq w.name (codes "BYDAY")
-
-abbrev pub only_is : List ℕ → List (List ℕ) → Bool
-only_is text (value ∷ []) = bytes_eq value text
-only_is text values = false
 
 -- a form of each year, up to a last moment where there is one
 pub record Recur : Type 0 where

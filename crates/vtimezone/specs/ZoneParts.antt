@@ -1,5 +1,5 @@
 -- The parts of a zone file for a range.
-use Rattle.std.specs.Prelude.{ℕ, ◌-◌, List, [], ◌∷◌, length, ℤ, pos, ◌+ℤ◌, Option, slice_index_or}
+use Rattle.std.specs.Prelude.{ℕ, ◌-◌, List, [], ◌∷◌, length, ℤ, pos, ◌+ℤ◌, slice_index_or}
 use Rattle.std.specs.Int.{int_max}
 use Rattle.td_civil.specs.declared.moment_type.Moment.{Moment}
 use Rattle.td_civil.specs.Calendar.{stamp_of}
@@ -8,7 +8,8 @@ use Rattle.zone_meaning.specs.State.{zone_state, footer_meant}
 use Rattle.recurrence.specs.InForce.{GivesState}
 use Rattle.recurrence.specs.declared.part_types.Part.{Part}
 use Rattle.recurrence.specs.declared.part_types.Range.{Range}
-use Rattle.vtimezone.specs.PartsOf.{parts_from, seconds_if_any, IsAmong}
+use Rattle.vtimezone.specs.PartsOf.{parts_from}
+use Rattle.vtimezone.specs.Ranges.{end_in, IsAmong}
 
 -- the greater of the start and the last transition, or the start where there is none
 abbrev pub latest : ℤ → List Moment → ℤ
@@ -19,10 +20,6 @@ latest a (m ∷ ms) =
 -- the first year of the rules: the one after the year of that moment in UTC
 unfoldable pub rule_year : List ℕ → ℤ → ℤ
 rule_year file a = pos (stamp_of (latest a (lists_of file).moments)).year +ℤ pos 1
-
--- the end of a range
-abbrev pub end_in : Range → Option ℤ
-end_in range = seconds_if_any range.until
 
 unfoldable pub range_parts : List ℕ → Range → List Part
 range_parts file range =

@@ -1,5 +1,6 @@
 //! The text of a calendar with one time zone.
-ghost use Rattle.std.specs.Prelude.{◌≡◌, ◌++◌, length, take, All, IfSome, OnOk, OnErr};
+ghost use Rattle.std.specs.Prelude.{◌≡◌, ◌<◌, ◌++◌, length, take, drop, All, IfSome, Some, OnOk};
+ghost use Rattle.std.specs.Prelude.{OnErr};
 ghost use Rattle.std.specs.List.{flat_map};
 ghost use Rattle.std.specs.Option.{option_copied};
 ghost use Rattle.jiff_core.specs.Calendar.{IsWithin};
@@ -7,6 +8,8 @@ ghost use Rattle.td_civil.specs.Bounds.{IsWithinBounds};
 ghost use Rattle.ical_lines.specs.Lines.{content_line, written};
 ghost use Rattle.recurrence.specs.Valid.{IsValidForm};
 ghost use Rattle.vtimezone.specs.CalendarText as text;
+ghost use Rattle.vtimezone.specs.Spellable.{IsSafe, IsSpellable};
+ghost use Rattle.vtimezone.specs.Spelled.{spelled};
 ghost use Rattle.vtimezone.specs.Values.{offset_text};
 
 use crate::Part;
@@ -20,8 +23,7 @@ use td_civil::{Moment, local_stamp};
 /// 5545, section 3.6.5). Where `tzid` is an alias, `alias_of` is the identifier of its zone.
 /// `until` is the end of the range, where it has one. It takes the memory of the text alone.
 ///
-/// By `calendar_spells` this text, read from its lines on, gives the parts back; by
-/// `zone_calendar_spells` it does so for what `parts` gives.
+/// What it appends, read as `specs/Spelled.antt` says, gives back all that it was given.
 pub fn write(
     out: &mut Bytes,
     tzid: &[u8],
@@ -29,10 +31,19 @@ pub fn write(
     parts: &[Part],
     until: Option<Moment>,
 ) -> Result<(), NoMemory>
-    requires parts { All text.IsWritable parts.now }
+    requires tzid { IsSafe tzid.now }
+    requires alias_of { IfSome (option_copied alias_of) IsSafe }
+    requires some { 0 < length parts.now }
+    requires parts { All IsSpellable parts.now }
     requires until { IfSome until (λ m. IsWithinBounds m.seconds) }
     ensures ok { OnOk result (out.new ≡ out.old
         ++ text.calendar tzid.now (option_copied alias_of.entry) parts.now until) }
+    ensures spells { OnOk result (spelled (drop (length out.old) out.new) ≡ Some (record {
+      tzid = tzid.now;
+      alias_of = option_copied alias_of.entry;
+      until = until;
+      parts = parts.now;
+    })) }
     ensures err { OnErr result (out.new ≡ out.old) }
 {
     let start = out.len();

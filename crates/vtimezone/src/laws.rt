@@ -1,7 +1,8 @@
 //! What the parts of a zone mean, as the contracts of functions that do nothing.
-ghost use Rattle.std.specs.Prelude.{◌≡◌, ℕ, List, ℤ, None, Some, Option, Ok, IfSome, IsTrue};
+ghost use Rattle.std.specs.Prelude.{◌≡◌, ◌<◌, ℕ, List, length, ℤ, None, Some, Option, Ok, IfSome};
+ghost use Rattle.std.specs.Prelude.{IsTrue, All};
 ghost use Rattle.std.specs.List.{Contains, AllByRecursion};
-ghost use Rattle.td_civil.specs.Bounds.{HasMeaning};
+ghost use Rattle.td_civil.specs.Bounds.{HasMeaning, IsWithinBounds};
 ghost use Rattle.posix_footer.specs.Carried.{IsCarriedIfAny};
 ghost use Rattle.tzif_reader.specs.Cut.{lists_of};
 ghost use Rattle.zone_meaning.specs.Faults.{zone_fault};
@@ -13,10 +14,10 @@ ghost use Rattle.recurrence.specs.declared.part_types.Range.{Range};
 ghost use Rattle.ical_lines.specs.Unfolding.{unfolded};
 ghost use Rattle.td_civil.specs.declared.moment_type.Moment.{Moment};
 ghost use Rattle.vtimezone.specs.CalendarText.{calendar, calendar_lines, IsLineText, IsReadable};
-ghost use Rattle.vtimezone.specs.PartsOf.{IsEndOf, IsAmong};
-ghost use Rattle.vtimezone.specs.Spellable.{IsSpellable};
+ghost use Rattle.vtimezone.specs.Ranges.{IsEndOf, IsAmong, end_in};
+ghost use Rattle.vtimezone.specs.Spellable.{IsSafe, IsSpellable};
 ghost use Rattle.vtimezone.specs.Spelled.{spelled};
-ghost use Rattle.vtimezone.specs.ZoneParts.{end_in, range_parts};
+ghost use Rattle.vtimezone.specs.ZoneParts.{range_parts};
 
 /// At each moment of a range, the part in force has the offset, the flag and the name of the zone
 /// file's state.
@@ -44,13 +45,14 @@ pub fn calendar_reads_back()
         ≡ Ok (calendar_lines tzid alias_of parts until) }
 {}
 
-/// The text of a calendar spells its parts: cut into lines, groups and values, and read by the
-/// grammar of RFC 5545, it gives them back.
+/// The text of a calendar spells what it was written of: cut into lines, components and values, and
+/// read by the grammar of RFC 5545, it gives identifiers, end and parts back.
 pub fn calendar_spells()
     ensures { (tzid : List ℕ) (alias_of : Option (List ℕ)) (parts : List Part)
-        (until : Option Moment) → IsLineText tzid → IfSome alias_of IsLineText
-        → AllByRecursion IsSpellable parts
-        → spelled (calendar tzid alias_of parts until) ≡ Some parts }
+        (until : Option Moment) → IsSafe tzid → IfSome alias_of IsSafe
+        → IfSome until (λ m. IsWithinBounds m.seconds) → 0 < length parts → All IsSpellable parts
+        → spelled (calendar tzid alias_of parts until) ≡ Some (record
+        { tzid = tzid; alias_of = alias_of; until = until; parts = parts }) }
 {}
 
 /// So the calendar of a zone for a range spells the parts of the zone, where its names can be
@@ -60,7 +62,11 @@ pub fn zone_calendar_spells()
         → zone_fault file ≡ None → IsTrue (has_printable_names file)
         → IsCarriedIfAny (footer_meant (lists_of file).footer)
         → HasMeaning range.from.seconds → IsEndOf range.from.seconds (end_in range)
-        → IsLineText tzid → IfSome alias_of IsLineText
-        → spelled (calendar tzid alias_of (range_parts file range) range.until)
-        ≡ Some (range_parts file range) }
+        → IsSafe tzid → IfSome alias_of IsSafe
+        → spelled (calendar tzid alias_of (range_parts file range) range.until) ≡ Some (record {
+          tzid = tzid;
+          alias_of = alias_of;
+          until = range.until;
+          parts = range_parts file range;
+        }) }
 {}

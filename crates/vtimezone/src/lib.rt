@@ -6,7 +6,7 @@
 //! the flag and the name of the zone's state.
 //!
 //! `write` appends the text of `specs/CalendarText.antt`, and that text, read as
-//! `specs/Spelled.antt` says, gives the parts back.
+//! `specs/Spelled.antt` says, gives back what it was written of.
 #![tactic(auto)]
 
 // The parts of a zone.
@@ -26,12 +26,3 @@ pub use laws::{
 };
 pub use recurrence::{Part, Range};
 pub use zone_parts::parts;
-
-#[cfg(test)]
-mod form_rows;
-#[cfg(test)]
-mod plans;
-#[cfg(test)]
-mod test_rows;
-#[cfg(test)]
-mod tests;

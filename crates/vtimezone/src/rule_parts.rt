@@ -10,6 +10,7 @@ ghost use Rattle.posix_footer.specs.declared.rule_types.Edge.{Edge};
 ghost use Rattle.recurrence.specs.RuleOfDate.{rule_of};
 ghost use Rattle.vtimezone.specs.LastYear.{IsLastYear};
 ghost use Rattle.vtimezone.specs.PartsOf as spec;
+ghost use Rattle.vtimezone.specs.Ranges.{seconds_if_any};
 
 use crate::Part;
 use posix_footer::{DstRule, Edge, Footer, onset};
@@ -97,9 +98,9 @@ fn part_before(
     requires carried { is_carried_rule rule.now ≡ true }
     requires days { days ≡ rule_of (spec.date_of_edge rule.now edge) }
     requires year { IsBetween (pos 1801) (pos 9998) year }
-    requires until { spec.IsMeantIfAny until }
+    requires until { IfSome until (λ m. IsWithinBounds m.seconds) }
     ensures { option_to_list result
-        ≡ spec.rule_part_if std.now rule.now year (spec.seconds_if_any until) edge }
+        ≡ spec.rule_part_if std.now rule.now year (seconds_if_any until) edge }
 {
     match until {
         None => Some(rule_part(std, rule, days, edge, year, None)),
@@ -163,9 +164,9 @@ fn push_both(
     requires start { days.0 ≡ rule_of rule.now.start }
     requires end { days.1 ≡ rule_of rule.now.end }
     requires year { IsBetween (pos 1801) (pos 9998) year }
-    requires until { spec.IsMeantIfAny until }
+    requires until { IfSome until (λ m. IsWithinBounds m.seconds) }
     ensures { OnOk result (parts.new
-        ≡ parts.old ++ spec.rule_parts std.now rule.now year (spec.seconds_if_any until)) }
+        ≡ parts.old ++ spec.rule_parts std.now rule.now year (seconds_if_any until)) }
 {
     let start = part_before(std, rule, days.0, Edge::Start, year, until);
     let end = part_before(std, rule, days.1, Edge::End, year, until);
@@ -188,9 +189,9 @@ fn push_rule(
     requires carried { beyond footer.now ≡ false }
     requires rule { footer.now.dst ≡ Some rule.now }
     requires year { IsBetween (pos 1801) (pos 9999) year }
-    requires until { spec.IsMeantIfAny until }
+    requires until { IfSome until (λ m. IsWithinBounds m.seconds) }
     ensures { OnOk result (parts.new ≡ parts.old
-        ++ spec.rules_if_any footer.now.std (Some rule.now) year (spec.seconds_if_any until)) }
+        ++ spec.rules_if_any footer.now.std (Some rule.now) year (seconds_if_any until)) }
 {
     if year > 9998 {
         return Ok(());
@@ -213,9 +214,9 @@ pub(crate) fn push_rules(
     requires lawful { IfSome footer.now IsLawful }
     requires carried { IsCarriedIfAny footer.now }
     requires year { IsBetween (pos 1801) (pos 9999) year }
-    requires until { spec.IsMeantIfAny until }
+    requires until { IfSome until (λ m. IsWithinBounds m.seconds) }
     ensures { OnOk result (parts.new
-        ≡ parts.old ++ spec.rules_of footer.now year (spec.seconds_if_any until)) }
+        ≡ parts.old ++ spec.rules_of footer.now year (seconds_if_any until)) }
 {
     match footer {
         None => Ok(()),

@@ -1,22 +1,24 @@
 //! The parts of a zone for a range.
-ghost use Rattle.std.specs.Prelude.{◌≡◌, ◌<ℤ◌, map, pos, None, All, IfOk, OnOk};
-ghost use Rattle.jiff_core.specs.Calendar.{IsBetween, IsEpochDay, days_from_civil};
+ghost use Rattle.std.specs.Prelude.{◌≡◌, ◌<◌, ◌<ℤ◌, length, map, pos, None, All, IfOk, OnOk};
+ghost use Rattle.std.specs.Prelude.{IsTrue};
+ghost use Rattle.jiff_core.specs.Calendar.{IsBetween};
 ghost use Rattle.td_civil.specs.Bounds.{HasMeaning};
 ghost use Rattle.posix_footer.specs.Carried.{IsCarriedIfAny};
 ghost use Rattle.tzif_reader.specs.Cut as cut;
 ghost use Rattle.zone_meaning.specs.Faults.{zone_fault};
 ghost use Rattle.zone_meaning.specs.Observed.{observed, IsRange};
+ghost use Rattle.zone_meaning.specs.Names.{has_printable_names};
 ghost use Rattle.zone_meaning.specs.State.{zone_state, footer_meant};
-ghost use Rattle.vtimezone.specs.CalendarText.{IsWritable};
 ghost use Rattle.vtimezone.specs.PartsOf as spec;
+ghost use Rattle.vtimezone.specs.Ranges as ranges;
+ghost use Rattle.vtimezone.specs.Spellable.{IsSpellable};
 ghost use Rattle.vtimezone.specs.ZoneParts as zone_spec;
 
 use crate::rule_parts::{comes_before, push_rules};
 use crate::{Part, Range};
-use jiff::civil;
 use std::alloc::Global;
 use td_base::{Items, NoMemory};
-use td_civil::{Moment, Observance, year_of};
+use td_civil::{Moment, Observance, new_year_day, year_of};
 use zone_meaning::{Changes, Zone, footer, lists};
 
 /// The parts of a zone for a range (RFC 5545, section 3.6.5), in rising order of their first
@@ -24,11 +26,13 @@ use zone_meaning::{Changes, Zone, footer, lists};
 /// all others. They take the memory of the list.
 pub fn parts(alloc: Global, zone: &Zone, range: Range) -> Result<Items<Part>, NoMemory>
     requires from { HasMeaning range.from.seconds }
-    requires until { spec.IsEndOf range.from.seconds (zone_spec.end_in range) }
+    requires until { ranges.IsEndOf range.from.seconds (ranges.end_in range) }
     requires carried { IsCarriedIfAny (footer_meant (cut.lists_of zone.now).footer) }
     ensures exact { IfOk result (λ parts. parts ≡ zone_spec.range_parts zone.now range) }
     ensures means { IfOk result (zone_spec.MeansZone zone.now range) }
-    ensures writable { IfOk result (λ parts. All IsWritable parts) }
+    ensures some { IfOk result (λ parts. 0 < length parts) }
+    ensures spellable { IsTrue (has_printable_names zone.now)
+        → IfOk result (λ parts. All IsSpellable parts) }
 {
     let parts = listed(alloc, zone, range)?;
     Ok(parts)
@@ -38,7 +42,7 @@ pub fn parts(alloc: Global, zone: &Zone, range: Range) -> Result<Items<Part>, No
 #[tactic(auto, unfolding(crate::specs::ZoneParts::range_parts, crate::specs::PartsOf::parts_from))]
 fn listed(alloc: Global, zone: &Zone, range: Range) -> Result<Items<Part>, NoMemory>
     requires from { HasMeaning range.from.seconds }
-    requires until { spec.IsEndOf range.from.seconds (zone_spec.end_in range) }
+    requires until { ranges.IsEndOf range.from.seconds (ranges.end_in range) }
     requires carried { IsCarriedIfAny (footer_meant (cut.lists_of zone.now).footer) }
     ensures exact { IfOk result (λ parts. parts ≡ zone_spec.range_parts zone.now range) }
     ensures no_fault { OnOk result (zone_fault zone.now ≡ None) }
@@ -55,7 +59,7 @@ fn rule_year(zone: &Zone, from: Moment) -> i32
     requires { HasMeaning from.seconds }
     ensures year { result ≡ zone_spec.rule_year zone.now from.seconds }
     ensures bound { IsBetween (pos 1801) (pos 9999) result }
-    ensures after { from.seconds <ℤ spec.part_begin result }
+    ensures after { from.seconds <ℤ spec.year_begin result }
 {
     year_of(last_moment(zone, from)) + 1
 }
@@ -89,7 +93,8 @@ fn latest(moments: &[Moment], from: Moment) -> Moment
 /// Where the parts without rules end: where a year begins, or at the end of the range.
 fn single_end(year: i32, until: Option<Moment>) -> Moment
     requires { IsBetween (pos 1801) (pos 9999) year }
-    ensures { result.seconds ≡ spec.part_end (spec.part_begin year) (spec.seconds_if_any until) }
+    ensures { result.seconds
+        ≡ spec.singles_end (spec.year_begin year) (ranges.seconds_if_any until) }
 {
     let turn = begin_of(year);
     match until {
@@ -101,20 +106,11 @@ fn single_end(year: i32, until: Option<Moment>) -> Moment
 /// The moment at which a year begins in UTC.
 fn begin_of(year: i32) -> Moment
     requires { IsBetween (pos 1801) (pos 9999) year }
-    ensures { result.seconds ≡ spec.part_begin year }
+    ensures { result.seconds ≡ spec.year_begin year }
 {
     Moment {
-        seconds: first_day(year as i16) * 86_400,
+        seconds: new_year_day(year as i16) * 86_400,
     }
-}
-
-/// The day number of 1 January.
-fn first_day(year: i16) -> i64
-    requires { IsBetween (pos 1801) (pos 9999) year }
-    ensures value { result ≡ days_from_civil year 1 1 }
-    ensures bound { IsEpochDay result }
-{
-    i64::from(civil::date(year, 1, 1).to_plain().to_unix_epoch_day())
 }
 
 /// The parts of the changes from a moment to before another.

@@ -1,5 +1,5 @@
-use Rattle.vtimezone.proofs.CalendarBack.{calendar_spelled}
+use Rattle.vtimezone.proofs.CalendarBack.{calendar_back}
 use Rattle.vtimezone.proofs.laws.calendar_spells.Goals as goal
 
 pub returns : goal.returns
-returns c = calendar_spelled
+returns c = calendar_back

@@ -1,0 +1,126 @@
+//! Calendars of zones.
+ghost use Rattle.std.specs.Prelude.{◌≡◌, ◌<ℤ◌, ◌≤ℤ◌, ◌<◌, IfOk, IfSome, IsTrue, All, length, pos};
+ghost use Rattle.std.specs.Prelude.{option_copied};
+ghost use Rattle.std.specs.List.{list_all};
+ghost use Rattle.posix_footer.specs.Carried.{IsCarriedIfAny};
+ghost use Rattle.td_civil.specs.Bounds.{HasMeaning};
+ghost use Rattle.td_civil.specs.declared.moment_type.TheConstants.{HI};
+ghost use Rattle.tzif_reader.specs.Cut.{lists_of};
+ghost use Rattle.vtimezone.specs.Ranges.{IsEndOf, end_in};
+ghost use Rattle.vtimezone.specs.ReadValues.{is_safe};
+ghost use Rattle.vtimezone.specs.Spellable.{IsSafe};
+ghost use Rattle.zone_meaning.specs.Names.{has_printable_names};
+ghost use Rattle.zone_meaning.specs.State.{footer_meant};
+
+use crate::zones::{moment_at, zone_at};
+use case_lines::{Answer, CaseFault, Row};
+use recurrence::carry;
+use std::alloc::Global;
+use td_base::{Bytes, NoMemory};
+use td_civil::{HI, Moment};
+use vtimezone::{Range, parts, write};
+use zone_meaning::{Zone, footer, has_printable_names};
+
+/// `calendar HEX FROM END TZID ALIAS-OF`: the text of the calendar, where `-` is no end and no zone
+/// of which the identifier is an alias.
+pub fn calendar(alloc: Global, row: &Row) -> Answer {
+    let zone = zone_at(alloc, row, 0)?;
+    let range = range_in(row)?;
+    let tzid = text_word(row.word(3)?)?;
+    let alias_of = alias_word(row.word(4)?)?;
+    if !is_carried(&zone) || !has_printable_names(&zone) {
+        return Err(CaseFault::Strange);
+    }
+    let text = text(alloc, &zone, range, tzid, alias_of)?;
+    Ok(text.into_vec())
+}
+
+/// The word, each byte of which stands for itself in a text of a calendar.
+fn text_word(word: &[u8]) -> Result<&[u8], CaseFault>
+    ensures { IfOk result (λ text. IsSafe text.now) }
+{
+    if is_text(word) {
+        Ok(word)
+    } else {
+        Err(CaseFault::Strange)
+    }
+}
+
+/// The same, or no word for a dash.
+fn alias_word(word: &[u8]) -> Result<Option<&[u8]>, CaseFault>
+    ensures { IfOk result (λ alias. IfSome (option_copied alias) IsSafe) }
+{
+    if word == b"-".as_slice() {
+        return Ok(None);
+    }
+    let text = text_word(word)?;
+    Ok(Some(text))
+}
+
+/// The range of a row, which has a meaning.
+fn range_in(row: &Row) -> Result<Range, CaseFault>
+    ensures from { IfOk result (λ range. HasMeaning range.from.seconds) }
+    ensures until { IfOk result (λ range. IsEndOf range.from.seconds (end_in range)) }
+{
+    let from = moment_at(row, 1)?;
+    let until = end_after(row, from)?;
+    Ok(Range { from, until })
+}
+
+fn end_after(row: &Row, from: Moment) -> Result<Option<Moment>, CaseFault>
+    ensures { IfOk result (λ end.
+        IfSome end (λ m. from.seconds <ℤ m.seconds × (m.seconds ≤ℤ HI))) }
+{
+    if row.word(2)? == b"-".as_slice() {
+        return Ok(None);
+    }
+    let seconds = row.signed(2)?;
+    if seconds <= from.seconds || seconds > HI {
+        return Err(CaseFault::Strange);
+    }
+    Ok(Some(Moment { seconds }))
+}
+
+/// Whether yearly rules say what the footer of a zone says.
+fn is_carried(zone: &Zone) -> bool
+    ensures { IsTrue result → IsCarriedIfAny (footer_meant (lists_of zone.now).footer) }
+{
+    match footer(zone) {
+        None => true,
+        Some(footer) => carry(footer).is_ok(),
+    }
+}
+
+/// Whether each byte stands for itself in a text of a calendar.
+fn is_text(text: &[u8]) -> bool
+    ensures { result ≡ list_all is_safe text.now }
+{
+    text.iter().all(|byte| is_text_byte(*byte))
+}
+
+fn is_text_byte(byte: u8) -> bool
+    ensures { result ≡ is_safe byte }
+{
+    (byte >= 32 || byte == b'\t') && byte != 127 && byte != b',' && byte != b';' && byte != b'\\'
+}
+
+/// The text of the calendar of a zone for a range.
+fn text(
+    alloc: Global,
+    zone: &Zone,
+    range: Range,
+    tzid: &[u8],
+    alias_of: Option<&[u8]>,
+) -> Result<Bytes, NoMemory>
+    requires from { HasMeaning range.from.seconds }
+    requires until { IsEndOf range.from.seconds (end_in range) }
+    requires carried { IsCarriedIfAny (footer_meant (lists_of zone.now).footer) }
+    requires names { IsTrue (has_printable_names zone.now) }
+    requires tzid { IsSafe tzid.now }
+    requires alias_of { IfSome (option_copied alias_of) IsSafe }
+{
+    let parts = parts(alloc, zone, range)?;
+    let mut text = Bytes::new(alloc);
+    write(&mut text, tzid, alias_of, parts.as_slice(), range.until)?;
+    Ok(text)
+}

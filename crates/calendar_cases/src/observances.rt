@@ -1,0 +1,86 @@
+//! The observances of ranges.
+ghost use Rattle.std.specs.Prelude.{◌≡◌, IfOk};
+ghost use Rattle.zone_meaning.specs.Observed.{IsRange};
+
+use crate::zones::zone_at;
+use case_lines::{Answer, CaseFault, Row, shown};
+use std::alloc::Global;
+use td_base::{Bytes, Items};
+use td_civil::{HI, LO, Moment, Observance};
+use zone_meaning::{Changes, Zone};
+
+/// The range whose beginning and end stand from a place on.
+fn range_at(row: &Row, at: usize) -> Result<(Moment, Moment), CaseFault>
+    ensures { IfOk result (λ range. IsRange range.0.seconds range.1.seconds) }
+{
+    let from = row.signed(at)?;
+    let end = row.signed(at.saturating_add(1))?;
+    if from < LO || end <= from || end > HI {
+        return Err(CaseFault::Strange);
+    }
+    Ok((Moment { seconds: from }, Moment { seconds: end }))
+}
+
+/// `observances HEX FROM END`: onset, offset before it, offset, daylight saving time and name of
+/// each observance, with a bar at its end, as they are listed and as they are handed out.
+pub fn observances(alloc: Global, row: &Row) -> Answer {
+    let zone = zone_at(alloc, row, 0)?;
+    let range = range_at(row, 1)?;
+    let list = zone_meaning::observances(alloc, &zone, range.0, range.1)?;
+    if !are_handed_out(&zone, range, list.as_slice()) {
+        return Ok(Bytes::from_slice(alloc, b"other")?.into_vec());
+    }
+    text(alloc, list.as_slice())
+}
+
+/// Whether these are handed out one at a time, and no others.
+fn are_handed_out(zone: &Zone, range: (Moment, Moment), list: &[Observance]) -> bool
+    requires { IsRange range.0.seconds range.1.seconds }
+{
+    let mut rest = Changes::new(zone, range.0, range.1);
+    for listed in list {
+        if !is_next(&mut rest, listed) {
+            return false;
+        }
+    }
+    rest.next().is_none()
+}
+
+fn is_next(rest: &mut Changes, listed: &Observance) -> bool {
+    match rest.next() {
+        Some(next) => next == *listed,
+        None => false,
+    }
+}
+
+fn text(alloc: Global, list: &[Observance]) -> Answer {
+    let mut out = Bytes::new(alloc);
+    for observance in list {
+        append_observance(alloc, &mut out, observance)?;
+    }
+    Ok(out.into_vec())
+}
+
+fn append_observance(alloc: Global, out: &mut Bytes, o: &Observance) -> Result<(), CaseFault> {
+    let (onset, from, to, dst) = (o.onset.seconds, o.from, o.to, o.dst);
+    out.append(format!(in alloc; "{onset} {from} {to} {dst} ")?.as_bytes())?;
+    out.append(o.name.as_slice())?;
+    out.append(b"|")?;
+    Ok(())
+}
+
+/// `same-observances HEX HEX FROM END`: how many there are of the first, if those of the second are
+/// the same.
+pub fn same(alloc: Global, row: &Row) -> Answer {
+    let (one, two) = (all(alloc, row, 0)?, all(alloc, row, 1)?);
+    if one.as_slice() != two.as_slice() {
+        return Ok(Bytes::from_slice(alloc, b"other")?.into_vec());
+    }
+    shown(alloc, &one.len())
+}
+
+fn all(alloc: Global, row: &Row, at: usize) -> Result<Items<Observance>, CaseFault> {
+    let zone = zone_at(alloc, row, at)?;
+    let range = range_at(row, 2)?;
+    Ok(zone_meaning::observances(alloc, &zone, range.0, range.1)?)
+}
