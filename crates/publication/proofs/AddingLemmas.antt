@@ -1,6 +1,6 @@
 -- The exchange that adds to the history keeps its rule.
 use Rattle.std.proofs.Common.{◌≡◌, ℕ, ◌+◌, ◌<◌, ◌==◌, Bool, true, false, List, [], ◌∷◌, ◌++◌, map, length, refl, ap, sym, subst, arith, inl}
-use Rattle.std.proofs.Common.{length-append, Option, Some, None}
+use Rattle.std.proofs.Common.{length-append, Option, Some, None, IfSome}
 use Rattle.std.proofs.lemmas.List.{append-nil}
 use Rattle.std.proofs.lemmas.Bool.Decides.{nat_tests}
 use mathlib.Core.List.{IsPrefix}
@@ -62,7 +62,7 @@ module _ {V E : Type 0} (last : V → E) (stands : V → List E → Type 0) wher
       (v, (no_nib, None)) (λ n. either (n == old) new n) (Adds (step 0 old new e) (v, (no_nib, None))) c log in
       subst P (sym kept.words) (omega arith, refl, adds_goes log v e old new len next may pre kept.stand kept.seal (length log == old) refl)
 
-  pub value_moves : (v : List (Option V)) (x : V) (old new : ℕ) → length v ≡ old → new ≡ old + 1 → ended_in v ≡ false
+  value_moves : (v : List (Option V)) (x : V) (old new : ℕ) → length v ≡ old → new ≡ old + 1 → ended_in v ≡ false
       → stands x (map last (values v ++ x ∷ []))
       → Moves (HistoryHolds last stands) (λ log. []) (λ xs ys n. Unit {0}) 0 (v, (no_nib, None)) (λ n. either (n == old) new n)
       (Adds (step 0 old new (Some x)) (v, (no_nib, None)))
@@ -72,10 +72,17 @@ module _ {V E : Type 0} (last : V → E) (stands : V → List E → Type 0) wher
     (λ (h : Sealed v). sealed_more v (Some x ∷ []) going tt),
   )
 
-  pub mark_moves : (v : List (Option V)) (old new : ℕ) → length v ≡ old → new ≡ old + 1 → ended_in v ≡ false
+  mark_moves : (v : List (Option V)) (old new : ℕ) → length v ≡ old → new ≡ old + 1 → ended_in v ≡ false
       → Moves (HistoryHolds last stands) (λ log. []) (λ xs ys n. Unit {0}) 0 (v, (no_nib, None)) (λ n. either (n == old) new n)
       (Adds (step 0 old new None) (v, (no_nib, None)))
   mark_moves v old new len next going = adds_moves v None old new len next (
     (λ (h : Stand last stands (values v)). subst (Stand last stands) (sym (values_marked v)) h),
     (λ (h : Sealed v). sealed_more v (None ∷ []) going refl),
   )
+
+  pub entry_moves : (v : List (Option V)) (entry : Option V) (old new : ℕ) → length v ≡ old → new ≡ old + 1 → ended_in v ≡ false
+      → IfSome entry (λ x. stands x (map last (values v ++ x ∷ [])))
+      → Moves (HistoryHolds last stands) (λ log. []) (λ xs ys n. Unit {0}) 0 (v, (no_nib, None)) (λ n. either (n == old) new n)
+      (Adds (step 0 old new entry) (v, (no_nib, None)))
+  entry_moves v (Some x) old new len next going fits = value_moves v x old new len next going fits
+  entry_moves v None old new len next going fits = mark_moves v old new len next going

@@ -12,9 +12,9 @@ no_items [] e = refl
 no_items (x ∷ xs) e = absurd (omega (arith, e))
 
 module _ {A : Type 0} where
-  last_snoc : (o : Option A) (xs : List A) (x : A) → last_or o (xs ++ x ∷ []) ≡ Some x
-  last_snoc o [] x = refl
-  last_snoc o (y ∷ ys) x = last_snoc (Some y) ys x
+  last_added : (o : Option A) (xs : List A) (x : A) → last_or o (xs ++ x ∷ []) ≡ Some x
+  last_added o [] x = refl
+  last_added o (y ∷ ys) x = last_added (Some y) ys x
 
   pub values_more : (log more : List (Option A)) → values (log ++ more) ≡ values log ++ values more
   values_more [] more = refl
@@ -87,7 +87,7 @@ module _ {A : Type 0} where
   added_list log new list x y is old same = added_values log x new is ∙ (ap (λ l. l ++ x ∷ []) old ∙ ap (λ z. list ++ z ∷ []) same)
 
   pub added_last : (log : List (Option A)) (x : A) (new : List (Option A)) → new ≡ log ++ Some x ∷ [] → last_or None (values new) ≡ Some x
-  added_last log x new is = ap (last_or None) (added_values log x new is) ∙ last_snoc None (values log) x
+  added_last log x new is = ap (last_or None) (added_values log x new is) ∙ last_added None (values log) x
 
   pub added_going : (log : List (Option A)) (x : A) (new : List (Option A)) → new ≡ log ++ Some x ∷ [] → ended_in log ≡ false → ended_in new ≡ false
   added_going log x new is h = ap ended_in is ∙ ended_more log x h

@@ -1,6 +1,7 @@
 -- A history of published values: each value in order, and a mark at the end, where it has ended.
 use Rattle.std.specs.Prelude.{◌≡◌, List, [], ◌∷◌, ◌++◌, map}
 use Rattle.std.specs.Prelude.{Option, Some, None, Bool, true, false}
+use mathlib.Core.List.{IsPrefix}
 
 module _ {A : Type 0} where
   -- the values of a history
@@ -30,3 +31,12 @@ module _ {V E : Type 0} (last : V → E) (stands : V → List E → Type 0) wher
 
   abbrev pub Stand : List V → Type 0
   Stand xs = StandFrom [] xs
+
+  -- two prefixes of one history, in which each value stands for what is up to it and nothing
+  -- follows the mark
+  pub record AreOfOne (one other : List (Option V)) : Type 0 where
+    pub log : List (Option V)
+    pub this : IsPrefix one log
+    pub that : IsPrefix other log
+    pub seal : Sealed log
+    pub stand : Stand (values log)

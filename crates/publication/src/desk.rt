@@ -10,7 +10,7 @@ ghost use Rattle.publication.specs.ShownRule.{told_of};
 ghost use Rattle.publication.specs.Entering.{HasEntered};
 
 use crate::edition::Edition;
-use crate::history::{Prefix, learn};
+use crate::history::{Prefix, are_of_one};
 use crate::receipt::Receipt;
 use crate::rule::{DeskReader, Entering};
 use crate::shown::Shown;
@@ -139,8 +139,7 @@ impl<V: Value> Desk<V> {
             number,
             edition,
         } = found;
-        let mut both = self.held.prefix.again();
-        learn(&mut both, &prefix);
+        are_of_one(&self.held.prefix, &prefix);
         // What is shown is never older than what the desk was told of, but the two rules are
         // apart, and neither says so. No schedule comes here.
         if number < self.held.number {
@@ -161,8 +160,7 @@ impl<V: Value> Desk<V> {
         ensures last { last_or None self.now.seen ≡ Some result.now }
         ensures stands { V.stands result.now (map V.last self.now.seen) }
     {
-        let mut seen = self.held.prefix.again();
-        learn(&mut seen, &self.held.prefix);
+        are_of_one(&self.held.prefix, &self.held.prefix);
         &self.held.value
     }
 
@@ -182,8 +180,7 @@ impl<V: Value> Desk<V> {
             × (self.new.enters ≡ self.old.enters) }
     {
         let Receipt { edition } = receipt;
-        let mut both = self.held.prefix.again();
-        learn(&mut both, &edition.prefix);
+        are_of_one(&self.held.prefix, &edition.prefix);
         if edition.ended {
             self.held = edition;
         } else if edition.number > self.held.number {

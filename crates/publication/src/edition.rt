@@ -22,6 +22,21 @@ pub struct Edition<V: Value> {
 }
 
 impl<V: Value> Edition<V> {
+    /// An edition of the last value of a history.
+    pub fn of_last(value: Arc<V>, prefix: &Prefix<V>, number: u32, ended: bool) -> Edition<V>
+        requires last { last_or None (values prefix.now.log) ≡ Some (arc_value value) }
+        requires number { number ≡ length (values prefix.now.log) }
+        requires ended { ended_in prefix.now.log ≡ ended }
+        ensures { (result.prefix ≡ prefix.now) × (arc_value result.value ≡ arc_value value) }
+    {
+        Edition {
+            value,
+            prefix: prefix.again(),
+            number,
+            ended,
+        }
+    }
+
     /// The same once more. It takes no memory, and is refused where the value has too many owners.
     pub fn again(&self) -> Result<Edition<V>, AllocError>
         ensures value { IfOk result (λ i. arc_value i.value ≡ arc_value self.now.value) }

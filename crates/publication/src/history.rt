@@ -1,8 +1,9 @@
 //! The history: the values published, in one list that only grows, and at the end a mark. It exists
 //! in the proofs alone; at run time there is one word, which counts.
-ghost use Rattle.std.specs.Prelude.{◌≡◌, ◌++◌, ◌∷◌, [], length, map, MatchBool, Some, None, false};
+ghost use Rattle.std.specs.Prelude.{◌≡◌, ◌++◌, ◌∷◌, [], length, map, MatchBool, Some, None, IfSome};
+ghost use Rattle.std.specs.Prelude.{false};
 ghost use mathlib.Core.List.{IsPrefix};
-ghost use Rattle.publication.specs.Histories.{Stand, Sealed, values, ended_in};
+ghost use Rattle.publication.specs.Histories.{AreOfOne, values, ended_in};
 ghost use Rattle.publication.specs.HistoryRule.{head_of};
 
 use logbook::{Gain, Offer, Plain, Play, Rule, Seen, Start, Word};
@@ -58,14 +59,8 @@ impl<V> Plain<V, Option<V>, u64> for Adding {
     ghost state = { λ x. None };
 }
 
-/// A step that adds the mark of the end.
+/// The same step, where it adds the mark of the end.
 pub struct Ending;
-
-impl<V> Play<Option<V>, u64> for Ending {
-    ghost use Rattle.publication.specs.HistoryRule.{Adds};
-
-    ghost then = { Adds };
-}
 
 impl<V> Plain<(), Option<V>, u64> for Ending {
     ghost use Rattle.std.specs.Prelude.{None};
@@ -110,12 +105,37 @@ impl<V: Value> HistoryWriter<V> {
             (self.new.prefix.log ≡ self.old.prefix.log ++ Some value.now ∷ [])
             (IsPrefix self.old.prefix.log self.new.prefix.log) }
     {
+        self.append::<V, Adding>(value)
+    }
+
+    /// Adds the mark of the end, and says whether it did.
+    pub fn finish(&mut self) -> bool
+        requires going { ended_in self.old.prefix.log ≡ false }
+        ensures book { self.new.prefix.book ≡ self.old.prefix.book }
+        ensures added { MatchBool result
+            (self.new.prefix.log ≡ self.old.prefix.log ++ None ∷ [])
+            (IsPrefix self.old.prefix.log self.new.prefix.log) }
+    {
+        self.append::<(), Ending>(&())
+    }
+
+    /// Adds what is asked for, a value or the mark of the end, and says whether it did.
+    fn append<X, M: Plain<X, Option<V>, u64>>(&mut self, about: &X) -> bool
+        requires going { ended_in self.old.prefix.log ≡ false }
+        requires waits { M.state about.now ≡ None }
+        requires stands { IfSome (M.ask about.now) (λ value. V.stands value
+            (map V.last (values self.old.prefix.log ++ value ∷ []))) }
+        ensures book { self.new.prefix.book ≡ self.old.prefix.book }
+        ensures added { MatchBool result
+            (self.new.prefix.log ≡ self.old.prefix.log ++ M.ask about.now ∷ [])
+            (IsPrefix self.old.prefix.log self.new.prefix.log) }
+    {
         let Some(next) = self.count.checked_add(1) else {
             return false;
         };
         let mut offer: Offer<Option<V>, u64, HistoryRule<V>, Nothing> = self
             .prefix
-            .plain::<Nothing, V, Adding>(value);
+            .plain::<Nothing, X, M>(about);
         let mut pen = self.prefix.no_pen();
         let count = self.count;
         let found = self
@@ -130,45 +150,14 @@ impl<V: Value> HistoryWriter<V> {
         self.count = if found == count { next } else { found };
         found == count
     }
-
-    /// Adds the mark of the end, and says whether it did.
-    pub fn finish(&mut self) -> bool
-        requires going { ended_in self.old.prefix.log ≡ false }
-        ensures book { self.new.prefix.book ≡ self.old.prefix.book }
-        ensures added { MatchBool result
-            (self.new.prefix.log ≡ self.old.prefix.log ++ None ∷ [])
-            (IsPrefix self.old.prefix.log self.new.prefix.log) }
-    {
-        let Some(next) = self.count.checked_add(1) else {
-            return false;
-        };
-        let mut offer: Offer<Option<V>, u64, HistoryRule<V>, Nothing> = self
-            .prefix
-            .plain::<Nothing, (), Ending>(&());
-        let mut pen = self.prefix.no_pen();
-        let count = self.count;
-        let found = self
-            .head
-            .compare_exchange::<Ending, Nothing>(
-                count,
-                next,
-                &mut self.prefix,
-                &mut offer,
-                &mut pen,
-            );
-        self.count = if found == count { next } else { found };
-        found == count
-    }
 }
 
-/// Of two prefixes of one history, the first with all that the second has.
-pub fn learn<V: Value>(prefix: &mut Prefix<V>, other: &Prefix<V>)
-    requires { other.now.book ≡ prefix.old.book }
-    ensures book { prefix.new.book ≡ prefix.old.book }
-    ensures this { IsPrefix prefix.old.log prefix.new.log }
-    ensures that { IsPrefix other.now.log prefix.new.log }
-    ensures seal { Sealed prefix.new.log }
-    ensures stand { Stand V.last V.stands (values prefix.new.log) }
+/// Two prefixes of one history begin one list, in which each value stands for what is up to it and
+/// nothing follows the mark.
+pub fn are_of_one<V: Value>(one: &Prefix<V>, other: &Prefix<V>)
+    requires { other.now.book ≡ one.now.book }
+    ensures { AreOfOne V.last V.stands one.now.log other.now.log }
 {
-    prefix.learn(other);
+    let mut both = one.again();
+    both.learn(other);
 }

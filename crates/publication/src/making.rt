@@ -8,7 +8,7 @@ ghost use Rattle.publication.specs.Views.{IsNewDesk};
 use crate::desk::{Desk, desk_over};
 use crate::edition::Edition;
 use crate::history::HistoryWriter;
-use crate::publisher::{Publisher, PublisherOf, edition_of};
+use crate::publisher::{Publisher, PublisherOf};
 use crate::rule::Stage;
 use crate::shown::Shown;
 use crate::stage::{new_reader, open};
@@ -66,7 +66,7 @@ pub fn make<V: Value, R: Wait>(
 ) -> Result<(Publisher<V>, Vec<Desk<V>>), NoMemory>
     requires desks { 0 < desks }
     requires stands { V.stands first (V.last first ∷ []) }
-    ensures list { IfOk result (λ p. p.0.list ≡ first ∷ []) }
+    ensures list { IfOk result (λ p. (p.0.list ≡ first ∷ []) × (p.0.stuck ≡ false)) }
     ensures number { IfOk result (λ p. length p.1.items ≡ desks) }
     ensures each { IfOk result (λ p. All (IsNewDesk p.0.pair (first ∷ []) false) p.1.items) }
 {
@@ -82,8 +82,8 @@ pub fn make<V: Value, R: Wait>(
     if !history.add(added) {
         return Err(NoMemory);
     }
-    let last = edition_of(kept, &history.prefix, number);
-    let edition = edition_of(value, &history.prefix, number);
+    let last = Edition::of_last(kept, &history.prefix, number, false);
+    let edition = Edition::of_last(value, &history.prefix, number, false);
     let copies = (Shown { edition: None }, Shown { edition: None });
     let mut stage = open(rt, alloc, copies, edition, desks)?;
     let Ok(made) = desks_of(&mut stage, alloc, &last, desks) else {

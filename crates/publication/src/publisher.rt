@@ -1,14 +1,13 @@
-ghost use Rattle.std.specs.Prelude.{◌≡◌, [], ◌∷◌, ◌++◌, map, length, true, false};
-ghost use Rattle.std.specs.Prelude.{None, Some, IfOk, OnErr};
+ghost use Rattle.std.specs.Prelude.{◌≡◌, [], ◌∷◌, ◌++◌, map, true, false};
+ghost use Rattle.std.specs.Prelude.{Some, None, IfOk, IsErr, OnErr};
 ghost use Rattle.std.specs.List.{last_or};
-ghost use Rattle.std.specs.Arc.{arc_value};
 ghost use Rattle.left_right.specs.Sides.{view};
 ghost use Rattle.publication.specs.declared.view.SeatRole.TheVariants.{Publisher as AtStage};
 ghost use Rattle.publication.specs.Histories.{values, ended_in};
 ghost use Rattle.publication.specs.ShownRule.{home_of};
 
 use crate::edition::Edition;
-use crate::history::{HistoryWriter, Prefix, learn};
+use crate::history::{HistoryWriter, are_of_one};
 use crate::receipt::Receipt;
 use crate::rule::StageOf;
 use crate::shown::{Sets, Shown};
@@ -49,6 +48,7 @@ impl<V: Value, T: Sets<V>> Model for PublisherOf<V, T> {
     ghost view = { λ p. record {
       pair = p.history.prefix.book;
       list = values p.last.prefix.log;
+      stuck = p.stuck;
     } };
 
     ghost invariant = { λ p.
@@ -61,27 +61,12 @@ impl<V: Value, T: Sets<V>> Model for PublisherOf<V, T> {
         → (p.history.prefix.log ≡ p.last.prefix.log) × (ended_in p.last.prefix.log ≡ false)) };
 }
 
-/// An edition of a value that was just added.
-pub(crate) fn edition_of<V: Value>(value: Arc<V>, prefix: &Prefix<V>, number: u32) -> Edition<V>
-    requires last { last_or None (values prefix.now.log) ≡ Some (arc_value value) }
-    requires number { number ≡ length (values prefix.now.log) }
-    requires going { ended_in prefix.now.log ≡ false }
-    ensures { (result.prefix ≡ prefix.now) × (arc_value result.value ≡ arc_value value) }
-{
-    Edition {
-        value,
-        prefix: prefix.again(),
-        number,
-        ended: false,
-    }
-}
-
 impl<V: Value, T: Sets<V>> PublisherOf<V, T> {
     /// Appends a value and shows it. It may wait for desks that are entering.
     ///
-    /// All memory but that of the operation that shows the value is taken before the list of the
-    /// proofs grows. Where that is refused, what was published and shown is as before, and no later
-    /// value is published.
+    /// All memory but that of the operation that shows the value is taken before the history
+    /// grows. Where that is refused, what was published and shown is as before, and the publisher
+    /// is stuck: no later value is published.
     pub fn publish<R: Wait>(&mut self, rt: &R, next: V) -> Result<Receipt<V>, NoMemory>
         requires { V.stands next (map V.last (self.old.list ++ next ∷ [])) }
         ensures ok { IfOk result (λ r. (r.pair ≡ self.old.pair)
@@ -89,6 +74,8 @@ impl<V: Value, T: Sets<V>> PublisherOf<V, T> {
             × (self.new.list ≡ r.list)) }
         ensures err { OnErr result (self.new.list ≡ self.old.list) }
         ensures pair { self.new.pair ≡ self.old.pair }
+        ensures free { IfOk result (λ _. self.new.stuck ≡ false) }
+        ensures blocked { self.old.stuck ≡ true → IsErr result }
     {
         if self.stuck {
             return Err(NoMemory);
@@ -110,9 +97,9 @@ impl<V: Value, T: Sets<V>> PublisherOf<V, T> {
         if !self.history.add(added) {
             return Err(NoMemory);
         }
-        let told = edition_of(told, &self.history.prefix, number);
-        let kept = edition_of(kept, &self.history.prefix, number);
-        let edition = edition_of(value, &self.history.prefix, number);
+        let told = Edition::of_last(told, &self.history.prefix, number, false);
+        let kept = Edition::of_last(kept, &self.history.prefix, number, false);
+        let edition = Edition::of_last(value, &self.history.prefix, number, false);
         let (stage, shown) = show(rt, self.stage.take().unwrap(), edition);
         match replace(&mut self.stage, Some(stage)) {
             None => {}
@@ -131,15 +118,15 @@ impl<V: Value, T: Sets<V>> PublisherOf<V, T> {
         ensures last { last_or None self.now.list ≡ Some result.now }
         ensures stands { V.stands result.now (map V.last self.now.list) }
     {
-        let mut seen = self.last.prefix.again();
-        learn(&mut seen, &self.last.prefix);
+        are_of_one(&self.last.prefix, &self.last.prefix);
         &self.last.value
     }
 
     /// Shows the last value once more, with the mark of the end. After `Err` the publisher is gone.
     /// It may wait for desks that are entering.
     pub fn end<R: Wait>(self, rt: &R) -> Result<EndedOf<V, T>, NoMemory>
-        ensures { IfOk result (λ e. (e.pair ≡ self.pair) × (e.list ≡ self.list)) }
+        ensures ended { IfOk result (λ e. (e.pair ≡ self.pair) × (e.list ≡ self.list)) }
+        ensures blocked { self.stuck ≡ true → IsErr result }
     {
         let PublisherOf {
             stage,
@@ -162,8 +149,8 @@ impl<V: Value, T: Sets<V>> PublisherOf<V, T> {
             return Err(NoMemory);
         }
         let number = last.number;
-        let told = marked(told, &history.prefix, number);
-        let edition = marked(last.value, &history.prefix, number);
+        let told = Edition::of_last(told, &history.prefix, number, true);
+        let edition = Edition::of_last(last.value, &history.prefix, number, true);
         let (stage, shown) = show(rt, stage, edition);
         let Ok(()) = shown else {
             drop(stage.take(rt));
@@ -191,21 +178,6 @@ impl<V: Value, T: Sets<V>> PublisherOf<V, T> {
     }
 }
 
-// An edition of the value published last, with the mark of the end.
-fn marked<V: Value>(value: Arc<V>, prefix: &Prefix<V>, number: u32) -> Edition<V>
-    requires last { last_or None (values prefix.now.log) ≡ Some (arc_value value) }
-    requires number { number ≡ length (values prefix.now.log) }
-    requires ended { ended_in prefix.now.log ≡ true }
-    ensures { (result.prefix ≡ prefix.now) × (arc_value result.value ≡ arc_value value) }
-{
-    Edition {
-        value,
-        prefix: prefix.again(),
-        number,
-        ended: true,
-    }
-}
-
 /// What an ended publisher over copies of the type `T` leaves. It is not `Drop`: `close` ends it.
 pub struct EndedOf<V: Value, T: Sets<V>> {
     stage: StageOf<V, T>,
@@ -213,7 +185,7 @@ pub struct EndedOf<V: Value, T: Sets<V>> {
 }
 
 impl<V: Value, T: Sets<V>> Model for EndedOf<V, T> {
-    ghost use Rattle.std.specs.Prelude.{◌≡◌, true};
+    ghost use Rattle.std.specs.Prelude.{◌≡◌, true, false};
     ghost use Rattle.publication.specs.Histories.{values, ended_in};
     ghost use Rattle.publication.specs.Views.{PublishedView};
 
@@ -222,6 +194,7 @@ impl<V: Value, T: Sets<V>> Model for EndedOf<V, T> {
     ghost view = { λ e. record {
       pair = e.edition.prefix.book;
       list = values e.edition.prefix.log;
+      stuck = false;
     } };
 
     ghost invariant = { λ e. ended_in e.edition.prefix.log ≡ true };

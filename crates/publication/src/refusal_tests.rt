@@ -8,7 +8,7 @@ ghost use Rattle.publication.specs.ShownRule.{home_of, told_of};
 
 use crate::edition::Edition;
 use crate::history::HistoryWriter;
-use crate::publisher::{PublisherOf, edition_of};
+use crate::publisher::PublisherOf;
 use crate::rule::{Entering, ReaderOf};
 use crate::shown::Sets;
 use crate::stage::{new_reader, open};
@@ -101,8 +101,8 @@ fn make_fragile<R: Wait>(
     if !history.add(added) {
         return Err(NoMemory);
     }
-    let last = edition_of(kept, &history.prefix, 1);
-    let edition = edition_of(value, &history.prefix, 1);
+    let last = Edition::of_last(kept, &history.prefix, 1, false);
+    let edition = Edition::of_last(value, &history.prefix, 1, false);
     let copies = (vacant(refused.0), vacant(refused.1));
     let mut stage = open(rt, alloc, copies, edition, 1)?;
     let Ok(reader) = new_reader(&mut stage) else {

@@ -10,12 +10,11 @@ returns-then-number-self-clause-seen g c = rw (← c.self.view_is) (prefix_self 
 pub returns-then-number-self-2-clause-ok : goal.returns-then-number-self-2-clause-ok
 returns-then-number-self-2-clause-ok g c =
     let went = rw c.in-Some.is at c.enter_once-reader.ensures in
-    let mine = rw (ap (λ s. s.log) c.again-both.ensures) at c.learn.ensures.this in
     let size : length (values c.self.inside.held.prefix.log) ≤ length (values c.in-Some.found.prefix.log) =
     omega (arith, c.if-number-self-2.true, c.self.inside.held.numbered, went.1) in
     let back : length (values c.in-Some.found.prefix.log) ≤ length (values c.self.inside.held.prefix.log) =
     omega (arith, c.if-number-self-2.true, c.self.inside.held.numbered, went.1) in
-    let same = prefix_whole _ _ (fewer _ _ _ mine c.learn.ensures.that size) back in
+    let same = prefix_whole _ _ (fewer _ _ _ c.are_of_one.ensures.this c.are_of_one.ensures.that size) back in
     let reader = rw (sym c.take.ensures.value ∙ c.unwrap.ensures) at c.self.view_is in
     rw (← reader) (ap (λ v. v.enters) went.0.0, same ∙ sym (ap (λ v. v.list) went.0.0))
 
@@ -29,15 +28,13 @@ pub returns-clause-seen : goal.returns-clause-seen
 returns-clause-seen g c =
     let went = rw c.in-Some.is at c.enter_once-reader.ensures in
     let edition = rw c.in-Some-edition.is at went.2 in
-    let mine = rw (ap (λ s. s.log) c.again-both.ensures) at c.learn.ensures.this in
     let size : length (values c.self.inside.held.prefix.log) ≤ length (values c.in-Some.found.prefix.log) =
     omega (arith, c.if-number-self.false, c.self.inside.held.numbered, went.1) in
-    rw (ap (λ f. f.log) edition, ← c.self.view_is) (fewer _ _ _ mine c.learn.ensures.that size)
+    rw (ap (λ f. f.log) edition, ← c.self.view_is) (fewer _ _ _ c.are_of_one.ensures.this c.are_of_one.ensures.that size)
 
 pub returns-clause-ended : goal.returns-clause-ended
 returns-clause-ended g c =
     let went = rw c.in-Some.is at c.enter_once-reader.ensures in
-    let mine = rw (ap (λ s. s.log) c.again-both.ensures) at c.learn.ensures.this in
     rw (← c.self.view_is) (λ (h : ended_in c.self.inside.held.prefix.log ≡ true).
-    let most = no_longer _ _ _ mine c.learn.ensures.that c.learn.ensures.seal h in
+    let most = no_longer _ _ _ c.are_of_one.ensures.this c.are_of_one.ensures.that c.are_of_one.ensures.seal h in
     absurd (omega (arith, most, c.if-number-self.false, c.if-number-self-2.false, c.self.inside.held.numbered, went.1)))

@@ -4,46 +4,46 @@ use Rattle.publication.specs.ShownRule.{home_of}
 use Rattle.publication.proofs.Beginnings.{added_values, added_last, added_list, added_count, added_going}
 use Rattle.publication.proofs.publisher.PublisherOf.publish.Goals as goal
 
-pub edition_of-told-requires-clause-last : goal.edition_of-told-requires-clause-last
-edition_of-told-requires-clause-last g c = added_last _ _ _ c.if-not-add.ensures.added
+pub of_last-told-requires-clause-last : goal.of_last-told-requires-clause-last
+of_last-told-requires-clause-last g c = added_last _ _ _ c.if-not-add.ensures.added
     ∙ ap Some (c.deref-added.ensures ∙ sym c.in-Ok-try_clone.ensures)
 
-pub edition_of-told-requires-clause-number : goal.edition_of-told-requires-clause-number
-edition_of-told-requires-clause-number g c =
+pub of_last-told-requires-clause-number : goal.of_last-told-requires-clause-number
+of_last-told-requires-clause-number g c =
     let free = c.self.invariant.2 c.if-self.false in
     let mine = ap values free.0 ∙ ap (λ s. s.list) c.self.view_is in
     let same = c.deref-added.ensures ∙ c.in-Ok.ensures.ok in
     c.count-number.ensures
     ∙ added_count g.V.Value.last _ _ _ _ _ _ c.if-not-add.ensures.added mine same (g.met.V.Value.counts c.args.next _ c.requires)
 
-pub edition_of-told-requires-clause-going : goal.edition_of-told-requires-clause-going
-edition_of-told-requires-clause-going g c =
+pub of_last-told-requires-clause-ended : goal.of_last-told-requires-clause-ended
+of_last-told-requires-clause-ended g c =
     let free = c.self.invariant.2 c.if-self.false in
     added_going _ _ _ c.if-not-add.ensures.added (ap ended_in free.0 ∙ free.1)
 
-pub edition_of-kept-requires-clause-number : goal.edition_of-kept-requires-clause-number
-edition_of-kept-requires-clause-number g c =
+pub of_last-kept-requires-clause-number : goal.of_last-kept-requires-clause-number
+of_last-kept-requires-clause-number g c =
     let free = c.self.invariant.2 c.if-self.false in
     let mine = ap values free.0 ∙ ap (λ s. s.list) c.self.view_is in
     let same = c.deref-added.ensures ∙ c.in-Ok.ensures.ok in
     c.count-number.ensures
     ∙ added_count g.V.Value.last _ _ _ _ _ _ c.if-not-add.ensures.added mine same (g.met.V.Value.counts c.args.next _ c.requires)
 
-pub edition_of-kept-requires-clause-going : goal.edition_of-kept-requires-clause-going
-edition_of-kept-requires-clause-going g c =
+pub of_last-kept-requires-clause-ended : goal.of_last-kept-requires-clause-ended
+of_last-kept-requires-clause-ended g c =
     let free = c.self.invariant.2 c.if-self.false in
     added_going _ _ _ c.if-not-add.ensures.added (ap ended_in free.0 ∙ free.1)
 
-pub edition_of-edition-requires-clause-number : goal.edition_of-edition-requires-clause-number
-edition_of-edition-requires-clause-number g c =
+pub of_last-edition-requires-clause-number : goal.of_last-edition-requires-clause-number
+of_last-edition-requires-clause-number g c =
     let free = c.self.invariant.2 c.if-self.false in
     let mine = ap values free.0 ∙ ap (λ s. s.list) c.self.view_is in
     let same = c.deref-added.ensures ∙ c.in-Ok.ensures.ok in
     c.count-number.ensures
     ∙ added_count g.V.Value.last _ _ _ _ _ _ c.if-not-add.ensures.added mine same (g.met.V.Value.counts c.args.next _ c.requires)
 
-pub edition_of-edition-requires-clause-going : goal.edition_of-edition-requires-clause-going
-edition_of-edition-requires-clause-going g c =
+pub of_last-edition-requires-clause-ended : goal.of_last-edition-requires-clause-ended
+of_last-edition-requires-clause-ended g c =
     let free = c.self.invariant.2 c.if-self.false in
     added_going _ _ _ c.if-not-add.ensures.added (ap ended_in free.0 ∙ free.1)
 
@@ -51,7 +51,7 @@ pub show-stage-requires-clause-longer : goal.show-stage-requires-clause-longer
 show-stage-requires-clause-longer g c =
     let free = c.self.invariant.2 c.if-self.false in
     let old = rw (sym c.take.ensures.value ∙ c.unwrap.ensures) at c.self.invariant.0 in
-    let whole = ap (λ s. values s.log) c.edition_of-edition.ensures.0
+    let whole = ap (λ s. values s.log) c.of_last-edition.ensures.0
     ∙ (added_values _ _ _ c.if-not-add.ensures.added ∙ ap (λ l. l ++ c.deref-added.result.now ∷ []) (ap values free.0 ∙ sym old.2)) in
     (c.deref-added.result.now ∷ [], sym whole)
 
@@ -60,11 +60,11 @@ invariant_of-self-2 g c =
     let free = c.self.invariant.2 c.if-self.false in
     let old = rw (sym c.take.ensures.value ∙ c.unwrap.ensures) at c.self.invariant.0 in
     let list = rw c.in-Ok-shown.is at c.show-stage.ensures.list in
-    let kept = c.edition_of-kept.ensures.0 in (
+    let kept = c.of_last-kept.ensures.0 in (
       rw c.replace.ensures.after (
         c.show-stage.ensures.rest.0,
         c.show-stage.ensures.rest.1 ∙ (old.1 ∙ ap home_of (sym c.if-not-add.ensures.book)),
-        list ∙ (ap (λ s. values s.log) c.edition_of-edition.ensures.0 ∙ sym (ap (λ s. values s.log) kept)),
+        list ∙ (ap (λ s. values s.log) c.of_last-edition.ensures.0 ∙ sym (ap (λ s. values s.log) kept)),
       ),
       ap (λ s. s.book) kept,
       λ (h : false ≡ false). (
@@ -79,9 +79,9 @@ returns-clause-ok g c =
     let free = c.self.invariant.2 c.if-self.false in
     let mine = ap values free.0 ∙ ap (λ s. s.list) c.self.view_is in
     let same = c.deref-added.ensures ∙ c.in-Ok.ensures.ok in
-    let told = c.edition_of-told.ensures.0 in (
+    let told = c.of_last-told.ensures.0 in (
       ap (λ s. s.book) told ∙ (c.if-not-add.ensures.book ∙ ap (λ s. s.pair) c.self.view_is),
       ap (λ s. values s.log) told ∙ added_list _ _ _ _ _ c.if-not-add.ensures.added mine same,
       ap (λ s. ended_in s.log) told ∙ added_going _ _ _ c.if-not-add.ensures.added (ap ended_in free.0 ∙ free.1),
-      ap (λ s. values s.log) c.edition_of-kept.ensures.0 ∙ sym (ap (λ s. values s.log) told),
+      ap (λ s. values s.log) c.of_last-kept.ensures.0 ∙ sym (ap (λ s. values s.log) told),
     )
