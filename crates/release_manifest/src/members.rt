@@ -14,7 +14,7 @@ use crate::{ManifestFault, Path};
 use serde_json::Value;
 use std::alloc::Global;
 use td_base::{Bytes, is_file_name, is_label};
-use td_civil::{HI, LO, Moment, is_date, moment_of};
+use td_civil::{Moment, is_date, moment_of};
 
 /// That the value is an object.
 #[tactic(auto, unfolding(crate::specs::Checks::object_checks))]
@@ -108,7 +108,7 @@ pub(crate) fn read_stamp(object: &Value) -> Result<Moment, ManifestFault>
 {
     let text = text_member(object, "stamp", Path::Stamp)?;
     match moment_of(text.as_bytes()) {
-        Ok(moment) if LO <= moment.seconds && moment.seconds < HI => Ok(moment),
+        Ok(moment) if moment.has_meaning() => Ok(moment),
         _ => Err(ManifestFault::Text(Path::Stamp)),
     }
 }

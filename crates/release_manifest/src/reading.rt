@@ -1,4 +1,5 @@
-ghost use Rattle.std.specs.Prelude.{◌≡◌, ◌≢◌, ◌⊎◌, Some, IfOk, IfErr, codes};
+ghost use Rattle.std.specs.Prelude.{◌≡◌, ◌≢◌, ◌⊎◌, ◌<◌, Ok, Err, Some, IfOk, IfErr, codes, length};
+ghost use Rattle.release_manifest.specs.declared.manifest_type.TheConstants.{MOST_BYTES};
 ghost use Rattle.serde_json.specs.Errors.{IsMemory};
 ghost use Rattle.serde_json.specs.Find.{get};
 ghost use Rattle.serde_json.specs.View.{view};
@@ -30,6 +31,8 @@ pub fn read(alloc: Global, bytes: &[u8]) -> Result<Manifest, ManifestFault>
         → (result ≡ Ok m) ⊎ (result ≡ Err ManifestFault.NoMemory) }
     ensures refused { (f : ManifestFault) → manifest_text_fault bytes.now ≡ Some f
         → (result ≡ Err f) ⊎ (result ≡ Err ManifestFault.NoMemory) }
+    // That a text is too long is seen before memory is taken.
+    ensures long { MOST_BYTES < length bytes.now → result ≡ Err ManifestFault.Long }
 {
     if bytes.len() > MOST_BYTES {
         return Err(ManifestFault::Long);
