@@ -1,22 +1,23 @@
 -- How a history grows by the release of a folder.
 use Rattle.std.proofs.Common.{◌≡◌, ℕ, List, [], ◌∷◌, ◌++◌, Option, None, Some, Ok, IfSome, refl, sym, ap, ◌∙◌, subst}
-use Rattle.std.specs.List.{last_or}
 use Rattle.std.proofs.lemmas.List.{map-append}
 use Rattle.td_base.specs.Views.{StoreView}
+use Rattle.catalogue.proofs.lemmas.Growing.{last_added}
 use Rattle.catalogue.specs.Holdings.{StandsFor, release_held, history_of}
 use Rattle.catalogue.specs.Releases.{ReleaseData, release_data}
 use Rattle.catalogue.specs.declared.holding.Catalogue.{Catalogue}
 use Rattle.catalogue.specs.declared.release.Release.{Release}
 use Rattle.zone_meaning.specs.Sound.{IsSound}
+use Rattle.zone_meaning.specs.ZoneHistories.{zone_bytes}
 use Rattle.release_check.specs.Before.{ForEachBefore, before_of}
 use Rattle.release_check.specs.Found.{FindsIn, IsReleaseIn}
 use Rattle.installer.specs.Installing.{GrowsBy, Installs}
 
 abbrev held : Catalogue (List ℕ) → ReleaseData
-held c = release_held (λ file. file) c
+held c = release_held zone_bytes c
 
 abbrev Stands : Catalogue (List ℕ) → List ReleaseData → Type 0
-Stands c H = StandsFor (λ file. file) IsSound c H
+Stands c H = StandsFor zone_bytes IsSound c H
 
 some_map : {A : Type 0} {P Q : A → Type 0} (o : Option A) → ((x : A) → P x → Q x) → IfSome o P → IfSome o Q
 some_map None f h = tt
@@ -24,12 +25,8 @@ some_map (Some x) f h = f x h
 
 -- ---- the last release
 
-last_snoc : (o : Option ReleaseData) (H : List ReleaseData) (r : ReleaseData) → last_or o (H ++ r ∷ []) ≡ Some r
-last_snoc o [] r = refl
-last_snoc o (x ∷ H) r = last_snoc (Some x) H r
-
 same_last : (c : Catalogue (List ℕ)) (H : List ReleaseData) (r : ReleaseData) → Stands c (H ++ r ∷ []) → r ≡ held c
-same_last c H r s = let e : Some r ≡ Some (held c) = sym (last_snoc None H r) ∙ s.last in cc e
+same_last c H r s = let e : Some r ≡ Some (held c) = sym (last_added None H r) ∙ s.last in cc e
 
 pub stands_held : (c : Catalogue (List ℕ)) (H : List ReleaseData) (r : ReleaseData) → Stands c (H ++ r ∷ []) → Stands c (H ++ held c ∷ [])
 stands_held c H r s = subst (λ x. Stands c (H ++ x ∷ [])) (same_last c H r s) s
@@ -38,14 +35,14 @@ stands_held c H r s = subst (λ x. Stands c (H ++ x ∷ [])) (same_last c H r s)
 
 pub grew : (old new : StoreView) (dir : List ℕ) (c : Catalogue (List ℕ)) (H : List ReleaseData) (r : Release (List ℕ)) (next : Catalogue (List ℕ))
     → Stands c H → FindsIn old new (Ok r) (λ files. ForEachBefore (Some c) (λ G. IsReleaseIn dir (before_of G) (Ok r) files))
-    → Stands next (H ++ release_data (λ file. file) r ∷ [])
+    → Stands next (H ++ release_data zone_bytes r ∷ [])
     → Installs old new dir H (λ c'. H ++ held c' ∷ []) (Ok next)
 grew old new dir c H r next s f n = record {
   later = f.later;
   told = some_map old.files (λ files t. (
-    release_data (λ file. file) r,
+    release_data zone_bytes r,
     t H s,
-    ap (λ x. H ++ x ∷ []) (sym (same_last next H (release_data (λ file. file) r) n)),
+    ap (λ x. H ++ x ∷ []) (sym (same_last next H (release_data zone_bytes r) n)),
   )) f.told;
   failed = λ e. absurd (cc e);
   memory = λ e. cc e;

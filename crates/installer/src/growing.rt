@@ -1,7 +1,7 @@
 ghost use Rattle.std.specs.Prelude.{[], ◌∷◌, ◌++◌, IfOk};
 ghost use Rattle.catalogue.specs.Holdings.{StandsFor, release_held};
 ghost use Rattle.zone_meaning.specs.Sound.{IsSound};
-ghost use Rattle.zone_meaning.specs.ZoneHistories.{ForEachZoneHistory};
+ghost use Rattle.zone_meaning.specs.ZoneHistories.{ForEachZoneHistory, zone_bytes};
 ghost use Rattle.installer.specs.Installing.{Installs};
 
 use crate::install_fault::InstallFault;
@@ -18,9 +18,9 @@ pub fn first_in<S: Store>(
     store: &mut S,
 ) -> Result<Catalogue<Zone>, InstallFault>
     ensures found { Installs (S.seen store.old) (S.seen store.new) dir.now []
-        (λ c. release_held (λ file. file) c ∷ []) result }
+        (λ c. release_held zone_bytes c ∷ []) result }
     ensures stands { IfOk result (λ c.
-        StandsFor (λ file. file) IsSound c (release_held (λ file. file) c ∷ [])) }
+        StandsFor zone_bytes IsSound c (release_held zone_bytes c ∷ [])) }
 {
     let release = check(alloc, dir, store, None)?;
     let catalogue = Catalogue::first(alloc, release)?;
@@ -36,9 +36,9 @@ pub fn next_in<S: Store>(
 ) -> Result<Catalogue<Zone>, InstallFault>
     ensures found { ForEachZoneHistory last.now (λ H.
         Installs (S.seen store.old) (S.seen store.new) dir.now H
-        (λ c. H ++ release_held (λ file. file) c ∷ []) result) }
+        (λ c. H ++ release_held zone_bytes c ∷ []) result) }
     ensures stands { IfOk result (λ c. ForEachZoneHistory last.now (λ H.
-        StandsFor (λ file. file) IsSound c (H ++ release_held (λ file. file) c ∷ []))) }
+        StandsFor zone_bytes IsSound c (H ++ release_held zone_bytes c ∷ []))) }
 {
     let release = check(alloc, dir, store, Some(last))?;
     let catalogue = last.next(alloc, release)?;

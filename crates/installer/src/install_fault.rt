@@ -1,4 +1,4 @@
-ghost use Rattle.std.specs.Prelude.{◌≡◌, ◌++◌, OnOk};
+ghost use Rattle.std.specs.Prelude.{◌≡◌, ◌++◌, OnErr, OnOk};
 
 use release_check::CheckFault;
 use std::alloc::Global;
@@ -58,9 +58,11 @@ impl Error for InstallFault {}
 impl InstallFault {
     ghost use Rattle.installer.specs.FaultText.{fault_text};
 
-    /// Appends the fault as it is printed, which is that of the folder.
+    /// Appends the fault as it is printed, which is that of the folder. Where memory runs out
+    /// nothing is appended.
     pub fn put(&self, alloc: Global, out: &mut Bytes) -> Result<(), NoMemory>
-        ensures { OnOk result (out.new ≡ out.old ++ fault_text self.now) }
+        ensures ok { OnOk result (out.new ≡ out.old ++ fault_text self.now) }
+        ensures err { OnErr result (out.new ≡ out.old) }
     {
         match self {
             InstallFault::NoMemory => out.append(b"0 NoMemory"),

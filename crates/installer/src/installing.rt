@@ -1,9 +1,11 @@
-ghost use Rattle.std.specs.Prelude.{◌≡◌, ◌<◌, [], length, All, None, Some, IfOk, OnErr, false};
+ghost use Rattle.std.specs.Prelude.{◌≡◌, ◌<◌, [], length, All, None, Some, IfOk, IsErr, OnErr};
+ghost use Rattle.std.specs.Prelude.{true, false};
 ghost use Rattle.std.specs.List.{last_or};
 ghost use mathlib.Core.List.{IsPrefix};
 ghost use Rattle.catalogue.specs.Holdings.{StandsFor, history_of};
 ghost use Rattle.publication.specs.Views.{IsNewDesk};
 ghost use Rattle.zone_meaning.specs.Sound.{IsSound};
+ghost use Rattle.zone_meaning.specs.ZoneHistories.{zone_bytes};
 ghost use Rattle.installer.specs.Installing.{GrowsBy, Installs};
 
 use crate::growing::{first_in, next_in};
@@ -29,7 +31,11 @@ impl Model for Installer {
 
     ghost Value = { PublishedView (Catalogue (List ℕ)) };
 
-    ghost view = { λ i. record { pair = i.publisher.pair; list = i.publisher.list } };
+    ghost view = { λ i. record {
+      pair = i.publisher.pair;
+      list = i.publisher.list;
+      stuck = i.publisher.stuck;
+    } };
 }
 
 impl Installer {
@@ -46,6 +52,7 @@ impl Installer {
         ensures found { Installs (S.seen store.old) (S.seen store.new) dir.now []
             (λ p. history_of p.0.list) result }
         ensures grown { IfOk result (λ p. GrowsBy [] (history_of p.0.list)) }
+        ensures free { IfOk result (λ p. p.0.stuck ≡ false) }
         ensures number { IfOk result (λ p. length p.1.items ≡ desks) }
         ensures each { IfOk result (λ p. All (IsNewDesk p.0.pair p.0.list false) p.1.items) }
     {
@@ -56,7 +63,8 @@ impl Installer {
 
     /// Publishes the release of one more folder, where the folder gives one after the history so
     /// far. The next catalogue is made before the publish, which is the last that may be refused,
-    /// for want of memory alone. It may wait for desks that are entering.
+    /// for want of memory alone. Where the publish is refused at its last step, the installer is
+    /// stuck: no later release is published. It may wait for desks that are entering.
     pub fn install<R: Wait, S: Store>(
         &mut self,
         rt: &R,
@@ -72,6 +80,8 @@ impl Installer {
             × (r.ended ≡ false)) }
         ensures refused { OnErr result (self.new.list ≡ self.old.list) }
         ensures pair { self.new.pair ≡ self.old.pair }
+        ensures free { IfOk result (λ _. self.new.stuck ≡ false) }
+        ensures blocked { self.old.stuck ≡ true → IsErr result }
     {
         let last = self.publisher.last();
         let catalogue = next_in(alloc, dir, store, last)?;
@@ -82,7 +92,7 @@ impl Installer {
     /// The catalogue published last, which stands for the whole history.
     pub fn last(&self) -> &Catalogue<Zone>
         ensures last { last_or None self.now.list ≡ Some result.now }
-        ensures stands { StandsFor (λ file. file) IsSound result.now (history_of self.now.list) }
+        ensures stands { StandsFor zone_bytes IsSound result.now (history_of self.now.list) }
     {
         self.publisher.last()
     }
@@ -90,7 +100,8 @@ impl Installer {
     /// Ends the history. After `Err` the installer is gone. It may wait for desks that are
     /// entering.
     pub fn end<R: Wait>(self, rt: &R) -> Result<Ended<Catalogue<Zone>>, NoMemory>
-        ensures { IfOk result (λ e. (e.pair ≡ self.pair) × (e.list ≡ self.list)) }
+        ensures ended { IfOk result (λ e. (e.pair ≡ self.pair) × (e.list ≡ self.list)) }
+        ensures blocked { self.stuck ≡ true → IsErr result }
     {
         let Installer { publisher } = self;
         publisher.end(rt)

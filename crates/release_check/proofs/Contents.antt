@@ -11,6 +11,7 @@ use Rattle.td_base.specs.FirstFault.{◌>>=◌}
 use Rattle.release_check.specs.Folder.{content_from, content_in, contents_in, unless, path_in}
 use Rattle.release_check.specs.Found.{IsFile, IsZoneIn, IsOf, AreOf}
 use Rattle.release_check.specs.Faults.{file_fault}
+use Rattle.release_check.specs.declared.files.TheConstants.{ZONE_ROOM}
 use Rattle.release_check.specs.declared.check_fault.CheckFault.{CheckFault}
 use Rattle.release_check.specs.declared.check_fault.CheckFault.TheVariants as fault
 use Rattle.release_check.proofs.lemmas.Prefixes.{content_read, content_refused, content_absent, content_with}
@@ -39,23 +40,23 @@ contents_step files dir before n z zs c is =
 
 -- one zone
 pub zone_absent : (files : List File) (dir : List ℕ) (n : ℕ) (z : ManifestZone) (name : List ℕ) (e : CheckFault) → name ≡ z.file
-    → IsFile (path_in dir name) 65537 (Err e) files → IsZoneIn dir n z (Err e) files
+    → IsFile (path_in dir name) ZONE_ROOM (Err e) files → IsZoneIn dir n z (Err e) files
 zone_absent files dir n z name e is reads nm nr =
-    let read : IsFile (path_in dir z.file) 65537 (Err e) files = subst (λ (x : List ℕ). IsFile (path_in dir x) 65537 (Err e) files) is reads in
+    let read : IsFile (path_in dir z.file) ZONE_ROOM (Err e) files = subst (λ (x : List ℕ). IsFile (path_in dir x) ZONE_ROOM (Err e) files) is reads in
     let why = read nm nr in
     content_absent files dir n z why.1 ∙ ap Err (sym why.0)
 
 pub zone_refused : (files : List File) (dir : List ℕ) (n : ℕ) (z : ManifestZone) (name prefix : List ℕ) (e : CheckFault) → name ≡ z.file
-    → (e ≢ fault.NoMemory → file_fault n prefix ≡ Some e) → IsFile (path_in dir name) 65537 (Ok prefix) files → IsZoneIn dir n z (Err e) files
+    → (e ≢ fault.NoMemory → file_fault n prefix ≡ Some e) → IsFile (path_in dir name) ZONE_ROOM (Ok prefix) files → IsZoneIn dir n z (Err e) files
 zone_refused files dir n z name prefix e is judged reads nm nr =
-    let read : IsFile (path_in dir z.file) 65537 (Ok prefix) files = subst (λ (x : List ℕ). IsFile (path_in dir x) 65537 (Ok prefix) files) is reads in
+    let read : IsFile (path_in dir z.file) ZONE_ROOM (Ok prefix) files = subst (λ (x : List ℕ). IsFile (path_in dir x) ZONE_ROOM (Ok prefix) files) is reads in
     content_refused files dir n z prefix e read (judged nm)
 
 pub zone_read : (files : List File) (dir : List ℕ) (n : ℕ) (z : ManifestZone) (name prefix : List ℕ) (c : Content (List ℕ)) → name ≡ z.file
-    → file_fault n prefix ≡ None → c.tzid ≡ z.tzid → c.aliases ≡ z.aliases → c.zone ≡ prefix → IsFile (path_in dir name) 65537 (Ok prefix) files
+    → file_fault n prefix ≡ None → c.tzid ≡ z.tzid → c.aliases ≡ z.aliases → c.zone ≡ prefix → IsFile (path_in dir name) ZONE_ROOM (Ok prefix) files
     → IsZoneIn dir n z (Ok c) files
 zone_read files dir n z name prefix c is none tzid aliases zone reads =
-    let read : IsFile (path_in dir z.file) 65537 (Ok prefix) files = subst (λ (x : List ℕ). IsFile (path_in dir x) 65537 (Ok prefix) files) is reads in
+    let read : IsFile (path_in dir z.file) ZONE_ROOM (Ok prefix) files = subst (λ (x : List ℕ). IsFile (path_in dir x) ZONE_ROOM (Ok prefix) files) is reads in
     content_read files dir n z prefix c read none tzid aliases zone
 
 -- the zones from one on

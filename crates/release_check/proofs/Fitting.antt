@@ -20,6 +20,7 @@ use Rattle.td_civil.specs.Bounds.{HasMeaning, has_meaning}
 use Rattle.td_civil.specs.declared.moment_type.Moment.{Moment}
 use Rattle.td_civil.specs.declared.moment_type.TheConstants.{LO, HI}
 use Rattle.catalogue.specs.Histories.{has_name}
+use Rattle.catalogue.specs.declared.limits.TheConstants.{MOST_ZONES, MOST_NAMES, MOST_RELEASES}
 use Rattle.catalogue.specs.declared.release.Leaps.{Leaps}
 use Rattle.catalogue.proofs.lemmas.NameIndex.{each_unsorted}
 use Rattle.std.proofs.lemmas.Int.{ints}
@@ -122,12 +123,13 @@ passed_on true f later h = (refl, h)
 passed_on false f later h = absurd (cc)
 
 -- without such a fault the limits are kept
-limits_kept : (zones names : ℕ) → limit_fault zones names ≡ None → (zones ≤ 1024) × (names ≤ 4096)
+limits_kept : (zones names : ℕ) → limit_fault zones names ≡ None → (zones ≤ MOST_ZONES) × (names ≤ MOST_NAMES)
 limits_kept zones names h =
-    let both = both_none (when (nat_lt 1024 zones) (fault.Limit limited.Zones zones)) (when (nat_lt 4096 names) (fault.Limit limited.Names names)) h in
-    let first = passed_over (nat_lt 1024 zones) (fault.Limit limited.Zones zones) None both.0 in
-    let second = passed_over (nat_lt 4096 names) (fault.Limit limited.Names names) None both.1 in
-    (ltb-false 1024 zones first.0, ltb-false 4096 names second.0)
+    let both = both_none (when (nat_lt MOST_ZONES zones) (fault.Limit limited.Zones zones))
+    (when (nat_lt MOST_NAMES names) (fault.Limit limited.Names names)) h in
+    let first = passed_over (nat_lt MOST_ZONES zones) (fault.Limit limited.Zones zones) None both.0 in
+    let second = passed_over (nat_lt MOST_NAMES names) (fault.Limit limited.Names names) None both.1 in
+    (ltb-false MOST_ZONES zones first.0, ltb-false MOST_NAMES names second.0)
 
 -- without such a fault each name is an identifier
 all_identifiers : (n : ℕ) (zs : List ManifestZone) → identifier_fault n zs ≡ None → list_all is_identifier (names_in zs) ≡ true
@@ -194,20 +196,20 @@ none_dropped (Some l) names r p h =
     (each_unsorted (λ (t : List ℕ). t) (λ name. list_any (bytes_eq name) names ≡ true) (names_of l.contents)
     (not_missing (rising_by (λ (t : List ℕ). t) (names_of l.contents)) names h))
 
-room : (count : ℕ) → place_fault count ≡ None → count < 4096
+room : (count : ℕ) → place_fault count ≡ None → count < MOST_RELEASES
 room count h =
-    let test = (passed_over (nat_le 4096 count) fault.HistoryFull None h).0 in
-    leb-false 4096 count test
+    let test = (passed_over (nat_le MOST_RELEASES count) fault.HistoryFull None h).0 in
+    leb-false MOST_RELEASES count test
 
 -- what a manifest without a fault keeps
 record Kept (before : Before) (m : Manifest) : Type 0 where
-  zones : length m.zones ≤ 1024
-  names : length (names_in m.zones) ≤ 4096
+  zones : length m.zones ≤ MOST_ZONES
+  names : length (names_in m.zones) ≤ MOST_NAMES
   stamp : IfSome before.last (λ r. r.stamp ≤ℤ m.stamp.seconds)
   identifiers : list_all is_identifier (names_in m.zones) ≡ true
   distinct : IsDistinct bytes_eq (names_in m.zones)
   dropped : drop_fault before.last (names_in m.zones) ≡ None
-  places : before.count < 4096
+  places : before.count < MOST_RELEASES
 
 -- each search without a fault shows its part
 kept : (before : Before) (m : Manifest) → manifest_fault before m ≡ None → Kept before m
@@ -249,8 +251,8 @@ follows before m cs leaps none of =
       distinct = IsDistinct-IsPermutation bytes_eq nat_list_eq_equiv.symm (names_in m.zones) (names_of all) moved k.distinct;
       stamp = k.stamp;
       kept = none_dropped before.last (names_in m.zones) (release_with m cs leaps) moved k.dropped;
-      zones = subst (λ n. n ≤ 1024) count k.zones;
-      names = subst (λ n. n ≤ 4096) (sym (length_permutation (names_in m.zones) (names_of all) moved)) k.names;
+      zones = subst (λ n. n ≤ MOST_ZONES) count k.zones;
+      names = subst (λ n. n ≤ MOST_NAMES) (sym (length_permutation (names_in m.zones) (names_of all) moved)) k.names;
       places = k.places;
     }
 

@@ -12,6 +12,7 @@ use Rattle.release_manifest.specs.declared.manifest_fault.ManifestFault.{Manifes
 use Rattle.release_manifest.specs.declared.manifest_fault.ManifestFault.TheVariants as manifest
 use Rattle.release_manifest.specs.declared.manifest_type.Manifest.{Manifest}
 use Rattle.zone_meaning.specs.Sound.{IsSound}
+use Rattle.zone_meaning.specs.ZoneHistories.{zone_bytes}
 use Rattle.release_check.specs.Before.{Before, Follows}
 use Rattle.release_check.specs.Folder.{FolderGives, absent, refused, read, release_in, release_with}
 use Rattle.release_check.specs.Folder.{unless, manifest_path}
@@ -19,6 +20,7 @@ use Rattle.release_check.specs.Found.{IsFile, IsManifestIn, AreZonesIn, IsTableI
 use Rattle.release_check.specs.Found.{IsExaminedIn, IsReleaseIn}
 use Rattle.release_check.specs.Judged.{of_manifest, RefusesText}
 use Rattle.release_check.specs.Faults.{form_fault, manifest_fault}
+use Rattle.release_check.specs.declared.files.TheConstants.{MANIFEST_ROOM}
 use Rattle.release_check.specs.declared.check_fault.CheckFault.{CheckFault}
 use Rattle.release_check.specs.declared.check_fault.CheckFault.TheVariants as fault
 use Rattle.release_check.proofs.Contents.{zones_of_folder}
@@ -39,7 +41,7 @@ gives : (files : List File) (dir : List ℕ) (before : Before) (a b : Result Rel
 gives files dir before a b e h = subst (λ (r : Result ReleaseData CheckFault). FolderGives files dir before r) e h
 
 -- no manifest
-pub manifest_absent : (files : List File) (dir : List ℕ) (before : Before) (e : CheckFault) → IsFile (manifest_path dir) 1048577 (Err e) files
+pub manifest_absent : (files : List File) (dir : List ℕ) (before : Before) (e : CheckFault) → IsFile (manifest_path dir) MANIFEST_ROOM (Err e) files
     → IsManifestIn dir before (Err e) files
 manifest_absent files dir before e reads nm nr =
     let why = reads nm nr in
@@ -53,25 +55,25 @@ whole_file (Some whole) n prefix e = (whole, refl, cc)
 
 -- a manifest that is refused
 pub manifest_refused : (files : List File) (dir : List ℕ) (before : Before) (prefix : List ℕ) (e : CheckFault) → RefusesText prefix e
-    → IsFile (manifest_path dir) 1048577 (Ok prefix) files → IsManifestIn dir before (Err e) files
+    → IsFile (manifest_path dir) MANIFEST_ROOM (Ok prefix) files → IsManifestIn dir before (Err e) files
 manifest_refused files dir before prefix e refuses reads nm nr =
-    let file = whole_file (file_at files (manifest_path dir)) 1048577 prefix reads in
+    let file = whole_file (file_at files (manifest_path dir)) MANIFEST_ROOM prefix reads in
     let why = refuses.1 nm in
     let of_whole : manifest_text_fault file.0 ≡ Some why.0 = sym (manifest_text_fault-prefix file.0) ∙ (ap manifest_text_fault file.2 ∙ why.1) in
     gives files dir before _ _ (ap Err (sym why.2)) (refused file.0 why.0 file.1 of_whole)
 
 -- a manifest
 pub manifest_read : (files : List File) (dir : List ℕ) (before : Before) (prefix : List ℕ) (m : Manifest) → IsManifestText prefix m
-    → IsFile (manifest_path dir) 1048577 (Ok prefix) files → IsManifestIn dir before (Ok m) files
+    → IsFile (manifest_path dir) MANIFEST_ROOM (Ok prefix) files → IsManifestIn dir before (Ok m) files
 manifest_read files dir before prefix m is reads =
-    let file = whole_file (file_at files (manifest_path dir)) 1048577 prefix reads in
+    let file = whole_file (file_at files (manifest_path dir)) MANIFEST_ROOM prefix reads in
     (file.0, file.1, manifest-prefix file.0 m (subst (λ (t : List ℕ). IsManifestText t m) (sym file.2) is))
 
 -- the release of the parts
 pub release_made : (m : Manifest) (contents : List (Content (List ℕ))) (leaps : Option Leaps) (r : Release (List ℕ)) → r.stamp ≡ m.stamp
     → r.publisher ≡ m.publisher
     → r.version ≡ m.version → r.zones ≡ contents → r.leaps ≡ leaps
-    → release_data (λ bytes. bytes) r ≡ release_with m (map (content_data (λ bytes. bytes)) contents) leaps
+    → release_data zone_bytes r ≡ release_with m (map (content_data zone_bytes) contents) leaps
 release_made m contents leaps r s p v z l = rw (s, p, v, z, l) refl
 
 -- what a manifest gives that was read is what the directory gives
@@ -96,7 +98,7 @@ pub leaps_refused : (files : List File) (dir : List ℕ) (before : Before) (m : 
     → manifest_fault before m ≡ None
     → AreZonesIn dir m.zones (Ok contents) files → IsTableIn dir m.leaps (Err e) files → IsOfManifest dir m before (Err e) files
 leaps_refused files dir before m contents e none zones table nm nr =
-    release_refused_last files dir before m (map (content_data (λ bytes. bytes)) contents) e none zones (table nm nr)
+    release_refused_last files dir before m (map (content_data zone_bytes) contents) e none zones (table nm nr)
 
 -- a release
 pub release_found : (files : List File) (dir : List ℕ) (before : Before) (m : Manifest) (contents : List (Content (List ℕ))) (leaps : Option Leaps)
@@ -104,7 +106,7 @@ pub release_found : (files : List File) (dir : List ℕ) (before : Before) (m : 
     → manifest_fault before m ≡ None → r.stamp ≡ m.stamp → r.publisher ≡ m.publisher → r.version ≡ m.version → r.zones ≡ contents → r.leaps ≡ leaps
     → AreZonesIn dir m.zones (Ok contents) files → IsTableIn dir m.leaps (Ok leaps) files → IsOfManifest dir m before (Ok r) files
 release_found files dir before m contents leaps r none s p v z l zones table =
-    release_told files dir before m (map (content_data (λ bytes. bytes)) contents) leaps none zones table
+    release_told files dir before m (map (content_data zone_bytes) contents) leaps none zones table
     ∙ ap Ok (sym (release_made m contents leaps r s p v z l))
 
 -- the release of a folder is sound, and may follow what stands before it

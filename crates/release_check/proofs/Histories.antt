@@ -12,16 +12,17 @@ use Rattle.release_check.specs.declared.check_fault.CheckFault.{CheckFault}
 use Rattle.release_check.proofs.Looking.{finds_as}
 use Rattle.catalogue.specs.declared.holding.Catalogue.{Catalogue}
 use Rattle.zone_meaning.specs.Sound.{IsSound}
+use Rattle.zone_meaning.specs.ZoneHistories.{zone_bytes}
 use Rattle.release_check.specs.Before.{Before, ForEachBefore, Follows, before_of, before_held}
 
 made : Option ReleaseData → ℕ → Before
 made last count = record { last = last; count = count }
 
-pub held_is : (c : Catalogue (List ℕ)) (H : List ReleaseData) → StandsFor (λ file. file) IsSound c H → before_of H ≡ before_held (Some c)
+pub held_is : (c : Catalogue (List ℕ)) (H : List ReleaseData) → StandsFor zone_bytes IsSound c H → before_of H ≡ before_held (Some c)
 unfolding made
 held_is c H s =
     ap (λ l. made l (length H)) s.last
-    ∙ ap (made (Some (release_held (λ file. file) c))) (stands_count (λ file. file) IsSound c H s)
+    ∙ ap (made (Some (release_held zone_bytes c))) (stands_count zone_bytes IsSound c H s)
 
 -- what holds after what is held holds after each history
 pub for_each : (last : Option (Catalogue (List ℕ))) (P : Before → Type 0) → P (before_held last) → ForEachBefore last (λ H. P (before_of H))
@@ -37,7 +38,7 @@ pub found_each : {T : Type 0} (a b : StoreView) (last : Option (Catalogue (List 
 found_each a b last r P found = finds_as a b r r _ _ (λ files h. for_each last (λ x. P x files) h) (λ e. e) found
 
 pub fits_result : (last : Option (Catalogue (List ℕ))) (r : Result (Release (List ℕ)) CheckFault)
-    → IfOk r (λ x. Follows (before_held last) (release_data (λ bytes. bytes) x))
-    → IfOk r (λ x. ForEachBefore last (λ H. Fits H (release_data (λ bytes. bytes) x)))
-fits_result last (Ok x) h = fits_each last (release_data (λ bytes. bytes) x) h
+    → IfOk r (λ x. Follows (before_held last) (release_data zone_bytes x))
+    → IfOk r (λ x. ForEachBefore last (λ H. Fits H (release_data zone_bytes x)))
+fits_result last (Ok x) h = fits_each last (release_data zone_bytes x) h
 fits_result last (Err e) h = tt

@@ -14,6 +14,8 @@ use Rattle.tzif_reader.specs.LeapSteps.{LeapCause, Step, Midnight, leap_fault, l
 use Rattle.tzif_reader.specs.declared.tzif_fault.TzifFault.{TzifFault}
 use Rattle.tzif_reader.specs.declared.tzif_fault.TzifFault.TheVariants as tzif
 use Rattle.tzif_reader.specs.declared.zone_file.ZoneFile.{ZoneFile}
+use Rattle.tzif_reader.specs.declared.zone_file.TheConstants.{MOST_BYTES}
+use Rattle.release_check.specs.declared.files.TheConstants.{ZONE_ROOM}
 use Rattle.catalogue.specs.declared.release.LeapStep.{LeapStep}
 use Rattle.catalogue.specs.declared.release.Leaps.{Leaps}
 use Rattle.leap_table.specs.Faults.{table_fault, table_cause}
@@ -94,58 +96,59 @@ table_made bytes expires lists t is file expiry steps =
     ap (λ f. made f t.expires t.steps) file ∙ ap (λ e. made bytes e t.steps) expiry ∙ ap (made bytes expires) these
 
 -- of the file no more is read than one byte past its limit
-leap_prefix : (whole : List ℕ) → leap_file_fault (take 65537 whole) ≡ leap_file_fault whole
+leap_prefix : (whole : List ℕ) → leap_file_fault (take ZONE_ROOM whole) ≡ leap_file_fault whole
 leap_prefix whole = ⊎_elim
-    (λ (long : 65536 < length whole).
-    let size : length (take 65537 whole) ≡ 65537 = length-take-le 65537 whole (omega arith) in
-    no_file (take 65537 whole) tzif.TooLarge (too_large _ (omega arith)) ∙ sym (no_file whole tzif.TooLarge (too_large whole long)))
-    (λ (fits : length whole ≤ 65536). ap leap_file_fault (take_all 65537 whole (omega arith)))
-    (fits_or_longer 65536 whole)
+    (λ (long : MOST_BYTES < length whole).
+    let size : length (take ZONE_ROOM whole) ≡ ZONE_ROOM = length-take-le ZONE_ROOM whole (omega arith) in
+    no_file (take ZONE_ROOM whole) tzif.TooLarge (too_large _ (omega arith)) ∙ sym (no_file whole tzif.TooLarge (too_large whole long)))
+    (λ (fits : length whole ≤ MOST_BYTES). ap leap_file_fault (take_all ZONE_ROOM whole (omega arith)))
+    (fits_or_longer MOST_BYTES whole)
 
-leap_whole : (whole : List ℕ) → leap_file_fault (take 65537 whole) ≡ None → take 65537 whole ≡ whole
+leap_whole : (whole : List ℕ) → leap_file_fault (take ZONE_ROOM whole) ≡ None → take ZONE_ROOM whole ≡ whole
 leap_whole whole none = ⊎_elim
-    (λ (long : 65536 < length whole).
-    let size : length (take 65537 whole) ≡ 65537 = length-take-le 65537 whole (omega arith) in
-    let some : leap_file_fault (take 65537 whole) ≡ Some (of_file tzif.TooLarge) = no_file (take 65537 whole) tzif.TooLarge (too_large _ (omega arith)) in
+    (λ (long : MOST_BYTES < length whole).
+    let size : length (take ZONE_ROOM whole) ≡ ZONE_ROOM = length-take-le ZONE_ROOM whole (omega arith) in
+    let some : leap_file_fault (take ZONE_ROOM whole) ≡ Some (of_file tzif.TooLarge) =
+    no_file (take ZONE_ROOM whole) tzif.TooLarge (too_large _ (omega arith)) in
     cc)
-    (λ (fits : length whole ≤ 65536). take_all 65537 whole (omega arith))
-    (fits_or_longer 65536 whole)
+    (λ (fits : length whole ≤ MOST_BYTES). take_all ZONE_ROOM whole (omega arith))
+    (fits_or_longer MOST_BYTES whole)
 
-from_prefix : (path expires : List ℕ) (found : Option (List ℕ)) (prefix : List ℕ) → option_map (take 65537) found ≡ Some prefix → leap_file_fault prefix ≡ None
-    → table_from path expires found ≡ Ok (Some (table_of prefix expires))
+from_prefix : (path expires : List ℕ) (found : Option (List ℕ)) (prefix : List ℕ) → option_map (take ZONE_ROOM) found ≡ Some prefix
+    → leap_file_fault prefix ≡ None → table_from path expires found ≡ Ok (Some (table_of prefix expires))
 from_prefix path expires None prefix read none = cc
 from_prefix path expires (Some whole) prefix read none =
-    let is : take 65537 whole ≡ prefix = cc in
-    let clean : leap_file_fault (take 65537 whole) ≡ None = ap leap_file_fault is ∙ none in
+    let is : take ZONE_ROOM whole ≡ prefix = cc in
+    let clean : leap_file_fault (take ZONE_ROOM whole) ≡ None = ap leap_file_fault is ∙ none in
     ap (λ f. unless f (Ok (Some (table_of whole expires)))) (sym (leap_prefix whole) ∙ clean)
     ∙ ap (λ bytes. Ok (Some (table_of bytes expires))) (sym (leap_whole whole clean) ∙ is)
 
-from_prefix_refused : (path expires : List ℕ) (found : Option (List ℕ)) (prefix : List ℕ) (f : CheckFault) → option_map (take 65537) found ≡ Some prefix
+from_prefix_refused : (path expires : List ℕ) (found : Option (List ℕ)) (prefix : List ℕ) (f : CheckFault) → option_map (take ZONE_ROOM) found ≡ Some prefix
     → leap_file_fault prefix ≡ Some f → table_from path expires found ≡ Err f
 from_prefix_refused path expires None prefix f read is = cc
 from_prefix_refused path expires (Some whole) prefix f read is =
-    let same : take 65537 whole ≡ prefix = cc in
+    let same : take ZONE_ROOM whole ≡ prefix = cc in
     ap (λ f. unless f (Ok (Some (table_of whole expires)))) (sym (leap_prefix whole) ∙ (ap leap_file_fault same ∙ is))
 
 -- the table that a manifest names
 pub table_absent : (files : List File) (dir : List ℕ) (l : ManifestLeaps) (name : List ℕ) (e : CheckFault) → name ≡ l.file
-    → IsFile (path_in dir name) 65537 (Err e) files → IsTableIn dir (Some l) (Err e) files
+    → IsFile (path_in dir name) ZONE_ROOM (Err e) files → IsTableIn dir (Some l) (Err e) files
 table_absent files dir l name e is reads nm nr =
-    let read : IsFile (path_in dir l.file) 65537 (Err e) files = subst (λ (x : List ℕ). IsFile (path_in dir x) 65537 (Err e) files) is reads in
+    let read : IsFile (path_in dir l.file) ZONE_ROOM (Err e) files = subst (λ (x : List ℕ). IsFile (path_in dir x) ZONE_ROOM (Err e) files) is reads in
     let why = read nm nr in
     ap (table_from (path_in dir l.file) l.expires) why.1 ∙ ap Err (sym why.0)
 
 pub table_refused : (files : List File) (dir : List ℕ) (l : ManifestLeaps) (name prefix : List ℕ) (e : CheckFault) → name ≡ l.file
-    → (e ≢ fault.NoMemory → leap_file_fault prefix ≡ Some e) → IsFile (path_in dir name) 65537 (Ok prefix) files → IsTableIn dir (Some l) (Err e) files
+    → (e ≢ fault.NoMemory → leap_file_fault prefix ≡ Some e) → IsFile (path_in dir name) ZONE_ROOM (Ok prefix) files → IsTableIn dir (Some l) (Err e) files
 table_refused files dir l name prefix e is judged reads nm nr =
-    let read : IsFile (path_in dir l.file) 65537 (Ok prefix) files = subst (λ (x : List ℕ). IsFile (path_in dir x) 65537 (Ok prefix) files) is reads in
+    let read : IsFile (path_in dir l.file) ZONE_ROOM (Ok prefix) files = subst (λ (x : List ℕ). IsFile (path_in dir x) ZONE_ROOM (Ok prefix) files) is reads in
     from_prefix_refused (path_in dir l.file) l.expires (file_at files (path_in dir l.file)) prefix e read (judged nm)
 
 pub table_read : (files : List File) (dir : List ℕ) (l : ManifestLeaps) (name expires prefix : List ℕ) (t : Leaps) → name ≡ l.file → expires ≡ l.expires
-    → leap_file_fault prefix ≡ None → t ≡ table_of prefix expires → IsFile (path_in dir name) 65537 (Ok prefix) files
+    → leap_file_fault prefix ≡ None → t ≡ table_of prefix expires → IsFile (path_in dir name) ZONE_ROOM (Ok prefix) files
     → IsTableIn dir (Some l) (Ok (Some t)) files
 table_read files dir l name expires prefix t is expiry none made_is reads =
-    let read : IsFile (path_in dir l.file) 65537 (Ok prefix) files = subst (λ (x : List ℕ). IsFile (path_in dir x) 65537 (Ok prefix) files) is reads in
+    let read : IsFile (path_in dir l.file) ZONE_ROOM (Ok prefix) files = subst (λ (x : List ℕ). IsFile (path_in dir x) ZONE_ROOM (Ok prefix) files) is reads in
     from_prefix (path_in dir l.file) l.expires (file_at files (path_in dir l.file)) prefix read none
     ∙ ap (λ x. Ok (Some (table_of prefix x))) (sym expiry) ∙ ap (λ x. Ok (Some x)) (sym made_is)
 

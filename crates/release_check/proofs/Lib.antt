@@ -12,4 +12,3 @@ pub mod Histories
 pub mod OneFolder
 pub mod FaultTexts
 pub mod Repeats
-pub mod ZoneNames

@@ -7,6 +7,7 @@ use Rattle.std.proofs.lemmas.List.{at_drop_more}
 use Rattle.std.proofs.lemmas.Option.{slice_get_within, get_or_from_slice_get}
 use Rattle.catalogue.specs.Holdings.{names_held, release_held}
 use Rattle.catalogue.specs.declared.holding.Catalogue.{Catalogue}
+use Rattle.zone_meaning.specs.ZoneHistories.{zone_bytes}
 use Rattle.release_check.specs.Before.{drop_fault, first_missing}
 use Rattle.release_check.specs.declared.check_fault.CheckFault.TheVariants as fault
 
@@ -52,6 +53,6 @@ same_missing (x ∷ xs) a b same = one_same x xs a b _ _ refl refl (same x) (sam
 
 -- and so they tell which name of the release is dropped that a catalogue holds
 pub drops_are : (c : Catalogue (List ℕ)) (kept names : List (List ℕ)) → ((text : List ℕ) → list_any (bytes_eq text) kept ≡ list_any (bytes_eq text) names)
-    → first_missing (names_held (λ file. file) c) kept ≡ drop_fault (Some (release_held (λ file. file) c)) names
+    → first_missing (names_held zone_bytes c) kept ≡ drop_fault (Some (release_held zone_bytes c)) names
 unfolding names_held
 drops_are c kept names same = same_missing _ kept names same

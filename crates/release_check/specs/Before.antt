@@ -10,8 +10,8 @@ use Rattle.catalogue.specs.Holdings.{place_count, release_held}
 use Rattle.catalogue.specs.Releases.{ReleaseData, names_of}
 use Rattle.catalogue.specs.Order.{rising_by}
 use Rattle.catalogue.specs.declared.holding.Catalogue.{Catalogue}
-use Rattle.catalogue.specs.declared.limits.TheConstants.{MOST_PLACES}
-use Rattle.zone_meaning.specs.ZoneHistories.{ForEachZoneHistory}
+use Rattle.catalogue.specs.declared.limits.TheConstants.{MOST_RELEASES}
+use Rattle.zone_meaning.specs.ZoneHistories.{ForEachZoneHistory, zone_bytes}
 use Rattle.release_check.specs.declared.check_fault.CheckFault.{CheckFault}
 use Rattle.release_check.specs.declared.check_fault.CheckFault.TheVariants as fault
 
@@ -27,7 +27,7 @@ before_of H = record { last = last_release H; count = length H }
 -- what a catalogue holds of its history; where there is no catalogue, nothing came before
 abbrev pub before_held : Option (Catalogue (List ℕ)) → Before
 before_held None = record { last = None; count = 0 }
-before_held (Some c) = record { last = Some (release_held (λ file. file) c); count = place_count c }
+before_held (Some c) = record { last = Some (release_held zone_bytes c); count = place_count c }
 
 -- a release may follow what stands before it
 abbrev pub Follows : Before → ReleaseData → Type 0
@@ -58,4 +58,4 @@ drop_fault (Some last) new = first_missing (rising_by (λ name. name) (names_of 
 
 -- the history has as many releases as it may have
 abbrev pub place_fault : ℕ → Option CheckFault
-place_fault count = when (nat_le MOST_PLACES count) fault.HistoryFull
+place_fault count = when (nat_le MOST_RELEASES count) fault.HistoryFull

@@ -13,6 +13,7 @@ use Rattle.release_manifest.specs.declared.manifest_type.Manifest.{Manifest}
 use Rattle.release_manifest.specs.declared.manifest_type.ManifestZone.{ManifestZone}
 use Rattle.release_manifest.specs.declared.manifest_type.ManifestLeaps.{ManifestLeaps}
 use Rattle.zone_meaning.specs.Sound.{IsSoundFile}
+use Rattle.zone_meaning.specs.ZoneHistories.{zone_bytes}
 use Rattle.release_check.specs.Before.{Before}
 use Rattle.release_check.specs.Folder.{FolderGives, content_in, contents_in, examined_in}
 use Rattle.release_check.specs.Folder.{release_in, table_in, manifest_path}
@@ -45,14 +46,14 @@ IsManifestIn dir before (Err e) files = Blames e (FolderGives files dir before (
 -- a zone with its file, or its first fault
 abbrev pub IsZoneIn : List ℕ → ℕ → ManifestZone → Result (Content (List ℕ)) CheckFault
     → List File → Type 0
-IsZoneIn dir n z (Ok c) files = content_in files dir n z ≡ Ok (content_data (λ bytes. bytes) c)
+IsZoneIn dir n z (Ok c) files = content_in files dir n z ≡ Ok (content_data zone_bytes c)
 IsZoneIn dir n z (Err e) files = Blames e (content_in files dir n z ≡ Err e)
 
 -- all zones with their files, or the first fault of one
 abbrev pub AreZonesIn : List ℕ → List ManifestZone → Result (List (Content (List ℕ))) CheckFault
     → List File → Type 0
 AreZonesIn dir zs (Ok cs) files =
-    contents_in files dir 0 zs ≡ Ok (map (content_data (λ bytes. bytes)) cs)
+    contents_in files dir 0 zs ≡ Ok (map (content_data zone_bytes) cs)
 AreZonesIn dir zs (Err e) files = Blames e (contents_in files dir 0 zs ≡ Err e)
 
 -- the table that a manifest names, or its fault
@@ -64,7 +65,7 @@ IsTableIn dir named (Err e) files = Blames e (table_in files dir named ≡ Err e
 -- an answer that is this result
 abbrev pub IsAnswerOf : Result ReleaseData CheckFault → Result (Release (List ℕ)) CheckFault
     → Type 0
-IsAnswerOf given (Ok r) = given ≡ Ok (release_data (λ bytes. bytes) r)
+IsAnswerOf given (Ok r) = given ≡ Ok (release_data zone_bytes r)
 IsAnswerOf given (Err e) = Blames e (given ≡ Err e)
 
 -- the release of a manifest and the files of a directory after what stands before it, or the first
@@ -80,7 +81,7 @@ IsExaminedIn dir m before result files = IsAnswerOf (examined_in files dir befor
 -- the release of a directory after what stands before it, or its first fault
 abbrev pub IsReleaseIn : List ℕ → Before → Result (Release (List ℕ)) CheckFault → List File → Type 0
 IsReleaseIn dir before (Ok r) files =
-    FolderGives files dir before (Ok (release_data (λ bytes. bytes) r))
+    FolderGives files dir before (Ok (release_data zone_bytes r))
 IsReleaseIn dir before (Err e) files = Blames e (FolderGives files dir before (Err e))
 
 -- the zone of the manifest, with a sound file

@@ -1,5 +1,4 @@
-ghost use Rattle.std.specs.Prelude.{◌≡◌, ◌++◌, OnOk};
-ghost use Rattle.td_civil.specs.Bounds.{has_meaning};
+ghost use Rattle.std.specs.Prelude.{◌≡◌, ◌++◌, OnErr, OnOk};
 ghost use Rattle.td_civil.specs.declared.moment_type.Moment.{Moment as Stamp};
 ghost use Rattle.release_check.specs.FaultText.{readable, shown_text, stamp_text};
 
@@ -9,7 +8,7 @@ use std::alloc::Global;
 use std::error::Error;
 use std::{fmt, str};
 use td_base::{Bytes, NoMemory, ShortText};
-use td_civil::{HI, LO, Moment, utc_text};
+use td_civil::{Moment, utc_text};
 use tzif_reader::TzifFault;
 
 /// Which number of a release is limited.
@@ -165,9 +164,10 @@ impl CheckFault {
     ghost use Rattle.release_check.specs.FaultText.{fault_text};
 
     /// Appends the fault as it is printed: its number, its name and its values, with a space
-    /// between them.
+    /// between them. Where memory runs out nothing is appended.
     pub fn put(&self, alloc: Global, out: &mut Bytes) -> Result<(), NoMemory>
-        ensures { OnOk result (out.new ≡ out.old ++ fault_text self.now) }
+        ensures ok { OnOk result (out.new ≡ out.old ++ fault_text self.now) }
+        ensures err { OnErr result (out.new ≡ out.old) }
     {
         match self {
             CheckFault::Duplicate(name) => put_bytes(out, b"5 Duplicate ", name),
@@ -178,17 +178,24 @@ impl CheckFault {
     }
 }
 
-/// Appends a text, and bytes as they are.
+/// Appends a text, and bytes as they are. Where memory runs out nothing is appended.
 fn put_bytes(out: &mut Bytes, before: &[u8], bytes: &Bytes) -> Result<(), NoMemory>
-    ensures { OnOk result (out.new ≡ out.old ++ (before.now ++ bytes.now)) }
+    ensures ok { OnOk result (out.new ≡ out.old ++ (before.now ++ bytes.now)) }
+    ensures err { OnErr result (out.new ≡ out.old) }
 {
+    let start = out.len();
     out.append(before)?;
-    out.append(bytes.as_slice())
+    if let Err(error) = out.append(bytes.as_slice()) {
+        out.truncate(start);
+        return Err(error);
+    }
+    Ok(())
 }
 
 /// Appends a fault that is a text whatever it holds.
 fn put_shown(alloc: Global, out: &mut Bytes, fault: &CheckFault) -> Result<(), NoMemory>
-    ensures { OnOk result (out.new ≡ out.old ++ shown_text fault.now) }
+    ensures ok { OnOk result (out.new ≡ out.old ++ shown_text fault.now) }
+    ensures err { OnErr result (out.new ≡ out.old) }
 {
     let text = fault.to_string(alloc)?;
     out.append(text.as_bytes())
@@ -200,17 +207,10 @@ fn stamp_text(moment: Moment) -> ShortText<20>
     ensures { result ≡ stamp_text moment }
 {
     let mut text = ShortText::new();
-    if has_meaning(moment) {
+    if moment.has_meaning() {
         text.append(&utc_text(moment));
     }
     text
-}
-
-/// Whether a moment has a meaning.
-pub fn has_meaning(moment: Moment) -> bool
-    ensures { result ≡ has_meaning moment.seconds }
-{
-    LO <= moment.seconds && moment.seconds < HI
 }
 
 /// The text of a stamp as it is printed.

@@ -3,6 +3,7 @@ ghost use Rattle.catalogue.specs.Releases.{release_data};
 ghost use Rattle.catalogue.specs.Histories.{Fits};
 ghost use Rattle.release_manifest.specs.Reading.{IsManifestText};
 ghost use Rattle.zone_meaning.specs.Sound.{IsSound};
+ghost use Rattle.zone_meaning.specs.ZoneHistories.{zone_bytes};
 ghost use Rattle.release_check.specs.Before.{Before as Earlier, ForEachBefore, Follows};
 ghost use Rattle.release_check.specs.Before.{before_held, before_of};
 ghost use Rattle.release_check.specs.Found.{FindsIn, IsExaminedIn, IsManifestIn, IsOfManifest};
@@ -11,7 +12,7 @@ ghost use Rattle.release_check.specs.Judged.{of_manifest, RefusesText};
 ghost use Rattle.release_check.specs.Faults.{IsFormed};
 
 use crate::check_fault::CheckFault;
-use crate::files::read_in;
+use crate::files::{MANIFEST_ROOM, read_in};
 use crate::form_judging::judge_form;
 use crate::leap_files::read_table;
 use crate::manifest_judging::judge;
@@ -21,9 +22,6 @@ use release_manifest::{Manifest, ManifestFault};
 use std::alloc::Global;
 use td_base::{Bytes, Store};
 use zone_meaning::Zone;
-
-/// One byte more than a manifest may have, so that a longer one is seen to be longer.
-const MANIFEST_ROOM: u64 = 1_048_577;
 
 /// The release of a folder of the store, or the folder's first fault: an absent manifest, one that
 /// is refused, what the manifest says by itself and against the history that a catalogue stands
@@ -40,13 +38,13 @@ pub fn check<S: Store>(
     ensures found { FindsIn (S.seen store.old) (S.seen store.new) result (λ files.
         ForEachBefore (option_copied last.entry) (λ H.
         IsReleaseIn dir.now (before_of H) result files)) }
-    ensures sound { IfOk result (λ r. IsSound (release_data (λ bytes. bytes) r)) }
+    ensures sound { IfOk result (λ r. IsSound (release_data zone_bytes r)) }
     ensures follows { IfOk result (λ r. Follows (before_held (option_copied last.entry))
-        (release_data (λ bytes. bytes) r)) }
+        (release_data zone_bytes r)) }
     ensures fits { IfOk result (λ r. ForEachBefore (option_copied last.entry) (λ H.
-        Fits H (release_data (λ bytes. bytes) r))) }
+        Fits H (release_data zone_bytes r))) }
 {
-    release_in(alloc, dir, store, last)
+    folder_in(alloc, dir, store, last)
 }
 
 /// The release of a manifest that is at hand, over the files of a folder of the store, or the first
@@ -63,17 +61,17 @@ pub fn examine<S: Store>(
     ensures found { FindsIn (S.seen store.old) (S.seen store.new) result (λ files.
         ForEachBefore (option_copied last.entry) (λ H.
         IsExaminedIn dir.now manifest.now (before_of H) result files)) }
-    ensures sound { IfOk result (λ r. IsSound (release_data (λ bytes. bytes) r)) }
+    ensures sound { IfOk result (λ r. IsSound (release_data zone_bytes r)) }
     ensures follows { IfOk result (λ r. Follows (before_held (option_copied last.entry))
-        (release_data (λ bytes. bytes) r)) }
+        (release_data zone_bytes r)) }
     ensures fits { IfOk result (λ r. ForEachBefore (option_copied last.entry) (λ H.
-        Fits H (release_data (λ bytes. bytes) r))) }
+        Fits H (release_data zone_bytes r))) }
 {
     examined_in(alloc, manifest, dir, store, last)
 }
 
 /// The release of a folder, after what a catalogue holds.
-fn release_in<S: Store>(
+fn folder_in<S: Store>(
     alloc: Global,
     dir: &[u8],
     store: &mut S,
@@ -81,9 +79,9 @@ fn release_in<S: Store>(
 ) -> Result<Release<Zone>, CheckFault>
     ensures found { FindsIn (S.seen store.old) (S.seen store.new) result
         (IsReleaseIn dir.now (before_held (option_copied last.entry)) result) }
-    ensures sound { IfOk result (λ r. IsSound (release_data (λ bytes. bytes) r)) }
+    ensures sound { IfOk result (λ r. IsSound (release_data zone_bytes r)) }
     ensures follows { IfOk result (λ r. Follows (before_held (option_copied last.entry))
-        (release_data (λ bytes. bytes) r)) }
+        (release_data zone_bytes r)) }
 {
     let manifest = read_manifest(alloc, dir, store)?;
     let release = release_of(alloc, &manifest, dir, store, last)?;
@@ -100,9 +98,9 @@ fn examined_in<S: Store>(
 ) -> Result<Release<Zone>, CheckFault>
     ensures found { FindsIn (S.seen store.old) (S.seen store.new) result
         (IsExaminedIn dir.now manifest.now (before_held (option_copied last.entry)) result) }
-    ensures sound { IfOk result (λ r. IsSound (release_data (λ bytes. bytes) r)) }
+    ensures sound { IfOk result (λ r. IsSound (release_data zone_bytes r)) }
     ensures follows { IfOk result (λ r. Follows (before_held (option_copied last.entry))
-        (release_data (λ bytes. bytes) r)) }
+        (release_data zone_bytes r)) }
 {
     judge_form(manifest)?;
     let release = release_of(alloc, manifest, dir, store, last)?;
@@ -120,9 +118,9 @@ fn release_of<S: Store>(
     requires { IsFormed manifest.now }
     ensures found { FindsIn (S.seen store.old) (S.seen store.new) result
         (IsOfManifest dir.now manifest.now (before_held (option_copied last.entry)) result) }
-    ensures sound { IfOk result (λ r. IsSound (release_data (λ bytes. bytes) r)) }
+    ensures sound { IfOk result (λ r. IsSound (release_data zone_bytes r)) }
     ensures follows { IfOk result (λ r. Follows (before_held (option_copied last.entry))
-        (release_data (λ bytes. bytes) r)) }
+        (release_data zone_bytes r)) }
 {
     judge(alloc, manifest, last)?;
     let zones = read_zones(alloc, dir, manifest.zones.as_slice(), store)?;

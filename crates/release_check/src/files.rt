@@ -6,6 +6,12 @@ use crate::check_fault::CheckFault;
 use std::alloc::Global;
 use td_base::{Bytes, FileRead, NoMemory, Store};
 
+/// One byte more than a manifest may have, so that a longer one is seen to be longer.
+pub const MANIFEST_ROOM: u64 = release_manifest::MOST_BYTES as u64 + 1;
+
+/// One byte more than a zone file may have, so that a longer one is seen to be longer.
+pub const ZONE_ROOM: u64 = tzif_reader::MOST_BYTES as u64 + 1;
+
 /// The first bytes of a file of a directory, as many as asked for or all.
 pub fn read_in<S: Store>(
     alloc: Global,

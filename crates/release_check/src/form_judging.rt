@@ -3,7 +3,7 @@ ghost use Rattle.std.specs.Prelude.{◌≡◌};
 ghost use Rattle.release_check.specs.Judged.{JudgesUnread};
 ghost use Rattle.release_check.specs.Faults.{form_fault, has_date};
 
-use crate::check_fault::{CheckFault, has_meaning};
+use crate::check_fault::CheckFault;
 use release_manifest::{Manifest, ManifestFault, ManifestLeaps, Path};
 use td_base::is_label;
 use td_civil::is_date;
@@ -19,7 +19,7 @@ pub fn judge_form(manifest: &Manifest) -> Result<(), CheckFault>
     if !is_label(manifest.version.as_slice()) {
         return Err(CheckFault::Manifest(ManifestFault::Text(Path::Version)));
     }
-    if !has_meaning(manifest.stamp) {
+    if !manifest.stamp.has_meaning() {
         return Err(CheckFault::Manifest(ManifestFault::Text(Path::Stamp)));
     }
     if !has_date(&manifest.leaps) {

@@ -3,13 +3,14 @@ ghost use Rattle.std.specs.Prelude.{◌≡◌, ℕ, List, IsErrOf, map, option_c
 ghost use Rattle.std.specs.List.{list_any};
 ghost use Rattle.std.specs.Str.{bytes_eq};
 ghost use Rattle.catalogue.specs.Holdings.{names_held};
+ghost use Rattle.zone_meaning.specs.ZoneHistories.{zone_bytes};
 ghost use Rattle.release_check.specs.Before.{before_held, drop_fault, first_missing, place_fault};
 ghost use Rattle.release_check.specs.Before.{stamp_fault};
 ghost use Rattle.release_check.specs.Judged.{JudgesUnread};
 ghost use Rattle.release_check.specs.declared.check_fault.CheckFault.TheVariants as fault;
 
 use crate::check_fault::CheckFault;
-use catalogue::{Catalogue, MOST_PLACES};
+use catalogue::{Catalogue, MOST_RELEASES};
 use std::alloc::Global;
 use std::collections::BTreeSet;
 use td_base::Bytes;
@@ -58,7 +59,7 @@ fn judge_names<'a>(
     new: &BTreeSet<&'a [u8]>,
     last: &'a Catalogue<Zone>,
 ) -> Result<(), CheckFault>
-    ensures { JudgesUnread (first_missing (names_held (λ file. file) last.now)
+    ensures { JudgesUnread (first_missing (names_held zone_bytes last.now)
         (map (λ n. n.now) new.now.keys)) result }
 {
     for at in 0..last.name_count() {
@@ -84,7 +85,7 @@ pub fn judge_places(last: Option<&Catalogue<Zone>>) -> Result<(), CheckFault>
     ensures memory { IsErrOf result fault.NoMemory → ⊥ }
 {
     match last {
-        Some(last) if MOST_PLACES <= last.count() => Err(CheckFault::HistoryFull),
+        Some(last) if MOST_RELEASES <= last.count() => Err(CheckFault::HistoryFull),
         _ => Ok(()),
     }
 }

@@ -4,6 +4,7 @@ ghost use Rattle.catalogue.specs.Holdings.{StandsFor};
 ghost use Rattle.catalogue.specs.Releases.{ReleaseData};
 ghost use Rattle.catalogue.specs.declared.holding.Catalogue.{Catalogue};
 ghost use Rattle.zone_meaning.specs.Sound.{IsSound};
+ghost use Rattle.zone_meaning.specs.ZoneHistories.{zone_bytes};
 ghost use Rattle.release_check.specs.Before.{Before, Follows, before_held, before_of};
 ghost use Rattle.release_check.specs.Folder.{FolderGives};
 ghost use Rattle.release_check.specs.declared.check_fault.CheckFault.{CheckFault};
@@ -33,5 +34,5 @@ pub fn fitting_release()
 /// What a catalogue holds is what each history leaves that it stands for.
 pub fn held_before()
     ensures { (c : Catalogue (List ℕ)) (H : List ReleaseData)
-        → StandsFor (λ file. file) IsSound c H → before_of H ≡ before_held (Some c) }
+        → StandsFor zone_bytes IsSound c H → before_of H ≡ before_held (Some c) }
 {}

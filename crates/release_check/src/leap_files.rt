@@ -8,16 +8,13 @@ ghost use Rattle.release_check.specs.LeapFile.{leap_file_fault, table_of};
 ghost use Rattle.release_check.specs.Faults.{has_date};
 
 use crate::check_fault::{CheckFault, LeapFileFault};
-use crate::files::read_in;
+use crate::files::{ZONE_ROOM, read_in};
 use catalogue::Leaps;
 use leap_table::{LeapFault, from_file};
 use release_manifest::ManifestLeaps;
 use std::alloc::Global;
 use td_base::{Bytes, Store};
 use tzif_reader::{TzifFault, leap_lines_fit};
-
-/// One byte more than a zone file may have, so that a longer one is seen to be longer.
-const LEAP_ROOM: u64 = 65_537;
 
 /// The table of leap seconds that a manifest names, if it names one, or the fault of its file.
 pub fn read_table<S: Store>(
@@ -49,7 +46,7 @@ fn read_named<S: Store>(
         (IsTableIn dir.now (Some leaps.now) result) }
     ensures sound { IfOk result (λ table. IfSome table IsSoundLeaps) }
 {
-    let file = read_in(alloc, dir, leaps.file.as_slice(), LEAP_ROOM, store)?;
+    let file = read_in(alloc, dir, leaps.file.as_slice(), ZONE_ROOM, store)?;
     let table = table_in(alloc, &file, leaps.expires.as_slice())?;
     Ok(Some(table))
 }

@@ -20,7 +20,6 @@ mod leap_files;
 mod text_copies;
 mod zone_files;
 mod zone_judging;
-mod zone_names;
 
 // Laws, and what may cross threads.
 mod laws;

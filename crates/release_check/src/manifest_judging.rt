@@ -95,10 +95,5 @@ fn has_identifiers(zone: &ManifestZone) -> bool
 fn are_identifiers(names: &[Bytes]) -> bool
     ensures { result ≡ list_all is_identifier names.now }
 {
-    for name in names {
-        if !is_identifier(name.as_slice()) {
-            return false;
-        }
-    }
-    true
+    names.iter().all(|name| is_identifier(name.as_slice()))
 }

@@ -1,12 +1,13 @@
 ghost use Rattle.std.specs.Prelude.{◌≡◌, map, IfOk};
 ghost use Rattle.catalogue.specs.Releases.{content_data};
 ghost use Rattle.zone_meaning.specs.Sound.{IsSoundFile};
+ghost use Rattle.zone_meaning.specs.ZoneHistories.{zone_bytes};
 ghost use Rattle.release_check.specs.Found.{FindsIn, IsZoneIn, AreZonesIn, IsOf, AreOf};
 ghost use Rattle.release_check.specs.Judged.{JudgesUnread, of_reader};
 ghost use Rattle.release_check.specs.Faults.{file_fault};
 
 use crate::check_fault::CheckFault;
-use crate::files::read_in;
+use crate::files::{ZONE_ROOM, read_in};
 use crate::text_copies::copy_texts;
 use crate::zone_judging::judge_zone;
 use catalogue::Content;
@@ -15,9 +16,6 @@ use std::alloc::Global;
 use td_base::{Bytes, Items, Store};
 use tzif_reader::TzifFault;
 use zone_meaning::{Zone, zone_from_lists};
-
-/// One byte more than a zone file may have, so that a longer one is seen to be longer.
-const ZONE_ROOM: u64 = 65_537;
 
 /// The zones of a manifest with their files, in its order, or the first fault.
 pub fn read_zones<S: Store>(
@@ -28,7 +26,7 @@ pub fn read_zones<S: Store>(
 ) -> Result<Items<Content<Zone>>, CheckFault>
     ensures found { FindsIn (S.seen store.old) (S.seen store.new) result
         (AreZonesIn dir.now zones.now result) }
-    ensures of { IfOk result (λ cs. AreOf zones.now (map (content_data (λ bytes. bytes)) cs)) }
+    ensures of { IfOk result (λ cs. AreOf zones.now (map (content_data zone_bytes) cs)) }
 {
     let mut contents = Items::new(alloc);
     for (number, zone) in zones.iter().enumerate() {
@@ -48,7 +46,7 @@ fn read_zone<S: Store>(
 ) -> Result<Content<Zone>, CheckFault>
     ensures found { FindsIn (S.seen store.old) (S.seen store.new) result
         (IsZoneIn dir.now number zone.now result) }
-    ensures of { IfOk result (λ c. IsOf zone.now (content_data (λ bytes. bytes) c)) }
+    ensures of { IfOk result (λ c. IsOf zone.now (content_data zone_bytes c)) }
 {
     let file = read_in(alloc, dir, zone.file.as_slice(), ZONE_ROOM, store)?;
     let meant = zone_in(alloc, number, file)?;

@@ -9,9 +9,8 @@ ghost use Rattle.release_check.specs.declared.check_fault.CheckFault.TheVariants
 ghost use Rattle.release_check.specs.Faults.{meaning_fault};
 
 use crate::check_fault::CheckFault;
-use crate::zone_names::has_printable_names;
 use recurrence::carry;
-use zone_meaning::{Zone, footer, footer_agrees};
+use zone_meaning::{Zone, footer, footer_agrees, has_printable_names};
 
 /// Looks for the first fault of what a zone means: its footer does not go on from its last
 /// transition, a name cannot be printed, or no yearly rules say what its footer says.

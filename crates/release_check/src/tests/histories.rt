@@ -1,6 +1,7 @@
 //! Folders one after another, each judged against those before it.
 ghost use Rattle.catalogue.specs.Releases.{release_data};
 ghost use Rattle.zone_meaning.specs.Sound.{IsSound};
+ghost use Rattle.zone_meaning.specs.ZoneHistories.{zone_bytes};
 ghost use Rattle.release_check.specs.Before.{Follows, before_held};
 
 use crate::check;
@@ -65,8 +66,8 @@ fn grown(
     last: Option<Catalogue<Zone>>,
     release: Release<Zone>,
 ) -> Result<Catalogue<Zone>, NoMemory>
-    requires sound { IsSound (release_data (λ bytes. bytes) release) }
-    requires follows { Follows (before_held last) (release_data (λ bytes. bytes) release) }
+    requires sound { IsSound (release_data zone_bytes release) }
+    requires follows { Follows (before_held last) (release_data zone_bytes release) }
 {
     match last {
         None => Catalogue::first(alloc, release),

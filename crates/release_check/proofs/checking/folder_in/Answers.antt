@@ -4,7 +4,7 @@ use Rattle.release_check.specs.Before.{before_held}
 use Rattle.release_check.proofs.Fitting.{formed_read}
 use Rattle.release_check.proofs.Folders.{folder_read}
 use Rattle.release_check.proofs.Looking.{finds_as, finds_then, same_err, ok_is_no_err}
-use Rattle.release_check.proofs.checking.release_in.Goals as goal
+use Rattle.release_check.proofs.checking.folder_in.Goals as goal
 
 pub release_of-requires : goal.release_of-requires
 release_of-requires g c = let meant = c.in_ok-manifest.ensures.meant in formed_read meant.0 c.in_ok-manifest.manifest meant.1
