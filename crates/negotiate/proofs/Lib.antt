@@ -1,2 +1,3 @@
-pub mod CutLemmas
+pub mod BestLemmas
 pub mod LargerLemmas
+pub mod LeftLemmas

@@ -1,8 +1,10 @@
 -- The format that an Accept field chooses.
-use Rattle.std.specs.Prelude.{ℕ, List, nat_le, ◌==◌, if◌then◌else◌, Option, Some, None, codes}
+use Rattle.std.specs.Prelude.{ℕ, List, [], ◌∷◌, find, max, ◌==◌, if◌then◌else◌, Option, Some, None}
+use Rattle.std.specs.Prelude.{option_map, codes}
 use Rattle.negotiate.specs.Qualities.{quality_of_range}
 use Rattle.negotiate.specs.declared.choosing.Format.{Format}
 use Rattle.negotiate.specs.declared.choosing.Format.TheVariants.{Calendar, Tzif}
+use Rattle.negotiate.specs.declared.choosing.Offer.{Offer}
 
 -- the first of the qualities that there is, or none at all
 abbrev pub first_of : Option ℕ → Option ℕ → Option ℕ → ℕ
@@ -17,14 +19,42 @@ quality_of exact group field =
     first_of (quality_of_range exact field) (quality_of_range group field)
     (quality_of_range (codes "*/*") field)
 
--- the format with the larger quality, if that is not 0; calendars where both are equal
-abbrev pub better : ℕ → ℕ → Option Format
-better calendar tzif =
-    if nat_le tzif calendar then (if calendar == 0 then None else Some Calendar) else Some Tzif
+-- a format, with its media type and the range of all subtypes of its type
+pub record NamedFormat : Type 0 where
+  pub format : Format
+  pub exact : List ℕ
+  pub group : List ℕ
+
+-- the formats, in the order in which they are preferred
+abbrev pub formats : List NamedFormat
+formats =
+    record { format = Calendar; exact = codes "text/calendar"; group = codes "text/*" }
+    ∷ record { format = Tzif; exact = codes "application/tzif"; group = codes "application/*" }
+    ∷ []
+
+abbrev pub format_quality : List ℕ → NamedFormat → ℕ
+format_quality field f = quality_of f.exact f.group field
+
+abbrev pub largest_quality : List ℕ → List NamedFormat → ℕ
+largest_quality field [] = 0
+largest_quality field (f ∷ fs) = max (format_quality field f) (largest_quality field fs)
+
+-- the first format of the largest quality, if that is not 0
+abbrev pub best_format : List ℕ → List NamedFormat → Option Format
+best_format field fs =
+    if largest_quality field fs == 0 then None
+    else option_map (λ f. f.format)
+    (find (λ f. format_quality field f == largest_quality field fs) fs)
 
 -- without a field calendars are chosen
-unfoldable pub chosen : Option (List ℕ) → Option Format
-chosen None = Some Calendar
-chosen (Some field) =
-    better (quality_of (codes "text/calendar") (codes "text/*") field)
-    (quality_of (codes "application/tzif") (codes "application/*") field)
+unfoldable pub chosen_format : Option (List ℕ) → Option Format
+chosen_format None = Some Calendar
+chosen_format (Some field) = best_format field formats
+
+-- the format as the code offers it
+abbrev pub named_offer : Offer → NamedFormat
+named_offer offer = record {
+  format = offer.format;
+  exact = offer.exact.now;
+  group = offer.group.now;
+}

@@ -1,4 +1,4 @@
 pub mod Choices
-pub mod Pieces
+pub mod Marks
 pub mod Qualities
 pub mod Tags

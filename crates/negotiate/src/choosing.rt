@@ -1,5 +1,5 @@
 //! The choice of a format.
-ghost use Rattle.std.specs.Prelude.{◌≡◌, option_copied};
+ghost use Rattle.std.specs.Prelude.{◌≡◌, map, option_copied};
 ghost use Rattle.negotiate.specs.Choices as choices;
 
 use crate::qualities::quality_of_range;
@@ -13,27 +13,58 @@ pub enum Format {
     Tzif,
 }
 
+/// A format, and the ranges of an Accept field that name it.
+struct Offer {
+    format: Format,
+    /// Its media type.
+    exact: &'static [u8],
+    /// All subtypes of its type.
+    group: &'static [u8],
+}
+
+/// The formats, in the order in which they are preferred.
+const OFFERS: [Offer; 2] = [
+    Offer {
+        format: Format::Calendar,
+        exact: b"text/calendar",
+        group: b"text/*",
+    },
+    Offer {
+        format: Format::Tzif,
+        exact: b"application/tzif",
+        group: b"application/*",
+    },
+];
+
 /// The format that an Accept field chooses (RFC 9110, section 12.5.1), if it accepts one.
 ///
 /// Without a field that is the calendar. Ranges are compared without case. An element that names
 /// none of the formats, or has a malformed quality, is ignored, and so are all parameters but the
 /// first `q`. The quality of a format is that of the most specific range that names it.
-#[tactic(auto, unfolding(crate::specs::Choices::chosen))]
+#[tactic(auto, unfolding(crate::specs::Choices::chosen_format))]
 pub fn choose(accept: Option<&[u8]>) -> Option<Format>
-    ensures { result ≡ choices.chosen (option_copied accept.entry) }
+    ensures { result ≡ choices.chosen_format (option_copied accept.entry) }
 {
-    let Some(field) = accept else {
-        return Some(Format::Calendar);
-    };
-    let calendar = quality_of(field, b"text/calendar", b"text/*");
-    let tzif = quality_of(field, b"application/tzif", b"application/*");
-    if tzif > calendar {
-        return Some(Format::Tzif);
+    match accept {
+        Some(field) => best_format(field, &OFFERS),
+        None => Some(Format::Calendar),
     }
-    if calendar == 0 {
-        return None;
+}
+
+/// The first format of the largest quality, if that is not 0.
+fn best_format(field: &[u8], offers: &[Offer]) -> Option<Format>
+    ensures { result ≡ choices.best_format field.now (map choices.named_offer offers.now) }
+{
+    let mut best = None;
+    let mut largest = 0;
+    for offer in offers {
+        let quality = quality_of(field, offer.exact, offer.group);
+        if quality > largest {
+            best = Some(offer.format);
+            largest = quality;
+        }
     }
-    Some(Format::Calendar)
+    best
 }
 
 /// The quality of a format, by its own range and by that of its group.

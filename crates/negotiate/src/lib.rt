@@ -10,14 +10,8 @@ mod qualities;
 // Entity tags.
 mod tags;
 
-// The pieces of a field.
-mod pieces;
-
 // What may cross threads.
 mod send_sync;
 
 pub use choosing::{Format, choose};
 pub use tags::none_match;
-
-#[cfg(test)]
-mod tests;

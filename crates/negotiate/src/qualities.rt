@@ -2,10 +2,11 @@
 ghost use Rattle.std.specs.Prelude.{◌≡◌, ◌<◌, ◌≤◌, ◌-◌, ◌==◌, ◌||◌, length, option_copied, IsTrue};
 ghost use Rattle.std.specs.Char.{is_ascii_digit};
 ghost use Rattle.std.specs.List.{list_all};
-ghost use Rattle.negotiate.specs.Pieces.{pieces_left, pieces};
+ghost use Rattle.negotiate.specs.Marks.{semicolon, digit_zero, digit_one};
+ghost use Rattle.td_base.specs.Texts.{pieces_left, pieces};
 ghost use Rattle.negotiate.specs.Qualities as qualities;
 
-use crate::pieces::{cut, is_same, skip, start, trim};
+use td_base::texts::{begins, cut, is_same, skip, trim};
 
 /// The largest quality that the field gives to a range, in thousandths.
 pub fn quality_of_range(field: &[u8], range: &[u8]) -> Option<u16>
@@ -15,15 +16,15 @@ pub fn quality_of_range(field: &[u8], range: &[u8]) -> Option<u16>
     let mut left = Some(field);
     'elements: while let Some(rest) = left {
         let (element, after) = cut(rest, b',');
-        best = larger(best, quality_for(element, range));
+        best = larger_quality(best, quality_for(element, range));
         left = after;
     }
     best
 }
 
 /// The larger of the qualities that there are.
-fn larger(a: Option<u16>, b: Option<u16>) -> Option<u16>
-    ensures { result ≡ qualities.larger a b }
+fn larger_quality(a: Option<u16>, b: Option<u16>) -> Option<u16>
+    ensures { result ≡ qualities.larger_quality a b }
 {
     match (a, b) {
         (None, b) => b,
@@ -34,7 +35,7 @@ fn larger(a: Option<u16>, b: Option<u16>) -> Option<u16>
 
 /// The quality that an element gives to a range, if it names it and has a quality.
 fn quality_for(element: &[u8], range: &[u8]) -> Option<u16>
-    ensures { result ≡ qualities.quality_for range.now (pieces 59 element.now) }
+    ensures { result ≡ qualities.quality_for range.now (pieces semicolon element.now) }
 {
     let (first, parameters) = cut(element, b';');
     if !is_same(trim(first), range) {
@@ -46,13 +47,13 @@ fn quality_for(element: &[u8], range: &[u8]) -> Option<u16>
 /// The quality that the parameters give.
 #[tactic(auto, unfolding(crate::specs::Qualities::quality_in))]
 fn quality_in(parameters: Option<&[u8]>) -> Option<u16>
-    ensures { result ≡ qualities.quality_in (pieces_left 59 (option_copied parameters.entry)) }
+    ensures { result ≡ qualities.quality_in (pieces_left semicolon (option_copied parameters.entry)) }
 {
     let mut left = parameters;
     'parameters: while let Some(rest) = left {
         let (parameter, after) = cut(rest, b';');
         let text = trim(parameter);
-        if is_same(start(text, 2), b"q=") {
+        if begins(text, b"q=") {
             return quality_value(skip(text, 2));
         }
         left = after;
@@ -75,7 +76,7 @@ fn quality_value(text: &[u8]) -> Option<u16>
 
 /// Whether the byte is `0` or `1`.
 fn is_whole(byte: u8) -> bool
-    ensures { result ≡ (byte == 48 || byte == 49) }
+    ensures { result ≡ (byte == digit_zero || byte == digit_one) }
 {
     byte == b'0' || byte == b'1'
 }
@@ -114,7 +115,7 @@ fn fraction(digits: &[u8]) -> u16
 
 /// The value of a digit.
 fn digit(byte: u8) -> u16
-    ensures value { result ≡ byte - 48 }
+    ensures value { result ≡ byte - digit_zero }
     ensures small { result < 256 }
 {
     u16::from(byte.saturating_sub(b'0'))
