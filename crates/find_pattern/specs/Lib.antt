@@ -1,4 +1,5 @@
 pub mod FaultText
+pub mod Marks
 pub mod Matching
 pub mod Patterns
 pub mod Pieces

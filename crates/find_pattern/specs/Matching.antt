@@ -4,10 +4,11 @@ use Rattle.std.specs.Prelude.{ℕ, ◌-◌, List, [], ◌∷◌, length, take, d
 use Rattle.std.specs.Prelude.{◌==◌, if◌then◌else◌, bytes_eq}
 use Rattle.std.specs.List.{list_any}
 use Rattle.std.specs.Char.{to_ascii_lowercase}
+use Rattle.find_pattern.specs.Marks.{space, underscore}
 use Rattle.find_pattern.specs.declared.pattern_type.Pattern.{Pattern}
 
 abbrev pub fold_byte : ℕ → ℕ
-fold_byte b = if b == 95 then 32 else to_ascii_lowercase b
+fold_byte b = if b == underscore then space else to_ascii_lowercase b
 
 -- the texts are equal, as they are compared
 unfoldable pub is_same : List ℕ → List ℕ → Bool

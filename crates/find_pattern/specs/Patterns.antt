@@ -2,15 +2,16 @@
 -- after; `\*` and `\\` stand for a star and a backslash.
 use Rattle.std.specs.Prelude.{ℕ, ◌+◌, List, [], ◌∷◌, Bool, true, false, ◌||◌, ◌==◌, if◌then◌else◌}
 use Rattle.std.specs.Prelude.{Result, Ok, Err}
+use Rattle.find_pattern.specs.Marks.{star, backslash}
 use Rattle.find_pattern.specs.declared.pattern_type.Pattern.{Pattern}
 use Rattle.find_pattern.specs.declared.pattern_fault.BadPattern.{BadPattern}
 use Rattle.find_pattern.specs.declared.pattern_fault.BadPattern.TheVariants as bad
 
 abbrev pub is_star : ℕ → Bool
-is_star b = b == 42
+is_star b = b == star
 
 abbrev pub is_backslash : ℕ → Bool
-is_backslash b = b == 92
+is_backslash b = b == backslash
 
 -- a byte that needs a backslash to stand for itself
 abbrev pub is_special : ℕ → Bool

@@ -24,10 +24,7 @@ fn has_same_bytes(text: &[u8], other: &[u8]) -> bool
     requires { length text.now ≡ length other.now }
     ensures { result ≡ matching.is_same text.now other.now }
 {
-    for (at, byte) in text.iter().enumerate() {
-        if fold(*byte) != fold(other[at]) {
-            return false;
-        }
-    }
-    true
+    text.iter()
+        .zip(other)
+        .all(|(byte, mate)| fold(*byte) == fold(*mate))
 }

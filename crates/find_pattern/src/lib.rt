@@ -21,6 +21,3 @@ pub use matching::matches;
 pub use pattern_fault::BadPattern;
 pub use pattern_type::Pattern;
 pub use reading::read;
-
-#[cfg(test)]
-mod tests;

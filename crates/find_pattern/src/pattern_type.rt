@@ -1,9 +1,11 @@
 use td_base::Bytes;
 
-/// A text, and whether others may stand before and after it in a name.
+/// What a name is searched for: a text, alone or among others.
 #[derive(Debug, Drop)]
 pub struct Pattern {
+    /// Whether any text may stand before it.
     pub lead: bool,
+    /// Whether any text may stand after it.
     pub trail: bool,
     /// The text as it is written, without marks and escapes.
     pub text: Bytes,

@@ -68,15 +68,15 @@ fn read_from(alloc: Global, text: &[u8], start: usize) -> Result<Pattern, BadPat
                 literal.push(byte)?;
                 at += len;
             }
-            Piece::LastStar => return Ok(plain(literal, true)),
+            Piece::LastStar => return Ok(without_lead(literal, true)),
             Piece::Fault => return Err(BadPattern::BadPattern(at)),
         }
     }
-    Ok(plain(literal, false))
+    Ok(without_lead(literal, false))
 }
 
 /// A pattern without a star at its start.
-fn plain(text: Bytes, trail: bool) -> Pattern
+fn without_lead(text: Bytes, trail: bool) -> Pattern
     ensures { result ≡ patterns.literal text trail }
 {
     Pattern {

@@ -16,6 +16,7 @@ use Rattle.percent_encoding.specs.Percent.{percent_encode, percent_decode}
 use Rattle.percent_encoding.proofs.AsciiSetLemmas.{escaped_from_inside}
 use Rattle.percent_encoding.proofs.PercentLemmas.{IsEscapeByte, All-percent_encode, round_trip}
 use Rattle.form_urlencoded.proofs.FormLemmas.{raw_pairs-nil}
+use Rattle.target.specs.Marks.{percent_sign, slash, question_mark}
 use Rattle.target.specs.Paths.{is_slash, is_question_mark, path_and_query, path_of, query_of, raw_segments, decode_segment, decode_segments}
 use Rattle.target.specs.Parameters.{parameter_values, param_with, parameter}
 use Rattle.target.specs.Actions.{asked_action, action_of, asks}
@@ -33,11 +34,11 @@ kept_out : (set : AsciiSet) (mark : ℕ) → contains set mark ≡ true → (b :
 kept_out set mark inside b kept =
     ne_eqb b mark (λ e. let escaped : should_percent_encode set b ≡ true = rw e (escaped_from_inside set mark inside) in cc)
 
-slash_out : (b : ℕ) → IsEscapeByte b → (b == 47) ≡ false
-slash_out b h = ne_eqb b 47 (λ e. grind arith)
+slash_out : (b : ℕ) → IsEscapeByte b → (b == slash) ≡ false
+slash_out b h = ne_eqb b slash (λ e. grind arith)
 
-question_mark_out : (b : ℕ) → IsEscapeByte b → (b == 63) ≡ false
-question_mark_out b h = ne_eqb b 63 (λ e. grind arith)
+question_mark_out : (b : ℕ) → IsEscapeByte b → (b == question_mark) ≡ false
+question_mark_out b h = ne_eqb b question_mark (λ e. grind arith)
 
 -- ---- where no byte passes, the place is the end
 place_of_none : (p : ℕ → Bool) (xs : List ℕ) → All (λ b. p b ≡ false) xs → position_or_len p xs ≡ length xs
@@ -96,11 +97,11 @@ pub asks_by_name : (set : AsciiSet) (tzid : List ℕ) → has_marks set ≡ true
     → asks (zone_target set tzid) ≡ ask.Get tzid param.Absent param.Absent
 unfolding asks
 asks_by_name set tzid marks is =
-    let percent = both (contains set 37) (contains set 47 && contains set 63) marks in
-    let others = both (contains set 47) (contains set 63) percent.1 in
+    let percent = both (contains set percent_sign) (contains set slash && contains set question_mark) marks in
+    let others = both (contains set slash) (contains set question_mark) percent.1 in
     let name = percent_encode set tzid in
-    let no_slash = All-percent_encode (λ b. is_slash b ≡ false) set tzid (kept_out set 47 others.0) slash_out in
-    let no_question_mark = All-percent_encode (λ b. is_question_mark b ≡ false) set tzid (kept_out set 63 others.1) question_mark_out in
+    let no_slash = All-percent_encode (λ b. is_slash b ≡ false) set tzid (kept_out set slash others.0) slash_out in
+    let no_question_mark = All-percent_encode (λ b. is_question_mark b ≡ false) set tzid (kept_out set question_mark others.1) question_mark_out in
     let back = round_trip set tzid percent.0 is.bytes in
     let text : IsUtf8 (percent_decode name) = rw back is.text in
     let name_is = segment_of_text name text ∙ ap Some back in

@@ -1,4 +1,5 @@
 pub mod Actions
+pub mod Marks
 pub mod Names
 pub mod Parameters
 pub mod Paths

@@ -3,6 +3,7 @@ use Rattle.std.specs.Prelude.{ℕ, ◌<◌, List, ◌++◌, length, Bool, ◌&&�
 use Rattle.percent_encoding.specs.declared.ascii_set.AsciiSet.{AsciiSet}
 use Rattle.percent_encoding.specs.AsciiSet.{contains}
 use Rattle.percent_encoding.specs.Percent.{percent_encode}
+use Rattle.target.specs.Marks.{percent_sign, slash, question_mark}
 
 -- the target of a zone, of whose name the bytes of this set are percent-encoded
 abbrev pub zone_target : AsciiSet → List ℕ → List ℕ
@@ -10,7 +11,7 @@ zone_target set tzid = codes "/tzdist/zones/" ++ percent_encode set tzid
 
 -- the bytes that have a meaning of their own in a path, `%`, `/` and `?`, are in the set
 abbrev pub has_marks : AsciiSet → Bool
-has_marks set = contains set 37 && (contains set 47 && contains set 63)
+has_marks set = contains set percent_sign && (contains set slash && contains set question_mark)
 
 -- bytes that are UTF-8, and at least one
 pub record IsUtf8Name (tzid : List ℕ) : Type 0 where

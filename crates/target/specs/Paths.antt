@@ -5,12 +5,13 @@ use Rattle.std.specs.List.{slice_split, position_or_len, before_first, after_fir
 use Rattle.std.specs.Str.{is_utf8}
 use Rattle.percent_encoding.specs.Percent.{percent_decode}
 use Rattle.td_base.specs.TargetForm.{begins_any_case}
+use Rattle.target.specs.Marks.{slash, question_mark}
 
 abbrev pub is_slash : ℕ → Bool
-is_slash b = b == 47
+is_slash b = b == slash
 
 abbrev pub is_question_mark : ℕ → Bool
-is_question_mark b = b == 63
+is_question_mark b = b == question_mark
 
 abbrev pub ends_authority : ℕ → Bool
 ends_authority b = is_slash b || is_question_mark b

@@ -30,7 +30,7 @@ pub enum Asked {
         end: Param,
     },
     LeapSeconds,
-    /// The well-known place of the service (RFC 7808, section 4.2.1.2), from which clients are sent
+    /// The well-known place of the service (RFC 7808, section 4.2.1.3), from which clients are sent
     /// on.
     WellKnown,
     /// No action.

@@ -18,6 +18,3 @@ mod send_sync;
 pub use asked_types::{Asked, Param};
 pub use laws::asks_by_name;
 pub use reading::read;
-
-#[cfg(test)]
-mod tests;

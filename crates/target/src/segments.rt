@@ -1,12 +1,11 @@
 //! The path and the query of a target, and the segments of the path.
-ghost use Rattle.std.specs.Prelude.{◌≡◌, ◌≤◌, length, drop, IfOk};
+ghost use Rattle.std.specs.Prelude.{◌≡◌, ◌≤◌, length, IfOk};
 ghost use Rattle.std.specs.List.{after_first, before_first, position_or_len};
-ghost use Rattle.std.specs.Str.{str_eq_ignore_ascii_case};
-ghost use Rattle.td_base.specs.TargetForm.{begins_any_case};
 ghost use Rattle.target.specs.Paths as paths;
 
 use percent_encoding::{DecodeError, percent_decode};
 use std::alloc::Global;
+use td_base::texts::{begins, skip};
 use td_base::{Bytes, Items, NoMemory};
 
 /// Path and query of a target.
@@ -69,28 +68,6 @@ fn decode_segment(alloc: Global, raw: &[u8]) -> Result<Option<Bytes>, NoMemory>
         Err(DecodeError::Utf8(_)) => Ok(None),
         Err(DecodeError::OutOfMemory) => Err(NoMemory),
     }
-}
-
-/// The text without so many bytes at its start.
-fn skip(text: &[u8], count: usize) -> &[u8]
-    ensures { result.now ≡ drop count text.now }
-{
-    text.get(count..).unwrap_or(&[])
-}
-
-/// Whether the text begins with this one, which is compared without case.
-fn begins(text: &[u8], start: &[u8]) -> bool
-    ensures { result ≡ begins_any_case start.now text.now }
-{
-    let len = start.len().min(text.len());
-    is_same(&text[..len], start)
-}
-
-/// Whether two texts are the same without case.
-fn is_same(text: &[u8], other: &[u8]) -> bool
-    ensures { result ≡ str_eq_ignore_ascii_case text.now other.now }
-{
-    text.eq_ignore_ascii_case(other)
 }
 
 /// What follows the authority that the text begins with.

@@ -1,16 +1,12 @@
-use Rattle.std.proofs.Common.{sym, ◌∙◌, arith}
-use Rattle.find_pattern.proofs.SameLemmas.{past_same, at_difference, past_both}
+use Rattle.std.proofs.Common.{rules, tests, ◌∙◌}
+use Rattle.std.proofs.lemmas.Iterator.{YieldsList-from_slice, YieldsList-from_zip}
+use Rattle.std.proofs.lemmas.Iterator.Search.{all_from_yields_List}
+use Rattle.find_pattern.proofs.SameLemmas.{folds_alike, same_pairs}
 use Rattle.find_pattern.proofs.folding.has_same_bytes.Goals as goal
 
-pub returns-then-fold : goal.returns-then-fold
-returns-then-fold c =
-    at_difference c.args.text.now c.args.other.now c.loop-at.at c.loop-at.invariant (omega arith) (omega arith)
-    (λ e. c.if-fold.true (c.fold.ensures ∙ e ∙ sym c.fold-in-loop-at.ensures))
-
-pub loop-at-preserved : goal.loop-at-preserved
-loop-at-preserved c =
-    past_same c.args.text.now c.args.other.now c.loop-at.at c.loop-at.invariant (omega arith) (omega arith)
-    (sym c.fold.ensures ∙ c.if-fold.false ∙ c.fold-in-loop-at.ensures)
-
 pub returns : goal.returns
-returns c = past_both c.args.text.now c.args.other.now c.loop-at.at c.loop-at.invariant (omega arith) (omega arith)
+returns c =
+    all_from_yields_List folds_alike c.all.new.self _ c.all.result c.all.ensures.ran
+    (YieldsList-from_zip (YieldsList-from_slice c.args.text.now cc) (YieldsList-from_slice c.args.other.now cc))
+    (λ x b q k. search (rules, tests))
+    ∙ same_pairs c.args.text.now c.args.other.now c.requires

@@ -20,7 +20,7 @@ returns-in-LastStar-clause-found c =
     let text = c.args.text.now in
     let more : 0 < length (drop c.pieces.at text) = rw length-drop (omega arith) in
     at_last_star text c.pieces.literal c.pieces.at _ c.pieces.invariant.so_far more
-    (c.in-LastStar.ensures.piece ∙ ap first_piece (take_rest text c.pieces.at)) ∙ ap Ok (sym c.plain.ensures)
+    (c.in-LastStar.ensures.piece ∙ ap first_piece (take_rest text c.pieces.at)) ∙ ap Ok (sym c.without_lead.ensures)
 
 pub returns-in-Fault-clause-fault : goal.returns-in-Fault-clause-fault
 returns-in-Fault-clause-fault c =
@@ -30,4 +30,4 @@ returns-in-Fault-clause-fault c =
 
 pub returns-clause-found : goal.returns-clause-found
 returns-clause-found c =
-    at_end c.args.text.now c.pieces.literal c.pieces.at _ c.pieces.invariant.so_far (omega arith) ∙ ap Ok (sym c.plain-2.ensures)
+    at_end c.args.text.now c.pieces.literal c.pieces.at _ c.pieces.invariant.so_far (omega arith) ∙ ap Ok (sym c.without_lead-2.ensures)
