@@ -10,6 +10,8 @@ use Rattle.std.proofs.lemmas.List.Folds.{list_any-append}
 use Rattle.console.proofs.PlaceLemmas.{before_here, after_here, before_later, after_later}
 use Rattle.console.specs.declared.line.Line.{Line}
 use Rattle.console.specs.declared.line.Line.TheVariants as line
+use Rattle.console.specs.declared.reading.TheConstants.{MOST_BYTES}
+use Rattle.console.specs.Steps.{most_held}
 use Rattle.td_base.specs.Names.{is_path_word}
 use Rattle.console.specs.Lines.{without_return, install_of, asked_in, is_feed, has_feed, is_whole_text, ended_lines, line_of, lines_from, lines_of}
 
@@ -62,18 +64,18 @@ whole_line text more e =
     ap (lines_from []) (append_assoc text (10 ∷ []) more) ∙ (all_begun [] text (10 ∷ more) e ∙ lines_feed text 10 more refl)
 
 -- each line of over 1,100 bytes is strange
-long_is_strange : (text : List ℕ) → 1100 < length text → line_of text ≡ line.Strange
+long_is_strange : (text : List ℕ) → MOST_BYTES < length text → line_of text ≡ line.Strange
 unfolding line_of
-long_is_strange text h = let f : nat_le (length text) 1100 ≡ false = grind (arith, nat_tests) in rw f
+long_is_strange text h = let f : nat_le (length text) MOST_BYTES ≡ false = grind (arith, nat_tests) in rw f
 
-both_strange : (text other : List ℕ) (later : List Line) → 1100 < length text → 1100 < length other → line_of text ∷ later ≡ line_of other ∷ later
+both_strange : (text other : List ℕ) (later : List Line) → MOST_BYTES < length text → MOST_BYTES < length other → line_of text ∷ later ≡ line_of other ∷ later
 both_strange text other later h k = ap (λ l. l ∷ later) (long_is_strange text h ∙ sym (long_is_strange other k))
 
-longer : (text : List ℕ) (b : ℕ) → 1100 < length text → 1100 < length (text ++ b ∷ [])
+longer : (text : List ℕ) (b : ℕ) → MOST_BYTES < length text → MOST_BYTES < length (text ++ b ∷ [])
 longer text b h = omega (arith, h, length-append text (b ∷ []))
 
 -- and it does not matter which bytes it has
-pub too_long : (text other more : List ℕ) → 1100 < length text → 1100 < length other → lines_from text more ≡ lines_from other more
+pub too_long : (text other more : List ℕ) → MOST_BYTES < length text → MOST_BYTES < length other → lines_from text more ≡ lines_from other more
 too_long text other [] h k = lines_none text ∙ sym (lines_none other)
 too_long text other (b ∷ bs) h k = by_test (too_long (text ++ b ∷ []) (other ++ b ∷ []) bs (longer text b h) (longer other b k)) (cases_Bool (is_feed b))
   where
@@ -88,16 +90,18 @@ none_in_first n bytes e =
     (sym (list_any-append is_feed (take n bytes) (drop n bytes)) ∙ (ap has_feed (take-append-drop n bytes) ∙ e))).0
 
 -- the first 1,101 bytes stand for all of a line that has not ended
-pub first_stand : (bytes more : List ℕ) → has_feed bytes ≡ false → lines_of (bytes ++ more) ≡ lines_of (take 1101 bytes ++ more)
+pub first_stand : (bytes more : List ℕ) → has_feed bytes ≡ false → lines_of (bytes ++ more) ≡ lines_of (take most_held bytes ++ more)
 first_stand bytes more e =
-    all_begun [] bytes more e ∙ (by_length (cases_Bool (nat_le (length bytes) 1101)) ∙ sym (all_begun [] (take 1101 bytes) more (none_in_first 1101 bytes e)))
+    all_begun [] bytes more e
+    ∙ (by_length (cases_Bool (nat_le (length bytes) most_held)) ∙ sym (all_begun [] (take most_held bytes) more (none_in_first most_held bytes e)))
   where
-    by_length : (nat_le (length bytes) 1101 ≡ true) ⊎ (nat_le (length bytes) 1101 ≡ false) → lines_from bytes more ≡ lines_from (take 1101 bytes) more
+    by_length : (nat_le (length bytes) most_held ≡ true) ⊎ (nat_le (length bytes) most_held ≡ false)
+        → lines_from bytes more ≡ lines_from (take most_held bytes) more
     by_length (inl f) =
-        let h : length bytes ≤ 1101 = grind (arith, nat_tests) in ap (λ t. lines_from t more) (sym (take_all 1101 bytes h))
+        let h : length bytes ≤ most_held = grind (arith, nat_tests) in ap (λ t. lines_from t more) (sym (take_all most_held bytes h))
     by_length (inr f) =
-        let h : 1101 < length bytes = grind (arith, nat_tests) in
-        too_long bytes (take 1101 bytes) more (omega (arith, h)) (omega (arith, h, length-take 1101 bytes))
+        let h : most_held < length bytes = grind (arith, nat_tests) in
+        too_long bytes (take most_held bytes) more (omega (arith, h)) (omega (arith, h, length-take most_held bytes))
 
 -- the lines of a list are the first of those of each longer one
 abbrev GoesOn : List ℕ → List ℕ → List ℕ → Type 0
@@ -174,4 +178,4 @@ short_by false l text h e = absurd (true≢false (sym (ap is_install e)))
 pub named_folder : (bytes folder : List ℕ) → line_of bytes ≡ line.Install folder → is_path_word folder ≡ true
 unfolding line_of
 named_folder bytes folder e =
-    short_by (nat_le (length bytes) 1100) (asked_in (without_return bytes)) folder (of_command (without_return bytes) folder) e
+    short_by (nat_le (length bytes) MOST_BYTES) (asked_in (without_return bytes)) folder (of_command (without_return bytes) folder) e

@@ -6,7 +6,7 @@ use Rattle.std.proofs.lemmas.List.{append-nil, length-take}
 use Rattle.td_base.specs.declared.no_memory.NoMemory.{NoMemory}
 use Rattle.console.specs.declared.line.Line.{Line}
 use Rattle.console.specs.Lines.{is_feed, has_feed, line_of, lines_of}
-use Rattle.console.specs.Steps.{StepsLine, GivesLines, ContinuesLines, HasInstall, LineTakesBytes, LeavesFew}
+use Rattle.console.specs.Steps.{StepsLine, GivesLines, ContinuesLines, HasInstall, LineTakesBytes, LeavesFew, most_held}
 use Rattle.console.proofs.LineLemmas.{lines_none, first_line, all_begun, first_stand}
 
 -- a list in which no line ends has no lines
@@ -39,12 +39,12 @@ fewer_after (b ∷ bs) e = omega (arith, length-drop (position_or_len is_feed (b
 
 pub fewer : (old new : List ℕ) (r : Result (Option Line) NoMemory) → IfOk r (λ o. StepsLine old o new) → IfOk r (LineTakesBytes old new)
 fewer old new (Ok (Some line)) s = rw s.2 (fewer_after old s.0)
-fewer old new (Ok None) s = omega (arith, ap length s.1, length-take 1101 old)
+fewer old new (Ok None) s = omega (arith, ap length s.1, length-take most_held old)
 fewer old new (Err e) s = tt
 
 pub few : (old new : List ℕ) (r : Result (Option Line) NoMemory) → IfOk r (λ o. StepsLine old o new) → IfOk r (LeavesFew new)
 few old new (Ok (Some line)) s = tt
-few old new (Ok None) s = omega (arith, ap length s.1, length-take 1101 old)
+few old new (Ok None) s = omega (arith, ap length s.1, length-take most_held old)
 few old new (Err e) s = tt
 
 pub err_install : {T : Type 0} (old : List ℕ) (r : Result T NoMemory) → HasInstall old → OnErr r (HasInstall old)

@@ -6,10 +6,7 @@ use Rattle.std.specs.Str.{bytes_eq}
 use Rattle.td_base.specs.Names.{is_path_word}
 use Rattle.console.specs.declared.line.Line.{Line}
 use Rattle.console.specs.declared.line.Line.TheVariants as line
-
--- how many bytes a line may have before its line feed
-abbrev pub most_line_bytes : ℕ
-most_line_bytes = 1100
+use Rattle.console.specs.declared.reading.TheConstants.{MOST_BYTES}
 
 -- the text without one carriage return at its end
 abbrev pub without_return : List ℕ → List ℕ
@@ -36,7 +33,7 @@ asked_in text =
 -- what the bytes before a line feed ask for
 unfoldable pub line_of : List ℕ → Line
 line_of bytes =
-    if nat_le (length bytes) most_line_bytes then asked_in (without_return bytes) else line.Strange
+    if nat_le (length bytes) MOST_BYTES then asked_in (without_return bytes) else line.Strange
 
 abbrev pub is_feed : ℕ → Bool
 is_feed b = b == 10

@@ -2,12 +2,13 @@
 use Rattle.std.specs.Prelude.{◌≡◌, ℕ, ◌+◌, ◌<◌, ◌≤◌, List, [], ◌∷◌, ◌++◌, length, take, false}
 use Rattle.std.specs.Prelude.{IsTrue, Option, Some, None, ⊤}
 use Rattle.std.specs.List.{before_first, after_first}
-use Rattle.console.specs.Lines.{most_line_bytes, is_feed, has_feed, line_of, lines_of, IsInstall}
+use Rattle.console.specs.Lines.{is_feed, has_feed, line_of, lines_of, IsInstall}
 use Rattle.console.specs.declared.line.Line.{Line}
+use Rattle.console.specs.declared.reading.TheConstants.{MOST_BYTES}
 
 -- how many bytes stay where no line feed is held: of a longer line these show that it is too long
 abbrev pub most_held : ℕ
-most_held = most_line_bytes + 1
+most_held = MOST_BYTES + 1
 
 -- what the first line of the bytes asks for
 abbrev pub first_line : List ℕ → Line
