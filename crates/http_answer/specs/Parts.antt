@@ -10,10 +10,6 @@ parts_text lines = flat_map ended lines
 unfoldable pub field_line : List ℕ → List ℕ → List ℕ
 field_line name value = name ++ (value ++ codes "\r\n")
 
--- the list begins with these bytes
-unfoldable pub StartsWith : List ℕ → List ℕ → Type 0
-StartsWith bytes list = take (length bytes) list ≡ bytes
-
 -- what was there at the beginning is there still
-abbrev pub Keeps : List ℕ → List ℕ → Type 0
-Keeps old new = (bytes : List ℕ) → StartsWith bytes old → StartsWith bytes new
+unfoldable pub Keeps : List ℕ → List ℕ → Type 0
+Keeps old new = take (length old) new ≡ old

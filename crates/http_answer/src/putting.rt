@@ -18,6 +18,7 @@ pub fn put(out: &mut Bytes, text: &[u8]) -> Result<(), NoMemory>
 }
 
 /// Appends the line of a field.
+#[tactic(auto, using(crate::proofs::Keeping::keeps_both))]
 fn put_line(out: &mut Bytes, name: &[u8], value: &[u8]) -> Result<(), NoMemory>
     ensures ok { OnOk result (out.new ≡ out.old ++ field_line name.now value.now) }
     ensures kept { Keeps out.old out.new }
@@ -29,6 +30,7 @@ fn put_line(out: &mut Bytes, name: &[u8], value: &[u8]) -> Result<(), NoMemory>
 }
 
 /// Appends the status line.
+#[tactic(auto, using(crate::proofs::Keeping::keeps_both))]
 pub fn put_status(out: &mut Bytes, status: u16) -> Result<(), NoMemory>
     requires { IsAnswerStatus status }
     ensures ok { OnOk result (out.new ≡ out.old ++ ended (status_line status)) }
@@ -42,6 +44,7 @@ pub fn put_status(out: &mut Bytes, status: u16) -> Result<(), NoMemory>
 }
 
 /// Appends the line of the body's type.
+#[tactic(auto, using(crate::proofs::Keeping::keeps_both, crate::proofs::Keeping::keeps_itself))]
 pub fn put_type(out: &mut Bytes, answer: &Answer) -> Result<(), NoMemory>
     ensures ok { OnOk result (out.new ≡ out.old
         ++ parts_text (unless_unchanged answer.now.status (type_lines answer.now.kind))) }
@@ -54,6 +57,7 @@ pub fn put_type(out: &mut Bytes, answer: &Answer) -> Result<(), NoMemory>
 }
 
 /// Appends the lines of the tag.
+#[tactic(auto, using(crate::proofs::Keeping::keeps_both, crate::proofs::Keeping::keeps_itself))]
 pub fn put_tag(out: &mut Bytes, tag: &Option<Bytes>) -> Result<(), NoMemory>
     ensures ok { OnOk result (out.new ≡ out.old ++ parts_text (tag_lines tag.now)) }
     ensures kept { Keeps out.old out.new }
@@ -69,6 +73,7 @@ pub fn put_tag(out: &mut Bytes, tag: &Option<Bytes>) -> Result<(), NoMemory>
 }
 
 /// Appends the line of the body's length.
+#[tactic(auto, using(crate::proofs::Keeping::keeps_both, crate::proofs::Keeping::keeps_itself))]
 pub fn put_length(out: &mut Bytes, answer: &Answer) -> Result<(), NoMemory>
     ensures ok { OnOk result (out.new ≡ out.old
         ++ parts_text (unless_unchanged answer.now.status (length_lines answer.now.body))) }

@@ -25,6 +25,7 @@ pub fn write(out: &mut Bytes, answer: &Answer, head_only: bool, close: bool) -> 
 }
 
 /// Appends the reply, or a prefix of it.
+#[tactic(auto, using(crate::proofs::Keeping::keeps_both))]
 fn put_reply(out: &mut Bytes, answer: &Answer, head_only: bool, close: bool) -> Result<(), NoMemory>
     requires { IsAnswerStatus answer.now.status }
     ensures ok { OnOk result (out.new ≡ out.old ++ reply answer.now head_only close) }
@@ -38,6 +39,7 @@ fn put_reply(out: &mut Bytes, answer: &Answer, head_only: bool, close: bool) -> 
 }
 
 /// Appends the fields, each where it applies.
+#[tactic(auto, using(crate::proofs::Keeping::keeps_both))]
 fn put_fields(out: &mut Bytes, answer: &Answer, close: bool) -> Result<(), NoMemory>
     ensures ok { OnOk result (out.new ≡ out.old ++ parts_text (fields answer.now close)) }
     ensures kept { Keeps out.old out.new }
