@@ -4,5 +4,7 @@ pub mod ExpansionReads
 pub mod Integers
 pub mod lemmas
 pub mod LeapReads
+pub mod ListTaken
+pub mod ListUtf8
 pub mod ReadBack
 pub mod TreeTokens

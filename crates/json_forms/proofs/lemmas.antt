@@ -1,5 +1,6 @@
 -- Lemmas that proofs of other crates may cite.
 pub mod JsonLemmas
+pub mod ListFound
 pub mod ListReads
 pub mod ListSteps
 pub mod PlainUtf8

@@ -2,7 +2,6 @@ pub mod AliasTokens
 pub mod Begun
 pub mod CapabilitiesDocument
 pub mod ExpansionDocument
-pub mod FaultPlace
 pub mod FaultText
 pub mod JsonTexts
 pub mod LeapDocument
@@ -10,5 +9,6 @@ pub mod ListDocument
 pub mod ListReading
 pub mod PlainTexts
 pub mod ProblemDocument
+pub mod SoundLists
 pub mod ToldZone
 pub mod TreeTokens

@@ -1,16 +1,18 @@
 -- A list of time zones as it is read (RFC 7808, section 6.2): what is judged of it, and what is
 -- taken.
-use Rattle.std.specs.Prelude.{◌≡◌, ℕ, ◌+◌, pos, List, [], ◌∷◌, codes, Bool, true, false, ◌&&◌}
-use Rattle.std.specs.Prelude.{nat_le, length, if◌then◌else◌, Option, None, Some, is_some, unwrap_or}
-use Rattle.std.specs.Prelude.{option_and_then}
-use Rattle.std.specs.List.{list_all}
+use Rattle.std.specs.Prelude.{ℕ, ◌+◌, pos, List, [], ◌∷◌, codes, Bool, true, false, ◌&&◌, nat_le}
+use Rattle.std.specs.Prelude.{if◌then◌else◌, Option, None, Some, is_some, unwrap_or}
+use Rattle.std.specs.Prelude.{option_and_then, Result, Ok, Err}
 use Rattle.std.specs.Option.{option_map_or}
 use Rattle.serde_json.specs.Data.{Data, Items, no_items, item}
 use Rattle.serde_json.specs.Events.{items_len}
 use Rattle.serde_json.specs.Find.{get, as_str, as_array}
 use Rattle.td_base.specs.Names.{is_identifier, is_label}
 use Rattle.td_civil.specs.Reading.{moment_in}
+use Rattle.catalogue.specs.Plain.{is_token}
 use Rattle.catalogue.specs.declared.limits.TheConstants.{MOST_ZONES, MOST_NAMES}
+use Rattle.json_forms.specs.declared.list_fault.BadList.{BadList}
+use Rattle.json_forms.specs.declared.list_fault.BadList.TheVariants as bad
 use Rattle.json_forms.specs.declared.zone_list.ListDoc.{ListDoc}
 use Rattle.json_forms.specs.declared.zone_list.ListZone.{ListZone}
 use Rattle.json_forms.specs.JsonTexts.{json_in}
@@ -34,15 +36,6 @@ is_any_text text = true
 
 abbrev pub is_moment_text : List ℕ → Bool
 is_moment_text text = is_some (moment_in text)
-
--- a printable ASCII byte that is no space
-abbrev pub is_token_byte : ℕ → Bool
-is_token_byte b = nat_le 33 b && nat_le b 126
-
--- 1 to 64 of them
-abbrev pub is_token : List ℕ → Bool
-is_token text =
-    nat_le 1 (length text) && nat_le (length text) 64 && list_all is_token_byte text
 
 -- whether each item is an identifier
 abbrev pub are_identifiers : Items → Bool
@@ -92,10 +85,6 @@ entry_fault n (item d ds) = if is_entry d then entry_fault (n + 1) ds else Some 
 unfoldable pub list_fault : Data → Option ℕ
 list_fault d = if is_list d then entry_fault 1 (entries d) else Some 0
 
--- where bytes are no list
-unfoldable pub text_fault : List ℕ → Option ℕ
-text_fault text = option_map_or list_fault (json_in text) (Some 0)
-
 -- ---- what is taken
 
 unfoldable pub text_in : List ℕ → Data → List ℕ
@@ -122,9 +111,17 @@ zones_read (item d ds) = zone_in d ∷ zones_read ds
 unfoldable pub list_of : Data → ListDoc
 list_of d = record { token = text_in (codes "synctoken") d; zones = zones_read (entries d) }
 
--- the bytes are this list
-pub record IsListText (text : List ℕ) (doc : ListDoc) : Type 0 where
-  pub value : Data
-  pub reads : json_in text ≡ Some value
-  pub sound : list_fault value ≡ None
-  pub is : doc ≡ list_of value
+-- ---- both
+
+-- the list, unless there is a fault at a place
+abbrev pub list_unless : Option ℕ → ListDoc → Result ListDoc BadList
+list_unless None list = Ok list
+list_unless (Some place) list = Err (bad.BadList place)
+
+-- the list that a value is, or where it is none
+unfoldable pub list_found : Data → Result ListDoc BadList
+list_found d = list_unless (list_fault d) (list_of d)
+
+-- the list that bytes are, or where they are none; bytes that are no value are none at 0
+unfoldable pub list_read : List ℕ → Result ListDoc BadList
+list_read text = option_map_or list_found (json_in text) (Err (bad.BadList 0))

@@ -1,4 +1,4 @@
-ghost use Rattle.std.specs.Prelude.{◌≡◌, IfOk, OnOk, option_map};
+ghost use Rattle.std.specs.Prelude.{◌≡◌, IfOk, OnOk, OnErr, option_map};
 ghost use Rattle.serde_json.specs.Errors.{IsMemory};
 ghost use Rattle.serde_json.specs.View.{view};
 ghost use Rattle.json_forms.specs.JsonTexts.{json_in};
@@ -22,7 +22,8 @@ pub(crate) fn read_value(alloc: Global, bytes: &[u8]) -> Result<Option<Value>, N
 
 /// That nothing was read for another cause than memory.
 fn check_memory(error: &Error) -> Result<(), NoMemory>
-    ensures { OnOk result (¬ IsMemory error.now) }
+    ensures ok { OnOk result (¬ IsMemory error.now) }
+    ensures err { OnErr result (IsMemory error.now) }
 {
     if error.is_memory() {
         Err(NoMemory)

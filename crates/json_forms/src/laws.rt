@@ -1,22 +1,28 @@
 //! Laws of the documents.
-ghost use Rattle.std.specs.Prelude.{◌≡◌, ℕ, ℤ, List, Some};
+ghost use Rattle.std.specs.Prelude.{◌≡◌, ℕ, ℤ, List, Some, Ok};
 ghost use Rattle.std.specs.List.{AllByRecursion};
 ghost use Rattle.serde_json.specs.Read.{read};
 ghost use Rattle.td_civil.specs.declared.local_time.Observance.{Observance};
 ghost use Rattle.catalogue.specs.declared.release.Leaps.{Leaps};
+ghost use Rattle.json_forms.specs.declared.zone_list.ListDoc.{ListDoc};
 ghost use Rattle.json_forms.specs.declared.zone_list.ListZone.{ListZone};
 ghost use Rattle.json_forms.specs.declared.problem_type.Problem.{Problem};
 ghost use Rattle.json_forms.specs.ExpansionDocument.{expansion_data, expansion_document};
 ghost use Rattle.json_forms.specs.ExpansionDocument.{HasOffsets};
 ghost use Rattle.json_forms.specs.LeapDocument.{leap_data, leap_document, HasOffset};
 ghost use Rattle.json_forms.specs.ListDocument.{list_data, list_document};
+ghost use Rattle.json_forms.specs.ListReading.{list_read};
 ghost use Rattle.json_forms.specs.ProblemDocument.{problem_data, problem_document, problem_in};
+ghost use Rattle.json_forms.specs.SoundLists.{IsSoundList};
 
-/// The text of a list reads as the tree that it is the text of.
-#[tactic(auto, using(crate::proofs::lemmas::ListReads::list_reads))]
+/// The text of a list reads as the tree that it is the text of, and where the list is sound, as
+/// that list.
+#[tactic(auto, using(crate::proofs::lemmas::ListReads::list_reads, crate::proofs::lemmas::ListFound::list_back))]
 pub fn list_reads_back()
-    ensures { (token : List ℕ) (zones : List ListZone)
+    ensures tree { (token : List ℕ) (zones : List ListZone)
         → read (list_document token zones) ≡ Some (list_data token zones) }
+    ensures list { (list : ListDoc) → IsSoundList list
+        → list_read (list_document list.token list.zones) ≡ Ok list }
 {}
 
 /// The text of a problem reads as the tree that it is the text of, and tells of that problem.

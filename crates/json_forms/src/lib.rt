@@ -44,6 +44,3 @@ pub use problem_reader::read_problem;
 pub use problem_type::Problem;
 pub use problem_writer::problem_text;
 pub use zone_list::{ListDoc, ListZone, ZoneTexts};
-
-#[cfg(test)]
-mod tests;

@@ -6,6 +6,7 @@ ghost use Rattle.serde_json.specs.Events.{items_len};
 ghost use Rattle.serde_json.specs.Find.{get, as_str, as_array};
 ghost use Rattle.serde_json.specs.View.{view, items_view};
 ghost use Rattle.td_base.specs.Names as names;
+ghost use Rattle.catalogue.specs.Plain as plain;
 ghost use Rattle.json_forms.specs.ListReading as reading;
 
 use crate::members::{array_member, text_member};
@@ -111,7 +112,7 @@ fn is_entry(entry: &Value) -> bool
 
 #[tactic(auto, unfolding(crate::specs::ListReading::has_text))]
 fn has_token(object: &Value) -> bool
-    ensures { result ≡ reading.has_text reading.is_token (codes "synctoken") (view object.now) }
+    ensures { result ≡ reading.has_text plain.is_token (codes "synctoken") (view object.now) }
 {
     match text_member(object, "synctoken") {
         Some(text) => is_token(text.as_bytes()),
@@ -120,13 +121,13 @@ fn has_token(object: &Value) -> bool
 }
 
 fn is_token(text: &[u8]) -> bool
-    ensures { result ≡ reading.is_token text.now }
+    ensures { result ≡ plain.is_token text.now }
 {
     !text.is_empty() && text.len() <= 64 && has_token_bytes(text)
 }
 
 fn has_token_bytes(text: &[u8]) -> bool
-    ensures { result ≡ list_all reading.is_token_byte text.now }
+    ensures { result ≡ list_all plain.is_token_byte text.now }
 {
     text.iter().all(|byte| *byte >= b'!' && *byte <= b'~')
 }

@@ -1,8 +1,7 @@
-ghost use Rattle.std.specs.Prelude.{◌≡◌, ◌≢◌, codes, pos, IfOk, IfErr, Some, unwrap_or};
+ghost use Rattle.std.specs.Prelude.{◌≡◌, ◌≢◌, codes, pos, IfOk, IfErr, None, Ok, Err, unwrap_or};
 ghost use Rattle.serde_json.specs.Data.{no_items};
 ghost use Rattle.serde_json.specs.View.{view, items_view};
 ghost use Rattle.td_civil.specs.Reading.{moment_in as moment_meant};
-ghost use Rattle.json_forms.specs.FaultPlace.{fault_place};
 ghost use Rattle.json_forms.specs.ListReading as reading;
 ghost use Rattle.json_forms.specs.declared.list_fault.BadList.TheVariants as bad;
 
@@ -18,9 +17,9 @@ use td_civil::{Moment, moment_of};
 /// The list of time zones that a body is (RFC 7808, section 6.2). Members of other names are
 /// ignored, and of a member given twice the last one counts.
 pub fn read_list(alloc: Global, bytes: &[u8]) -> Result<ListDoc, BadList>
-    ensures found { IfOk result (λ list. reading.IsListText bytes.now list) }
+    ensures found { IfOk result (λ list. reading.list_read bytes.now ≡ Ok list) }
     ensures fault { IfErr result
-        (λ e. e ≢ bad.NoMemory → reading.text_fault bytes.now ≡ Some (fault_place e)) }
+        (λ e. e ≢ bad.NoMemory → reading.list_read bytes.now ≡ Err e) }
 {
     match read_value(alloc, bytes)? {
         Some(value) => list_in(alloc, &value),
@@ -28,12 +27,14 @@ pub fn read_list(alloc: Global, bytes: &[u8]) -> Result<ListDoc, BadList>
     }
 }
 
-/// The list that a value is.
+/// The list that a value is. It is judged without memory, and only a list takes any.
+#[tactic(auto, unfolding(crate::specs::ListReading::list_found))]
 fn list_in(alloc: Global, value: &Value) -> Result<ListDoc, BadList>
-    ensures no_fault { IfOk result (λ _. reading.list_fault (view value.now) ≡ None) }
-    ensures found { IfOk result (λ list. list ≡ reading.list_of (view value.now)) }
+    ensures found { IfOk result (λ list. reading.list_found (view value.now) ≡ Ok list) }
     ensures fault { IfErr result
-        (λ e. e ≢ bad.NoMemory → reading.list_fault (view value.now) ≡ Some (fault_place e)) }
+        (λ e. e ≢ bad.NoMemory → reading.list_found (view value.now) ≡ Err e) }
+    ensures memory { IfErr result
+        (λ e. e ≡ bad.NoMemory → reading.list_fault (view value.now) ≡ None) }
 {
     match list_fault(value) {
         Some(place) => Err(BadList::BadList(place)),
