@@ -10,7 +10,7 @@ use Rattle.catalogue.specs.Releases.{ReleaseData}
 use Rattle.catalogue.specs.declared.holding.Catalogue.{Catalogue}
 use Rattle.json_forms.specs.declared.zone_list.ListZone.{ListZone}
 use Rattle.zone_meaning.specs.Sound.{IsSound}
-use Rattle.actions.specs.Listing.{listed}
+use Rattle.actions.specs.Listing.{list_zone}
 
 -- a position at which there is an item of a list
 pub record IsFound {A : Type 0} (items : List A) (found : List A) (k at : ℕ) : Type 0 where
@@ -42,17 +42,17 @@ take_one [] k x is = absurd cc
 take_one (y ∷ ys) zero x is = let same : y ≡ x = cc in ap (λ z. z ∷ []) same
 take_one (y ∷ ys) (suc k) x is = ap (λ zs. y ∷ zs) (take_one ys k x is)
 
-map_two : (es : List EntryData) (e : EntryData) → map listed (es ++ (e ∷ [])) ≡ map listed es ++ (listed e ∷ [])
+map_two : (es : List EntryData) (e : EntryData) → map list_zone (es ++ (e ∷ [])) ≡ map list_zone es ++ (list_zone e ∷ [])
 map_two [] e = refl
-map_two (x ∷ es) e = ap (λ zs. listed x ∷ zs) (map_two es e)
+map_two (x ∷ es) e = ap (λ zs. list_zone x ∷ zs) (map_two es e)
 
 -- one more zone of a list
 pub next_change : (all changed : List EntryData) (places : List ℕ) (k at : ℕ) (e : EntryData) (z : ListZone) → map (slice_get all) places ≡ map Some changed
-    → slice_get places k ≡ Some at → slice_get all at ≡ Some e → z ≡ listed e → map listed (take k changed) ++ (z ∷ []) ≡ map listed (take (k + 1) changed)
+    → slice_get places k ≡ Some at → slice_get all at ≡ Some e → z ≡ list_zone e → map list_zone (take k changed) ++ (z ∷ []) ≡ map list_zone (take (k + 1) changed)
 next_change all changed places k at e z same is there told =
     let found = found_at all places changed k at same is in
     let one : found.item ≡ e = cc (found.there) in
-    rw (told, ← one, add-one k) (sym (ap (map listed) (take_one changed k found.item found.listed) ∙ map_two (take k changed) found.item))
+    rw (told, ← one, add-one k) (sym (ap (map list_zone) (take_one changed k found.item found.listed) ∙ map_two (take k changed) found.item))
 
 -- each position is one of the catalogue
 pub change_within : (c : Catalogue (List ℕ)) (H : List ReleaseData) (changed : List EntryData) (places : List ℕ) (k at : ℕ)

@@ -11,7 +11,7 @@ use Rattle.catalogue.proofs.lemmas.LastRelease.{last_of}
 use Rattle.json_forms.specs.CapabilitiesDocument.{capabilities_document}
 use Rattle.json_forms.specs.LeapDocument.{leap_document}
 use Rattle.zone_meaning.specs.Sound.{IsSound, IsSoundLeaps}
-use Rattle.actions.specs.Describing.{described, capabilities_answer}
+use Rattle.actions.specs.Describing.{capabilities_of, capabilities_answer}
 use Rattle.actions.specs.Documents.{with_document, unknown_action}
 use Rattle.actions.specs.LeapSeconds.{leaps_told, leap_answer}
 
@@ -55,7 +55,7 @@ has_leaps None leaps has is same = same
 has_leaps (Some r) leaps has is same = is ∙ ap is_some same
 
 described_of : (o : Option ReleaseData) (role : Role) (text : List ℕ) (has : Bool) → IsSomeAnd o (λ r. text ≡ r.publisher)
-    → IsSomeAnd o (λ r. has ≡ is_some r.leaps) → with_document (capabilities_document role text has) ≡ described role o
+    → IsSomeAnd o (λ r. has ≡ is_some r.leaps) → with_document (capabilities_document role text has) ≡ capabilities_of role o
 described_of None role text has same leaps = absurd same
 described_of (Some r) role text has same leaps = rw (same, leaps) refl
 

@@ -15,10 +15,11 @@ use Rattle.http_answer.specs.declared.answer.Answer.{Answer}
 use Rattle.json_forms.specs.declared.problem_type.Problem.TheVariants as problem
 use Rattle.target.specs.declared.asked_types.Param.{Param}
 use Rattle.zone_meaning.specs.Sound.{IsSound, IsSoundFile}
-use Rattle.actions.specs.Bounds.{start_of}
+use Rattle.actions.specs.declared.bounds.BoundRule.TheVariants as rule
+use Rattle.actions.specs.Bounds.{bounds_in}
 use Rattle.actions.specs.Documents.{with_problem}
-use Rattle.actions.specs.Expanding.{expanded_from, expand_answer}
-use Rattle.actions.specs.Getting.{got, get_answer}
+use Rattle.actions.specs.Expanding.{expansion_between, expand_answer}
+use Rattle.actions.specs.Getting.{zone_answer, get_answer}
 
 -- the first position at which a test passes, or a later one
 split : (b : Bool) (at : ℕ) (later : Option ℕ) (n : ℕ) → cond b (Some at) later ≡ Some n → ((b ≡ true) × (at ≡ n)) ⊎ (later ≡ Some n)
@@ -34,7 +35,7 @@ at_least p at (x ∷ xs) n h =
     ]
 
 -- what stands there passes the test
-passes : {A : Type 0} (p : A → Bool) (at k : ℕ) (xs : List A) (x : A) → position_from p at xs ≡ Some (at + k) → slice_get xs k ≡ Some x → p x ≡ true
+pub passes : {A : Type 0} (p : A → Bool) (at k : ℕ) (xs : List A) (x : A) → position_from p at xs ≡ Some (at + k) → slice_get xs k ≡ Some x → p x ≡ true
 passes p at k [] x h there = absurd cc
 passes p at zero (y ∷ ys) x h there =
     elim (split (p y) at (position_from p (at + 1) ys) (at + zero) h) [
@@ -49,7 +50,7 @@ passes p at (suc k) (y ∷ ys) x h there =
 
 -- ---- the name is plain
 
-either : (a b : Bool) → (a || b) ≡ true → (a ≡ true) ⊎ (b ≡ true)
+pub either : (a b : Bool) → (a || b) ≡ true → (a ≡ true) ⊎ (b ≡ true)
 either true b h = inl refl
 either false b h = inr h
 
@@ -91,7 +92,7 @@ file_is_sound H place e history there = sound_of H (last_release H) place e hist
 -- ---- the answer
 
 pub found_is : (H : List ReleaseData) (name : List ℕ) (place : ℕ) (e : EntryData) (start end : Param) → Some place ≡ place_named H name
-    → slice_get (meta H) place ≡ Some e → expanded_from name e.content.file (start_of start) end ≡ expand_answer H name start end
+    → slice_get (meta H) place ≡ Some e → expansion_between name e.content.file (bounds_in rule.Required start end) ≡ expand_answer H name start end
 unfolding expand_answer
 found_is H name place e start end found there = rw (sym found, there) refl
 
@@ -100,15 +101,15 @@ pub missing_is : (H : List ReleaseData) (name : List ℕ) (start end : Param) �
 unfolding expand_answer
 missing_is H name start end found = rw (sym found) refl
 
-pub got_is : (H : List ReleaseData) (accept field : Option (List ℕ)) (name : List ℕ) (place : ℕ) (e : EntryData) (start end : Param)
-    → Some place ≡ place_named H name → slice_get (meta H) place ≡ Some e → got name (Some e) accept field start end ≡ get_answer H accept field name start end
+pub data_is : (H : List ReleaseData) (accept field : Option (List ℕ)) (name : List ℕ) (place : ℕ) (e : EntryData) (start end : Param)
+    → Some place ≡ place_named H name → slice_get (meta H) place ≡ Some e → zone_answer name (Some e) accept field start end ≡ get_answer H accept field name start end
 unfolding get_answer
-got_is H accept field name place e start end found there = rw (sym found, there) refl
+data_is H accept field name place e start end found there = rw (sym found, there) refl
 
-pub nothing_is : (H : List ReleaseData) (accept field : Option (List ℕ)) (name : List ℕ) (start end : Param) → None ≡ place_named H name
+pub no_data_is : (H : List ReleaseData) (accept field : Option (List ℕ)) (name : List ℕ) (start end : Param) → None ≡ place_named H name
     → with_problem problem.TzidNotFound ≡ get_answer H accept field name start end
 unfolding get_answer
-nothing_is H accept field name start end found = rw (sym found) refl
+no_data_is H accept field name start end found = rw (sym found) refl
 
 -- an answer that is one thing is what that is
 pub answered : (r : Result Answer NoMemory) (a b : Answer) → IfOk r (λ x. x ≡ a) → a ≡ b → IfOk r (λ x. x ≡ b)

@@ -10,12 +10,13 @@ use Rattle.json_forms.specs.CapabilitiesDocument.{capabilities_document}
 use Rattle.actions.specs.Documents.{with_document, unknown_action}
 
 -- of a server of this role over this release
-abbrev pub described : Role → Option ReleaseData → Answer
-described role (Some r) = with_document (capabilities_document role r.publisher (is_some r.leaps))
-described role None = unknown_action
+abbrev pub capabilities_of : Role → Option ReleaseData → Answer
+capabilities_of role (Some r) =
+    with_document (capabilities_document role r.publisher (is_some r.leaps))
+capabilities_of role None = unknown_action
 
 unfoldable pub capabilities_answer : List ReleaseData → Role → Answer
-capabilities_answer H role = described role (last_release H)
+capabilities_answer H role = capabilities_of role (last_release H)
 
 -- the context path of the service, to which a client is sent
 abbrev pub redirect : Answer

@@ -37,5 +37,5 @@ with_data kind tag body = record {
 }
 
 -- the client holds the data of a zone that have this tag (RFC 9110, section 15.4.5)
-abbrev pub unchanged : List ℕ → Answer
-unchanged tag = record { status = 304; kind = None; tag = Some tag; moved = false; body = [] }
+abbrev pub not_modified : List ℕ → Answer
+not_modified tag = record { status = 304; kind = None; tag = Some tag; moved = false; body = [] }

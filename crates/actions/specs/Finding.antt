@@ -12,7 +12,7 @@ use Rattle.json_forms.specs.declared.problem_type.Problem.TheVariants as problem
 use Rattle.target.specs.declared.asked_types.Param.{Param}
 use Rattle.target.specs.declared.asked_types.Param.TheVariants as param
 use Rattle.actions.specs.Documents.{with_document, with_problem}
-use Rattle.actions.specs.Listing.{list_text}
+use Rattle.actions.specs.Listing.{list_body}
 
 -- the zone's identifier or one of its aliases matches
 abbrev pub is_found : Pattern → EntryData → Bool
@@ -20,7 +20,7 @@ is_found p e = matches p e.content.tzid || list_any (matches p) e.content.aliase
 
 -- the zones that a pattern finds
 abbrev pub found_by : List ReleaseData → Result Pattern BadPattern → Answer
-found_by H (Ok p) = with_document (list_text H (is_found p))
+found_by H (Ok p) = with_document (list_body H (is_found p))
 found_by H (Err e) = with_problem problem.InvalidPattern
 
 -- what a pattern that is given once finds

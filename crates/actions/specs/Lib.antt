@@ -4,8 +4,9 @@ pub mod Describing
 pub mod Documents
 pub mod Expanding
 pub mod Finding
+pub mod Formats
 pub mod Getting
 pub mod LeapSeconds
 pub mod Listing
-pub mod Ranges
+pub mod Moments
 pub mod Tags

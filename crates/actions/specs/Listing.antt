@@ -13,8 +13,8 @@ use Rattle.target.specs.declared.asked_types.Param.TheVariants as param
 use Rattle.actions.specs.Documents.{with_document, with_problem}
 
 -- a zone of a release, as a list shows it
-abbrev pub listed : EntryData → ListZone
-listed e = record {
+abbrev pub list_zone : EntryData → ListZone
+list_zone e = record {
   tzid = e.content.tzid;
   etag = e.tag;
   stamp = record { seconds = e.stamp };
@@ -24,12 +24,12 @@ listed e = record {
 }
 
 -- the zones of the last release that pass the test, with the token of the last place
-unfoldable pub list_text : List ReleaseData → (EntryData → Bool) → List ℕ
-list_text H shows = list_document (token_of H (length H)) (map listed (filter shows (meta H)))
+unfoldable pub list_body : List ReleaseData → (EntryData → Bool) → List ℕ
+list_body H shows = list_document (token_of H (length H)) (map list_zone (filter shows (meta H)))
 
 -- the zones whose content last changed after a place
 unfoldable pub change_list : List ReleaseData → ℕ → List ℕ
-change_list H n = list_document (token_of H (length H)) (map listed (delta H n))
+change_list H n = list_document (token_of H (length H)) (map list_zone (delta H n))
 
 abbrev pub changes_since : List ReleaseData → Option ℕ → Answer
 changes_since H (Some n) = with_document (change_list H n)
@@ -37,10 +37,10 @@ changes_since H None = with_problem problem.InvalidChangedsince
 
 -- all zones, or those that changed since the place of which this is the token
 unfoldable pub list_answer : List ReleaseData → Param → Answer
-list_answer H param.Absent = with_document (list_text H (λ _. true))
+list_answer H param.Absent = with_document (list_body H (λ _. true))
 list_answer H (param.Once token) = changes_since H (place_of H token)
 list_answer H param.Repeated = with_problem problem.InvalidChangedsince
 
 -- what one entry adds to a list
-abbrev pub listed_if : (EntryData → Bool) → EntryData → List ListZone
-listed_if shows e = if shows e then listed e ∷ [] else []
+abbrev pub list_zone_if : (EntryData → Bool) → EntryData → List ListZone
+list_zone_if shows e = if shows e then list_zone e ∷ [] else []

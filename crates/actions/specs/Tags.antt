@@ -1,9 +1,10 @@
 -- The entity tags of a zone's data (RFC 9110, section 8.8.3), with their quotes: the tag of its
--- content, the format, and the bounds, where one is given.
+-- content, the mark of the format, and the bounds, where one is given.
 use Rattle.std.specs.Prelude.{ℕ, List, [], ◌++◌, codes}
 use Rattle.td_civil.specs.Calendar.{text_of}
-use Rattle.actions.specs.declared.ranges.Bound.{Bound}
-use Rattle.actions.specs.declared.ranges.Bound.TheVariants.{Open, At}
+use Rattle.actions.specs.declared.bounds.Bound.{Bound}
+use Rattle.actions.specs.declared.bounds.Bound.TheVariants.{Open, At}
+use Rattle.actions.specs.declared.bounds.Bounds.{Bounds}
 
 -- the text of a bound: a dash where it is open
 abbrev pub bound_text : Bound → List ℕ
@@ -18,10 +19,7 @@ bounds_text Open Open = []
 bounds_text Open (At m) = after_point Open ++ after_point (At m)
 bounds_text (At m) end = after_point (At m) ++ after_point end
 
--- of the zone's file
-unfoldable pub file_tag : List ℕ → List ℕ
-file_tag tag = codes "\"" ++ tag ++ codes ".t\""
-
--- of its calendar
-unfoldable pub calendar_tag : List ℕ → Bound → Bound → List ℕ
-calendar_tag tag start end = codes "\"" ++ tag ++ codes ".c" ++ bounds_text start end ++ codes "\""
+-- of the content with this tag, in the format with this mark
+unfoldable pub data_tag : List ℕ → List ℕ → Bounds → List ℕ
+data_tag tag mark bounds =
+    codes "\"" ++ tag ++ codes "." ++ mark ++ bounds_text bounds.start bounds.end ++ codes "\""

@@ -1,67 +1,139 @@
-ghost use Rattle.std.specs.Prelude.{◌≡◌, ◌≤ℤ◌, ◌<ℤ◌, IfSome, IsTrue};
-ghost use Rattle.std.specs.Option.{option_map};
-ghost use Rattle.actions.specs.Bounds.{given, is_start, is_end, start_of, end_of};
+//! The range of time that a request asks for, by its bounds.
+ghost use Rattle.std.specs.Prelude.{◌≡◌, IfOk, IfSome};
+ghost use Rattle.td_civil.specs.Bounds.{HasMeaning};
+ghost use Rattle.vtimezone.specs.Ranges.{IsEndOf, seconds_if_any};
+ghost use Rattle.actions.specs.Bounds as spec;
 
+use crate::moments::{end_of, start_of};
+use json_forms::Problem;
 use target::Param;
-use td_civil::{HI, LO, Moment, moment_of};
+use td_civil::{HI, LO, Moment};
+use vtimezone::Range;
 
-/// The moment of a parameter that is given once, where it is the text of one.
-fn moment_in(parameter: &Param) -> Option<Moment>
-    ensures { option_map (λ m. m.seconds) result ≡ given parameter.now }
+/// A bound of a range of time.
+#[derive(Clone, Copy)]
+pub enum Bound {
+    /// The range goes as far as there is a meaning.
+    Open,
+    At(Moment),
+}
+
+/// A range of time.
+#[derive(Clone, Copy)]
+pub struct Bounds {
+    pub start: Bound,
+    pub end: Bound,
+}
+
+/// Which bounds may be given.
+#[derive(Clone, Copy)]
+pub enum BoundRule {
+    /// Both have to be.
+    Required,
+    /// Each may be left open.
+    Optional,
+    /// None may be.
+    Refused,
+}
+
+/// A bound that is not given, unless that is refused.
+fn bound_absent(rule: BoundRule) -> Option<Bound>
+    ensures { result ≡ spec.bound_absent rule }
+{
+    match rule {
+        BoundRule::Required => None,
+        BoundRule::Optional => Some(Bound::Open),
+        BoundRule::Refused => Some(Bound::Open),
+    }
+}
+
+/// A bound that is given, by its moment, unless that is refused.
+fn bound_present(rule: BoundRule, moment: Option<Moment>) -> Option<Bound>
+    ensures { result ≡ spec.bound_present rule (seconds_if_any moment) }
+{
+    match rule {
+        BoundRule::Required => moment.map(Bound::At),
+        BoundRule::Optional => moment.map(Bound::At),
+        BoundRule::Refused => None,
+    }
+}
+
+/// The start of a range. None where it is refused.
+#[tactic(auto, using(crate::proofs::BoundLemmas::absent_start, crate::proofs::BoundLemmas::present_start), unfolding(crate::specs::Bounds::start_bound))]
+fn start_bound(rule: BoundRule, parameter: &Param) -> Option<Bound>
+    ensures bound { result ≡ spec.start_bound rule parameter.now }
+    ensures meaning { IfSome result (λ start. HasMeaning (spec.begin_of start).seconds) }
 {
     match parameter {
-        Param::Once(text) => moment_of(text.as_slice()).ok(),
-        Param::Absent => None,
-        Param::Repeated => None,
+        Param::Absent => bound_absent(rule),
+        Param::Once(_) | Param::Repeated => bound_present(rule, start_of(parameter)),
     }
 }
 
-/// Whether a moment may start a range: it has a meaning.
-fn is_start(m: Moment) -> bool
-    ensures test { result ≡ is_start m.seconds }
-    ensures meaning { IsTrue result → (LO ≤ℤ m.seconds) × (m.seconds <ℤ HI) }
+/// The end of a range with this start. None where it is refused.
+#[tactic(auto, using(crate::proofs::BoundLemmas::absent_end, crate::proofs::BoundLemmas::present_end), unfolding(crate::specs::Bounds::end_bound))]
+fn end_bound(rule: BoundRule, start: Bound, parameter: &Param) -> Option<Bound>
+    ensures bound { result ≡ spec.end_bound rule start parameter.now }
+    ensures range { IfSome result (λ end. IsEndOf (spec.begin_of start).seconds
+        (seconds_if_any (spec.end_if_any end))) }
 {
-    LO <= m.seconds && m.seconds < HI
-}
-
-/// Whether a moment may end a range with this start.
-fn is_end(start: Moment, m: Moment) -> bool
-    ensures test { result ≡ is_end start.seconds m.seconds }
-    ensures range { IsTrue result → (start.seconds <ℤ m.seconds) × (m.seconds ≤ℤ HI) }
-{
-    start.seconds < m.seconds && m.seconds <= HI
-}
-
-/// The start of a range that a request gives.
-#[tactic(auto, using(crate::proofs::Passing::passes, crate::proofs::Passing::fails, crate::proofs::Passing::lacks), unfolding(crate::specs::Bounds::start_of))]
-pub fn start_of(parameter: &Param) -> Option<Moment>
-    ensures start { option_map (λ m. m.seconds) result ≡ start_of parameter.now }
-    ensures meaning { IfSome result (λ m. (LO ≤ℤ m.seconds) × (m.seconds <ℤ HI)) }
-{
-    match moment_in(parameter) {
-        Some(m) => {
-            if is_start(m) {
-                return Some(m);
-            }
-            None
-        }
-        None => None,
+    match parameter {
+        Param::Absent => bound_absent(rule),
+        Param::Once(_) | Param::Repeated => bound_present(rule, end_of(begin_of(start), parameter)),
     }
 }
 
-/// The end of a range that a request gives, of which the start is known.
-#[tactic(auto, using(crate::proofs::Passing::passes, crate::proofs::Passing::fails, crate::proofs::Passing::lacks), unfolding(crate::specs::Bounds::end_of))]
-pub fn end_of(start: Moment, parameter: &Param) -> Option<Moment>
-    ensures end { option_map (λ m. m.seconds) result ≡ end_of start.seconds parameter.now }
-    ensures range { IfSome result (λ m. (start.seconds <ℤ m.seconds) × (m.seconds ≤ℤ HI)) }
+/// The range that a request asks for. A start that is refused is told before an end.
+#[tactic(auto, unfolding(crate::specs::Bounds::bounds_in))]
+pub fn bounds_in(rule: BoundRule, start: &Param, end: &Param) -> Result<Bounds, Problem>
+    ensures bounds { result ≡ spec.bounds_in rule start.now end.now }
+    ensures range { IfOk result spec.AreBounds }
 {
-    match moment_in(parameter) {
-        Some(m) => {
-            if is_end(start, m) {
-                return Some(m);
-            }
-            None
-        }
-        None => None,
+    let Some(start) = start_bound(rule, start) else {
+        return Err(Problem::InvalidStart);
+    };
+    let Some(end) = end_bound(rule, start, end) else {
+        return Err(Problem::InvalidEnd);
+    };
+    Ok(Bounds { start, end })
+}
+
+/// Where a range with this start begins.
+pub fn begin_of(start: Bound) -> Moment
+    ensures { result ≡ spec.begin_of start }
+{
+    match start {
+        Bound::Open => Moment { seconds: LO },
+        Bound::At(moment) => moment,
+    }
+}
+
+/// Where a range with this end ends.
+pub fn finish_of(end: Bound) -> Moment
+    ensures { result ≡ spec.finish_of end }
+{
+    match end {
+        Bound::Open => Moment { seconds: HI },
+        Bound::At(moment) => moment,
+    }
+}
+
+/// Where a range with this end ends, if it has an end.
+fn end_if_any(end: Bound) -> Option<Moment>
+    ensures { result ≡ spec.end_if_any end }
+{
+    match end {
+        Bound::Open => None,
+        Bound::At(moment) => Some(moment),
+    }
+}
+
+/// The range between two bounds.
+pub fn range_between(bounds: Bounds) -> Range
+    ensures { result ≡ spec.range_between bounds }
+{
+    Range {
+        from: begin_of(bounds.start),
+        until: end_if_any(bounds.end),
     }
 }

@@ -1,6 +1,6 @@
 ghost use Rattle.std.specs.Prelude.{◌≡◌, IfOk};
-ghost use Rattle.actions.specs.Documents.{with_data, with_document, with_problem, unchanged};
-ghost use Rattle.actions.specs.Documents.{unknown_action};
+ghost use Rattle.actions.specs.Documents.{with_data, with_document, with_problem};
+ghost use Rattle.actions.specs.Documents.{not_modified, unknown_action};
 
 use http_answer::{Answer, Kind};
 use json_forms::{Problem, problem_text};
@@ -56,8 +56,8 @@ pub fn zone_data(kind: Kind, tag: Bytes, body: Bytes) -> Answer
 }
 
 /// The answer to a client that holds the data of this tag.
-pub fn unchanged(alloc: Global, tag: Bytes) -> Answer
-    ensures { result ≡ unchanged tag }
+pub fn not_modified(alloc: Global, tag: Bytes) -> Answer
+    ensures { result ≡ not_modified tag }
 {
     Answer {
         status: 304,

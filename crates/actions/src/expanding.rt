@@ -1,15 +1,14 @@
 ghost use Rattle.std.specs.Prelude.{◌≡◌, IfOk};
 ghost use Rattle.td_base.specs.Names.{IsPlain};
 ghost use Rattle.http_answer.specs.Replies.{IsAnswerStatus};
-ghost use Rattle.json_forms.specs.ExpansionDocument.{expansion_document};
-ghost use Rattle.zone_meaning.specs.Observed.{IsRange, observed};
+ghost use Rattle.zone_meaning.specs.Observed.{IsRange};
 ghost use Rattle.zone_meaning.specs.Sound.{IsSoundFile};
-ghost use Rattle.zone_meaning.specs.State.{zone_state};
 ghost use Rattle.zone_meaning.specs.ZoneHistories.{ForEachZoneHistory, HasZoneHistory};
-ghost use Rattle.actions.specs.Bounds as bounds;
-ghost use Rattle.actions.specs.Expanding.{expand_answer, expanded_from};
+ghost use Rattle.actions.specs.Bounds.{bounds_in};
+ghost use Rattle.actions.specs.Expanding.{expand_answer, expansion, expansion_between};
+ghost use Rattle.actions.specs.declared.bounds.BoundRule.TheVariants as rule;
 
-use crate::bounds::{end_of, start_of};
+use crate::bounds::{BoundRule, begin_of, bounds_in, finish_of};
 use crate::documents::{document, refusal};
 use catalogue::Catalogue;
 use http_answer::Answer;
@@ -46,6 +45,7 @@ pub fn expand(
 }
 
 /// Answers for a zone that was found.
+#[tactic(auto, using(crate::proofs::BoundLemmas::range_is))]
 fn expand_zone(
     alloc: Global,
     name: &Bytes,
@@ -56,16 +56,16 @@ fn expand_zone(
     requires name { IsPlain name.now }
     requires sound { IsSoundFile zone.now }
     ensures answer { IfOk result (λ answer. answer
-        ≡ expanded_from name.now zone.now (bounds.start_of start.now) end.now) }
+        ≡ expansion_between name.now zone.now (bounds_in rule.Required start.now end.now)) }
     ensures status { IfOk result (λ answer. IsAnswerStatus answer.status) }
 {
-    let Some(from) = start_of(start) else {
-        return refusal(alloc, Problem::InvalidStart);
-    };
-    let Some(until) = end_of(from, end) else {
-        return refusal(alloc, Problem::InvalidEnd);
-    };
-    Ok(document(expansion(alloc, name, zone, from, until)?))
+    match bounds_in(BoundRule::Required, start, end) {
+        Ok(bounds) => {
+            let (from, until) = (begin_of(bounds.start), finish_of(bounds.end));
+            Ok(document(expansion(alloc, name, zone, from, until)?))
+        }
+        Err(problem) => refusal(alloc, problem),
+    }
 }
 
 /// The document of a zone's observances from one moment to another.
@@ -79,8 +79,8 @@ fn expansion(
     requires name { IsPlain name.now }
     requires sound { IsSoundFile zone.now }
     requires range { IsRange from.seconds until.seconds }
-    ensures { IfOk result (λ text. text ≡ expansion_document name.now from.seconds until.seconds
-        (observed (zone_state zone.now) from.seconds until.seconds)) }
+    ensures { IfOk result (λ text. text
+        ≡ expansion name.now zone.now from.seconds until.seconds) }
 {
     let mut changes = Changes::new(zone, from, until);
     let mut text = ExpansionWriter::begin(Bytes::new(alloc), until)?;

@@ -8,7 +8,7 @@ ghost use Rattle.actions.specs.Finding.{find_answer, found_by};
 
 use crate::choice::Choice;
 use crate::documents::{document, refusal};
-use crate::listing::listing;
+use crate::listing::list_body;
 use catalogue::{Catalogue, Entry};
 use find_pattern::{BadPattern, Pattern, matches, read};
 use http_answer::Answer;
@@ -41,7 +41,7 @@ fn find_text(alloc: Global, catalogue: &Catalogue<Zone>, text: &Bytes) -> Result
     ensures status { IfOk result (λ answer. IsAnswerStatus answer.status) }
 {
     match read(alloc, text.as_slice()) {
-        Ok(pattern) => Ok(document(listing(alloc, catalogue, &pattern)?)),
+        Ok(pattern) => Ok(document(list_body(alloc, catalogue, &pattern)?)),
         Err(BadPattern::BadPattern(_)) => refusal(alloc, Problem::InvalidPattern),
         Err(BadPattern::NoMemory) => Err(NoMemory),
     }
@@ -62,10 +62,7 @@ impl Choice for Pattern {
 fn has_match(pattern: &Pattern, aliases: &[Bytes]) -> bool
     ensures { result ≡ list_any (pattern_matches pattern.now) aliases.now }
 {
-    for alias in aliases {
-        if matches(pattern, alias.as_slice()) {
-            return true;
-        }
-    }
-    false
+    aliases
+        .iter()
+        .any(|alias| matches(pattern, alias.as_slice()))
 }

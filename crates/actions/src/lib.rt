@@ -12,6 +12,7 @@ mod choice;
 mod describing;
 mod expanding;
 mod finding;
+mod formats;
 mod getting;
 mod leap_seconds;
 mod listing;
@@ -19,12 +20,7 @@ mod listing;
 // What several actions need.
 mod bounds;
 mod documents;
-mod ranges;
+mod moments;
 mod tags;
 
 pub use answering::answer;
-
-#[cfg(test)]
-mod test_rows;
-#[cfg(test)]
-mod tests;

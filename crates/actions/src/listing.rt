@@ -8,8 +8,7 @@ ghost use Rattle.zone_meaning.specs.ZoneHistories.{ForEachZoneHistory, HasZoneHi
 ghost use Rattle.http_answer.specs.Replies.{IsAnswerStatus};
 ghost use Rattle.actions.specs.Documents.{with_document};
 ghost use Rattle.catalogue.specs.Lookups.{place_of};
-ghost use Rattle.actions.specs.Listing as listing;
-ghost use Rattle.actions.specs.Listing.{list_answer, list_text, listed, listed_if};
+ghost use Rattle.actions.specs.Listing as spec;
 
 use crate::choice::Choice;
 use crate::documents::{document, refusal};
@@ -26,7 +25,7 @@ use zone_meaning::Zone;
 pub fn list(alloc: Global, catalogue: &Catalogue<Zone>, since: &Param) -> Result<Answer, NoMemory>
     requires { HasZoneHistory catalogue.now }
     ensures answer { ForEachZoneHistory catalogue.now (λ H.
-        IfOk result (λ answer. answer ≡ list_answer H since.now)) }
+        IfOk result (λ answer. answer ≡ spec.list_answer H since.now)) }
     ensures status { IfOk result (λ answer. IsAnswerStatus answer.status) }
 {
     match since {
@@ -44,7 +43,7 @@ fn changes_since(
 ) -> Result<Answer, NoMemory>
     requires { HasZoneHistory catalogue.now }
     ensures answer { ForEachZoneHistory catalogue.now (λ H.
-        IfOk result (λ answer. answer ≡ listing.changes_since H (place_of H token.now))) }
+        IfOk result (λ answer. answer ≡ spec.changes_since H (place_of H token.now))) }
     ensures status { IfOk result (λ answer. IsAnswerStatus answer.status) }
 {
     match catalogue.place_of(token.as_slice()) {
@@ -57,7 +56,7 @@ fn changes_since(
 fn change_list(alloc: Global, catalogue: &Catalogue<Zone>, place: u32) -> Result<Bytes, NoMemory>
     requires { HasZoneHistory catalogue.now }
     ensures { ForEachZoneHistory catalogue.now (λ H.
-        IfOk result (λ text. text ≡ listing.change_list H place)) }
+        IfOk result (λ text. text ≡ spec.change_list H place)) }
 {
     let changed = catalogue.changed_since(alloc, place)?;
     let token = catalogue.token(catalogue.count());
@@ -85,20 +84,20 @@ impl Choice for Everything {
 fn full_list(alloc: Global, catalogue: &Catalogue<Zone>) -> Result<Answer, NoMemory>
     requires { HasZoneHistory catalogue.now }
     ensures { ForEachZoneHistory catalogue.now (λ H.
-        IfOk result (λ answer. answer ≡ with_document (list_text H (λ _. true)))) }
+        IfOk result (λ answer. answer ≡ with_document (spec.list_body H (λ _. true)))) }
 {
-    Ok(document(listing(alloc, catalogue, &Everything)?))
+    Ok(document(list_body(alloc, catalogue, &Everything)?))
 }
 
 /// The list of the zones that a choice takes, with the token of the last place.
-pub fn listing<C: Choice>(
+pub fn list_body<C: Choice>(
     alloc: Global,
     catalogue: &Catalogue<Zone>,
     choice: &C,
 ) -> Result<Bytes, NoMemory>
     requires { HasZoneHistory catalogue.now }
     ensures { ForEachZoneHistory catalogue.now (λ H.
-        IfOk result (λ text. text ≡ list_text H (C.shows choice.now))) }
+        IfOk result (λ text. text ≡ spec.list_body H (C.shows choice.now))) }
 {
     let token = catalogue.token(catalogue.count());
     let mut list = ListWriter::begin(Bytes::new(alloc), token.as_slice())?;
@@ -118,7 +117,7 @@ fn put_chosen<C: Choice>(
     ensures { (before token : List ℕ) (zones : List ListZone)
         → IsListBegun before token zones list.old
         → OnOk result (IsListBegun before token
-        (zones ++ listed_if (C.shows choice.now) (entry_data (λ z. z) entry.now)) list.new) }
+        (zones ++ spec.list_zone_if (C.shows choice.now) (entry_data (λ z. z) entry.now)) list.new) }
 {
     if choice.takes(entry) {
         list.zone(&texts_of(entry))?;
@@ -128,7 +127,7 @@ fn put_chosen<C: Choice>(
 
 /// What a list tells of a zone.
 fn texts_of(entry: &Entry<Zone>) -> ZoneTexts<'_>
-    ensures { told_zone result ≡ listed (entry_data (λ z. z) entry.now) }
+    ensures { told_zone result ≡ spec.list_zone (entry_data (λ z. z) entry.now) }
 {
     ZoneTexts {
         tzid: entry.content.tzid.as_slice(),

@@ -1,35 +1,25 @@
 ghost use Rattle.std.specs.Prelude.{◌≡◌, ◌++◌, IfOk, OnOk, IfSome};
 ghost use Rattle.td_civil.specs.Bounds.{IsWithinBounds};
-ghost use Rattle.actions.specs.Ranges.{end_if_any};
+ghost use Rattle.actions.specs.Bounds.{AreBounds, end_if_any};
 ghost use Rattle.actions.specs.Tags as tags;
 
-use crate::ranges::Bound;
+use crate::bounds::{Bound, Bounds};
 use std::alloc::Global;
 use td_base::{Bytes, NoMemory};
 use td_civil::utc_text;
 
-/// The entity tag of a zone's file, by the tag of its content.
-#[tactic(auto, unfolding(crate::specs::Tags::file_tag))]
-pub fn file_tag(alloc: Global, tag: &[u8]) -> Result<Bytes, NoMemory>
-    ensures { IfOk result (λ text. text ≡ tags.file_tag tag.now) }
+/// The entity tag of a zone's data between two bounds, by the tag of its content and the mark of a
+/// format.
+#[tactic(auto, unfolding(crate::specs::Tags::data_tag))]
+pub fn data_tag(alloc: Global, tag: &[u8], mark: &[u8], bounds: Bounds) -> Result<Bytes, NoMemory>
+    requires { AreBounds bounds }
+    ensures { IfOk result (λ text. text ≡ tags.data_tag tag.now mark.now bounds) }
 {
     let mut text = Bytes::from_slice(alloc, b"\"")?;
     text.append(tag)?;
-    text.append(b".t\"")?;
-    Ok(text)
-}
-
-/// The entity tag of a zone's calendar between two bounds.
-#[tactic(auto, unfolding(crate::specs::Tags::calendar_tag))]
-pub fn calendar_tag(alloc: Global, tag: &[u8], start: Bound, end: Bound) -> Result<Bytes, NoMemory>
-    requires start { IfSome (end_if_any start) (λ m. IsWithinBounds m.seconds) }
-    requires end { IfSome (end_if_any end) (λ m. IsWithinBounds m.seconds) }
-    ensures { IfOk result (λ text. text ≡ tags.calendar_tag tag.now start end) }
-{
-    let mut text = Bytes::from_slice(alloc, b"\"")?;
-    text.append(tag)?;
-    text.append(b".c")?;
-    append_bounds(&mut text, start, end)?;
+    text.append(b".")?;
+    text.append(mark)?;
+    append_bounds(&mut text, bounds.start, bounds.end)?;
     text.append(b"\"")?;
     Ok(text)
 }

@@ -7,7 +7,7 @@ use Rattle.catalogue.specs.Lookups.{delta}
 use Rattle.json_forms.specs.Begun.{IsListBegun}
 use Rattle.json_forms.specs.ListDocument.{list_document}
 use Rattle.json_forms.specs.declared.zone_list.ListZone.{ListZone}
-use Rattle.actions.specs.Listing.{change_list, listed}
+use Rattle.actions.specs.Listing.{change_list, list_zone}
 use Rattle.actions.proofs.ChangedZones.{as_many, change_within, next_change}
 use Rattle.actions.proofs.listing.change_list.Goals as goal
 
@@ -36,5 +36,5 @@ returns c =
     let same = ap length c.as_slice-at-items.ensures in
     let all : length (delta H c.args.place) ≤ c.loop-at.at-index = omega (arith, many, same, c.loop-at-test.false) in
     subst (λ (zones : List ListZone). IfOk c.end.result (λ text. text ≡ list_document (token_of H (length H)) zones))
-    (ap (map listed) (take_all _ (delta H c.args.place) all))
+    (ap (map list_zone) (take_all _ (delta H c.args.place) all))
     (c.end.ensures [] (token_of H (length H)) _ (c.loop-at.invariant H stands))

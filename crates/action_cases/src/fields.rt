@@ -1,0 +1,15 @@
+//! What fields of negotiation choose and have.
+use case_lines::{Answer, Row, shown};
+use negotiate::{choose, none_match};
+use std::alloc::Global;
+
+/// `choose FIELD`, or `choose` without a field: the format.
+pub fn choice(alloc: Global, row: &Row) -> Answer {
+    let field = row.words().first().map(|word| word.as_slice());
+    shown(alloc, &choose(field))
+}
+
+/// `none-match TAG FIELD`: whether the field has the tag.
+pub fn holding(alloc: Global, row: &Row) -> Answer {
+    shown(alloc, &none_match(row.word(1)?, row.word(0)?))
+}

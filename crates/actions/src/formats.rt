@@ -1,0 +1,111 @@
+//! How each format of a zone's data is served.
+ghost use Rattle.std.specs.Prelude.{◌≡◌, IfOk, IfSome, option_copied};
+ghost use Rattle.catalogue.specs.Releases.{content_as_is};
+ghost use Rattle.zone_meaning.specs.Sound.{IsSoundFile};
+ghost use Rattle.actions.specs.Bounds.{AreBounds};
+ghost use Rattle.actions.specs.Formats as formats;
+ghost use Rattle.vtimezone.specs.Spellable.{IsSafe};
+
+use crate::bounds::{BoundRule, Bounds, range_between};
+use catalogue::Content;
+use http_answer::Kind;
+use negotiate::Format;
+use std::alloc::Global;
+use td_base::{Bytes, NoMemory};
+use vtimezone::{parts, write};
+use zone_meaning::{Zone, file};
+
+/// A format, without its texts.
+#[derive(Clone, Copy)]
+pub struct Form {
+    pub bounds: BoundRule,
+    pub kind: Kind,
+    /// The mark of its entity tags.
+    pub mark: &'static [u8],
+}
+
+/// How a format is served.
+pub fn form_of(format: Format) -> Form
+    ensures bounds { result.bounds ≡ (formats.form_of format).bounds }
+    ensures kind { result.kind ≡ (formats.form_of format).kind }
+    ensures mark { result.mark.now ≡ (formats.form_of format).mark }
+{
+    match format {
+        Format::Calendar => Form {
+            bounds: BoundRule::Optional,
+            kind: Kind::Calendar,
+            mark: b"c",
+        },
+        Format::Tzif => Form {
+            bounds: BoundRule::Refused,
+            kind: Kind::Tzif,
+            mark: b"t",
+        },
+    }
+}
+
+/// The data of a zone in a format, between two bounds, under the name that was asked for.
+pub fn text_in(
+    alloc: Global,
+    format: Format,
+    name: &Bytes,
+    content: &Content<Zone>,
+    bounds: Bounds,
+) -> Result<Bytes, NoMemory>
+    requires sound { IsSoundFile content.now.zone }
+    requires names { formats.AreTexts name.now content.now.tzid }
+    requires bounds { AreBounds bounds }
+    ensures { IfOk result (λ text. text ≡ (formats.form_of format).text name.now
+        (content_as_is (λ z. z) content.now) bounds) }
+{
+    match format {
+        Format::Calendar => calendar_text(alloc, name, content, bounds),
+        Format::Tzif => file_text(alloc, content),
+    }
+}
+
+/// The calendar of a zone between two bounds.
+#[tactic(auto, unfolding(crate::specs::Formats::calendar_text))]
+fn calendar_text(
+    alloc: Global,
+    name: &Bytes,
+    content: &Content<Zone>,
+    bounds: Bounds,
+) -> Result<Bytes, NoMemory>
+    requires sound { IsSoundFile content.now.zone }
+    requires names { formats.AreTexts name.now content.now.tzid }
+    requires bounds { AreBounds bounds }
+    ensures { IfOk result (λ text. text ≡ formats.calendar_text name.now
+        (content_as_is (λ z. z) content.now) bounds) }
+{
+    let range = range_between(bounds);
+    let parts = parts(alloc, &content.zone, range)?;
+    let mut text = Bytes::new(alloc);
+    write(
+        &mut text,
+        name.as_slice(),
+        alias_of(name, &content.tzid),
+        parts.as_slice(),
+        range.until,
+    )?;
+    Ok(text)
+}
+
+/// The identifier of a zone, where the name is an alias.
+fn alias_of<'a>(name: &Bytes, tzid: &'a Bytes) -> Option<&'a [u8]>
+    requires { IsSafe tzid.now }
+    ensures alias_of { option_copied result ≡ formats.alias_of name.now tzid.now }
+    ensures safe { IfSome (option_copied result) IsSafe }
+{
+    if name.as_slice() == tzid.as_slice() {
+        return None;
+    }
+    Some(tzid.as_slice())
+}
+
+/// The file of a zone.
+fn file_text(alloc: Global, content: &Content<Zone>) -> Result<Bytes, NoMemory>
+    ensures { IfOk result (λ text. text ≡ (content_as_is (λ z. z) content.now).file) }
+{
+    Bytes::from_slice(alloc, file(&content.zone))
+}
