@@ -23,6 +23,3 @@ mod send_sync;
 
 pub use heard_type::{Heard, Settled};
 pub use mirror::Mirror;
-
-#[cfg(test)]
-mod tests;

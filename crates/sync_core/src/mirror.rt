@@ -1,7 +1,10 @@
-ghost use Rattle.std.specs.Prelude.{◌≡◌, [], IfOk, OnOk, OnErr};
+ghost use Rattle.std.specs.Prelude.{◌≡◌, [], None, IfOk, IsOk, OnOk, OnErr};
+ghost use Rattle.td_base.specs.declared.report.Ask.TheVariants as ask;
 ghost use Rattle.sync_core.specs.Mirrors.{ask_of, empty_mirror};
 ghost use Rattle.sync_core.specs.Published.{HasFiles, manifest_of};
 ghost use Rattle.sync_core.specs.Steps as steps;
+ghost use Rattle.sync_core.specs.declared.heard_type.Heard.TheVariants as said;
+ghost use Rattle.sync_core.specs.declared.heard_type.Settled.TheVariants.{Holds};
 
 use crate::aliases::{aliases_in, drop_entries, drop_files};
 use crate::listed::in_order;
@@ -58,9 +61,11 @@ impl Mirror {
         }
     }
 
-    /// What is to be asked next. It stays the same until something is heard.
+    /// What is to be asked next. It stays the same until something is heard. A list that is asked
+    /// for without a token takes no memory.
     pub fn ask(&self, alloc: Global) -> Result<Ask, NoMemory>
-        ensures { IfOk result (λ asked. asked ≡ ask_of self.now) }
+        ensures asked { IfOk result (λ asked. asked ≡ ask_of self.now) }
+        ensures memory { ask_of self.now ≡ ask.List None → IsOk result }
     {
         match self.pending.front() {
             Some(tzid) => Ok(Ask::Get(tzid.clone_in(alloc)?)),
@@ -68,13 +73,16 @@ impl Mirror {
         }
     }
 
-    /// Takes what answers the present ask.
+    /// Takes what answers the present ask. A token that is refused, and a list of changes without
+    /// any, take no memory.
     #[tactic(auto, unfolding(crate::specs::Steps::sync_step))]
     pub fn take(&mut self, heard: Heard) -> Result<Settled, NoMemory>
         requires { steps.IsAnswerTo (ask_of self.old) heard }
         ensures state { OnOk result (self.new ≡ steps.sync_step self.old heard) }
         ensures settled { IfOk result (λ s. s ≡ steps.settles self.old heard) }
         ensures unchanged { OnErr result (self.new ≡ self.old) }
+        ensures refused { heard ≡ said.BadToken → IsOk result }
+        ensures holds { steps.settles self.old heard ≡ Holds → IsOk result }
     {
         let settled = self.settles(&heard);
         self.hear(heard)?;
@@ -111,6 +119,8 @@ impl Mirror {
     fn hear(&mut self, heard: Heard) -> Result<(), NoMemory>
         ensures ok { OnOk result (self.new ≡ steps.after_heard self.old heard) }
         ensures err { OnErr result (self.new ≡ self.old) }
+        ensures refused { heard ≡ said.BadToken → IsOk result }
+        ensures holds { steps.settles self.old heard ≡ Holds → IsOk result }
     {
         match heard {
             Heard::List(doc) => self.hear_list(doc)?,
@@ -123,6 +133,7 @@ impl Mirror {
     fn hear_list(&mut self, doc: ListDoc) -> Result<(), NoMemory>
         ensures ok { OnOk result (self.new ≡ steps.after_list self.old.token self.old doc) }
         ensures err { OnErr result (self.new ≡ self.old) }
+        ensures holds { steps.list_settles self.old.token doc.zones ≡ Holds → IsOk result }
     {
         if self.token.is_none() {
             return self.hear_full(doc);
@@ -190,7 +201,8 @@ impl Mirror {
 
 /// A copy of a token.
 fn copied(alloc: Global, token: &Option<Bytes>) -> Result<Option<Bytes>, NoMemory>
-    ensures { IfOk result (λ copy. copy ≡ token.now) }
+    ensures copy { IfOk result (λ copy. copy ≡ token.now) }
+    ensures memory { token.now ≡ None → IsOk result }
 {
     match token {
         Some(token) => Ok(Some(token.clone_in(alloc)?)),
