@@ -7,14 +7,14 @@ use Rattle.catalogue.specs.Releases.{ReleaseData}
 use Rattle.sync_core.specs.declared.heard_type.Heard.{Heard}
 use Rattle.sync_core.specs.declared.heard_type.Heard.TheVariants as heard
 use Rattle.sync_world.specs.Primaries.{HeardIsTold, FindsNoOther, FindsPlaces, Service, told_by}
-use Rattle.sync_world.specs.Worlds.{Leads, Sent, Step, SyncWorld, world_begun}
+use Rattle.sync_world.specs.Worlds.{Leads, Sent, WorldStep, SyncWorld, world_begun}
 use Rattle.sync_world.proofs.Looks.{looked_up}
 use Rattle.sync_world.proofs.Runs.{SentStands, always}
 use Rattle.sync_world.proofs.Steps.{good}
 
 module _ (P : Service) (sound : ReleaseData → Type 0) (hears : List ReleaseData → Ask → Heard → Type 0) (so : HeardIsTold sound hears P)
     (finds : FindsPlaces sound P) (no_other : FindsNoOther sound P) where
-  pub answered : (H : List ReleaseData) (xs : List Step) (w : SyncWorld) (sent : Sent) (n : ℕ) → IsHistory sound H → 1 ≤ length H
+  pub answered : (H : List ReleaseData) (xs : List WorldStep) (w : SyncWorld) (sent : Sent) (n : ℕ) → IsHistory sound H → 1 ≤ length H
       → Leads sound hears (world_begun H) xs w
       → w.sent ≡ Some sent → sent.since ≤ n → n ≤ length w.history
       → IsSomeAnd (told_by P (take n w.history) sent.ask) (λ h. length w.history ≤ P.kept → h ≡ heard.BadToken → ⊥)

@@ -10,7 +10,7 @@ use Rattle.catalogue.proofs.lemmas.Growing.{prefix_all}
 use Rattle.catalogue.specs.Releases.{ContentData, ReleaseData, names_of}
 use Rattle.catalogue.specs.Histories.{IsHistory, EntryData, entry_from, entries_of, has_content, has_name, last_change, last_release, meta}
 use Rattle.sync_world.proofs.Looks.{known}
-use Rattle.actions.specs.Listing.{listed}
+use Rattle.actions.specs.Listing.{list_zone}
 use Rattle.catalogue.specs.Lookups.{delta, zone_at}
 use Rattle.sync_world.specs.Primaries.{list_told, changes_of}
 use Rattle.sync_core.proofs.lemmas.Puts.{bytes_same}
@@ -147,15 +147,15 @@ abbrev pub at_change : List ReleaseData → ReleaseData → ContentData → Rele
 at_change H last c = get_or H (last_change H c - 1) last
 
 pub list_is : (A : List ReleaseData) (x : ReleaseData) (X : List ReleaseData)
-    → list_told (A ++ x ∷ X) ≡ map listed (entries_by (at_change (A ++ x ∷ X) (end x X)) (last_change (A ++ x ∷ X)) (end x X).contents)
+    → list_told (A ++ x ∷ X) ≡ map list_zone (entries_by (at_change (A ++ x ∷ X) (end x X)) (last_change (A ++ x ∷ X)) (end x X).contents)
 unfolding list_told meta
-list_is A x X = ap (λ o. map listed (entries_of (A ++ x ∷ X) o)) (last_is A None x X)
+list_is A x X = ap (λ o. map list_zone (entries_of (A ++ x ∷ X) o)) (last_is A None x X)
 
 pub changes_are : (A : List ReleaseData) (x : ReleaseData) (X : List ReleaseData) (n : ℕ)
     → changes_of (A ++ x ∷ X) n ≡ changed_by (at_change (A ++ x ∷ X) (end x X)) (last_change (A ++ x ∷ X)) n (end x X).contents
 unfolding changes_of delta meta
 changes_are A x X n =
-    ap (λ o. map listed (Rattle.std.specs.List.filter (λ (e : EntryData). nat_lt n e.changed) (entries_of (A ++ x ∷ X) o))) (last_is A None x X)
+    ap (λ o. map list_zone (Rattle.std.specs.List.filter (λ (e : EntryData). nat_lt n e.changed) (entries_of (A ++ x ∷ X) o))) (last_is A None x X)
 
 -- what the list of a whole history says of a name
 pub known_is : (A : List ReleaseData) (x : ReleaseData) (X : List ReleaseData) (t : List ℕ)
@@ -176,4 +176,4 @@ same_release A x X c s =
 
 pub same_listed : (A : List ReleaseData) (x : ReleaseData) (X : List ReleaseData) (c : ContentData) → Stays A x X c
     → listed_by (at_change (A ++ x ∷ []) x) (last_change (A ++ x ∷ [])) c ≡ listed_by (at_change (A ++ x ∷ X) (end x X)) (last_change (A ++ x ∷ X)) c
-same_listed A x X c s = ap (λ r. listed (entry_from r (last_change (A ++ x ∷ []) c) c)) (same_release A x X c s)
+same_listed A x X c s = ap (λ r. list_zone (entry_from r (last_change (A ++ x ∷ []) c) c)) (same_release A x X c s)

@@ -14,7 +14,7 @@ use Rattle.json_forms.specs.declared.zone_list.ListZone.{ListZone}
 use Rattle.sync_world.proofs.Looks.{known, pending_of}
 use Rattle.sync_core.specs.Mirrors.{entry_name}
 use Rattle.sync_core.specs.Steps.{rising_zones}
-use Rattle.actions.specs.Listing.{listed}
+use Rattle.actions.specs.Listing.{list_zone}
 use Rattle.catalogue.specs.Order.{IsRising}
 use Rattle.sync_world.specs.Primaries.{list_told}
 use Rattle.sync_core.specs.Steps.{is_alias}
@@ -157,7 +157,7 @@ ends_rising sound A x [] h = (h A x [] refl).in_order.contents
 ends_rising sound A x (y ∷ Y) h = ends_rising sound (A ++ x ∷ []) y Y (moved sound A x y Y h)
 
 listed_texts : (f : ContentData → ReleaseData) (g : ContentData → ℕ) (cs : List ContentData)
-    → map entry_name (map listed (entries_by f g cs)) ≡ map (λ (c : ContentData). c.tzid) cs
+    → map entry_name (map list_zone (entries_by f g cs)) ≡ map (λ (c : ContentData). c.tzid) cs
 listed_texts f g [] = refl
 listed_texts f g (c ∷ cs) = ap (λ ts. c.tzid ∷ ts) (listed_texts f g cs)
 
@@ -179,7 +179,7 @@ before_changed f g n t (c ∷ cs) all = by (nat_lt n (g c)) (before_changed f g 
   where
     by : (b : Bool) → Before t (map entry_name (changed_by f g n cs))
         → Before t (map entry_name
-        (map listed (cond b (entry_from (f c) (g c) c ∷ filter (λ e. nat_lt n e.changed) (entries_by f g cs))
+        (map list_zone (cond b (entry_from (f c) (g c) c ∷ filter (λ e. nat_lt n e.changed) (entries_by f g cs))
         (filter (λ e. nat_lt n e.changed) (entries_by f g cs)))))
     by true rest = (all.0, rest)
     by false rest = rest
@@ -190,7 +190,7 @@ changed_rises f g n [] r = tt
 changed_rises f g n (c ∷ cs) r = by (nat_lt n (g c)) (changed_rises f g n cs r.1)
   where
     by : (b : Bool) → Rising entry_name (changed_by f g n cs)
-        → Rising entry_name (map listed
+        → Rising entry_name (map list_zone
         (cond b (entry_from (f c) (g c) c ∷ filter (λ e. nat_lt n e.changed) (entries_by f g cs)) (filter (λ e. nat_lt n e.changed) (entries_by f g cs))))
     by true rest = (before_changed f g n c.tzid cs r.0, rest)
     by false rest = rest

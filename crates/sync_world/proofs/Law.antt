@@ -14,7 +14,7 @@ use Rattle.sync_core.specs.declared.heard_type.Heard.TheVariants as heard
 use Rattle.sync_core.specs.declared.heard_type.Settled.TheVariants.{Holds}
 use Rattle.sync_world.specs.Holding.{HoldsLast}
 use Rattle.sync_world.specs.Primaries.{HeardIsTold, FindsPlaces, FindsNoOther, Service, file_told, served_for, told_by}
-use Rattle.sync_world.specs.Worlds.{SyncWorld, Sent, Step, IsAnswer, Leads, world_after, world_begun}
+use Rattle.sync_world.specs.Worlds.{SyncWorld, Sent, WorldStep, IsAnswer, Leads, world_after, world_begun}
 use Rattle.sync_world.proofs.Files.{history_front}
 use Rattle.sync_world.proofs.Lists.{exactly}
 use Rattle.sync_world.proofs.Looks.{state_ask, state_after, looked_up}
@@ -56,7 +56,7 @@ list_asked P G doc token (t ∷ ts) held e k = absurd (no_list P G t doc k)
 
 module _ (P : Service) (sound : ReleaseData → Type 0) (hears : List ReleaseData → Ask → Heard → Type 0) (so : HeardIsTold sound hears P)
     (finds : FindsPlaces sound P) (no_other : FindsNoOther sound P) where
-  pub law : (H : List ReleaseData) (xs : List Step) (w v : SyncWorld) (n : ℕ) (sent : Sent) (h : Heard) → IsHistory sound H → 1 ≤ length H
+  pub law : (H : List ReleaseData) (xs : List WorldStep) (w v : SyncWorld) (n : ℕ) (sent : Sent) (h : Heard) → IsHistory sound H → 1 ≤ length H
       → Leads sound hears (world_begun H) xs w
       → IsAnswer hears w n v sent h → settles w.mirror h ≡ Holds → HoldsLast P v.mirror (take n w.history)
   law H xs w v n sent h history some leads a holds =
@@ -67,11 +67,11 @@ module _ (P : Service) (sound : ReleaseData → Type 0) (hears : List ReleaseDat
       let from : sent.since ≤ n = a.from in
       let upto : n ≤ length w.history = a.upto in
       let said : told_by P (take n w.history) sent.ask ≡ Some (heard.List q.doc) =
-      told_so P sound hears so finds no_other w.history n sent.ask h i.history (omega arith) a.upto a.is_heard ∙ ap Some q.is in
+      told_so P sound hears so w.history n sent.ask h i.history (omega arith) a.upto a.is_heard ∙ ap Some q.is in
       let asked : ask.List (Some q.token) ≡ state_ask (looked_up w.mirror) =
       list_asked P (take n w.history) q.doc q.token w.mirror.pending w.mirror.token q.token_is (ap (told_by P (take n w.history)) (sym k.0) ∙ said) in
       let state : HoldsState P (state_after (looked_up w.mirror) (heard.List q.doc)) (take n w.history) =
-      settled_holds P sound finds no_other w.history (looked_up w.mirror) i.history i.some n sent.since q.token q.doc a.from (omega arith, a.upto) q.empty asked
+      settled_holds P sound finds no_other w.history (looked_up w.mirror) i.history n sent.since q.token q.doc a.from (omega arith, a.upto) q.empty asked
       (ap (told_by P (take n w.history)) asked ∙ ap (told_by P (take n w.history)) (sym k.0) ∙ said) k.3 in
       let shows : HoldsState P (looked_up (world_after w h).mirror) (take n w.history) =
       subst (λ s. HoldsState P s (take n w.history)) (ap (state_after (looked_up w.mirror)) (sym q.is) ∙ sym (shown w.mirror h)) state in

@@ -10,15 +10,13 @@ pub mod Shown
 pub mod Runs
 pub mod Lists
 pub mod Law
-pub mod Reading
 pub mod Names
 pub mod Telling
 pub mod Tokens
 pub mod Led
 pub mod Answered
-pub mod Utf8
-pub mod TokenTexts
 pub mod SoundLists
 pub mod Answering
 pub mod Requests
 pub mod Retired
+pub mod Reaching

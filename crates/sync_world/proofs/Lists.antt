@@ -74,4 +74,5 @@ exactly P sound G m h long r k = record {
   files = one_list file_name m.files (map (file_of P) (zones_of G)) r.files (files_rise P sound G h long)
       (λ t. same_found P m.files (zones_of G) t (k.files t));
   pending = k.pending;
+  coming = k.coming;
 }

@@ -12,7 +12,7 @@ use Rattle.sync_core.specs.declared.heard_type.Heard.{Heard}
 use Rattle.sync_core.specs.declared.heard_type.Heard.TheVariants as heard
 use Rattle.sync_world.specs.Hearing.{IsHeardIn, IsHeadOf, IsHeardOver, action_service}
 use Rattle.sync_world.specs.Primaries.{told_by}
-use Rattle.sync_world.specs.Worlds.{Leads, Sent, Step, SyncWorld, world_begun}
+use Rattle.sync_world.specs.Worlds.{Leads, Sent, WorldStep, SyncWorld, world_begun}
 use Rattle.sync_world.proofs.Answered.{answered}
 use Rattle.sync_world.proofs.Answering.{told_is_heard}
 use Rattle.sync_world.proofs.Files.{history_front}
@@ -30,7 +30,7 @@ some_of : {X : Type 0} (Q : X → Type 0) (o : Option X) → IsSomeAnd o Q → (
 some_of Q None k = absurd k
 some_of Q (Some x) k = (x, refl, k)
 
-pub requested : (H : List ReleaseData) (xs : List Step) (w : SyncWorld) (sent : Sent) (n : ℕ) (head : Head) → IsHistory IsSound H → 1 ≤ length H
+pub requested : (H : List ReleaseData) (xs : List WorldStep) (w : SyncWorld) (sent : Sent) (n : ℕ) (head : Head) → IsHistory IsSound H → 1 ≤ length H
     → Leads IsSound IsHeardOver (world_begun H) xs w
     → w.sent ≡ Some sent → sent.since ≤ n → n ≤ length w.history → IsHeadOf sent.ask head
     → (h : Heard) × IsHeardIn sent.ask (action (take n w.history) Primary head) h × (h ≡ heard.BadToken → ⊥)

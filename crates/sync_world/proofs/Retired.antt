@@ -8,7 +8,7 @@ use Rattle.sync_core.specs.Mirrors.{ask_for}
 use Rattle.sync_core.specs.declared.heard_type.Heard.{Heard}
 use Rattle.sync_core.specs.declared.heard_type.Heard.TheVariants as heard
 use Rattle.sync_world.specs.Primaries.{FindsNoOther, FindsPlaces, HeardIsTold, IsTokenOf, Service, changes_at}
-use Rattle.sync_world.specs.Worlds.{Leads, Step, SyncWorld, world_begun}
+use Rattle.sync_world.specs.Worlds.{Leads, WorldStep, SyncWorld, world_begun}
 use Rattle.sync_world.proofs.Looks.{StateData, looked_up, state_ask}
 use Rattle.sync_world.proofs.Runs.{SentStands, always}
 use Rattle.sync_world.proofs.Standing.{Invariant, TokensStand, fresh, stands}
@@ -45,7 +45,7 @@ module _ (P : Service) (sound : ReleaseData → Type 0) (finds : FindsPlaces sou
 module _ (P : Service) (sound : ReleaseData → Type 0) (hears : List ReleaseData → Ask → Heard → Type 0) (so : HeardIsTold sound hears P)
     (finds : FindsPlaces sound P)
     (no_other : FindsNoOther sound P) where
-  pub token_is_of : (H : List ReleaseData) (xs : List Step) (w : SyncWorld) (since : ℕ) (token : List ℕ) → IsHistory sound H → 1 ≤ length H
+  pub token_is_of : (H : List ReleaseData) (xs : List WorldStep) (w : SyncWorld) (since : ℕ) (token : List ℕ) → IsHistory sound H → 1 ≤ length H
       → Leads sound hears (world_begun H) xs w
       → w.sent ≡ Some (record { ask = ask.List (Some token); since = since }) → IsTokenOf P w.history since token
   token_is_of H xs w since token h some leads out =

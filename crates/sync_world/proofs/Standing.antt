@@ -121,9 +121,9 @@ settles H n [] token = (refl, refl)
 settles H n (t ∷ ts) token = refl
 
 -- a list knows the identifiers of its place's zones
-pub known_zone : (sound : ReleaseData → Type 0) (G : List ReleaseData) (t : List ℕ) → 1 ≤ length G
+pub known_zone : (G : List ReleaseData) (t : List ℕ) → 1 ≤ length G
     → is_some (known (list_told G) t) ≡ is_some (zone_at (zones_of G) t)
-known_zone sound G t long =
+known_zone G t long =
     let c = cut G (length G) (long, omega arith) in
     subst (λ F. is_some (known (list_told F) t) ≡ is_some (zone_at (zones_of F) t)) (sym c.whole) (by c.A c.x c.X)
   where
@@ -135,38 +135,36 @@ known_zone sound G t long =
         → is_some (known (list_told (A ++ x ∷ X)) t) ≡ is_some (zone_at (zones_of (A ++ x ∷ X)) t)
     by A x X = ap is_some (known_is A x X t) ∙ some_map _ (zone_at (end x X).contents t) ∙ ap (λ cs. is_some (zone_at cs t)) (sym (zones_are A x X))
 
-module _ (P : Service) (sound : ReleaseData → Type 0) (H : List ReleaseData) (n : ℕ) (h : IsHistory sound H) (place : IsPlace H n) where
-  abbrev G : List ReleaseData
-  G = take n H
-
+module _ (H : List ReleaseData) (n : ℕ) (place : IsPlace H n) where
   pub long : length (take n H) ≡ n
   long = let p : n ≤ length H = place.1 in omega (arith, length-take n H)
 
   pub own_token : token_of (take n H) (length (take n H)) ≡ token_of H n
   own_token = ap (token_of (take n H)) long ∙ token_of_take H n n (omega arith)
 
+module _ (P : Service) (sound : ReleaseData → Type 0) (H : List ReleaseData) (n : ℕ) (h : IsHistory sound H) (place : IsPlace H n) where
   -- after the whole list
   all_files : (t : List ℕ) (o : Option ContentData) → zone_at (zones_of (take n H)) t ≡ o → FileStands P H n n (pending_of (list_told (take n H))) t None o
   all_files t None e = refl
   all_files t (Some c) e =
       let low : 1 ≤ n = place.0 in
-      inl (known_pending (list_told (take n H)) t (list_rises sound (take n H) (history_front sound H n h) (omega (arith, long)))
-      (known_zone sound (take n H) t (omega (arith, long)) ∙ ap is_some e))
+      inl (known_pending (list_told (take n H)) t (list_rises sound (take n H) (history_front sound H n h) (omega (arith, long H n place)))
+      (known_zone (take n H) t (omega (arith, long H n place)) ∙ ap is_some e))
 
   pub whole_list : (s : StateData) → s.token ≡ None → Stands P H n n (state_after s (list_at (take n H) (list_told (take n H))))
   whole_list s none =
       let low : 1 ≤ n = place.0 in
-      let rises = list_rises sound (take n H) (history_front sound H n h) (omega (arith, long)) in
+      let rises = list_rises sound (take n H) (history_front sound H n h) (omega (arith, long H n place)) in
       let after : Stands P H n n (settled (after_all s (record { token = token_of (take n H) (length (take n H)); zones = list_told (take n H) }))) =
       record {
         low = place.0;
         within = omega arith;
         high = place.1;
-        tokens = rw own_token (settles H n (pending_of (list_told (take n H))) s.token);
+        tokens = rw (own_token H n place) (settles H n (pending_of (list_told (take n H))) s.token);
         entries = λ t. known_put (list_told (take n H)) t rises;
         files = λ t. all_files t (zone_at (zones_of (take n H)) t) refl;
         pending = each_pending (list_told (take n H)) (λ t. is_some (zone_at (zones_of (take n H)) t) ≡ true) rises
-            (λ t k. sym (known_zone sound (take n H) t (omega (arith, long))) ∙ k);
+            (λ t k. sym (known_zone (take n H) t (omega (arith, long H n place))) ∙ k);
       } in
       subst (λ o. Stands P H n n (settled (after_list o s (record { token = token_of (take n H) (length (take n H)); zones = list_told (take n H) }))))
       (sym none) after

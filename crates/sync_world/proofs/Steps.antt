@@ -165,7 +165,7 @@ module _ (P : Service) (sound : ReleaseData → Type 0) (finds : FindsPlaces sou
   pub some_changes : s.pending ≡ [] → Stands P H n n (state_after s (list_at (take n H) (changes_of (take n H) m)))
   some_changes none =
       let tokens : TokensStand H m [] s.token s.coming = subst (λ p. TokensStand H m p s.token s.coming) none k.tokens in
-      let own = own_token P sound H n h place in
+      let own = own_token H n place in
       let after = settled_changes (changes_of (take n H) m) (token_of (take n H) (length (take n H))) none tokens.1 own (after_them none) in
       subst (λ o. Stands P H n n (settled (after_list o s (record { token = token_of (take n H) (length (take n H)); zones = changes_of (take n H) m }))))
       (sym tokens.0) after

@@ -3,7 +3,7 @@ use Rattle.std.proofs.Common.{inl, ◌≡◌, ℕ, ◌<◌, ◌≤◌, Some, Lis
 use Rattle.catalogue.specs.Histories.{IsHistory, token_of}
 use Rattle.catalogue.specs.Lookups.{place_of}
 use Rattle.catalogue.specs.Releases.{ReleaseData}
-use Rattle.catalogue.specs.declared.limits.TheConstants.{MOST_PLACES}
+use Rattle.catalogue.specs.declared.limits.TheConstants.{MOST_RELEASES}
 use Rattle.catalogue.proofs.lemmas.Tokens.{place_found}
 use Rattle.zone_meaning.specs.Sound.{IsSound}
 use Rattle.sync_world.specs.Hearing.{action_service}
@@ -12,10 +12,10 @@ use Rattle.sync_world.proofs.Aliases.{cut}
 use Rattle.sync_world.proofs.Places.{token_of_take}
 
 -- a history has no more places than fit
-pub few_places : (sound : ReleaseData → Type 0) (H : List ReleaseData) → IsHistory sound H → 1 ≤ length H → length H ≤ MOST_PLACES
+pub few_places : (sound : ReleaseData → Type 0) (H : List ReleaseData) → IsHistory sound H → 1 ≤ length H → length H ≤ MOST_RELEASES
 few_places sound H h some =
     let c = cut H (length H) (some, omega arith) in
-    let places : length c.A < MOST_PLACES = (subst (IsHistory sound) c.whole h c.A c.x c.X refl).fits.places in
+    let places : length c.A < MOST_RELEASES = (subst (IsHistory sound) c.whole h c.A c.x c.X refl).fits.places in
     omega (arith, places, c.place)
 
 place_is_found : (H : List ReleaseData) (m n : ℕ) → IsHistory IsSound H → IsPlace H m → m ≤ n → n ≤ length H → place_of (take n H) (token_of H m) ≡ Some m

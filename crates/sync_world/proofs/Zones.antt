@@ -12,7 +12,7 @@ use Rattle.catalogue.specs.Histories.{EntryData, entry_from}
 use Rattle.json_forms.specs.declared.zone_list.ListZone.{ListZone}
 use Rattle.sync_world.proofs.Looks.{known}
 use Rattle.sync_core.specs.Steps.{is_alias}
-use Rattle.actions.specs.Listing.{listed}
+use Rattle.actions.specs.Listing.{list_zone}
 use Rattle.catalogue.specs.Lookups.{named, zone_at}
 use Rattle.sync_core.proofs.lemmas.Puts.{same_bytes, bytes_same}
 
@@ -178,18 +178,18 @@ abbrev pub entries_by : (ContentData → ReleaseData) → (ContentData → ℕ) 
 entries_by f g cs = map (λ c. entry_from (f c) (g c) c) cs
 
 abbrev pub listed_by : (ContentData → ReleaseData) → (ContentData → ℕ) → ContentData → ListZone
-listed_by f g c = listed (entry_from (f c) (g c) c)
+listed_by f g c = list_zone (entry_from (f c) (g c) c)
 
 abbrev pub changed_by : (ContentData → ReleaseData) → (ContentData → ℕ) → ℕ → List ContentData → List ListZone
-changed_by f g n cs = map listed (filter (λ e. nat_lt n e.changed) (entries_by f g cs))
+changed_by f g n cs = map list_zone (filter (λ e. nat_lt n e.changed) (entries_by f g cs))
 
 pub known_all : (f : ContentData → ReleaseData) (g : ContentData → ℕ) (cs : List ContentData) (t : List ℕ)
-    → known (map listed (entries_by f g cs)) t ≡ option_map (listed_by f g) (zone_at cs t)
+    → known (map list_zone (entries_by f g cs)) t ≡ option_map (listed_by f g) (zone_at cs t)
 known_all f g [] t = refl
 known_all f g (c ∷ cs) t = by (bytes_eq t c.tzid) (known_all f g cs t)
   where
-    by : (b : Bool) → known (map listed (entries_by f g cs)) t ≡ option_map (listed_by f g) (zone_at cs t)
-        → cond b (Some (listed_by f g c)) (known (map listed (entries_by f g cs)) t) ≡ option_map (listed_by f g) (cond b (Some c) (zone_at cs t))
+    by : (b : Bool) → known (map list_zone (entries_by f g cs)) t ≡ option_map (listed_by f g) (zone_at cs t)
+        → cond b (Some (listed_by f g c)) (known (map list_zone (entries_by f g cs)) t) ≡ option_map (listed_by f g) (cond b (Some c) (zone_at cs t))
     by true h = refl
     by false h = h
 
@@ -199,7 +199,7 @@ known_none f g n [] t h = refl
 known_none f g n (c ∷ cs) t h = by (known_none f g n cs t) (bytes_eq t c.tzid) refl h
   where
     at_rest : known (changed_by f g n cs) t ≡ None → bytes_eq t c.tzid ≡ false → (b : Bool)
-        → known (map listed (cond b (entry_from (f c) (g c) c ∷ filter (λ e. nat_lt n e.changed) (entries_by f g cs))
+        → known (map list_zone (cond b (entry_from (f c) (g c) c ∷ filter (λ e. nat_lt n e.changed) (entries_by f g cs))
         (filter (λ e. nat_lt n e.changed) (entries_by f g cs)))) t ≡ None
     at_rest k e true = rw e k
     at_rest k e false = k
@@ -215,14 +215,14 @@ known_some f g n [] t z d h = absurd (cc)
 known_some f g n (c ∷ cs) t z d h = by (known_some f g n cs t z (rest_distinct c cs d)) (bytes_eq t c.tzid) refl h
   where
     here : bytes_eq t c.tzid ≡ true → zone_at cs t ≡ None → (b : Bool)
-        → known (map listed (cond b (entry_from (f c) (g c) c ∷ filter (λ e. nat_lt n e.changed) (entries_by f g cs))
+        → known (map list_zone (cond b (entry_from (f c) (g c) c ∷ filter (λ e. nat_lt n e.changed) (entries_by f g cs))
         (filter (λ e. nat_lt n e.changed) (entries_by f g cs)))) t
         ≡ cond b (Some (listed_by f g c)) None
     here e none true = rw e
     here e none false = known_none f g n cs t none
 
     there : bytes_eq t c.tzid ≡ false → (b : Bool) → known (changed_by f g n cs) t ≡ cond (nat_lt n (g z)) (Some (listed_by f g z)) None
-        → known (map listed (cond b (entry_from (f c) (g c) c ∷ filter (λ e. nat_lt n e.changed) (entries_by f g cs))
+        → known (map list_zone (cond b (entry_from (f c) (g c) c ∷ filter (λ e. nat_lt n e.changed) (entries_by f g cs))
         (filter (λ e. nat_lt n e.changed) (entries_by f g cs)))) t
         ≡ cond (nat_lt n (g z)) (Some (listed_by f g z)) None
     there e true k = rw e k
@@ -246,7 +246,7 @@ alias_none f g n (c ∷ cs) t h = by (alias_none f g n cs t) (nat_lt n (g c))
     parts = or_none (has_text c.aliases t) (aliased cs t) h
 
     by : (aliased cs t ≡ false → is_alias (changed_by f g n cs) t ≡ false) → (b : Bool)
-        → is_alias (map listed
+        → is_alias (map list_zone
         (cond b (entry_from (f c) (g c) c ∷ filter (λ e. nat_lt n e.changed) (entries_by f g cs))
         (filter (λ e. nat_lt n e.changed) (entries_by f g cs)))) t ≡ false
     by again true = rw parts.0 (again parts.1)
@@ -258,14 +258,14 @@ alias_some f g n [] t z h lt k = absurd (cc)
 alias_some f g n (c ∷ cs) t z h lt k = by (λ l. alias_some f g n cs t z l lt k) (same_content z c) refl h
   where
     here : has_text c.aliases t ≡ true → (b : Bool) → b ≡ true
-        → is_alias (map listed
+        → is_alias (map list_zone
         (cond b (entry_from (f c) (g c) c ∷ filter (λ e. nat_lt n e.changed) (entries_by f g cs))
         (filter (λ e. nat_lt n e.changed) (entries_by f g cs)))) t ≡ true
     here has true e = rw has
     here has false e = absurd (cc)
 
     later : is_alias (changed_by f g n cs) t ≡ true → (b : Bool)
-        → is_alias (map listed
+        → is_alias (map list_zone
         (cond b (entry_from (f c) (g c) c ∷ filter (λ e. nat_lt n e.changed) (entries_by f g cs))
         (filter (λ e. nat_lt n e.changed) (entries_by f g cs)))) t ≡ true
     later l true = rw l (or_true (has_text c.aliases t))

@@ -1,14 +1,14 @@
 -- What a mirror hears in the answers of a primary to its requests.
-use Rattle.std.specs.Prelude.{ℕ, List, codes, None, Some, ◌≡◌}
+use Rattle.std.specs.Prelude.{ℕ, List, codes, None, Some, Ok, ◌≡◌}
 use Rattle.td_base.specs.declared.report.Ask.{Ask}
 use Rattle.td_base.specs.declared.report.Ask.TheVariants as ask
 use Rattle.td_base.specs.declared.report.Role.TheVariants.{Primary}
 use Rattle.catalogue.specs.Lookups.{place_of}
 use Rattle.catalogue.specs.Releases.{ContentData, ReleaseData}
-use Rattle.catalogue.specs.declared.limits.TheConstants.{MOST_PLACES}
+use Rattle.catalogue.specs.declared.limits.TheConstants.{MOST_RELEASES}
 use Rattle.http_answer.specs.declared.answer.Answer.{Answer}
 use Rattle.http_request.specs.declared.head.Head.{Head}
-use Rattle.json_forms.specs.ListReading.{IsListText}
+use Rattle.json_forms.specs.ListReading.{list_read}
 use Rattle.json_forms.specs.ProblemDocument.{problem_in}
 use Rattle.json_forms.specs.declared.problem_type.Problem.TheVariants.{InvalidChangedsince}
 use Rattle.target.specs.Actions.{asks}
@@ -41,7 +41,7 @@ pub record IsHeadOf (a : Ask) (head : Head) : Type 0 where
 -- in a problem of this type
 abbrev pub IsHeardIn : Ask → Answer → Heard → Type 0
 IsHeardIn (ask.List token) answer (heard.List doc) =
-    (answer.status ≡ 200) × IsListText answer.body doc
+    (answer.status ≡ 200) × (list_read answer.body ≡ Ok doc)
 IsHeardIn (ask.List token) answer (heard.Zone bytes) = ⊥
 IsHeardIn (ask.List None) answer heard.BadToken = ⊥
 IsHeardIn (ask.List (Some token)) answer heard.BadToken =
@@ -62,4 +62,4 @@ abbrev pub file_bytes : List ℕ → ContentData → List ℕ
 file_bytes name c = c.file
 
 abbrev pub action_service : Service
-action_service = record { kept = MOST_PLACES; place = place_of; served = file_bytes }
+action_service = record { kept = MOST_RELEASES; place = place_of; served = file_bytes }

@@ -1,4 +1,5 @@
 pub mod Hearing
 pub mod Holding
 pub mod Primaries
+pub mod Reaching
 pub mod Worlds

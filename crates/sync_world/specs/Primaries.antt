@@ -7,7 +7,7 @@ use Rattle.catalogue.specs.Histories.{IsHistory, meta, token_of}
 use Rattle.catalogue.specs.Lookups.{delta, named, zones_of}
 use Rattle.catalogue.specs.Releases.{ContentData, ReleaseData}
 use Rattle.json_forms.specs.declared.zone_list.ListZone.{ListZone}
-use Rattle.actions.specs.Listing.{listed}
+use Rattle.actions.specs.Listing.{list_zone}
 use Rattle.sync_core.specs.declared.heard_type.Heard.{Heard}
 use Rattle.sync_core.specs.declared.heard_type.Heard.TheVariants as heard
 
@@ -18,10 +18,10 @@ IsPlace H n = (1 ≤ n) × (n ≤ length H)
 -- the zones of the last release as a list shows them, and those whose content last changed after a
 -- place
 unfoldable pub list_told : List ReleaseData → List ListZone
-list_told H = map listed (meta H)
+list_told H = map list_zone (meta H)
 
 unfoldable pub changes_of : List ReleaseData → ℕ → List ListZone
-changes_of H n = map listed (delta H n)
+changes_of H n = map list_zone (delta H n)
 
 -- what differs from primary to primary: of how many of the last places the tokens are known for
 -- certain, the place that a token is found to be of, and the file that a zone has under a name

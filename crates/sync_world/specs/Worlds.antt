@@ -24,20 +24,20 @@ pub record SyncWorld : Type 0 where
 abbrev pub world_begun : List ReleaseData → SyncWorld
 world_begun H = record { history = H; mirror = empty_mirror; sent = None }
 
-pub data Step : Type 0 where
+pub data WorldStep : Type 0 where
   -- the primary installs a release
-  install : ReleaseData → Step
+  install : ReleaseData → WorldStep
   -- the mirror asks, for the first time or again
-  asks : Step
+  asks : WorldStep
   -- the primary's answer over its first so many releases reaches the mirror
-  answer : ℕ → Step
+  answer : ℕ → WorldStep
   -- the primary refuses the token
-  refuse_token : Step
+  refuse_token : WorldStep
   -- an ask or an answer is lost
-  lose : Step
+  lose : WorldStep
   -- the mirror starts again, with what it held or with nothing
-  restart : Step
-  restart_empty : Step
+  restart : WorldStep
+  restart_empty : WorldStep
 
 -- an ask stays the one that was sent, with the time when it was
 abbrev pub sent_then : Option Sent → MirrorState → ℕ → Sent
@@ -65,7 +65,7 @@ pub record IsTokenRefused (w v : SyncWorld) (since : ℕ) (token : List ℕ) : T
 
 module _ (sound : ReleaseData → Type 0) (hears : List ReleaseData → Ask → Heard → Type 0) where
   -- one step leads from a world to another
-  abbrev pub LeadsTo : SyncWorld → Step → SyncWorld → Type 0
+  abbrev pub LeadsTo : SyncWorld → WorldStep → SyncWorld → Type 0
   LeadsTo w (install r) v = IsRelease sound w.history r
       × (v ≡ record { history = w.history ++ r ∷ []; mirror = w.mirror; sent = w.sent })
   LeadsTo w asks v = v ≡ record {
@@ -81,6 +81,6 @@ module _ (sound : ReleaseData → Type 0) (hears : List ReleaseData → Ask → 
       v ≡ record { history = w.history; mirror = empty_mirror; sent = None }
 
   -- the steps lead from a world to another
-  abbrev pub Leads : SyncWorld → List Step → SyncWorld → Type 0
+  abbrev pub Leads : SyncWorld → List WorldStep → SyncWorld → Type 0
   Leads w [] v = v ≡ w
   Leads w (x ∷ xs) v = (u : SyncWorld) × LeadsTo w x u × Leads u xs v

@@ -18,7 +18,8 @@ ghost use Rattle.sync_world.specs.Hearing.{IsHeardIn, IsHeadOf, IsHeardOver, act
 ghost use Rattle.sync_world.specs.Holding.{HoldsLast, SaysHolds};
 ghost use Rattle.sync_world.specs.Primaries.{IsPlace, IsTokenOf, ServesSo};
 ghost use Rattle.sync_world.specs.Primaries.{changes_of, list_told, told_by};
-ghost use Rattle.sync_world.specs.Worlds.{Sent, Step, SyncWorld, IsAnswer, Leads, world_begun};
+ghost use Rattle.sync_world.specs.Reaching.{ComesToHold, ToldIsHeard};
+ghost use Rattle.sync_world.specs.Worlds.{Sent, WorldStep, SyncWorld, IsAnswer, Leads, world_begun};
 
 use crate::Primary;
 use catalogue::ZoneData;
@@ -34,7 +35,7 @@ pub fn answers_are_heard()
 /// Each request for what is outstanding is answered, at each place from the one on at which it was
 /// first sent, and the answer does not refuse the token.
 pub fn requests_are_answered()
-    ensures { (H : List ReleaseData) (steps : List Step) (w : SyncWorld) (sent : Sent)
+    ensures { (H : List ReleaseData) (steps : List WorldStep) (w : SyncWorld) (sent : Sent)
         (n : ℕ) (head : Head)
         → IsHistory IsSound H → 1 ≤ length H → Leads IsSound IsHeardOver (world_begun H) steps w
         → w.sent ≡ Some sent → sent.since ≤ n → n ≤ length w.history → IsHeadOf sent.ask head
@@ -53,7 +54,7 @@ pub fn actions_serve()
 /// these n releases. The answers are those of the actions, and releases are sound as they are for
 /// this service.
 pub fn mirrors_hold_releases()
-    ensures { (H : List ReleaseData) (steps : List Step) (w v : SyncWorld) (n : ℕ)
+    ensures { (H : List ReleaseData) (steps : List WorldStep) (w v : SyncWorld) (n : ℕ)
         (sent : Sent) (h : Heard)
         → IsHistory IsSound H → 1 ≤ length H → Leads IsSound IsHeardOver (world_begun H) steps w
         → IsAnswer IsHeardOver w n v sent h → SaysHolds w.mirror h
@@ -62,7 +63,7 @@ pub fn mirrors_hold_releases()
 
 /// The same of any primary, as it serves.
 pub fn mirrors_hold<P: Primary>()
-    ensures { (H : List ReleaseData) (steps : List Step) (w v : SyncWorld) (n : ℕ)
+    ensures { (H : List ReleaseData) (steps : List WorldStep) (w v : SyncWorld) (n : ℕ)
         (sent : Sent) (h : Heard)
         → ServesSo P.sound P.hears P.service → IsHistory P.sound H → 1 ≤ length H
         → Leads P.sound P.hears (world_begun H) steps w
@@ -70,10 +71,20 @@ pub fn mirrors_hold<P: Primary>()
         → HoldsLast P.service v.mirror (take n w.history) }
 {}
 
+/// Wherever steps lead, asks and answers lead on from there to where the mirror says that it holds
+/// what the primary has, if all that there is to be told is heard, and the primary knows the token
+/// of its last place.
+pub fn holds_comes<P: Primary>()
+    ensures { (H : List ReleaseData) (steps : List WorldStep) (w : SyncWorld)
+        → ServesSo P.sound P.hears P.service → ToldIsHeard P.sound P.hears P.service
+        → 1 ≤ P.service.kept → IsHistory P.sound H → 1 ≤ length H
+        → Leads P.sound P.hears (world_begun H) steps w → ComesToHold P.sound P.hears w }
+{}
+
 /// An ask that is outstanding has an answer at each place from the one on at which it was first
 /// sent, and no answer refuses its token while no token is retired.
 pub fn asks_are_answered<P: Primary>()
-    ensures { (H : List ReleaseData) (steps : List Step) (w : SyncWorld) (sent : Sent) (n : ℕ)
+    ensures { (H : List ReleaseData) (steps : List WorldStep) (w : SyncWorld) (sent : Sent) (n : ℕ)
         → ServesSo P.sound P.hears P.service → IsHistory P.sound H → 1 ≤ length H
         → Leads P.sound P.hears (world_begun H) steps w
         → w.sent ≡ Some sent → sent.since ≤ n → n ≤ length w.history
@@ -84,7 +95,7 @@ pub fn asks_are_answered<P: Primary>()
 /// The token of an outstanding ask is that of a place, and no answer refuses it until that place is
 /// retired.
 pub fn tokens_are_refused_late<P: Primary>()
-    ensures { (H : List ReleaseData) (steps : List Step) (w : SyncWorld) (since : ℕ)
+    ensures { (H : List ReleaseData) (steps : List WorldStep) (w : SyncWorld) (since : ℕ)
         (token : List ℕ)
         → ServesSo P.sound P.hears P.service → IsHistory P.sound H → 1 ≤ length H
         → Leads P.sound P.hears (world_begun H) steps w

@@ -15,10 +15,7 @@ mod primary;
 mod laws;
 
 pub use laws::{
-    actions_serve, aliases_follow, answers_are_heard, asks_are_answered, mirrors_hold,
+    actions_serve, aliases_follow, answers_are_heard, asks_are_answered, holds_comes, mirrors_hold,
     mirrors_hold_releases, requests_are_answered, tokens_are_refused_late,
 };
 pub use primary::{Actions, Primary};
-
-#[cfg(test)]
-mod tests;
