@@ -160,7 +160,7 @@ pub closed_by_request : (desk : DeskView (Catalogue (List ℕ))) (catalogue : Ca
     (held new places : List ℕ) (head : Head) (close : Bool) (place : ℕ)
     → IsServing desk role a b held places → Hears b c held new (heard.Request head) → IsSent c d (IsReply catalogue role head close)
     → close ≡ is_last (length places) head → close ≡ true → IsHeld desk catalogue place
-    → Serves desk role a d (record { end = end.Closed; places = places ++ place ∷ [] })
+    → Serves desk role a d (record { end = end.Closed; places = places ++ place ∷ []; computed = 0 })
 closed_by_request desk catalogue role a b c d held new places head close place s h p is closes k = record {
   read = s.read ++ h.read;
   written = s.written ++ p.reply;
@@ -179,7 +179,7 @@ pub cut_in_reply : (desk : DeskView (Catalogue (List ℕ))) (catalogue : Catalog
     (held new places : List ℕ) (head : Head) (close : Bool) (place : ℕ)
     → IsServing desk role a b held places → Hears b c held new (heard.Request head) → IsCutOff c d (IsReply catalogue role head close)
     → close ≡ is_last (length places) head → IsHeld desk catalogue place
-    → Serves desk role a d (record { end = end.WriteFault; places = places ++ place ∷ [] })
+    → Serves desk role a d (record { end = end.WriteFault; places = places ++ place ∷ []; computed = 0 })
 cut_in_reply desk catalogue role a b c d held new places head close place s h p is k =
     let before : Exchanges a c (s.read ++ h.read) s.written = read_on a b c s.read h.read s.written s.exchanges h.exchanges in
     record {
@@ -199,7 +199,7 @@ cut_in_reply desk catalogue role a b c d held new places head close place s h p 
 pub out_of_memory_begun : (desk : DeskView (Catalogue (List ℕ))) (catalogue : Catalogue (List ℕ)) (role : Role) (a b c d : ConnView)
     (held new places : List ℕ) (head : Head) (place : ℕ)
     → IsServing desk role a b held places → Hears b c held new (heard.Request head) → GivesUp c d → IsHeld desk catalogue place
-    → Serves desk role a d (record { end = end.NoMemory; places = places ++ place ∷ [] })
+    → Serves desk role a d (record { end = end.NoMemory; places = places ++ place ∷ []; computed = 0 })
 out_of_memory_begun desk catalogue role a b c d held new places head place s h p k =
     let before : Exchanges a c (s.read ++ h.read) s.written = read_on a b c s.read h.read s.written s.exchanges h.exchanges in
     record {
@@ -217,7 +217,7 @@ out_of_memory_begun desk catalogue role a b c d held new places head place s h p
 -- there was no memory for a head
 pub out_of_memory : (desk : DeskView (Catalogue (List ℕ))) (role : Role) (a b c d : ConnView) (held new places : List ℕ)
     → IsServing desk role a b held places → Hears b c held new heard.NoMemory → GivesUp c d
-    → Serves desk role a d (record { end = end.NoMemory; places = places })
+    → Serves desk role a d (record { end = end.NoMemory; places = places; computed = 0 })
 out_of_memory desk role a b c d held new places s h p =
     let before : Exchanges a c (s.read ++ h.read) s.written = read_on a b c s.read h.read s.written s.exchanges h.exchanges in
     let given : (rest : List ℕ) × Gives (s.read ++ h.read) s.given rest = h.comes s.read s.given s.gives in
@@ -241,7 +241,7 @@ gives_before bytes (h ∷ hs) head held g = let r = gives_before (drop g.0 bytes
 -- the enter for a request was refused
 pub enter_refused : (desk : DeskView (Catalogue (List ℕ))) (role : Role) (a b c d : ConnView) (held new places : List ℕ) (head : Head)
     → IsServing desk role a b held places → Hears b c held new (heard.Request head) → GivesUp c d
-    → Serves desk role a d (record { end = end.NoMemory; places = places })
+    → Serves desk role a d (record { end = end.NoMemory; places = places; computed = 0 })
 enter_refused desk role a b c d held new places head s h p =
     let before : Exchanges a c (s.read ++ h.read) s.written = read_on a b c s.read h.read s.written s.exchanges h.exchanges in
     let given : (rest : List ℕ) × Gives (s.read ++ h.read) s.given rest =
@@ -260,7 +260,7 @@ enter_refused desk role a b c d held new places head s h p =
 -- the input ended
 pub closed_by_input : (desk : DeskView (Catalogue (List ℕ))) (role : Role) (a b c : ConnView) (held new places : List ℕ)
     → IsServing desk role a b held places → Hears b c held new heard.Ended
-    → Serves desk role a c (record { end = end.Closed; places = places })
+    → Serves desk role a c (record { end = end.Closed; places = places; computed = 0 })
 closed_by_input desk role a b c held new places s h =
     let asks : Asks (s.read ++ h.read) s.given (Rest new) × IsAtEnd c.left = h.comes s.read s.given s.gives in
     record {
@@ -276,7 +276,7 @@ closed_by_input desk role a b c held new places s h =
 -- a read failed
 pub read_failed : (desk : DeskView (Catalogue (List ℕ))) (role : Role) (a b c : ConnView) (held new places : List ℕ)
     → IsServing desk role a b held places → Hears b c held new heard.ReadFault
-    → Serves desk role a c (record { end = end.ReadFault; places = places })
+    → Serves desk role a c (record { end = end.ReadFault; places = places; computed = 0 })
 read_failed desk role a b c held new places s h =
     let asks : Asks (s.read ++ h.read) s.given (Rest new) × ConnReadFailed b c = h.comes s.read s.given s.gives in
     record {
@@ -293,7 +293,7 @@ read_failed desk role a b c held new places s h =
 -- a head was refused
 pub refused : (desk : DeskView (Catalogue (List ℕ))) (role : Role) (a b c d : ConnView) (held new places : List ℕ) (status : ℕ) (e : End)
     → IsServing desk role a b held places → Hears b c held new (heard.Refused status) → Refuses c d status e
-    → Serves desk role a d (record { end = e; places = places })
+    → Serves desk role a d (record { end = e; places = places; computed = 0 })
 refused desk role a b c d held new places status end.Closed s h p =
     record {
       read = s.read ++ h.read;

@@ -47,6 +47,7 @@ pub fn serve<C: Conn>(
     Report {
         end,
         places,
+        // Nothing is counted while no answer is kept.
         computed: 0,
     }
 }
@@ -62,7 +63,7 @@ fn serve_requests<C: Conn>(
     requires role { IsPlainRole role.now }
     requires none { places.old ≡ [] }
     ensures served { Serves desk.new role.now (C.seen conn.old) (C.seen conn.new)
-        (record { end = result; places = places.new }) }
+        (record { end = result; places = places.new; computed = 0 }) }
     ensures enters { EntersFor desk.old places.new desk.new result }
 {
     let mut heads = Heads::new(alloc);
