@@ -6,10 +6,11 @@ use std::io::{ErrorKind, Read, Write};
 use std::net::{Net, Shutdown, TcpListener, TcpStream};
 use std::process::Abort;
 use std::test::Fail;
+use std::time::Clock;
 use td_base::{Accepted, Conn, Door, End, Made, Network, Places, ReadStep, Report, WriteStep};
 
 /// A door at a free port.
-fn open<R: Abort + Net<Listener = TcpListener, Stream = TcpStream>>(
+fn open<R: Abort + Net<Listener = TcpListener, Stream = TcpStream> + Clock>(
     rt: &R,
     alloc: Global,
 ) -> RealDoor {
