@@ -1,16 +1,13 @@
-use crate::ending::{ConnEnd, DoorEnd, Ending};
-use crate::outside::{File, ROOM, Sizes, calls, network_of, piece_sizes, source_of, store_of};
+use crate::ending::Ending;
+use crate::outside::{File, ROOM, Sizes, calls, piece_sizes, source_of};
 use crate::plan::NetworkPlan;
+use crate::stage::Stage;
 use crate::trial::Trial;
-use crate::watched::{WatchedNetwork, WatchedSpawner};
+use case_lines::CaseFault;
 use std::alloc::{AllocError, Global};
 use std::sync::Wait;
 use std::thread::Threads;
-use td_base::{
-    Bytes, Door, Faulty, FaultyDoor, MemoryDoor, MemorySink, MemorySource, MemorySpawner, Network,
-    NoMemory, Sink, Source, Spawner, Store,
-};
-use td_top::Outcome;
+use td_base::{Bytes, Faulty, MemorySink, MemorySource, NoMemory};
 
 /// A run, and how it is to end.
 #[derive(Drop)]
@@ -49,6 +46,21 @@ impl Case {
             room: ROOM,
             ending: Ending::new(alloc),
         })
+    }
+
+    /// Does what a line with a number says.
+    pub fn set(&mut self, word: &str, number: u64) -> Result<(), CaseFault> {
+        match word {
+            "room" => self.room = number as usize,
+            "read" => self.sizes.read = number as usize,
+            "write" => self.sizes.write = number as usize,
+            "fail-store" => self.store_failing.push(number)?,
+            "fail-input" => self.input_failing.push(number)?,
+            "fail-output" => self.output_failing.push(number)?,
+            "fail-start" => self.spawner_failing.push(number)?,
+            _ => return Err(CaseFault::Strange),
+        }
+        Ok(())
     }
 
     /// Whether a run ended as it is to.
@@ -93,36 +105,13 @@ impl Case {
         files: &[File],
         trial: Trial,
     ) -> Result<Ending, NoMemory> {
-        let mut store = Faulty::new(store_of(alloc, files)?, calls(alloc, &self.store_failing)?);
-        let mut input = self.source(alloc, trial)?;
-        let mut output = self.sink(alloc, trial)?;
-        let network = network_of(alloc, self.network.doors.as_slice(), self.sizes)?;
-        let network = Faulty::new(network, calls(alloc, &self.network.failing)?);
-        let mut network = WatchedNetwork::new(alloc, network);
-        let spawner = Faulty::new(MemorySpawner::new(), calls(alloc, &self.spawner_failing)?);
-        let mut spawner = WatchedSpawner::new(spawner);
-        let outcome = top_call(
-            rt,
-            alloc,
-            self.words.as_slice(),
-            &mut store,
-            &mut input,
-            &mut output,
-            &mut network,
-            &mut spawner,
-        );
-        let Outcome { status, doors } = outcome;
-        Ok(Ending {
-            status,
-            output: Vec::from_slice(alloc, output.inner().taken())?,
-            asked: network.into_asked(),
-            begun: spawner.begun(),
-            doors: ends_of(alloc, doors.as_slice())?,
-        })
+        let mut stage = Stage::new(alloc, self, files, trial)?;
+        let outcome = stage.play(rt, alloc, self.words.as_slice());
+        stage.end(alloc, outcome)
     }
 
     /// The input of a run.
-    fn source(&self, alloc: Global, trial: Trial) -> Result<Faulty<MemorySource>, NoMemory> {
+    pub fn source(&self, alloc: Global, trial: Trial) -> Result<Faulty<MemorySource>, NoMemory> {
         let mut bytes = self.input.as_slice();
         let mut failing = calls(alloc, &self.input_failing)?;
         let (mut first, mut size) = (self.sizes.read, self.sizes.read);
@@ -140,7 +129,7 @@ impl Case {
     }
 
     /// The output of a run.
-    fn sink(&self, alloc: Global, trial: Trial) -> Result<Faulty<MemorySink>, NoMemory> {
+    pub fn sink(&self, alloc: Global, trial: Trial) -> Result<Faulty<MemorySink>, NoMemory> {
         let mut failing = calls(alloc, &self.output_failing)?;
         let mut size = self.sizes.write;
         if let Trial::Unwritten(number) = trial {
@@ -181,52 +170,4 @@ fn first_lines(bytes: &[u8], lines: usize) -> &[u8] {
         }
     }
     bytes
-}
-
-/// How the doors were handed back.
-fn ends_of(alloc: Global, doors: &[FaultyDoor<MemoryDoor>]) -> Result<Vec<DoorEnd>, NoMemory> {
-    let mut ends = Vec::new(alloc);
-    for door in doors {
-        ends.push(door_end(alloc, door.inner())?)?;
-    }
-    Ok(ends)
-}
-
-fn door_end(alloc: Global, door: &MemoryDoor) -> Result<DoorEnd, NoMemory> {
-    let mut served = Vec::new(alloc);
-    for conn in door.finished() {
-        served.push(ConnEnd {
-            end: Some(conn.report.end),
-            places: Vec::from_slice(alloc, conn.report.places.as_slice())?,
-            output: Vec::from_slice(alloc, conn.conn.inner().sink.taken())?,
-        })?;
-    }
-    Ok(DoorEnd {
-        coming: door.coming() as u64,
-        served,
-    })
-}
-
-/// The top call. What it promises is not needed here, and is much at objects that tell all.
-fn top_call<R, S, C, K, N, W>(
-    rt: &R,
-    alloc: Global,
-    words: &[Bytes],
-    store: &mut S,
-    input: &mut C,
-    output: &mut K,
-    net: &mut N,
-    spawner: &mut W,
-) -> Outcome<N::Door>
-where
-    R: Threads + Wait + Copy + Send + 'static,
-    S: Store,
-    C: Source,
-    K: Sink,
-    N: Network,
-    N::Door: Send + Drop + 'static,
-    <N::Door as Door>::Conn: Send + 'static,
-    W: Spawner,
-{
-    td_top::run(rt, alloc, words, store, input, output, net, spawner)
 }

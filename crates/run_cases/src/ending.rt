@@ -1,6 +1,6 @@
-use crate::texts::{Texts, number, written};
+use case_lines::{CaseFault, Texts, cut, number, numbers, written};
 use std::alloc::{AllocError, Global};
-use td_base::{End, read_decimal};
+use td_base::End;
 
 /// How a run ends.
 #[derive(Drop, PartialEq)]
@@ -33,7 +33,7 @@ pub struct DoorEnd {
 /// A connection that was handed back.
 #[derive(Drop, PartialEq)]
 pub struct ConnEnd {
-    pub end: Option<End>,
+    pub end: End,
     /// The places at which its requests were answered.
     pub places: Vec<u32>,
     /// What was written to it.
@@ -58,25 +58,26 @@ impl Ending {
         texts: &Texts,
         word: &str,
         rest: &str,
-    ) -> Result<bool, AllocError> {
-        let (first, second) = rest.split_once(' ').unwrap_or((rest, ""));
+    ) -> Result<bool, CaseFault> {
+        let (first, second) = cut(rest);
         match word {
-            "status" => self.status = u8::try_from(number(rest)).unwrap_or(u8::MAX),
+            "status" => self.status = byte(rest)?,
             "output" => texts.append(rest.as_bytes(), &mut self.output)?,
-            "starts" => self.begun = number(rest),
+            "starts" => self.begun = number(rest.as_bytes())?,
             "asks" => self.asked.push(Asked {
                 address: texts.meaning(first)?,
-                doors: number(second),
+                doors: number(second.as_bytes())?,
             })?,
             "back" => self.doors.push(DoorEnd {
-                coming: number(rest),
+                coming: number(rest.as_bytes())?,
                 served: Vec::new(alloc),
             })?,
             "served" => match self.doors.last_mut() {
-                Some(door) => door
-                    .served
-                    .push(ConnEnd::read(alloc, texts, first, second)?)?,
-                None => return Ok(false),
+                Some(door) => {
+                    let served = ConnEnd::read(alloc, texts, first, second)?;
+                    door.served.push(served)?;
+                }
+                None => return Err(CaseFault::Strange),
             },
             _ => return Ok(false),
         }
@@ -116,10 +117,10 @@ impl DoorEnd {
 
 impl ConnEnd {
     /// `END PLACES TEXT`
-    fn read(alloc: Global, texts: &Texts, end: &str, rest: &str) -> Result<ConnEnd, AllocError> {
-        let (places, text) = rest.split_once(' ').unwrap_or((rest, ""));
+    fn read(alloc: Global, texts: &Texts, end: &str, rest: &str) -> Result<ConnEnd, CaseFault> {
+        let (places, text) = cut(rest);
         Ok(ConnEnd {
-            end: end_of(end),
+            end: end_of(end)?,
             places: read_places(alloc, texts.meaning(places)?.as_slice())?,
             output: texts.meaning(text)?,
         })
@@ -141,34 +142,36 @@ impl ConnEnd {
 }
 
 /// The places between commas; a dash stands for none.
-fn read_places(alloc: Global, text: &[u8]) -> Result<Vec<u32>, AllocError> {
+fn read_places(alloc: Global, text: &[u8]) -> Result<Vec<u32>, CaseFault> {
     let mut places = Vec::new(alloc);
-    if text != b"-".as_slice() {
-        for place in text.split(|byte| *byte == b',') {
-            let place = read_decimal(place).unwrap_or(0);
-            places.push(u32::try_from(place).unwrap_or(0))?;
-        }
+    for place in numbers(alloc, text)?.as_slice() {
+        places.push(u32::try_from(*place).ok().ok_or(CaseFault::Strange)?)?;
     }
     Ok(places)
 }
 
+/// A status, which is a byte.
+fn byte(word: &str) -> Result<u8, CaseFault> {
+    let number = number(word.as_bytes())?;
+    u8::try_from(number).ok().ok_or(CaseFault::Strange)
+}
+
 /// The end of this name.
-fn end_of(name: &str) -> Option<End> {
+fn end_of(name: &str) -> Result<End, CaseFault> {
     match name {
-        "closed" => Some(End::Closed),
-        "read" => Some(End::ReadFault),
-        "write" => Some(End::WriteFault),
-        "memory" => Some(End::NoMemory),
-        _ => None,
+        "closed" => Ok(End::Closed),
+        "read" => Ok(End::ReadFault),
+        "write" => Ok(End::WriteFault),
+        "memory" => Ok(End::NoMemory),
+        _ => Err(CaseFault::Strange),
     }
 }
 
-fn name_of(end: Option<End>) -> &'static str {
+fn name_of(end: End) -> &'static str {
     match end {
-        Some(End::Closed) => "closed",
-        Some(End::ReadFault) => "read",
-        Some(End::WriteFault) => "write",
-        Some(End::NoMemory) => "memory",
-        None => "?",
+        End::Closed => "closed",
+        End::ReadFault => "read",
+        End::WriteFault => "write",
+        End::NoMemory => "memory",
     }
 }

@@ -4,7 +4,6 @@
 
 // The table, line by line.
 mod script;
-mod texts;
 
 // A case, what its runs differ in, and how they are to end.
 mod case;
@@ -14,6 +13,7 @@ mod trial;
 // The objects in memory over which it runs.
 mod outside;
 mod plan;
+mod stage;
 mod watched;
 
 use script::Script;
@@ -23,15 +23,10 @@ fn main(rt: HostRuntime) -> io::Result<()> {
     let mut script = Script::new(rt.alloc());
     for line in rt.lines(rt.alloc()) {
         let line = line?;
-        let report = script.read_line(&rt, line.as_str())?;
-        if !report.is_empty() {
-            println!(rt; "{report}")?;
+        if let Some(told) = script.read_line(&rt, line.as_str())? {
+            println!(rt; "{told}")?;
         }
     }
-    println!(rt;
-        "{} runs, {} as the table says",
-        script.runs(),
-        script.right()
-    )?;
-    Ok(())
+    let tally = script.tally();
+    println!(rt; "{tally}")
 }

@@ -1,5 +1,5 @@
-use crate::texts::number;
-use std::alloc::{AllocError, Global};
+use case_lines::{CaseFault, number};
+use std::alloc::Global;
 
 /// What the network of a case has and does.
 #[derive(Drop)]
@@ -43,31 +43,26 @@ impl NetworkPlan {
         }
     }
 
-    /// Adds what a line of the table says, and tells whether it says something of a network.
+    /// Adds what a line of the table says, whose text is this.
     pub fn add(
         &mut self,
         alloc: Global,
         word: &str,
         rest: &str,
         text: Vec<u8>,
-    ) -> Result<bool, AllocError> {
+    ) -> Result<(), CaseFault> {
         match word {
-            "door" => {
-                self.doors.push(DoorPlan {
-                    steps: Vec::new(alloc),
-                    failing: Vec::new(alloc),
-                })?;
-                Ok(true)
-            }
-            "fail-network" => {
-                self.failing.push(number(rest))?;
-                Ok(true)
-            }
+            "door" => self.doors.push(DoorPlan {
+                steps: Vec::new(alloc),
+                failing: Vec::new(alloc),
+            })?,
+            "fail-network" => self.failing.push(number(rest.as_bytes())?)?,
             _ => match self.doors.last_mut() {
-                Some(door) => door.add(alloc, word, rest, text),
-                None => Ok(false),
+                Some(door) => door.add(alloc, word, rest, text)?,
+                None => return Err(CaseFault::Strange),
             },
         }
+        Ok(())
     }
 }
 
@@ -78,42 +73,37 @@ impl DoorPlan {
         word: &str,
         rest: &str,
         text: Vec<u8>,
-    ) -> Result<bool, AllocError> {
+    ) -> Result<(), CaseFault> {
         match word {
-            "conn" => {
-                self.steps.push(StepPlan::Conn(ConnPlan {
-                    input: text,
-                    reads_failing: Vec::new(alloc),
-                    writes_failing: Vec::new(alloc),
-                }))?;
-                Ok(true)
-            }
-            "idle" => {
-                self.steps.push(StepPlan::Idle)?;
-                Ok(true)
-            }
+            "conn" => self.steps.push(StepPlan::Conn(ConnPlan {
+                input: text,
+                reads_failing: Vec::new(alloc),
+                writes_failing: Vec::new(alloc),
+            }))?,
+            "idle" => self.steps.push(StepPlan::Idle)?,
             "fail-accept" => {
                 let (first, last) = rest.split_once(' ').unwrap_or((rest, rest));
-                for call in number(first)..number(last).saturating_add(1) {
+                let last = number(last.as_bytes())?;
+                for call in number(first.as_bytes())?..last.saturating_add(1) {
                     self.failing.push(call)?;
                 }
-                Ok(true)
             }
             _ => match self.steps.last_mut() {
-                Some(StepPlan::Conn(conn)) => conn.add(word, number(rest)),
-                Some(StepPlan::Idle) | None => Ok(false),
+                Some(StepPlan::Conn(conn)) => conn.add(word, number(rest.as_bytes())?)?,
+                Some(StepPlan::Idle) | None => return Err(CaseFault::Strange),
             },
         }
+        Ok(())
     }
 }
 
 impl ConnPlan {
-    fn add(&mut self, word: &str, number: u64) -> Result<bool, AllocError> {
+    fn add(&mut self, word: &str, number: u64) -> Result<(), CaseFault> {
         match word {
             "fail-conn-read" => self.reads_failing.push(number)?,
             "fail-conn-write" => self.writes_failing.push(number)?,
-            _ => return Ok(false),
+            _ => return Err(CaseFault::Strange),
         }
-        Ok(true)
+        Ok(())
     }
 }

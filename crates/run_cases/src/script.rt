@@ -1,12 +1,12 @@
 use crate::case::Case;
 use crate::ending::Ending;
 use crate::outside::File;
-use crate::texts::{Texts, digit, number};
 use crate::trial::Trial;
+use case_lines::{CaseFault, Tally, Texts, cut, hex_bytes, number};
 use std::alloc::{AllocError, Global};
 use std::sync::Wait;
 use std::thread::Threads;
-use td_base::{Bytes, NoMemory};
+use td_base::Bytes;
 
 /// A table that is read line by line.
 #[derive(Drop)]
@@ -15,8 +15,7 @@ pub struct Script {
     texts: Texts,
     files: Vec<File>,
     case: Option<Case>,
-    runs: u64,
-    right: u64,
+    tally: Tally,
 }
 
 impl Script {
@@ -26,19 +25,13 @@ impl Script {
             texts: Texts::new(alloc),
             files: Vec::new(alloc),
             case: None,
-            runs: 0,
-            right: 0,
+            tally: Tally::new(),
         }
     }
 
-    /// How many runs there were.
-    pub fn runs(&self) -> u64 {
-        self.runs
-    }
-
-    /// How many of them ended as the table says.
-    pub fn right(&self) -> u64 {
-        self.right
+    /// How many runs there were, and how many of them ended as the table says.
+    pub fn tally(&self) -> Tally {
+        self.tally
     }
 
     /// Does what a line says, and gives what is to be told of it, if anything.
@@ -46,102 +39,76 @@ impl Script {
         &mut self,
         rt: &R,
         line: &str,
-    ) -> Result<String, AllocError> {
-        let (word, rest) = line.split_once(' ').unwrap_or((line, ""));
+    ) -> Result<Option<String>, AllocError> {
+        match self.take(rt, line) {
+            Ok(told) => Ok(told),
+            Err(CaseFault::NoMemory) => Err(AllocError),
+            Err(CaseFault::Strange) => Ok(Some(format!(in self.alloc; "strange line: {line}")?)),
+        }
+    }
+
+    fn take<R: Threads + Wait + Copy + Send + 'static>(
+        &mut self,
+        rt: &R,
+        line: &str,
+    ) -> Result<Option<String>, CaseFault> {
+        let (word, rest) = cut(line);
         match word {
-            "" | "#" => Ok(String::new(self.alloc)),
-            "let" => self.name_text(rest),
-            "series" => self.name_series(rest),
-            "file" => self.add_file(rest),
-            "hex" => self.add_hex_file(rest),
-            "remove" => self.remove_files(),
-            "case" => {
-                self.case = Some(Case::new(self.alloc, rest)?);
-                Ok(String::new(self.alloc))
+            "" | "#" => {}
+            "file" => self.add_file(rest)?,
+            "hex" => self.add_hex_file(rest)?,
+            "remove" => self.files = Vec::new(self.alloc),
+            "case" => self.case = Some(Case::new(self.alloc, rest)?),
+            "run" => return self.run_case(rt, rest),
+            _ => {
+                if !self.texts.define(word, rest)? {
+                    self.add_to_case(word, rest)?;
+                }
             }
-            "run" => self.run_case(rt, rest),
-            _ => self.add_to_case(word, rest),
         }
-    }
-
-    /// `let NAME TEXT`
-    fn name_text(&mut self, rest: &str) -> Result<String, AllocError> {
-        let (name, text) = rest.split_once(' ').unwrap_or((rest, ""));
-        let text = self.texts.meaning(text)?;
-        self.texts.name(name, text)?;
-        Ok(String::new(self.alloc))
-    }
-
-    /// `series NAME FROM TO TEXT`: the text once for each number, which `$(n)` stands for in it.
-    fn name_series(&mut self, rest: &str) -> Result<String, AllocError> {
-        let (name, rest) = rest.split_once(' ').unwrap_or((rest, ""));
-        let (from, rest) = rest.split_once(' ').unwrap_or((rest, ""));
-        let (to, text) = rest.split_once(' ').unwrap_or((rest, ""));
-        let mut all = Vec::new(self.alloc);
-        for n in number(from)..number(to).saturating_add(1) {
-            let digits = n.to_string(self.alloc)?;
-            self.texts
-                .name("n", Vec::from_slice(self.alloc, digits.as_bytes())?)?;
-            self.texts.append(text.as_bytes(), &mut all)?;
-        }
-        self.texts.name(name, all)?;
-        Ok(String::new(self.alloc))
+        Ok(None)
     }
 
     /// `file PATH TEXT`
-    fn add_file(&mut self, rest: &str) -> Result<String, AllocError> {
-        let (path, text) = rest.split_once(' ').unwrap_or((rest, ""));
-        let bytes = self.texts.meaning(text)?;
-        let path = self.texts.meaning(path)?;
+    fn add_file(&mut self, rest: &str) -> Result<(), CaseFault> {
+        let (path, text) = cut(rest);
+        let (path, bytes) = (self.texts.meaning(path)?, self.texts.meaning(text)?);
         self.files.push(File { path, bytes })?;
-        Ok(String::new(self.alloc))
+        Ok(())
     }
 
     /// `hex PATH DIGITS`
-    fn add_hex_file(&mut self, rest: &str) -> Result<String, AllocError> {
-        let (path, digits) = rest.split_once(' ').unwrap_or((rest, ""));
-        let mut bytes = Vec::new(self.alloc);
-        for pair in digits.as_bytes().chunks(2) {
-            if let [high, low] = pair {
-                bytes.push(digit(*high).wrapping_mul(16) | digit(*low))?;
-            }
-        }
+    fn add_hex_file(&mut self, rest: &str) -> Result<(), CaseFault> {
+        let (path, digits) = cut(rest);
         let path = self.texts.meaning(path)?;
+        let bytes = hex_bytes(self.alloc, digits.as_bytes())?;
         self.files.push(File { path, bytes })?;
-        Ok(String::new(self.alloc))
-    }
-
-    /// `remove`: the store has no file from here on.
-    fn remove_files(&mut self) -> Result<String, AllocError> {
-        self.files = Vec::new(self.alloc);
-        Ok(String::new(self.alloc))
+        Ok(())
     }
 
     /// A line of a case.
-    fn add_to_case(&mut self, word: &str, rest: &str) -> Result<String, AllocError> {
-        let text = self.texts.meaning(rest)?;
+    fn add_to_case(&mut self, word: &str, rest: &str) -> Result<(), CaseFault> {
         let Some(case) = &mut self.case else {
-            return strange(self.alloc, word);
+            return Err(CaseFault::Strange);
         };
+        if case.ending.add(self.alloc, &self.texts, word, rest)? {
+            return Ok(());
+        }
+        let text = self.texts.meaning(rest)?;
         match word {
             "word" => push_word(self.alloc, case, text.as_slice())?,
             "words" => push_words(self.alloc, case, rest)?,
             "input" => case.input.extend_from_slice(text.as_slice())?,
-            "room" => case.room = number(rest) as usize,
-            "read" => case.sizes.read = number(rest) as usize,
-            "write" => case.sizes.write = number(rest) as usize,
-            "fail-store" => case.store_failing.push(number(rest))?,
-            "fail-input" => case.input_failing.push(number(rest))?,
-            "fail-output" => case.output_failing.push(number(rest))?,
-            "fail-start" => case.spawner_failing.push(number(rest))?,
-            _ => {
-                let ends = case.ending.add(self.alloc, &self.texts, word, rest)?;
-                if !ends && !case.network.add(self.alloc, word, rest, text)? {
-                    return strange(self.alloc, word);
-                }
-            }
+            "door"
+            | "fail-network"
+            | "conn"
+            | "idle"
+            | "fail-accept"
+            | "fail-conn-read"
+            | "fail-conn-write" => case.network.add(self.alloc, word, rest, text)?,
+            _ => case.set(word, number(rest.as_bytes())?)?,
         }
-        Ok(String::new(self.alloc))
+        Ok(())
     }
 
     /// `run`, or `run cut`, `run unwritten`, `run unread` or `run ended`: once for each byte of the
@@ -150,49 +117,41 @@ impl Script {
         &mut self,
         rt: &R,
         how: &str,
-    ) -> Result<String, AllocError> {
+    ) -> Result<Option<String>, CaseFault> {
         let Some(case) = &self.case else {
-            return strange(self.alloc, "run");
+            return Err(CaseFault::Strange);
         };
         let count = match how {
             "cut" | "unread" | "ended" => case.input.len(),
             "unwritten" => case.ending.output.len(),
             _ => 1,
         };
-        let mut report = String::new(self.alloc);
+        let mut report = None;
         for number in 1..count.saturating_add(1) {
             let trial = Trial::of(how, number);
-            self.runs = self.runs.saturating_add(1);
-            match case.run(rt, self.alloc, self.files.as_slice(), trial) {
-                Ok(ending) if case.is_met_by(trial, &ending) => {
-                    self.right = self.right.saturating_add(1)
-                }
-                Ok(ending) => report = told(self.alloc, case, &ending)?,
-                Err(NoMemory) => return Err(AllocError),
+            let ending = case.run(rt, self.alloc, self.files.as_slice(), trial)?;
+            let is_right = case.is_met_by(trial, &ending);
+            self.tally.count(is_right);
+            if !is_right {
+                report = Some(told(self.alloc, case, &ending)?);
             }
         }
         Ok(report)
     }
 }
 
-fn push_word(alloc: Global, case: &mut Case, word: &[u8]) -> Result<(), AllocError> {
-    match Bytes::from_slice(alloc, word) {
-        Ok(word) => Ok(case.words.push(word)?),
-        Err(NoMemory) => Err(AllocError),
-    }
+fn push_word(alloc: Global, case: &mut Case, word: &[u8]) -> Result<(), CaseFault> {
+    let word = Bytes::from_slice(alloc, word)?;
+    case.words.push(word)?;
+    Ok(())
 }
 
 /// The words of a line.
-fn push_words(alloc: Global, case: &mut Case, words: &str) -> Result<(), AllocError> {
+fn push_words(alloc: Global, case: &mut Case, words: &str) -> Result<(), CaseFault> {
     for word in words.split(' ') {
         push_word(alloc, case, word.as_bytes())?;
     }
     Ok(())
-}
-
-/// What is told of a line that says nothing.
-fn strange(alloc: Global, word: &str) -> Result<String, AllocError> {
-    format!(in alloc; "strange line: {word}")
 }
 
 /// What is told of a run that ended otherwise.

@@ -28,6 +28,7 @@ impl<N: Drop> WatchedNetwork<N> {
 
 impl<N: Network> Network for WatchedNetwork<N> {
     type Door = N::Door;
+
     type Up = N::Up;
 
     ghost seen = { λ w. N.seen w.inner };

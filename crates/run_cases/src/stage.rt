@@ -1,0 +1,148 @@
+//! The objects in memory over which a case runs.
+use crate::case::Case;
+use crate::ending::{ConnEnd, DoorEnd, Ending};
+use crate::outside::{File, calls, network_of, store_of};
+use crate::trial::Trial;
+use crate::watched::{WatchedNetwork, WatchedSpawner};
+use std::alloc::Global;
+use std::sync::Wait;
+use std::thread::Threads;
+use td_base::{
+    Bytes, Door, Faulty, FaultyDoor, MemoryDoor, MemoryNetwork, MemorySink, MemorySource,
+    MemorySpawner, MemoryStore, MemoryUpstream, Network, NoMemory, Sink, Source, Spawner, Store,
+};
+use td_top::Outcome;
+
+/// What a network in memory gives connections through.
+type CaseDoor = FaultyDoor<MemoryDoor>;
+
+type CaseNetwork = WatchedNetwork<Faulty<MemoryNetwork<CaseDoor, MemoryUpstream>>>;
+
+/// The objects of a run.
+#[derive(Drop)]
+pub struct Stage {
+    store: Faulty<MemoryStore>,
+    input: Faulty<MemorySource>,
+    output: Faulty<MemorySink>,
+    network: CaseNetwork,
+    spawner: WatchedSpawner<Faulty<MemorySpawner>>,
+}
+
+impl Stage {
+    /// The objects of a run of a case over the files.
+    pub fn new(
+        alloc: Global,
+        case: &Case,
+        files: &[File],
+        trial: Trial,
+    ) -> Result<Stage, NoMemory> {
+        let store = store(alloc, case, files)?;
+        let input = case.source(alloc, trial)?;
+        let output = case.sink(alloc, trial)?;
+        let network = network(alloc, case)?;
+        let spawner = spawner(alloc, case)?;
+        Ok(Stage {
+            store,
+            input,
+            output,
+            network,
+            spawner,
+        })
+    }
+
+    /// Runs the top call over them.
+    pub fn play<R: Threads + Wait + Copy + Send + 'static>(
+        &mut self,
+        rt: &R,
+        alloc: Global,
+        words: &[Bytes],
+    ) -> Outcome<CaseDoor> {
+        top_call(
+            rt,
+            alloc,
+            words,
+            &mut self.store,
+            &mut self.input,
+            &mut self.output,
+            &mut self.network,
+            &mut self.spawner,
+        )
+    }
+
+    /// How the run ended.
+    pub fn end(self, alloc: Global, outcome: Outcome<CaseDoor>) -> Result<Ending, NoMemory> {
+        let output = Vec::from_slice(alloc, self.output.inner().taken())?;
+        let doors = ends_of(alloc, outcome.doors.as_slice())?;
+        Ok(Ending {
+            status: outcome.status,
+            output,
+            begun: self.spawner.begun(),
+            asked: self.network.into_asked(),
+            doors,
+        })
+    }
+}
+
+fn store(alloc: Global, case: &Case, files: &[File]) -> Result<Faulty<MemoryStore>, NoMemory> {
+    let failing = calls(alloc, &case.store_failing)?;
+    Ok(Faulty::new(store_of(alloc, files)?, failing))
+}
+
+fn network(alloc: Global, case: &Case) -> Result<CaseNetwork, NoMemory> {
+    let failing = calls(alloc, &case.network.failing)?;
+    let network = network_of(alloc, case.network.doors.as_slice(), case.sizes)?;
+    Ok(WatchedNetwork::new(alloc, Faulty::new(network, failing)))
+}
+
+fn spawner(alloc: Global, case: &Case) -> Result<WatchedSpawner<Faulty<MemorySpawner>>, NoMemory> {
+    let failing = calls(alloc, &case.spawner_failing)?;
+    Ok(WatchedSpawner::new(Faulty::new(MemorySpawner::new(), failing)))
+}
+
+/// How the doors were handed back.
+fn ends_of(alloc: Global, doors: &[CaseDoor]) -> Result<Vec<DoorEnd>, NoMemory> {
+    let mut ends = Vec::new(alloc);
+    for door in doors {
+        ends.push(door_end(alloc, door.inner())?)?;
+    }
+    Ok(ends)
+}
+
+fn door_end(alloc: Global, door: &MemoryDoor) -> Result<DoorEnd, NoMemory> {
+    let mut served = Vec::new(alloc);
+    for conn in door.finished() {
+        served.push(ConnEnd {
+            end: conn.report.end,
+            places: Vec::from_slice(alloc, conn.report.places.as_slice())?,
+            output: Vec::from_slice(alloc, conn.conn.inner().sink.taken())?,
+        })?;
+    }
+    Ok(DoorEnd {
+        coming: door.coming() as u64,
+        served,
+    })
+}
+
+/// The top call. What it promises is not needed here, and is much at objects that tell all.
+fn top_call<R, S, C, K, N, W>(
+    rt: &R,
+    alloc: Global,
+    words: &[Bytes],
+    store: &mut S,
+    input: &mut C,
+    output: &mut K,
+    net: &mut N,
+    spawner: &mut W,
+) -> Outcome<N::Door>
+where
+    R: Threads + Wait + Copy + Send + 'static,
+    S: Store,
+    C: Source,
+    K: Sink,
+    N: Network,
+    N::Door: Send + Drop + 'static,
+    <N::Door as Door>::Conn: Send + 'static,
+    W: Spawner,
+{
+    td_top::run(rt, alloc, words, store, input, output, net, spawner)
+}
