@@ -3,14 +3,16 @@
 
     deploy/try.py [PROGRAM]
 
-It needs nginx, openssl and Python's standard library; it is run by hand, and everything that it
-starts ends with it. systemd itself is not tried.
+Between nginx and the server stands a relay, which counts what reaches the server. It needs nginx,
+openssl and Python's standard library; it is run by hand, and everything that it starts ends with
+it. systemd itself is not tried, and the page is only fetched: try_page.py looks at it.
 """
 
 import gzip
 import http.client
 import json
 import os
+import resource
 import shutil
 import signal
 import socket
@@ -18,22 +20,26 @@ import ssl
 import subprocess
 import sys
 import tempfile
+import threading
 import time
+from concurrent.futures import ThreadPoolExecutor
 
 sys.dont_write_bytecode = True
 HERE = os.path.dirname(os.path.abspath(__file__))
 sys.path.insert(0, os.path.join(os.path.dirname(HERE), "tools"))
 
-from served import DATA, HOST, PROGRAM, Failure, free_port
+import fetch_zoneinfo
+from served import DATA, HOST, PROGRAM, Failure, free_port, slim_zone
 
 NAME = "tz.example.org"
+CLIENTS = 1000
 FIRST, SECOND = "1-e2b2cb478d218163", "2-d7dd2fc2e202fff3"
 UTC = "/tzdist/zones/Etc%2FUTC"
 WHOLE = """
 daemon off;
 worker_processes 2;
 pid {at}/pid;
-events {{ worker_connections 512; }}
+events {{ worker_connections 2048; }}
 http {{
     access_log off;
     client_body_temp_path {at}/t1;
@@ -78,6 +84,57 @@ class Front(http.client.HTTPSConnection):
         self.close()
 
 
+class Relay:
+    """Passes connections on to a server, and keeps the head of each request that passes."""
+
+    def __init__(self, port):
+        self.to, self.heads, self.replied = port, [], b""
+        self.listener = socket.create_server((HOST, 0))
+        self.port = self.listener.getsockname()[1]
+        threading.Thread(target=self._accept, daemon=True).start()
+
+    def _accept(self):
+        while True:
+            near = self.listener.accept()[0]
+            try:
+                far = socket.create_connection((HOST, self.to))
+            except OSError:
+                near.close()
+                continue
+            for words in ((near, far, self._asked), (far, near, self._answered)):
+                threading.Thread(target=self._pass, args=words, daemon=True).start()
+
+    def _pass(self, here, there, told):
+        held = b""
+        try:
+            while piece := here.recv(1 << 16):
+                held = told(held + piece)
+                there.sendall(piece)
+        except OSError:
+            pass
+        for end in (here, there):
+            try:
+                end.shutdown(socket.SHUT_RDWR)
+            except OSError:
+                pass
+
+    def _asked(self, held):
+        *heads, rest = held.split(b"\r\n\r\n")
+        self.heads += [head.decode("latin-1") for head in heads]
+        return rest
+
+    def _answered(self, held):
+        self.replied += held
+        return b""
+
+    def clear(self):
+        self.heads, self.replied = [], b""
+
+    def not_modified(self):
+        """How many replies said that what is kept still counts."""
+        return self.replied.count(b"HTTP/1.1 304 ")
+
+
 class Deployed:
     """The server, started by the script of its unit, with nginx in front of it."""
 
@@ -96,12 +153,25 @@ class Deployed:
             "TZDISTD": program,
         }
         self.server = subprocess.Popen([os.path.join(HERE, "tzdistd-serve")], env=self.environment, stdin=subprocess.DEVNULL)
-        self.nginx = None
+        self.nginx, self.relay = None, Relay(self.port)
 
     def add(self, data, name):
         """A folder of the data as a release."""
         shutil.copytree(os.path.join(DATA, "data", data), os.path.join(self.releases, name))
         return os.path.join(self.releases, name)
+
+    def add_moved(self, name, hours):
+        """A later release, with a zone so many hours east of UTC."""
+        folder = self.add("b", name)
+        with open(os.path.join(folder, "moved"), "wb") as file:
+            file.write(slim_zone(hours))
+        with open(os.path.join(folder, "manifest.json"), "r+") as file:
+            manifest = json.load(file)
+            manifest["zones"].append({"tzid": "Test/Moved", "file": "moved"})
+            file.seek(0)
+            json.dump(manifest, file)
+            file.truncate()
+        return folder
 
     def console(self, *line):
         """Status and output of a line at the console."""
@@ -114,13 +184,15 @@ class Deployed:
         at = self.room
         subprocess.run(
             ["openssl", "req", "-x509", "-newkey", "rsa:2048", "-nodes", "-days", "2", "-subj", f"/CN={NAME}",
-             "-addext", f"subjectAltName=DNS:{NAME}", "-keyout", f"{at}/key.pem", "-out", f"{at}/fullchain.pem"],
+             "-addext", f"subjectAltName=DNS:{NAME},IP:{HOST}", "-keyout", f"{at}/key.pem", "-out", f"{at}/fullchain.pem"],
             check=True, capture_output=True, timeout=60,
         )
         with open(os.path.join(HERE, "nginx-tzdistd.conf")) as file:
             site = file.read()
         for old, new in [
-            (f"{HOST}:8008;", f"{HOST}:{self.port};"),
+            (f"server {HOST}:8008;", f"server {HOST}:{self.relay.port};"),
+            ("/var/cache/tzdistd ", f"{at}/cache "),
+            ("/usr/share/tzdistd/page;", f"{HERE}/page;"),
             ("listen 443 ", f"listen {HOST}:{self.front} "),
             ("    listen [::]:443 ssl http2;\n", ""),
             ("/etc/ssl/tzdistd/", f"{at}/"),
@@ -134,6 +206,7 @@ class Deployed:
         words = ["nginx", "-p", at, "-c", f"{at}/conf", "-e", f"{at}/errors"]
         subprocess.run([*words, "-t"], check=True, timeout=30)
         self.nginx = subprocess.Popen(words, stdin=subprocess.DEVNULL)
+        self.context = ssl.create_default_context(cafile=f"{at}/fullchain.pem")
         for _ in range(100):
             try:
                 self.connect().close()
@@ -143,8 +216,7 @@ class Deployed:
         raise Failure("nginx does not listen")
 
     def connect(self):
-        context = ssl.create_default_context(cafile=f"{self.room}/fullchain.pem")
-        front = Front(self.front, context)
+        front = Front(self.front, self.context)
         front.connect()
         return front
 
@@ -193,8 +265,51 @@ def proxy(deployed):
     same("POST", ask(front, UTC, "POST", Content_Length="0")[0].status, 405)
     reply, _ = ask(front, "/.well-known/timezone")
     same("the redirect", (reply.status, reply.headers["Location"]), (301, "/tzdist"))
-    same("another path", ask(front, "/")[0].status, 404)
+    same("another path", ask(front, "/other")[0].status, 404)
     same("a problem", ask(front, "/tzdist/zones/No%2FZone")[0].status, 404)
+    reply, body = ask(front, "/")
+    same("the page's head", (reply.status, reply.headers["Content-Type"]), (200, "text/html; charset=utf-8"))
+    with open(os.path.join(HERE, "page/index.html"), "rb") as file:
+        same("the page is the file", body == file.read(), True)
+    same("what the page may do", reply.headers["Content-Security-Policy"].split(";")[0], "default-src 'none'")
+    front.close()
+
+
+def cache(deployed):
+    """Many clients cost one request, and what is kept is asked for again by its tag."""
+    relay = deployed.relay
+    clients = [deployed.connect() for _ in range(CLIENTS)]
+    for target in ("/tzdist/zones", UTC):
+        time.sleep(2.5)
+        relay.clear()
+        begin = time.monotonic()
+        with ThreadPoolExecutor(20) as pool:
+            statuses = set(pool.map(lambda client: ask(client, target)[0].status, clients))
+        took = time.monotonic() - begin
+        same(f"{CLIENTS} clients that ask for {target}", statuses, {200})
+        print(f"  of them reached the server: {len(relay.heads)}, in {took:.1f} s")
+        if not 1 <= len(relay.heads) <= 1 + took:
+            raise Failure("more than a request a second reached the server")
+    for client in clients[1:]:
+        client.close()
+    front = clients[0]
+    # what is kept no longer counts
+    time.sleep(2.5)
+    relay.clear()
+    reply, body = ask(front, UTC)
+    same("an answer that was kept", (reply.status, body[:15]), (200, b"BEGIN:VCALENDAR"))
+    tag = reply.headers["ETag"]
+    asked = [(head.split(" ")[1], f"If-None-Match: {tag}" in head) for head in relay.heads]
+    same("it was asked for by its tag", (asked, relay.not_modified()), ([(UTC, True)], 1))
+    relay.clear()
+    same("its tag of a client", ask(front, UTC, If_None_Match=tag)[0].status, 304)
+    same("another tag of a client", ask(front, UTC, If_None_Match='"x"')[0].status, 200)
+    same("HEAD of it", ask(front, UTC, "HEAD")[1], b"")
+    same("what reached the server", len(relay.heads), 0)
+    reply, body = ask(front, UTC, Accept="application/tzif")
+    same("the file beside it", (body[:4], len(relay.heads)), (b"TZif", 1))
+    same("the calendar again", (ask(front, UTC)[1][:15], len(relay.heads)), (b"BEGIN:VCALENDAR", 1))
+    same("past the cache", (ask(front, UTC, Cache_Control="no-cache")[0].status, len(relay.heads)), (200, 2))
     front.close()
 
 
@@ -212,14 +327,49 @@ def load(deployed):
     same("the idle ones again", {ask(one, "/tzdist/zones")[0].status for one in idle}, {200})
     added = deployed.add("b", "2025b")
     same("an install", deployed.console("install", added), (0, f"installed {SECOND}\n"))
-    same("the release then", json.loads(ask(front, "/tzdist/zones")[1])["synctoken"], SECOND)
+    same("the release past the cache", token(front, Cache_Control="no-cache"), SECOND)
+    time.sleep(2.5)
+    same("the release", token(front), SECOND)
     for one in (front, *idle):
         one.close()
+
+
+def token(front, **fields):
+    return json.loads(ask(front, "/tzdist/zones", **fields)[1])["synctoken"]
+
+
+def device(deployed):
+    """A device has each release whole, also where the cache has older files than the list."""
+    os.environ["SSL_CERT_FILE"] = f"{deployed.room}/fullchain.pem"
+    url, tree = f"https://{HOST}:{deployed.front}", os.path.join(deployed.room, "zoneinfo")
+
+    def moved():
+        with open(os.path.join(tree, "Test/Moved"), "rb") as file:
+            return file.read()
+
+    folders = [deployed.add_moved(f"2025{letter}", hours) for letter, hours in (("c", 1), ("d", 2))]
+    held = deployed.console("install", folders[0])[1].split()[1]
+    time.sleep(2.5)
+    fetch_zoneinfo.fetch(url, tree)
+    same("a device's file", moved(), slim_zone(1))
+    relay, target = deployed.relay, "/tzdist/zones/Test%2FMoved"
+    with deployed.connect() as front:
+        ask(front, target, Accept="application/tzif", Cache_Control="no-cache")
+        deployed.console("install", folders[1])
+        ask(front, f"/tzdist/zones?changedsince={held}", Cache_Control="no-cache")
+    relay.clear()
+    line = fetch_zoneinfo.fetch(url, tree)
+    same("its file after an install", moved(), slim_zone(2))
+    print(f"  {line.rpartition(', ')[2]}, of which reached the server: {sum(target in head for head in relay.heads)}")
+    same("then", fetch_zoneinfo.fetch(url, tree).rpartition(", ")[2], "nothing changed")
 
 
 def end(deployed):
     same("quit", deployed.console("quit"), (0, "bye\n"))
     same("the status at the end", deployed.server.wait(20), 0)
+    with deployed.connect() as front:
+        time.sleep(2.5)
+        same("the list without the server", ask(front, "/tzdist/zones")[0].status, 200)
 
 
 def main():
@@ -227,10 +377,11 @@ def main():
     for tool in ("nginx", "openssl"):
         if shutil.which(tool) is None:
             sys.exit(f"{tool} is not installed")
+    resource.setrlimit(resource.RLIMIT_NOFILE, (resource.getrlimit(resource.RLIMIT_NOFILE)[1],) * 2)
     with tempfile.TemporaryDirectory() as room:
         deployed = Deployed(room, program)
         try:
-            for part in (ready, console, Deployed.start_nginx, proxy, load, end):
+            for part in (ready, console, Deployed.start_nginx, proxy, cache, load, device, end):
                 print(part.__name__.replace("_", " "), flush=True)
                 part(deployed)
         except Failure as fault:
