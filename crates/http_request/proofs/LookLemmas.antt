@@ -1,5 +1,5 @@
 -- What the limits and the reading of a window say of the step.
-use Rattle.std.proofs.Common.{◌≡◌, ℕ, ◌≤◌, inl, inr, List, length, take, true, false, ◌&&◌, ◌||◌, nat_le, cond, Result, Ok, Err, OnErr, Option, Some, None}
+use Rattle.std.proofs.Common.{◌≡◌, ℕ, ◌<◌, ◌≤◌, inl, inr, List, length, take, true, false, ◌&&◌, ◌||◌, nat_le, cond, Result, Ok, Err, OnErr, Option, Some, None}
 use Rattle.std.proofs.Common.{refl, sym, ap, ◌∙◌, subst, arith}
 use Rattle.std.proofs.lemmas.Bool.Decides.{nat_tests}
 use Rattle.std.proofs.lemmas.List.{take_all}
@@ -7,40 +7,48 @@ use Rattle.httparse.specs.Grammar.{RequestHead, print_request}
 use Rattle.http_request.specs.Ends.{feeds, fits, window, is_full}
 use Rattle.http_request.specs.Judging.{refusal_of, asked_by}
 use Rattle.http_request.specs.Steps.{HeadOf, Whole, Malformed, TooLarge, NotYet, Taken, Refused, Waiting, verdict, IsStep, IsTaken}
-use Rattle.http_request.specs.Scans.{IsScanned, head_end}
-use Rattle.http_request.specs.Readings.{ReadsHead, FindsStep, IsServed, reading_step}
+use Rattle.http_request.specs.Scans.{IsScanned, Searches, head_end}
+use Rattle.http_request.specs.Readings.{ReadsHead, FindsStep, IsServed}
 use Rattle.http_request.specs.declared.scan.Scan.{Scan}
-use Rattle.http_request.specs.declared.reading.Reading.{Reading}
-use Rattle.http_request.specs.declared.reading.Reading.TheVariants as reading
+use Rattle.http_request.specs.declared.limits.TheConstants.{MOST_HEAD_BYTES, MOST_FEEDS}
+use Rattle.http_request.specs.declared.scan.Search.TheVariants as search
+use Rattle.http_request.specs.declared.step.Step.{Step}
+use Rattle.http_request.specs.declared.step.Step.TheVariants as step
 use Rattle.http_request.proofs.EndLemmas.{feeds-take}
-use Rattle.http_request.proofs.ScanLemmas.{scan_open}
+use Rattle.http_request.proofs.ScanLemmas.{feeds-le-length, scan_open}
 use Rattle.http_request.proofs.lemmas.StepLemmas.{end_within_list, window_of, no_end}
 
+some_by : (m n : ℕ) → n ≤ m → (nat_le MOST_HEAD_BYTES m || nat_le MOST_FEEDS n) ≡ true → 0 < m
+some_by m n h f = grind (arith, nat_tests)
+
+pub full_some : (bytes : List ℕ) → is_full bytes ≡ true → 0 < length bytes
+full_some bytes f = some_by (length bytes) (feeds bytes) (feeds-le-length bytes) f
+
 -- nothing ends in the bytes
-full_is : (bytes : List ℕ) (scan : Scan) → IsScanned bytes scan → scan.seen ≡ length bytes
-    → is_full bytes ≡ (nat_le 16384 (length bytes) || nat_le 66 scan.feeds)
+pub full_is : (bytes : List ℕ) (scan : Scan) → IsScanned bytes scan → scan.seen ≡ length bytes
+    → is_full bytes ≡ (nat_le MOST_HEAD_BYTES (length bytes) || nat_le MOST_FEEDS scan.feeds)
 full_is bytes scan s e =
     let whole : feeds (take scan.seen bytes) ≡ feeds bytes = ap feeds (take_all scan.seen bytes (omega (arith, e))) in
-    ap (λ n. nat_le 16384 (length bytes) || nat_le 66 n) (sym (s.feeds ∙ whole))
+    ap (λ n. nat_le MOST_HEAD_BYTES (length bytes) || nat_le MOST_FEEDS n) (sym (s.feeds ∙ whole))
 
 pub waits_full : (bytes : List ℕ) (scan : Scan) → IsScanned bytes scan → scan.seen ≡ length bytes
-    → (nat_le 16384 (length bytes) || nat_le 66 scan.feeds) ≡ true → IsStep bytes (Refused 431)
+    → (nat_le MOST_HEAD_BYTES (length bytes) || nat_le MOST_FEEDS scan.feeds) ≡ true → IsStep bytes (Refused 431)
 waits_full bytes scan s e f =
     record { found = TooLarge; finds = (no_end bytes (scan_open bytes scan s e), full_is bytes scan s e ∙ f); is = refl }
 
 pub waits_more : (bytes : List ℕ) (scan : Scan) → IsScanned bytes scan → scan.seen ≡ length bytes
-    → (nat_le 16384 (length bytes) || nat_le 66 scan.feeds) ≡ false → IsStep bytes Waiting
+    → (nat_le MOST_HEAD_BYTES (length bytes) || nat_le MOST_FEEDS scan.feeds) ≡ false → IsStep bytes Waiting
 waits_more bytes scan s e f =
     record { found = NotYet; finds = (no_end bytes (scan_open bytes scan s e), full_is bytes scan s e ∙ f); is = refl }
 
-past_is_full : (n m x y : ℕ) → n ≤ m → x ≤ y → (nat_le n 16384 && nat_le x 66) ≡ false → (nat_le 16384 m || nat_le 66 y) ≡ true
+pub past_is_full : (n m x y : ℕ) → n ≤ m → x ≤ y → (nat_le n MOST_HEAD_BYTES && nat_le x MOST_FEEDS) ≡ false → (nat_le MOST_HEAD_BYTES m || nat_le MOST_FEEDS y) ≡ true
 past_is_full n m x y a b f = grind (arith, nat_tests)
 
 -- a head ends in the bytes: `count` is how many line feeds it has
 pub ends_past : (bytes : List ℕ) (n count : ℕ) → head_end bytes ≡ Some n → count ≡ feeds (take n bytes)
-    → (nat_le n 16384 && nat_le count 66) ≡ false → IsStep bytes (Refused 431)
+    → (nat_le n MOST_HEAD_BYTES && nat_le count MOST_FEEDS) ≡ false → IsStep bytes (Refused 431)
 ends_past bytes n count e c f =
-    let g : fits bytes n ≡ false = ap (λ k. nat_le n 16384 && nat_le k 66) (sym c) ∙ f in
+    let g : fits bytes n ≡ false = ap (λ k. nat_le n MOST_HEAD_BYTES && nat_le k MOST_FEEDS) (sym c) ∙ f in
     record {
       found = TooLarge;
       finds = (
@@ -51,25 +59,26 @@ ends_past bytes n count e c f =
     }
 
 within_is : (bytes : List ℕ) (n count : ℕ) → head_end bytes ≡ Some n → count ≡ feeds (take n bytes)
-    → (nat_le n 16384 && nat_le count 66) ≡ true → window bytes ≡ Some n
+    → (nat_le n MOST_HEAD_BYTES && nat_le count MOST_FEEDS) ≡ true → window bytes ≡ Some n
 within_is bytes n count e c f =
-    window_of bytes n e ∙ ap (λ t. cond t (Some n) None) (ap (λ k. nat_le n 16384 && nat_le k 66) (sym c) ∙ f)
+    window_of bytes n e ∙ ap (λ t. cond t (Some n) None) (ap (λ k. nat_le n MOST_HEAD_BYTES && nat_le k MOST_FEEDS) (sym c) ∙ f)
 
 judged : (bytes : List ℕ) (n : ℕ) (h : RequestHead) (r : Option ℕ) → window bytes ≡ Some n → HeadOf (take n bytes) h
     → refusal_of h ≡ r → IsStep bytes (verdict h r)
 judged bytes n h r w x e = record { found = Whole h; finds = (n, w, x); is = ap (verdict h) (sym e) }
 
-pub ends_within : (bytes : List ℕ) (n count : ℕ) (r : Reading) → head_end bytes ≡ Some n → count ≡ feeds (take n bytes)
-    → (nat_le n 16384 && nat_le count 66) ≡ true → ReadsHead (take n bytes) r → FindsStep bytes (reading_step r)
-ends_within bytes n count (reading.Taken head len) e c f x =
+pub ends_within : (bytes : List ℕ) (n count : ℕ) (r : Step) → head_end bytes ≡ Some n → count ≡ feeds (take n bytes)
+    → (nat_le n MOST_HEAD_BYTES && nat_le count MOST_FEEDS) ≡ true → ReadsHead (take n bytes) r → FindsStep bytes r
+ends_within bytes n count (step.Taken head len) e c f x =
     subst (λ o. IsStep bytes o) (ap (λ l. Taken l (length (print_request x.0))) (sym x.3) ∙ ap (Taken head) (sym x.4))
     (judged bytes n x.0 None (within_is bytes n count e c f) x.1 x.2)
-ends_within bytes n count (reading.Refused status) e c f (inl x) = judged bytes n x.0 (Some status) (within_is bytes n count e c f) x.1 x.2
-ends_within bytes n count (reading.Refused status) e c f (inr x) =
+ends_within bytes n count (step.Refused status) e c f (inl x) = judged bytes n x.0 (Some status) (within_is bytes n count e c f) x.1 x.2
+ends_within bytes n count (step.Refused status) e c f (inr x) =
     record { found = Malformed; finds = (n, within_is bytes n count e c f, x.0); is = ap Refused x.1 }
+ends_within bytes n count (step.Waiting scan) e c f x = absurd x
 
 pub ends_taken : (bytes : List ℕ) (n count : ℕ) → head_end bytes ≡ Some n → count ≡ feeds (take n bytes)
-    → (nat_le n 16384 && nat_le count 66) ≡ true → IsServed (take n bytes) → IsTaken bytes
+    → (nat_le n MOST_HEAD_BYTES && nat_le count MOST_FEEDS) ≡ true → IsServed (take n bytes) → IsTaken bytes
 ends_taken bytes n count e c f x =
     (asked_by x.0, length (print_request x.0), judged bytes n x.0 None (within_is bytes n count e c f) x.1 x.2)
 

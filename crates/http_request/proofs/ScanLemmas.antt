@@ -20,7 +20,7 @@ kind_past [] b = refl
 kind_past (a ∷ []) b = grind arith
 kind_past (a ∷ c ∷ bs) b = refl
 
-feeds-le-length : (xs : List ℕ) → feeds xs ≤ length xs
+pub feeds-le-length : (xs : List ℕ) → feeds xs ≤ length xs
 feeds-le-length [] = omega arith
 feeds-le-length (x ∷ xs) = grind (arith, feeds-le-length xs)
 

@@ -7,13 +7,14 @@ use Rattle.std.specs.List.{list_all}
 use Rattle.httparse.specs.Grammar.{RequestHead, print_request}
 use Rattle.td_base.specs.TargetForm.{has_form}
 use Rattle.td_base.specs.declared.no_memory.NoMemory.{NoMemory}
-use Rattle.http_request.specs.Ends.{feeds, most_head_bytes, most_feeds}
-use Rattle.http_request.specs.Judging.{refusal, refusal_of, asked_by, pairs_of, is_served, is_well_formed, has_hosts, field_values, is_zero}
+use Rattle.http_request.specs.Ends.{feeds}
+use Rattle.http_request.specs.Judging.{refusal, refusal_of, asked_by, pairs_of, is_served, is_well_formed, has_hosts, field_values, is_host, is_zero}
 use Rattle.http_request.specs.Steps.{Found, Whole, Malformed, TooLarge, NotYet, Finds, Taken, Refused, Waiting, outcome, verdict, IsStep, IsTaken, Steps}
 use Rattle.http_request.specs.Taking.{HasForm, HasStatus, IsRefusal, LeavesFewer, LeavesRoom}
 use Rattle.http_request.specs.declared.head.Head.{Head}
 use Rattle.http_request.specs.declared.head.Next.{Next}
 use Rattle.http_request.specs.declared.head.Next.TheVariants as next
+use Rattle.http_request.specs.declared.limits.TheConstants.{MOST_HEAD_BYTES, MOST_FEEDS}
 use Rattle.http_request.proofs.lemmas.StepLemmas.{one_step, taken≢waiting, refused≢taken, refused≢waiting, same_status, same_head, taken_within, taken_some}
 use Rattle.http_request.proofs.lemmas.StepLemmas.{verdict_waits}
 
@@ -35,15 +36,17 @@ refusal_none : (method target : List ℕ) (minor : ℕ) (pairs : List (List ℕ 
 unfolding refusal
 refusal_none method target minor pairs e =
     by_tests (is_served method) (has_hosts minor (length (field_values (codes "host") pairs)))
-    (length (field_values (codes "transfer-encoding") pairs) == 0) (list_all is_zero (field_values (codes "content-length") pairs)) (has_form target) e
+    (list_all is_host (field_values (codes "host") pairs)) (length (field_values (codes "transfer-encoding") pairs) == 0) (list_all is_zero (field_values (codes "content-length") pairs)) (has_form target) e
   where
-    by_tests : (m a b c f : Bool) → cond {A = Option ℕ} (not m) (Some 405) (cond {A = Option ℕ} (not (a && (b && (c && f)))) (Some 400) None) ≡ None → f ≡ true
-    by_tests true true true true true e = refl
-    by_tests true true true true false e = absurd (none-some 400 (sym e))
-    by_tests true true true false f e = absurd (none-some 400 (sym e))
-    by_tests true true false c f e = absurd (none-some 400 (sym e))
-    by_tests true false b c f e = absurd (none-some 400 (sym e))
-    by_tests false a b c f e = absurd (none-some 405 (sym e))
+    by_tests : (m a h b c f : Bool) → cond {A = Option ℕ} (not m) (Some 405) (cond {A = Option ℕ} (not (a && (h && (b && (c && f))))) (Some 400) None) ≡ None
+        → f ≡ true
+    by_tests true true true true true true e = refl
+    by_tests true true true true true false e = absurd (none-some 400 (sym e))
+    by_tests true true true true false f e = absurd (none-some 400 (sym e))
+    by_tests true true true false c f e = absurd (none-some 400 (sym e))
+    by_tests true true false b c f e = absurd (none-some 400 (sym e))
+    by_tests true false h b c f e = absurd (none-some 400 (sym e))
+    by_tests false a h b c f e = absurd (none-some 405 (sym e))
 
 -- the target of a head that is taken is in one of the two forms
 pub taken_form : (bytes : List ℕ) (head : Head) (n : ℕ) → IsStep bytes (Taken head n) → has_form head.target ≡ true
@@ -80,13 +83,13 @@ step_fewer old new (Ok (next.Bad status)) s = tt
 step_fewer old new (Err e) s = tt
 
 -- where nothing stands yet there is room for a head
-has_room : (m n : ℕ) → (nat_le 16384 m || nat_le 66 n) ≡ false → (m < 16384) × (n < 66)
+has_room : (m n : ℕ) → (nat_le MOST_HEAD_BYTES m || nat_le MOST_FEEDS n) ≡ false → (m < MOST_HEAD_BYTES) × (n < MOST_FEEDS)
 has_room m n e = (grind (arith, nat_tests), grind (arith, nat_tests))
 
-pub waiting_room : (bytes : List ℕ) → IsStep bytes Waiting → (length bytes < most_head_bytes) × (feeds bytes < most_feeds)
+pub waiting_room : (bytes : List ℕ) → IsStep bytes Waiting → (length bytes < MOST_HEAD_BYTES) × (feeds bytes < MOST_FEEDS)
 waiting_room bytes x = by_found x.found x.finds x.is
   where
-    by_found : (f : Found) → Finds bytes f → Waiting ≡ outcome f → (length bytes < most_head_bytes) × (feeds bytes < most_feeds)
+    by_found : (f : Found) → Finds bytes f → Waiting ≡ outcome f → (length bytes < MOST_HEAD_BYTES) × (feeds bytes < MOST_FEEDS)
     by_found NotYet y e = has_room (length bytes) (feeds bytes) y.1
     by_found Malformed y e = absurd (refused≢waiting 400 (sym e))
     by_found TooLarge y e = absurd (refused≢waiting 431 (sym e))
@@ -94,7 +97,7 @@ waiting_room bytes x = by_found x.found x.finds x.is
 
 pub step_room : (old new : List ℕ) (r : Result Next NoMemory) → IfOk r (λ n. Steps old n new) → IfOk r (LeavesRoom new)
 step_room old new (Ok (next.Request head)) s = tt
-step_room old new (Ok next.More) s = subst (λ l. (length l < most_head_bytes) × (feeds l < most_feeds)) (sym s.1) (waiting_room old s.0)
+step_room old new (Ok next.More) s = subst (λ l. (length l < MOST_HEAD_BYTES) × (feeds l < MOST_FEEDS)) (sym s.1) (waiting_room old s.0)
 step_room old new (Ok (next.Bad status)) s = tt
 step_room old new (Err e) s = tt
 

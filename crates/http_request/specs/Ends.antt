@@ -4,14 +4,7 @@
 use Rattle.std.specs.Prelude.{ℕ, ◌+◌, List, [], ◌∷◌, ◌++◌, take, length, Bool, true, false, not}
 use Rattle.std.specs.Prelude.{◌&&◌, ◌||◌, ◌==◌, nat_le, if◌then◌else◌, Option, Some, None}
 use Rattle.std.specs.Prelude.{option_and_then}
-
--- how many bytes a head may have
-abbrev pub most_head_bytes : ℕ
-most_head_bytes = 16384
-
--- how many line feeds it may have: those of the request line, of 64 fields and of the empty line
-abbrev pub most_feeds : ℕ
-most_feeds = 66
+use Rattle.http_request.specs.declared.limits.TheConstants.{MOST_HEAD_BYTES, MOST_FEEDS}
 
 -- what stands before the line feed of an empty line
 abbrev pub is_blank_line : List ℕ → Bool
@@ -44,7 +37,7 @@ feeds (b ∷ bs) = (if b == 10 then 1 else 0) + feeds bs
 
 -- a prefix of this length is within the limits
 abbrev pub fits : List ℕ → ℕ → Bool
-fits bytes n = nat_le n most_head_bytes && nat_le (feeds (take n bytes)) most_feeds
+fits bytes n = nat_le n MOST_HEAD_BYTES && nat_le (feeds (take n bytes)) MOST_FEEDS
 
 -- the length of the prefix that is read as one head: it ends with that empty line and is within the
 -- limits
@@ -53,4 +46,4 @@ window bytes = option_and_then (λ n. if fits bytes n then Some n else None) (en
 
 -- without a window, no bytes that follow can make one
 abbrev pub is_full : List ℕ → Bool
-is_full bytes = nat_le most_head_bytes (length bytes) || nat_le most_feeds (feeds bytes)
+is_full bytes = nat_le MOST_HEAD_BYTES (length bytes) || nat_le MOST_FEEDS (feeds bytes)

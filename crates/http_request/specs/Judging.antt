@@ -1,7 +1,8 @@
 -- Whether a request head is served (RFC 9112, sections 2.3, 3.2, 6 and 9.3; RFC 9110, sections
 -- 5.3 and 9.3), and what it asks for.
 use Rattle.std.specs.Prelude.{ℕ, List, [], ◌∷◌, ◌++◌, length, map, cond, Bool, not, ◌&&◌, ◌||◌}
-use Rattle.std.specs.Prelude.{◌==◌, if◌then◌else◌, Option, Some, None, codes, flat_map}
+use Rattle.std.specs.Prelude.{◌==◌, if◌then◌else◌, Option, Some, None, codes, flat_map, nat_eq}
+use Rattle.std.specs.Char.{is_ascii_alphanumeric}
 use Rattle.std.specs.List.{list_all, list_any, slice_split}
 use Rattle.std.specs.Str.{bytes_eq, str_eq_ignore_ascii_case}
 use Rattle.httparse.specs.Grammar.{RequestHead, trim_ows}
@@ -25,6 +26,14 @@ joined_values (v ∷ vs) = Some (v ++ flat_map (λ w. codes ", " ++ w) vs)
 abbrev pub has_hosts : ℕ → ℕ → Bool
 has_hosts minor hosts = hosts == 1 || (minor == 0 && hosts == 0)
 
+-- the bytes of a host and a port (RFC 3986, sections 3.2.2 and 3.2.3)
+abbrev pub is_host_byte : ℕ → Bool
+is_host_byte b = is_ascii_alphanumeric b || list_any (nat_eq b) (codes "-._~!$&'()*+,;=%:[]")
+
+-- a Host field has no other bytes; it may be empty
+abbrev pub is_host : List ℕ → Bool
+is_host value = list_all is_host_byte value
+
 -- one or more zeros: the request has no content
 abbrev pub is_zero : List ℕ → Bool
 is_zero value = not (length value == 0) && list_all (λ b. b == 48) value
@@ -33,9 +42,10 @@ is_zero value = not (length value == 0) && list_all (λ b. b == 48) value
 abbrev pub is_well_formed : ℕ → List ℕ → List (List ℕ × List ℕ) → Bool
 is_well_formed minor target pairs =
     has_hosts minor (length (field_values (codes "host") pairs))
+    && (list_all is_host (field_values (codes "host") pairs)
     && (length (field_values (codes "transfer-encoding") pairs) == 0
     && (list_all is_zero (field_values (codes "content-length") pairs)
-    && has_form target))
+    && has_form target)))
 
 -- a member of a comma list, whatever the case of its letters
 abbrev pub has_member : List ℕ → List ℕ → Bool

@@ -1,5 +1,6 @@
 pub mod Asks
 pub mod Ends
+pub mod Holding
 pub mod Joining
 pub mod Judging
 pub mod Readings

@@ -2,15 +2,16 @@
 use Rattle.std.specs.Prelude.{◌≡◌, ℕ, ◌≤◌, List, length, take, drop, true, false, Option, Some}
 use Rattle.std.specs.Prelude.{None}
 use Rattle.httparse.specs.Grammar.{RequestHead, ReadsRequest, print_request}
-use Rattle.http_request.specs.Ends.{window, is_full, most_feeds}
+use Rattle.http_request.specs.Ends.{window, is_full}
 use Rattle.http_request.specs.Judging.{refusal_of, asked_by}
 use Rattle.http_request.specs.declared.head.Head.{Head}
+use Rattle.http_request.specs.declared.limits.TheConstants.{MOST_FIELDS}
 use Rattle.http_request.specs.declared.head.Next.{Next}
 use Rattle.http_request.specs.declared.head.Next.TheVariants as next
 
--- a prefix of the text is this head; it has no more fields than there may be lines
+-- a prefix of the text is this head
 abbrev pub HeadOf : List ℕ → RequestHead → Type 0
-HeadOf text h = (rest : List ℕ) × ReadsRequest text h rest × (length h.fields ≤ most_feeds)
+HeadOf text h = (rest : List ℕ) × ReadsRequest text h rest × (length h.fields ≤ MOST_FIELDS)
 
 abbrev pub HasNoHead : List ℕ → Type 0
 HasNoHead text = (h : RequestHead) → ¬ (HeadOf text h)

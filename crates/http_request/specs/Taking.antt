@@ -1,9 +1,11 @@
 -- What a caller that feeds and asks in turn needs of each answer.
 use Rattle.std.specs.Prelude.{◌≡◌, ◌⊎◌, ◌<◌, IsTrue, ℕ, List, length, ⊤}
 use Rattle.td_base.specs.TargetForm.{has_form}
-use Rattle.http_request.specs.Ends.{feeds, most_head_bytes, most_feeds}
+use Rattle.http_request.specs.Ends.{feeds}
+use Rattle.http_request.specs.Holding.{HeadsView}
 use Rattle.http_request.specs.declared.head.Next.{Next}
 use Rattle.http_request.specs.declared.head.Next.TheVariants as next
+use Rattle.http_request.specs.declared.limits.TheConstants.{MOST_HEAD_BYTES, MOST_FEEDS}
 
 -- a request takes bytes, so that asking again and again ends
 abbrev pub LeavesFewer : List ℕ → List ℕ → Next → Type 0
@@ -13,9 +15,15 @@ LeavesFewer old new (next.Bad status) = ⊤
 
 -- where more is asked for, fewer bytes and line feeds are held than one head may have
 abbrev pub LeavesRoom : List ℕ → Next → Type 0
-LeavesRoom new next.More = (length new < most_head_bytes) × (feeds new < most_feeds)
+LeavesRoom new next.More = (length new < MOST_HEAD_BYTES) × (feeds new < MOST_FEEDS)
 LeavesRoom new (next.Request head) = ⊤
 LeavesRoom new (next.Bad status) = ⊤
+
+-- where more is asked for, all that is held was searched, so that the search goes on after it
+abbrev pub LeavesSearched : HeadsView → Next → Type 0
+LeavesSearched new next.More = new.seen ≡ length new.rest
+LeavesSearched new (next.Request head) = new.seen ≡ 0
+LeavesSearched new (next.Bad status) = ⊤
 
 -- the target of a request is in one of the two forms
 abbrev pub HasForm : Next → Type 0

@@ -3,7 +3,8 @@ ghost use Rattle.std.specs.List.{list_all, list_any};
 ghost use Rattle.std.specs.Str.{str_eq_ignore_ascii_case};
 ghost use Rattle.httparse.specs.Spans.{IsHeaderWithin, header_bytes};
 ghost use Rattle.http_request.specs.Joining.{joined_value};
-ghost use Rattle.http_request.specs.Judging.{has_member, is_zero, joined_values, field_values};
+ghost use Rattle.http_request.specs.Judging.{field_values, has_member, is_host, is_host_byte};
+ghost use Rattle.http_request.specs.Judging.{is_zero, joined_values};
 
 use crate::members::is_listed;
 use http::header::CONNECTION;
@@ -55,6 +56,34 @@ pub fn all_zero(buf: &[u8], fields: &[HeaderSpan], name: &[u8]) -> bool
 {
     for field in fields {
         if is_named(buf, *field, name) && !is_zeros(field.value.of(buf)) {
+            return false;
+        }
+    }
+    true
+}
+
+/// Whether a byte may stand in a host or a port.
+fn is_host_byte(byte: u8) -> bool
+    ensures { result ≡ is_host_byte byte }
+{
+    byte.is_ascii_alphanumeric() || b"-._~!$&'()*+,;=%:[]".contains(&byte)
+}
+
+/// Whether a value has bytes of hosts and ports alone.
+fn is_host(value: &[u8]) -> bool
+    ensures { result ≡ is_host value.now }
+{
+    value.iter().all(|byte| is_host_byte(*byte))
+}
+
+/// Whether each value under this name is one of a Host field.
+pub fn all_hosts(buf: &[u8], fields: &[HeaderSpan], name: &[u8]) -> bool
+    requires { All (IsHeaderWithin (length buf.now)) fields.now }
+    ensures { result ≡ list_all is_host
+        (field_values name.now (map (header_bytes buf.now) fields.now)) }
+{
+    for field in fields {
+        if is_named(buf, *field, name) && !is_host(field.value.of(buf)) {
             return false;
         }
     }

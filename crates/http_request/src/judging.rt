@@ -4,7 +4,7 @@ ghost use Rattle.td_base.specs.TargetForm.{begins_any_case, has_form};
 ghost use Rattle.http_request.specs.Judging.{asked, closes, is_served, is_well_formed, refusal};
 
 use crate::Head;
-use crate::fields::{all_zero, closes_any, count_named, joined};
+use crate::fields::{all_hosts, all_zero, closes_any, count_named, joined};
 use crate::members::is_same;
 use http::header::{ACCEPT, CONTENT_LENGTH, HOST, IF_NONE_MATCH, TRANSFER_ENCODING};
 use http::{Method, StatusCode};
@@ -36,6 +36,7 @@ fn is_sound(buf: &[u8], target: &[u8], minor: u8, fields: &[HeaderSpan]) -> bool
 {
     let hosts = count_named(buf, fields, HOST.as_str().as_bytes());
     (hosts == 1 || (minor == 0 && hosts == 0))
+        && all_hosts(buf, fields, HOST.as_str().as_bytes())
         && count_named(buf, fields, TRANSFER_ENCODING.as_str().as_bytes()) == 0
         && all_zero(buf, fields, CONTENT_LENGTH.as_str().as_bytes())
         && is_target(target)

@@ -1,9 +1,13 @@
 //! Laws of the definitions, each the contract of a function that does nothing.
 ghost use Rattle.std.specs.Prelude.{◌≡◌, ◌<◌, ◌≤◌, ◌++◌, ◌∷◌, [], ℕ, List, drop, length};
+ghost use Rattle.std.specs.Prelude.{◌||◌, nat_le, None, Some, if◌then◌else◌, true, false};
 ghost use Rattle.http_request.specs.Asks.{Asks, Bad, Ending, Gives, IsPrefixOf, Rest};
-ghost use Rattle.http_request.specs.Ends.{feeds, most_head_bytes, most_feeds};
+ghost use Rattle.http_request.specs.Ends.{feeds, fits, is_full, window};
+ghost use Rattle.http_request.specs.Scans.{IsScanned, head_end};
 ghost use Rattle.http_request.specs.Steps.{IsStep, Outcome, Refused, Taken, Waiting};
 ghost use Rattle.http_request.specs.declared.head.Head.{Head};
+ghost use Rattle.http_request.specs.declared.limits.TheConstants.{MOST_HEAD_BYTES, MOST_FEEDS};
+ghost use Rattle.http_request.specs.declared.scan.Scan.{Scan};
 
 /// The heads of a prefix are a prefix of the heads of the whole, and a refusal of the prefix is
 /// that of the whole.
@@ -32,7 +36,7 @@ pub fn is_bounded()
     ensures taken { (bytes : List ℕ) (head : Head) (len : ℕ)
         → IsStep bytes (Taken head len) → (0 < len) × (len ≤ length bytes) }
     ensures waiting { (bytes : List ℕ)
-        → IsStep bytes Waiting → (length bytes < most_head_bytes) × (feeds bytes < most_feeds) }
+        → IsStep bytes Waiting → (length bytes < MOST_HEAD_BYTES) × (feeds bytes < MOST_FEEDS) }
 {}
 
 /// What was given stays given when a piece is fed. A head that is taken is the next, and a
@@ -47,4 +51,21 @@ pub fn gives()
         → Gives bytes heads held → IsStep held (Refused status) → Asks bytes heads (Bad status) }
     ensures rest { (bytes : List ℕ) (heads : List Head) (held : List ℕ)
         → Gives bytes heads held → IsStep held Waiting → Asks bytes heads (Rest held) }
+{}
+
+/// How far a list was searched stays, whatever follows. An end that is found has bytes before it,
+/// and is a window where it is within the limits. Where none is found there is no window.
+pub fn searches()
+    ensures stays { (bytes next : List ℕ) (scan : Scan)
+        → IsScanned bytes scan → IsScanned (bytes ++ next) scan }
+    ensures end { (bytes : List ℕ) (n : ℕ) → head_end bytes ≡ Some n
+        → (0 < n) × (n ≤ length bytes)
+        × (window bytes ≡ if fits bytes n then Some n else None) }
+    ensures full { (bytes : List ℕ) (n : ℕ) → n ≤ length bytes → fits bytes n ≡ false
+        → is_full bytes ≡ true }
+    ensures some { (bytes : List ℕ) → is_full bytes ≡ true → 0 < length bytes }
+    ensures open { (bytes : List ℕ) (scan : Scan) → IsScanned bytes scan
+        → scan.seen ≡ length bytes → (window bytes ≡ None)
+        × (is_full bytes
+        ≡ (nat_le MOST_HEAD_BYTES (length bytes) || nat_le MOST_FEEDS scan.feeds)) }
 {}

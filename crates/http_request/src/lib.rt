@@ -14,6 +14,8 @@ mod held;
 
 // One step: where a head ends, how it is read and how it is judged.
 mod judging;
+mod limits;
+mod looking;
 mod reading;
 mod scan;
 mod step;
@@ -28,7 +30,7 @@ mod send_sync;
 
 pub use head::{Head, Next};
 pub use heads::Heads;
-pub use laws::{gives, is_bounded, one_step, prefixes, refusal_stays};
-
-#[cfg(test)]
-mod tests;
+pub use held::Held;
+pub use laws::{gives, is_bounded, one_step, prefixes, refusal_stays, searches};
+pub use looking::{is_full, is_within};
+pub use scan::{Line, Scan, Search, find_end};

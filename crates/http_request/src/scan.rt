@@ -49,7 +49,8 @@ pub enum Search {
 impl Scan {
     /// Nothing was searched.
     pub fn start() -> Scan
-        ensures { (bytes : List ℕ) → IsScanned bytes result }
+        ensures scanned { (bytes : List ℕ) → IsScanned bytes result }
+        ensures none { result.seen ≡ 0 }
     {
         Scan {
             seen: 0,

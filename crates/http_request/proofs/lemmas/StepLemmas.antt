@@ -1,6 +1,6 @@
 -- One step is one answer, and stays what it is whatever follows.
 use Rattle.std.proofs.Common.{◌≡◌, ◌≢◌, ℕ, ◌<◌, ◌≤◌, ◌⊎◌, inl, inr, List, [], ◌++◌, length, take, Bool, true, false, ◌&&◌, ◌||◌, Option, Some, None, refl, sym}
-use Rattle.std.proofs.Common.{ap, ◌∙◌, subst, arith, option_and_then, nat_le, cond}
+use Rattle.std.proofs.Common.{ap, ◌∙◌, subst, arith, option_and_then, nat_le, cond, drop, take-append-drop, length-take-le}
 use Rattle.std.specs.Prelude.{⊤}
 use Rattle.std.proofs.lemmas.Bool.{cases_Bool, true≢false}
 use Rattle.std.proofs.lemmas.Bool.Decides.{nat_tests}
@@ -12,6 +12,7 @@ use Rattle.httparse.specs.Grammar.{RequestHead, print_request, print_blank}
 use Rattle.httparse.proofs.GrammarLemmas.{request_unique, print_request-append}
 use Rattle.http_request.specs.Ends.{feeds, fits, window, is_full}
 use Rattle.http_request.specs.Scans.{head_end}
+use Rattle.http_request.specs.declared.limits.TheConstants.{MOST_HEAD_BYTES, MOST_FEEDS}
 use Rattle.http_request.specs.Steps.{HeadOf, HasNoHead, Found, Whole, Malformed, TooLarge, NotYet, Finds, Outcome, Taken, Refused, Waiting, outcome, verdict}
 use Rattle.http_request.specs.Steps.{IsStep}
 use Rattle.http_request.proofs.EndLemmas.{same_end, ended, Ended, late, feeds-append}
@@ -46,8 +47,24 @@ pub end_stays : (bytes next : List ℕ) (n : ℕ) → head_end bytes ≡ Some n 
 end_stays bytes next n e =
     let x : Ended false [] 0 bytes n = ended false [] 0 bytes n e in x.stays next
 
+-- the bytes up to an end, alone, end there
+pub end_alone : (bytes : List ℕ) (n : ℕ) → head_end bytes ≡ Some n → head_end (take n bytes) ≡ Some n
+end_alone bytes n e = by_end (head_end (take n bytes)) refl
+  where
+    whole : head_end (take n bytes ++ drop n bytes) ≡ Some n
+    whole = ap head_end (take-append-drop n bytes) ∙ e
+
+    not_late : (m : ℕ) → m ≡ n → m < n → ⊥
+    not_late m f h = omega (arith, f, h)
+
+    by_end : (o : Option ℕ) → head_end (take n bytes) ≡ o → head_end (take n bytes) ≡ Some n
+    by_end (Some m) f = f ∙ (sym (end_stays (take n bytes) (drop n bytes) m f) ∙ whole)
+    by_end None f =
+        let length_is : length (take n bytes) ≡ n = length-take-le n bytes (end_within_list bytes n e) in
+        absurd (not_late (length (take n bytes)) length_is (late (take n bytes) (drop n bytes) n f whole).0)
+
 fits_stays : (bytes next : List ℕ) (n : ℕ) → n ≤ length bytes → fits (bytes ++ next) n ≡ fits bytes n
-fits_stays bytes next n h = ap (λ l. nat_le n 16384 && nat_le (feeds l) 66) (take-append-le n bytes next h)
+fits_stays bytes next n h = ap (λ l. nat_le n MOST_HEAD_BYTES && nat_le (feeds l) MOST_FEEDS) (take-append-le n bytes next h)
 
 pub no_end : (bytes : List ℕ) → head_end bytes ≡ None → window bytes ≡ None
 no_end bytes e = ap (option_and_then (λ n. cond (fits bytes n) (Some n) None)) (same_end bytes ∙ e)
@@ -70,7 +87,7 @@ window_stays bytes next n w = by_limits (limits bytes)
     by_limits (Past k e f v) = absurd (none-some n (sym v ∙ w))
     by_limits (Nowhere e v) = absurd (none-some n (sym v ∙ w))
 
-full_by : (m n x y : ℕ) → m ≤ x → n ≤ y → (nat_le 16384 m || nat_le 66 n) ≡ true → (nat_le 16384 x || nat_le 66 y) ≡ true
+full_by : (m n x y : ℕ) → m ≤ x → n ≤ y → (nat_le MOST_HEAD_BYTES m || nat_le MOST_FEEDS n) ≡ true → (nat_le MOST_HEAD_BYTES x || nat_le MOST_FEEDS y) ≡ true
 full_by m n x y a b f = grind (arith, nat_tests)
 
 full_stays : (bytes next : List ℕ) → is_full bytes ≡ true → is_full (bytes ++ next) ≡ true
@@ -79,7 +96,7 @@ full_stays bytes next f =
     (omega (arith, length-append bytes next)) (omega (arith, feeds-append bytes next)) f
 
 -- what ends after a full list is past the limits
-past_limits : (m n x y : ℕ) → m < x → n < y → (nat_le 16384 m || nat_le 66 n) ≡ true → (nat_le x 16384 && nat_le y 66) ≡ true → ⊥
+past_limits : (m n x y : ℕ) → m < x → n < y → (nat_le MOST_HEAD_BYTES m || nat_le MOST_FEEDS n) ≡ true → (nat_le x MOST_HEAD_BYTES && nat_le y MOST_FEEDS) ≡ true → ⊥
 past_limits m n x y a b f g = grind (arith, nat_tests)
 
 -- no window comes where there is no room for one
