@@ -8,6 +8,8 @@ use Rattle.http_request.specs.Steps.{IsStep, Refused, Taken, Waiting}
 use Rattle.http_request.specs.declared.head.Head.{Head}
 use Rattle.http_request.proofs.lemmas.StepLemmas.{one_step, refused≢taken, refused≢waiting, same_head, same_len, same_status, taken≢waiting}
 use Rattle.connection.proofs.ServedLemmas.{both_false}
+use Rattle.td_base.specs.declared.report.TheConstants.{MOST_PLACES}
+use Rattle.connection.specs.FaultCounts.{FaultCounts}
 use Rattle.connection.specs.Replies.{is_last, replies}
 use Rattle.connection.specs.Served.{ByInput, ByRefusal, ByRequest, Finish, FinishesBy, IsClosed, Session, farewell}
 
@@ -63,11 +65,11 @@ one_way n read (h ∷ hs) (k ∷ ks) f g x y =
 
 -- ---- a connection that was closed goes so
 
-not_last : (n : ℕ) (h : Head) (hs : List Head) → list_any (λ k. k.close) (h ∷ hs) ≡ false → n + length (h ∷ hs) < 1000 → is_last n h ≡ false
-not_last n h hs a few = rw ((both_false h.close (list_any (λ k. k.close) hs) a).0, ne_eqb (n + 1) 1000 (λ e. absurd (omega (arith, e, few)))) refl
+not_last : (n : ℕ) (h : Head) (hs : List Head) → list_any (λ k. k.close) (h ∷ hs) ≡ false → n + length (h ∷ hs) < MOST_PLACES → is_last n h ≡ false
+not_last n h hs a few = rw ((both_false h.close (list_any (λ k. k.close) hs) a).0, ne_eqb (n + 1) MOST_PLACES (λ e. absurd (omega (arith, e, few)))) refl
 
 goes_request : (n : ℕ) (read : List ℕ) (before : List Head) (last : Head) (held : List ℕ) → Gives read (before ++ last ∷ []) held
-    → list_any (λ k. k.close) before ≡ false → n + length before < 1000 → is_last (n + length before) last ≡ true
+    → list_any (λ k. k.close) before ≡ false → n + length before < MOST_PLACES → is_last (n + length before) last ≡ true
     → Goes n read (before ++ last ∷ []) ByRequest
 goes_request n read [] last held g a few l = (g.0, g.1, inl (ap (λ k. is_last k last) (omega arith) ∙ l, refl, refl))
 goes_request n read (h ∷ hs) last held g a few l = (
@@ -81,7 +83,7 @@ goes_request n read (h ∷ hs) last held g a few l = (
 )
 
 goes_refusal : (n : ℕ) (read : List ℕ) (heads : List Head) (status : ℕ) → Asks read heads (Bad status)
-    → list_any (λ k. k.close) heads ≡ false → n + length heads < 1000 → Goes n read heads (ByRefusal status)
+    → list_any (λ k. k.close) heads ≡ false → n + length heads < MOST_PLACES → Goes n read heads (ByRefusal status)
 goes_refusal n read [] status g a few = g
 goes_refusal n read (h ∷ hs) status g a few = (
   g.0,
@@ -93,7 +95,7 @@ goes_refusal n read (h ∷ hs) status g a few = (
 )
 
 goes_input : (n : ℕ) (read : List ℕ) (heads : List Head) (held : List ℕ) → Asks read heads (Rest held)
-    → list_any (λ k. k.close) heads ≡ false → n + length heads < 1000 → Goes n read heads ByInput
+    → list_any (λ k. k.close) heads ≡ false → n + length heads < MOST_PLACES → Goes n read heads ByInput
 goes_input n read [] held g a few = g.0
 goes_input n read (h ∷ hs) held g a few = (
   g.0,
@@ -112,9 +114,9 @@ goes s heads ByRequest c =
 goes s heads (ByRefusal status) c = goes_refusal 0 s.read heads status c.0 c.1.kept (omega (arith, c.1.few))
 goes s heads ByInput c = goes_input 0 s.read heads c.0 c.1 c.2.kept (omega (arith, c.2.few))
 
-pub one_closing_lem : (answer : ℕ → Head → Answer) (s t : Session) → s.read ≡ t.read → s.places ≡ t.places
-    → IsClosed answer s → IsClosed answer t → s.written ≡ t.written
-one_closing_lem answer s t e p a b =
+pub one_closing_lem : (answer : ℕ → Head → Answer) (s t : Session) (m n m' n' : FaultCounts) → s.read ≡ t.read → s.places ≡ t.places
+    → IsClosed answer s m n → IsClosed answer t m' n' → s.written ≡ t.written
+one_closing_lem answer s t m n m' n' e p a b =
     let r : (a.heads ≡ b.heads) × (a.finish ≡ b.finish) =
     one_way 0 s.read a.heads b.heads a.finish b.finish (goes s a.heads a.finish a.finishes)
     (subst (λ l. Goes 0 l b.heads b.finish) (sym e) (goes t b.heads b.finish b.finishes)) in

@@ -9,19 +9,18 @@ use Rattle.catalogue.specs.Releases.{ReleaseData}
 use Rattle.catalogue.specs.declared.holding.Catalogue.{Catalogue}
 use Rattle.publication.specs.Views.{DeskView}
 use Rattle.td_base.proofs.lemmas.Beginnings.{prefix_length, prefix_self, prefix_trans}
-use Rattle.td_base.specs.Views.{Rose, ConnView}
+use Rattle.td_base.specs.Views.{ConnView}
 use Rattle.td_base.specs.DoorViews.{DoorContent, Finished}
 use Rattle.td_base.specs.Doors.{GivesNext, IsNewConn, IsUnfailed, handed_back}
-use Rattle.td_base.specs.declared.report.End.{End}
-use Rattle.td_base.specs.declared.report.End.TheVariants as end
 use Rattle.td_base.specs.declared.report.Report.{Report}
 use Rattle.td_base.specs.declared.report.Role.{Role}
-use Rattle.connection.specs.DoorWorks.{ServedConn, ServedConns, ServesConns, one_if_starved}
+use Rattle.connection.specs.DoorWorks.{ServedConn, ServedConns, ServesConns}
 use Rattle.connection.specs.DoorWorks.{places_of, starved}
 use Rattle.connection.specs.Entering.{GoesOn, HasCounted}
-use Rattle.connection.specs.Exchanges.{Exchanges}
+use Rattle.connection.specs.FaultCounts.{faults_of, no_faults}
 use Rattle.connection.specs.Served.{NeverFall, Served}
-use Rattle.connection.specs.Serving.{ServedOver, Serves, answer_at}
+use Rattle.connection.specs.Serving.{ServedOver, Serves, answer_at, session_of}
+use Rattle.connection.specs.Traffic.{Traffic}
 use Rattle.catalogue.specs.Holdings.{history_of}
 use Rattle.connection.proofs.PlaceLemmas.{all_append, all_weaker, fall_append}
 use Rattle.catalogue.proofs.lemmas.HistoryLemmas.{history_length, history_longer}
@@ -130,9 +129,13 @@ appended : (n : Option (List ℕ)) (bytes : List ℕ) → Appends (Some []) n by
 appended None bytes h = absurd h
 appended (Some all) bytes h = ap Some h
 
+-- a new connection has no failures
+began_at : (conn : ConnView) → IsUnfailed conn → faults_of conn ≡ no_faults
+began_at conn u = rw (u.reads, u.writes) refl
+
 served_conn : (H : List ReleaseData) (role : Role) (input : List ℕ) (conn now : ConnView) (report : Report) (read written : List ℕ)
-    → IsNewConn input conn → IsUnfailed conn → Exchanges conn now read written
-    → ServedOver H role conn now (record { read = read; left = now.left; written = written; places = report.places }) report
+    → IsNewConn input conn → IsUnfailed conn → Traffic conn now read written
+    → ServedOver H role conn now (session_of now read written report.places) report.end
     → ServedConn H role input (record { conn = now; report = report })
 served_conn H role input conn now report read written new unfailed e s =
     let left = consumed now.left input read (subst (λ o. Consumes o now.left read) new.left e.consumed) in
@@ -145,35 +148,17 @@ served_conn H role input conn now report read written new unfailed e s =
       left_is = left.1;
       taken = appended now.taken written (subst (λ o. Appends o now.taken written) new.taken e.taken);
       served =
-          subst
-          (λ o. Served (answer_at H role) (length H) (record { read = read; left = o; written = written; places = report.places })
-          (Rose 0 now.read_faults) (Rose 0 now.write_faults) report.end)
-          left.1
-          (subst
-          (λ n. Served (answer_at H role) (length H) (record { read = read; left = now.left; written = written; places = report.places })
-          (Rose n now.read_faults) (Rose 0 now.write_faults) report.end)
-          unfailed.reads
-          (subst
-          (λ n. Served (answer_at H role) (length H) (record { read = read; left = now.left; written = written; places = report.places })
-          (Rose conn.read_faults now.read_faults) (Rose n now.write_faults) report.end)
-          unfailed.writes s));
+          subst (λ n. Served (answer_at H role) (length H) (session_of now read written report.places) n (faults_of now) report.end)
+          (began_at conn unfailed) s;
     }
-
-counted : (before now : ℕ) (places : List ℕ) (e : End) → HasCounted before places now e
-    → (before + length places ≤ now) × (now ≤ before + length places + one_if_starved e)
-counted before now places end.Closed h = (omega (arith, h), omega (arith, h))
-counted before now places end.ReadFault h = (omega (arith, h), omega (arith, h))
-counted before now places end.WriteFault h = (omega (arith, h), omega (arith, h))
-counted before now places end.NoMemory h = (omega (arith, h.0), omega (arith, h.1))
 
 -- a connection was given, served and handed back
 pub one : (role : Role) (a b c : DoorContent) (conn now : ConnView) (report : Report) (x y : DeskView (Catalogue (List ℕ))) → GivesNext a b conn
-    → IsUnfailed conn → Serves y role conn now report → AllByRecursion (λ p. length x.seen ≤ p) report.places
+    → IsUnfailed conn → Serves y role conn now report.places report.end → AllByRecursion (λ p. length x.seen ≤ p) report.places
     → HasCounted x.enters report.places y.enters report.end → c ≡ handed_back now report b → ServesConns role a c x y
 one role a b c conn now report x y gives unfailed serves first enters back =
     let f : Finished = record { conn = now; report = report } in
     let places : report.places ++ [] ≡ report.places = append-nil report.places in
-    let rise = counted x.enters y.enters report.places report.end enters in
     let count : length (report.places ++ []) ≡ length report.places = ap length places in
     record {
       inputs = gives.input ∷ [];
@@ -182,10 +167,10 @@ one role a b c conn now report x y gives unfailed serves first enters back =
       coming = gives.coming ∙ ap (λ (d : DoorContent). gives.input ∷ d.coming) (sym back);
       finished_is = ap (λ d. d.finished) back ∙ ap (λ l. l ++ f ∷ []) gives.finished;
       served = λ H st. (
-        served_conn H role gives.input conn now report serves.read serves.written gives.conn_is unfailed serves.exchanges (serves.served H st),
+        served_conn H role gives.input conn now report serves.read serves.written gives.conn_is unfailed serves.traffic (serves.served H st),
         tt,
       );
       first = subst (AllByRecursion (λ p. length x.seen ≤ p)) (sym places) first;
       rising = subst NeverFall (sym places) (serves.served (history_of y.seen) (prefix_self (history_of y.seen))).places.rising;
-      enters = (omega (arith, count, rise.0), omega (arith, count, rise.1));
+      enters = (omega (arith, count, enters.0), omega (arith, count, enters.1));
     }

@@ -1,9 +1,9 @@
 pub mod ClosingLemmas
 pub mod DoorLemmas
 pub mod EnteringLemmas
-pub mod Exchanging
 pub mod HearLemmas
 pub mod PlaceLemmas
+pub mod RoundLemmas
 pub mod ServedLemmas
 pub mod ServingLemmas
-pub mod TurnLemmas
+pub mod TrafficLemmas

@@ -12,14 +12,13 @@ use Rattle.http_request.specs.Asks.{Asks, Bad, Gives, Rest}
 use Rattle.http_request.specs.Ends.{end_among, head_lines_from}
 use Rattle.http_request.specs.Steps.{IsStep, NotYet, Waiting}
 use Rattle.http_request.specs.declared.head.Head.{Head}
+use Rattle.td_base.specs.declared.report.End.{End}
 use Rattle.td_base.specs.declared.report.End.TheVariants as end
+use Rattle.td_base.specs.declared.report.TheConstants.{MOST_PLACES}
+use Rattle.connection.specs.Answering.{HasReplied}
 use Rattle.connection.specs.Replies.{IsOpen, is_last, replies, replies_after, reply_at}
-use Rattle.connection.specs.Served.{ArePlaces, ByInput, ByRefusal, ByRequest, IsNeeded, NeverFall, Served}
-
--- each request so far was replied to
-pub record HasReplied (answer : ℕ → Head → Answer) (given : List Head) (places written : List ℕ) : Type 0 where
-  pub placed : length places ≡ length given
-  pub told : written ≡ replies answer given places
+use Rattle.connection.specs.FaultCounts.{AreLater, FaultCounts, ReadFailed, WriteFailed}
+use Rattle.connection.specs.Served.{ArePlaces, ByInput, ByRefusal, ByRequest, IsNeeded, IsStarved, IsTold, NeverFall, Served, Session}
 
 -- ---- places
 
@@ -101,15 +100,15 @@ both_false false b e = (refl, e)
 not_equal : (n m : ℕ) → (n == m) ≡ false → n ≢ m
 not_equal n m e = λ f. true≢false (sym (eq-eqb n m f) ∙ e)
 
-few_more : (n : ℕ) → n < 1000 → n + 1 ≢ 1000 → n + 1 < 1000
+few_more : (n : ℕ) → n < MOST_PLACES → n + 1 ≢ MOST_PLACES → n + 1 < MOST_PLACES
 few_more n a b = omega (arith, a, b)
 
 pub open_more : (heads : List Head) (head : Head) → IsOpen heads → is_last (length heads) head ≡ false → IsOpen (heads ++ head ∷ [])
 open_more heads head o e =
-    let parts : (head.close ≡ false) × ((length heads + 1 == 1000) ≡ false) = both_false head.close (length heads + 1 == 1000) e in
+    let parts : (head.close ≡ false) × ((length heads + 1 == MOST_PLACES) ≡ false) = both_false head.close (length heads + 1 == MOST_PLACES) e in
     record {
       kept = any_more heads head o.kept parts.0;
-      few = rw (one_longer heads head) (few_more (length heads) o.few (not_equal (length heads + 1) 1000 parts.1));
+      few = rw (one_longer heads head) (few_more (length heads) o.few (not_equal (length heads + 1) MOST_PLACES parts.1));
     }
 
 pub open_none : IsOpen []
@@ -121,165 +120,174 @@ replied_none answer = record { placed = refl; told = refl }
 
 -- ---- the ends
 
-pub closed_by_request : (answer : ℕ → Head → Answer) (count : ℕ) (read : List ℕ) (left : Option (List ℕ)) (written places : List ℕ)
-    (before : List Head) (last : Head) (held : List ℕ) (rf wf : Type 0)
-    → IsNeeded read → ArePlaces count places → HasReplied answer (before ++ last ∷ []) places written → Gives read (before ++ last ∷ []) held
-    → IsOpen before
-    → is_last (length before) last ≡ true
-    → Served answer count (record { read = read; left = left; written = written; places = places }) rf wf end.Closed
-closed_by_request answer count read left written places before last held rf wf need are h g o l = record {
-  needed = need;
-  places = are;
-  ends = record {
-    heads = before ++ last ∷ [];
-    finish = ByRequest;
-    finishes = record {
-      before = before;
-      last = last;
-      held = held;
-      heads_are = refl;
-      gives = g;
-      open_before = o;
-      closes = l;
-    };
-    placed = h.placed;
-    written = h.told ∙ sym (append-nil (replies answer (before ++ last ∷ []) places));
-  };
-}
-
-pub closed_by_refusal : (answer : ℕ → Head → Answer) (count : ℕ) (read : List ℕ) (left : Option (List ℕ)) (written places : List ℕ)
-    (heads : List Head) (status : ℕ) (rf wf : Type 0)
-    → IsNeeded read → ArePlaces count places → HasReplied answer heads places written → Asks read heads (Bad status) → IsOpen heads
-    → Served answer count (record { read = read; left = left; written = written ++ fixed status; places = places }) rf wf end.Closed
-closed_by_refusal answer count read left written places heads status rf wf need are h a o = record {
-  needed = need;
-  places = are;
-  ends = record {
-    heads = heads;
-    finish = ByRefusal status;
-    finishes = (a, o);
-    placed = h.placed;
-    written = ap (λ w. w ++ fixed status) h.told;
-  };
-}
-
-pub closed_by_input : (answer : ℕ → Head → Answer) (count : ℕ) (read : List ℕ) (left : Option (List ℕ)) (written places : List ℕ)
-    (heads : List Head) (held : List ℕ) (rf wf : Type 0)
-    → IsNeeded read → ArePlaces count places → HasReplied answer heads places written → Asks read heads (Rest held) → IsOpen heads → IsAtEnd left
-    → Served answer count (record { read = read; left = left; written = written; places = places }) rf wf end.Closed
-closed_by_input answer count read left written places heads held rf wf need are h a o e = record {
-  needed = need;
-  places = are;
-  ends = record {
-    heads = heads;
-    finish = ByInput;
-    finishes = (held, a, o, e);
-    placed = h.placed;
-    written = h.told ∙ sym (append-nil (replies answer heads places));
-  };
-}
-
-pub read_failed : (answer : ℕ → Head → Answer) (count : ℕ) (read : List ℕ) (left : Option (List ℕ)) (written places : List ℕ)
-    (heads : List Head) (held : List ℕ) (rf wf : Type 0)
-    → IsNeeded read → ArePlaces count places → HasReplied answer heads places written → Asks read heads (Rest held) → IsOpen heads → rf
-    → Served answer count (record { read = read; left = left; written = written; places = places }) rf wf end.ReadFault
-read_failed answer count read left written places heads held rf wf need are h a o f = record {
-  needed = need;
-  places = are;
-  ends = record { heads = heads; held = held; asks = a; open_after = o; placed = h.placed; written = h.told; cause = f };
-}
-
-pub reply_cut : (answer : ℕ → Head → Answer) (count : ℕ) (read : List ℕ) (left : Option (List ℕ)) (written places : List ℕ)
-    (before : List Head) (last : Head) (held : List ℕ) (place : ℕ) (reply : List ℕ) (sent : ℕ) (rf wf : Type 0)
-    → IsNeeded read → ArePlaces count (places ++ place ∷ []) → HasReplied answer before places written → Gives read (before ++ last ∷ []) held
-    → IsOpen before
-    → reply ≡ reply_at answer (length before) last place → wf
-    → Served answer count (record { read = read; left = left; written = written ++ take sent reply; places = places ++ place ∷ [] }) rf wf
-    end.WriteFault
-reply_cut answer count read left written places before last held place reply sent rf wf need are h g o r f = record {
-  needed = need;
-  places = are;
-  ends = record {
-    cut = inl (record {
-      before = before;
-      last = last;
-      held = held;
-      gives = g;
-      open_before = o;
-      places = places;
-      place = place;
-      placed = (h.placed, refl);
-      sent = sent;
-      written = ap (λ w. w ++ take sent reply) h.told ∙ ap (λ l. replies answer before places ++ take sent l) r;
-    });
-    cause = f;
-  };
-}
-
-pub refusal_cut : (answer : ℕ → Head → Answer) (count : ℕ) (read : List ℕ) (left : Option (List ℕ)) (written places : List ℕ)
-    (heads : List Head) (status sent : ℕ) (rf wf : Type 0)
-    → IsNeeded read → ArePlaces count places → HasReplied answer heads places written → Asks read heads (Bad status) → IsOpen heads → wf
-    → Served answer count (record { read = read; left = left; written = written ++ take sent (fixed status); places = places }) rf wf end.WriteFault
-refusal_cut answer count read left written places heads status sent rf wf need are h a o f = record {
-  needed = need;
-  places = are;
-  ends = record {
-    cut = inr (record {
-      heads = heads;
-      status = status;
-      asks = a;
-      open_after = o;
+module _ (answer : ℕ → Head → Answer) (count : ℕ) (read : List ℕ) (left : Option (List ℕ)) (a b : FaultCounts) (need : IsNeeded read) where
+  pub closed_by_request : (written places : List ℕ) (before : List Head) (last : Head) (held : List ℕ)
+      → ArePlaces count places → HasReplied answer (before ++ last ∷ []) places written → Gives read (before ++ last ∷ []) held → IsOpen before
+      → is_last (length before) last ≡ true → b ≡ a
+      → Served answer count (record { read = read; left = left; written = written; places = places }) a b end.Closed
+  closed_by_request written places before last held are h g o l steady = record {
+    needed = need;
+    places = are;
+    ends = record {
+      heads = before ++ last ∷ [];
+      finish = ByRequest;
+      finishes = record {
+        before = before;
+        last = last;
+        held = held;
+        heads_are = refl;
+        gives = g;
+        open_before = o;
+        closes = l;
+      };
       placed = h.placed;
-      sent = sent;
-      written = ap (λ w. w ++ take sent (fixed status)) h.told;
-    });
-    cause = f;
-  };
-}
+      written = h.told ∙ sym (append-nil (replies answer (before ++ last ∷ []) places));
+      steady = steady;
+    };
+  }
 
-pub gave_up : (answer : ℕ → Head → Answer) (count : ℕ) (read : List ℕ) (left : Option (List ℕ)) (written places : List ℕ)
-    (heads : List Head) (held : List ℕ) (sent : ℕ) (rf wf : Type 0)
-    → IsNeeded read → ArePlaces count places → HasReplied answer heads places written → Gives read heads held → IsOpen heads
-    → (sent < length (fixed 503) → wf)
-    → Served answer count (record { read = read; left = left; written = written ++ take sent (fixed 503); places = places }) rf wf end.NoMemory
-gave_up answer count read left written places heads held sent rf wf need are h g o f = record {
-  needed = need;
-  places = are;
-  ends = record {
+  pub closed_by_refusal : (written places : List ℕ) (heads : List Head) (status : ℕ)
+      → ArePlaces count places → HasReplied answer heads places written → Asks read heads (Bad status) → IsOpen heads → b ≡ a
+      → Served answer count (record { read = read; left = left; written = written ++ fixed status; places = places }) a b end.Closed
+  closed_by_refusal written places heads status are h asks o steady = record {
+    needed = need;
+    places = are;
+    ends = record {
+      heads = heads;
+      finish = ByRefusal status;
+      finishes = (asks, o);
+      placed = h.placed;
+      written = ap (λ w. w ++ fixed status) h.told;
+      steady = steady;
+    };
+  }
+
+  pub closed_by_input : (written places : List ℕ) (heads : List Head) (held : List ℕ)
+      → ArePlaces count places → HasReplied answer heads places written → Asks read heads (Rest held) → IsOpen heads → IsAtEnd left → b ≡ a
+      → Served answer count (record { read = read; left = left; written = written; places = places }) a b end.Closed
+  closed_by_input written places heads held are h asks o e steady = record {
+    needed = need;
+    places = are;
+    ends = record {
+      heads = heads;
+      finish = ByInput;
+      finishes = (held, asks, o, e);
+      placed = h.placed;
+      written = h.told ∙ sym (append-nil (replies answer heads places));
+      steady = steady;
+    };
+  }
+
+  pub read_failed : (written places : List ℕ) (heads : List Head) (held : List ℕ)
+      → ArePlaces count places → HasReplied answer heads places written → Asks read heads (Rest held) → IsOpen heads → ReadFailed a b
+      → Served answer count (record { read = read; left = left; written = written; places = places }) a b end.ReadFault
+  read_failed written places heads held are h asks o f = record {
+    needed = need;
+    places = are;
+    ends = record { heads = heads; held = held; asks = asks; open_after = o; placed = h.placed; written = h.told; cause = f };
+  }
+
+  pub reply_cut : (written places : List ℕ) (before : List Head) (last : Head) (held : List ℕ) (place : ℕ) (reply : List ℕ) (sent : ℕ)
+      → ArePlaces count (places ++ place ∷ []) → HasReplied answer before places written → Gives read (before ++ last ∷ []) held → IsOpen before
+      → reply ≡ reply_at answer (length before) last place → WriteFailed a b
+      → Served answer count (record { read = read; left = left; written = written ++ take sent reply; places = places ++ place ∷ [] }) a b
+      end.WriteFault
+  reply_cut written places before last held place reply sent are h g o r f = record {
+    needed = need;
+    places = are;
+    ends = record {
+      cut = inl (record {
+        before = before;
+        last = last;
+        held = held;
+        gives = g;
+        open_before = o;
+        places = places;
+        place = place;
+        placed = (h.placed, refl);
+        sent = sent;
+        written = ap (λ w. w ++ take sent reply) h.told ∙ ap (λ l. replies answer before places ++ take sent l) r;
+      });
+      cause = f;
+    };
+  }
+
+  pub refusal_cut : (written places : List ℕ) (heads : List Head) (status sent : ℕ)
+      → ArePlaces count places → HasReplied answer heads places written → Asks read heads (Bad status) → IsOpen heads → WriteFailed a b
+      → Served answer count (record { read = read; left = left; written = written ++ take sent (fixed status); places = places }) a b end.WriteFault
+  refusal_cut written places heads status sent are h asks o f = record {
+    needed = need;
+    places = are;
+    ends = record {
+      cut = inr (record {
+        heads = heads;
+        status = status;
+        asks = asks;
+        open_after = o;
+        placed = h.placed;
+        sent = sent;
+        written = ap (λ w. w ++ take sent (fixed status)) h.told;
+      });
+      cause = f;
+    };
+  }
+
+  -- memory ran out, and that was told
+  pub out_of_memory : (replied written places : List ℕ) → ArePlaces count places
+      → IsStarved answer (record { read = read; left = left; written = replied; places = places }) → IsTold replied written a b
+      → Served answer count (record { read = read; left = left; written = written; places = places }) a b end.NoMemory
+  out_of_memory replied written places are s t = record { needed = need; places = are; ends = record { replied = replied; starved = s; told = t } }
+
+-- ---- where memory ran out
+
+module _ (answer : ℕ → Head → Answer) (read : List ℕ) (left : Option (List ℕ)) (written places : List ℕ) (heads : List Head) where
+  -- before a request was begun
+  pub starved : (held : List ℕ) → HasReplied answer heads places written → Gives read heads held → IsOpen heads
+      → IsStarved answer (record { read = read; left = left; written = written; places = places })
+  starved held h g o = record {
     heads = heads;
     places = places;
     begun = [];
     begins = (held, g);
     open_after = o;
     placed = (h.placed, sym (append-nil places));
-    sent = sent;
-    written = ap (λ w. w ++ take sent (fixed 503)) h.told;
-    whole = f;
-  };
-}
+    written = h.told;
+  }
 
-pub gave_up_begun : (answer : ℕ → Head → Answer) (count : ℕ) (read : List ℕ) (left : Option (List ℕ)) (written places : List ℕ)
-    (heads : List Head) (next : Head) (held : List ℕ) (place sent : ℕ) (rf wf : Type 0)
-    → IsNeeded read → ArePlaces count (places ++ place ∷ []) → HasReplied answer heads places written → Gives read (heads ++ next ∷ []) held
-    → IsOpen heads
-    → (sent < length (fixed 503) → wf)
-    → Served answer count (record { read = read; left = left; written = written ++ take sent (fixed 503); places = places ++ place ∷ [] }) rf wf
-    end.NoMemory
-gave_up_begun answer count read left written places heads next held place sent rf wf need are h g o f = record {
-  needed = need;
-  places = are;
-  ends = record {
+  -- and after
+  pub starved_begun : (next : Head) (held : List ℕ) (place : ℕ) → HasReplied answer heads places written → Gives read (heads ++ next ∷ []) held
+      → IsOpen heads → IsStarved answer (record { read = read; left = left; written = written; places = places ++ place ∷ [] })
+  starved_begun next held place h g o = record {
     heads = heads;
     places = places;
     begun = place ∷ [];
     begins = (next, held, g);
     open_after = o;
     placed = (h.placed, refl);
-    sent = sent;
-    written = ap (λ w. w ++ take sent (fixed 503)) h.told;
-    whole = f;
-  };
-}
+    written = h.told;
+  }
+
+-- ---- counts
+
+same_later : (a b : FaultCounts) → b ≡ a → AreLater a b
+same_later a b e = rw e (record { reads = omega arith; writes = omega arith })
+
+read_later : (a b : FaultCounts) → ReadFailed a b → AreLater a b
+read_later a b f = record { reads = f.once.later; writes = omega (arith, f.writes) }
+
+write_later : (a b : FaultCounts) → WriteFailed a b → AreLater a b
+write_later a b f = record { reads = omega (arith, f.reads); writes = f.once.later }
+
+told_later : (replied written : List ℕ) (a b : FaultCounts) → IsTold replied written a b → AreLater a b
+told_later replied written a b (inl t) = same_later a b t.1
+told_later replied written a b (inr t) = write_later a b t.2
+
+-- whatever the end, no count fell
+pub later : (answer : ℕ → Head → Answer) (count : ℕ) (s : Session) (a b : FaultCounts) (e : End) → Served answer count s a b e → AreLater a b
+later answer count s a b end.Closed h = same_later a b h.ends.steady
+later answer count s a b end.ReadFault h = read_later a b h.ends.cause
+later answer count s a b end.WriteFault h = write_later a b h.ends.cause
+later answer count s a b end.NoMemory h = told_later h.ends.replied s.written a b h.ends.told
 
 nothing_waits : IsStep [] Waiting
 unfolding head_lines_from end_among

@@ -1,20 +1,19 @@
 -- What serving the connections of a door, one after the other, promises.
-use Rattle.std.specs.Prelude.{◌≡◌, ℕ, ◌≤◌, ◌+◌, List, [], ◌∷◌, ◌++◌, length, flat_map, true, false}
-use Rattle.std.specs.Prelude.{⊤, Bool, Option, None, Some, IfSome}
+use Rattle.std.specs.Prelude.{◌≡◌, ℕ, ◌<◌, ◌≤◌, ◌+◌, List, [], ◌∷◌, ◌++◌, length, flat_map, true}
+use Rattle.std.specs.Prelude.{false, ⊤, Bool, Option, None, Some, IfSome}
 use Rattle.std.specs.List.{AllByRecursion}
 use Rattle.catalogue.specs.Releases.{ReleaseData}
 use Rattle.catalogue.specs.declared.holding.Catalogue.{Catalogue}
 use Rattle.desk_pool.specs.Flag.{Sight}
 use Rattle.publication.specs.Views.{DeskView}
-use Rattle.td_base.specs.Views.{Rose, RoseBy}
 use Rattle.td_base.specs.DoorViews.{DoorContent, DoorView, Finished}
 use Rattle.td_base.specs.declared.door.DoorAnswer.TheVariants as answer
-use Rattle.td_base.specs.declared.report.End.{End}
-use Rattle.td_base.specs.declared.report.End.TheVariants as end
 use Rattle.td_base.specs.declared.report.Role.{Role}
-use Rattle.connection.specs.Entering.{GoesOn}
+use Rattle.connection.specs.Entering.{GoesOn, one_if_starved}
+use Rattle.connection.specs.FaultCounts.{RoseTimes, faults_of, no_faults}
 use Rattle.connection.specs.Served.{NeverFall, Served}
-use Rattle.connection.specs.Serving.{ForEachLonger, answer_at}
+use Rattle.connection.specs.Serving.{ForEachLonger, answer_at, session_of}
+use Rattle.connection.specs.declared.door_work.TheConstants.{MOST_FAILURES}
 use Rattle.catalogue.specs.Holdings.{history_of}
 
 -- what contracts see of the work of a worker: what its server is, its door, its desk and its sign
@@ -24,12 +23,12 @@ pub record WorkView : Type 0 where
   pub desk : DeskView (Catalogue (List ℕ))
   pub stop : Sight
 
--- a door that tells its connections has given none, and so none was handed back
-abbrev pub NoneGiven : DoorView → Type 0
-NoneGiven door = IfSome door.content (λ c. (c.given ≡ []) × (c.finished ≡ []))
+-- a connection for each that the door gave was handed back, of a door that tells them
+abbrev pub NoneOut : DoorView → Type 0
+NoneOut door = IfSome door.content (λ c. length c.finished ≡ length c.given)
 
--- A connection of this input, as it was handed back, was served over a history. A read or a write
--- of it failed where that count rose from 0, at which it began.
+-- A connection of this input, as it was handed back, was served over a history. Its counts
+-- of failures began at 0.
 pub record ServedConn (H : List ReleaseData) (role : Role) (input : List ℕ) (f : Finished)
     : Type 0 where
   pub read : List ℕ
@@ -40,8 +39,7 @@ pub record ServedConn (H : List ReleaseData) (role : Role) (input : List ℕ) (f
   pub left_is : f.conn.left ≡ Some left
   pub taken : f.conn.taken ≡ Some written
   pub served : Served (answer_at H role) (length H)
-      (record { read = read; left = Some left; written = written; places = f.report.places })
-      (Rose 0 f.conn.read_faults) (Rose 0 f.conn.write_faults) f.report.end
+      (session_of f.conn read written f.report.places) no_faults (faults_of f.conn) f.report.end
 
 -- each of these connections, by their inputs in order, was handed back and served over the history
 abbrev pub ServedConns : List ReleaseData → Role → List (List ℕ) → List Finished → Type 0
@@ -54,12 +52,6 @@ ServedConns H role (input ∷ inputs) (f ∷ fs) =
 -- the places of all requests of the connections, in order
 abbrev pub places_of : List Finished → List ℕ
 places_of finished = flat_map (λ f. f.report.places) finished
-
-abbrev pub one_if_starved : End → ℕ
-one_if_starved end.Closed = 0
-one_if_starved end.ReadFault = 0
-one_if_starved end.WriteFault = 0
-one_if_starved end.NoMemory = 1
 
 -- how many of the connections ended for want of memory
 abbrev pub starved : List Finished → ℕ
@@ -96,22 +88,25 @@ ServesTold role None None desk desk' = ⊤
 abbrev pub NoneComes : DoorView → Type 0
 NoneComes door = IfSome door.content (λ c. c.coming ≡ [])
 
+-- how often the door failed: fewer times than wear it out
+abbrev pub FailedFew : ℕ → ℕ → Type 0
+FailedFew before now = (n : ℕ) × (n < MOST_FAILURES) × RoseTimes n before now
+
 -- Why nothing more is accepted. The door answered that no connection is still to come; or none
--- waited, and the sign has seen the flag raised; or the door failed for the sixteenth time, by
--- which it is worn.
+-- waited, and the sign has seen the flag raised; or the door failed for the last time that it may,
+-- of all its failures, by which it is worn.
 pub data Stops (before now : DoorView) (raised worn : Bool) : Type 0 where
-  at_end : now.last ≡ Some answer.Ended → NoneComes now → worn ≡ false
-      → Stops before now raised worn
-  at_flag : now.last ≡ Some answer.Idle → raised ≡ true → worn ≡ false
-      → Stops before now raised worn
-  by_faults : now.last ≡ Some answer.Failed → RoseBy 16 before.faults now.faults → worn ≡ true
-      → Stops before now raised worn
+  at_end : now.last ≡ Some answer.Ended → NoneComes now → FailedFew before.faults now.faults
+      → worn ≡ false → Stops before now raised worn
+  at_flag : now.last ≡ Some answer.Idle → raised ≡ true → FailedFew before.faults now.faults
+      → worn ≡ false → Stops before now raised worn
+  by_faults : now.last ≡ Some answer.Failed → RoseTimes MOST_FAILURES before.faults now.faults
+      → worn ≡ true → Stops before now raised worn
 
 -- what a worker came to: from its door, desk and sign before to those that it gives back
 pub record DoesDoor (role : Role) (before now : DoorView)
     (desk desk' : DeskView (Catalogue (List ℕ))) (sign sign' : Sight) (worn : Bool) : Type 0 where
   pub serves : ServesTold role before.content now.content desk desk'
   pub stops : Stops before now sign'.raised worn
-  pub later : before.faults ≤ now.faults
   pub desk_goes_on : GoesOn desk desk'
   pub flag : sign'.flag ≡ sign.flag

@@ -1,8 +1,10 @@
 -- What becomes of a desk while a connection is served: it enters once for each request, before that
 -- is answered.
 use Rattle.std.specs.Prelude.{◌≡◌, ◌≤◌, ◌⊎◌, ℕ, ◌+◌, List, [], ◌∷◌, length, true}
+use Rattle.std.specs.Prelude.{Result, Ok, Err}
 use mathlib.Core.List.{IsPrefix}
 use Rattle.publication.specs.Views.{DeskView}
+use Rattle.td_base.specs.declared.no_memory.NoMemory.{NoMemory}
 use Rattle.td_base.specs.declared.report.End.{End}
 use Rattle.td_base.specs.declared.report.End.TheVariants as end
 
@@ -41,10 +43,18 @@ module _ {V : Type 0} where
   EntersFor before places now end.ReadFault = EntersEach before places now
   EntersFor before places now end.WriteFault = EntersEach before places now
 
+  -- one enter for each place, and perhaps one more where memory ran out
+  abbrev pub EntersUpTo : DeskView V → List ℕ → DeskView V → Result End NoMemory → Type 0
+  EntersUpTo before places now (Ok e) = EntersEach before places now
+  EntersUpTo before places now (Err fault) = EntersFor before places now end.NoMemory
+
+abbrev pub one_if_starved : End → ℕ
+one_if_starved end.Closed = 0
+one_if_starved end.ReadFault = 0
+one_if_starved end.WriteFault = 0
+one_if_starved end.NoMemory = 1
+
 -- the number of enters rose by that of the places, or, where memory ran out, perhaps by one more
 abbrev pub HasCounted : ℕ → List ℕ → ℕ → End → Type 0
-HasCounted before places now end.NoMemory =
-    (before + length places ≤ now) × (now ≤ before + length places + 1)
-HasCounted before places now end.Closed = now ≡ before + length places
-HasCounted before places now end.ReadFault = now ≡ before + length places
-HasCounted before places now end.WriteFault = now ≡ before + length places
+HasCounted before places now e =
+    (before + length places ≤ now) × (now ≤ before + length places + one_if_starved e)

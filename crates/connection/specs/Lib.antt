@@ -1,9 +1,11 @@
+pub mod Answering
 pub mod DoorWorks
 pub mod Entering
-pub mod Exchanges
+pub mod FaultCounts
 pub mod Hearing
 pub mod Replies
+pub mod Rounds
 pub mod Sending
 pub mod Served
 pub mod Serving
-pub mod Turns
+pub mod Traffic

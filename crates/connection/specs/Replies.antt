@@ -5,19 +5,17 @@ use Rattle.std.specs.List.{list_any}
 use Rattle.http_answer.specs.Replies.{reply}
 use Rattle.http_answer.specs.declared.answer.Answer.{Answer}
 use Rattle.http_request.specs.declared.head.Head.{Head}
+use Rattle.td_base.specs.declared.report.TheConstants.{MOST_PLACES}
 
--- how many requests of one connection are answered
-abbrev pub most_requests : ℕ
-most_requests = 1000
-
--- the connection closes after this request, where so many came before it
+-- the connection closes after this request, where so many came before it: it asks for that, or no
+-- place is left for another
 abbrev pub is_last : ℕ → Head → Bool
-is_last before head = head.close || (before + 1 == most_requests)
+is_last before head = head.close || (before + 1 == MOST_PLACES)
 
 -- after these requests the connection is open: none asks that it be closed, and more may come
 pub record IsOpen (heads : List Head) : Type 0 where
   pub kept : list_any (λ h. h.close) heads ≡ false
-  pub few : length heads < most_requests
+  pub few : length heads < MOST_PLACES
 
 -- the reply to a request, which is answered at this place of a history
 abbrev pub reply_at : (answer : ℕ → Head → Answer) → ℕ → Head → ℕ → List ℕ

@@ -1,6 +1,6 @@
 -- How a connection was served: what was written, by what was read, and why it ended. It is said
 -- over any history and any way to answer a request at a place of it.
-use Rattle.std.specs.Prelude.{◌≡◌, ℕ, ◌<◌, ◌≤◌, ◌⊎◌, List, [], ◌∷◌, ◌++◌, length, take, true, ⊤}
+use Rattle.std.specs.Prelude.{◌≡◌, ℕ, ◌≤◌, ◌⊎◌, List, [], ◌∷◌, ◌++◌, length, take, true, ⊤}
 use Rattle.std.specs.Prelude.{Option}
 use Rattle.std.specs.Io.KnownBytes.{IsAtEnd}
 use Rattle.std.specs.List.{AllByRecursion}
@@ -10,7 +10,9 @@ use Rattle.http_request.specs.Asks.{Asks, Bad, Gives, Rest}
 use Rattle.http_request.specs.declared.head.Head.{Head}
 use Rattle.td_base.specs.declared.report.End.{End}
 use Rattle.td_base.specs.declared.report.End.TheVariants as end
+use Rattle.connection.specs.FaultCounts.{FaultCounts, ReadFailed, WriteFailed}
 use Rattle.connection.specs.Replies.{IsOpen, is_last, replies, reply_at}
+use Rattle.connection.specs.declared.hearing.TheConstants.{PIECE}
 
 -- what is seen of a connection that was served: the bytes that its reads gave, those left where
 -- it tells them, the bytes written, and the place of each request
@@ -20,17 +22,13 @@ pub record Session : Type 0 where
   pub written : List ℕ
   pub places : List ℕ
 
--- how many bytes are asked of a connection at a time
-abbrev pub most_piece : ℕ
-most_piece = 4096
-
--- Nothing was read that was not needed: when the last piece was read, no whole head stood in the
--- bytes before it that was not given, and none of those given closed the connection.
+-- Of the bytes alone, whatever was written by then: before the last piece, the heads that stood
+-- whole left the connection open, and no head was refused.
 pub record IsNeeded (read : List ℕ) : Type 0 where
   pub earlier : List ℕ
   pub piece : List ℕ
   pub read_is : read ≡ earlier ++ piece
-  pub small : length piece ≤ most_piece
+  pub small : length piece ≤ PIECE
   pub heads : List Head
   pub held : List ℕ
   pub asks : Asks earlier heads (Rest held)
@@ -75,23 +73,26 @@ farewell (ByRefusal status) = fixed status
 farewell ByInput = []
 
 -- The connection was closed: each request of the bytes was replied to, up to the one that closes
--- it, and a refusal follows where one comes.
-pub record IsClosed (answer : ℕ → Head → Answer) (s : Session) : Type 0 where
+-- it, a refusal follows where one comes, and no read and no write failed.
+pub record IsClosed (answer : ℕ → Head → Answer) (s : Session) (before now : FaultCounts)
+    : Type 0 where
   pub heads : List Head
   pub finish : Finish
   pub finishes : FinishesBy s heads finish
   pub placed : length s.places ≡ length heads
   pub written : s.written ≡ replies answer heads s.places ++ farewell finish
+  pub steady : now ≡ before
 
 -- A read failed: each request that had come was replied to, and none closed the connection.
-pub record IsReadFault (answer : ℕ → Head → Answer) (s : Session) (failed : Type 0) : Type 0 where
+pub record IsReadFault (answer : ℕ → Head → Answer) (s : Session) (before now : FaultCounts)
+    : Type 0 where
   pub heads : List Head
   pub held : List ℕ
   pub asks : Asks s.read heads (Rest held)
   pub open_after : IsOpen heads
   pub placed : length s.places ≡ length heads
   pub written : s.written ≡ replies answer heads s.places
-  pub cause : failed
+  pub cause : ReadFailed before now
 
 -- a reply was cut: those before it are whole
 pub record CutsReply (answer : ℕ → Head → Answer) (s : Session) : Type 0 where
@@ -118,9 +119,10 @@ pub record CutsRefusal (answer : ℕ → Head → Answer) (s : Session) : Type 0
   pub written : s.written ≡ replies answer heads s.places ++ take sent (fixed status)
 
 -- A write failed: what it wrote of is cut, and all before that is whole.
-pub record IsWriteFault (answer : ℕ → Head → Answer) (s : Session) (failed : Type 0) : Type 0 where
+pub record IsWriteFault (answer : ℕ → Head → Answer) (s : Session) (before now : FaultCounts)
+    : Type 0 where
   pub cut : CutsReply answer s ⊎ CutsRefusal answer s
-  pub cause : failed
+  pub cause : WriteFailed before now
 
 -- the requests that were replied to; and one more that was begun, if it has a place
 abbrev pub Begins : List ℕ → List Head → List ℕ → Type 0
@@ -129,30 +131,40 @@ Begins read heads (place ∷ []) =
     (next : Head) × (held : List ℕ) × Gives read (heads ++ next ∷ []) held
 Begins read heads (place ∷ other ∷ places) = ⊥
 
--- Memory ran out: requests were replied to, none of which closed the connection, and then the
--- reply that tells of it was written, whole unless a write failed.
-pub record IsOutOfMemory (answer : ℕ → Head → Answer) (s : Session) (failed : Type 0) : Type 0 where
+-- Memory ran out: requests were replied to, none of which closed the connection.
+pub record IsStarved (answer : ℕ → Head → Answer) (s : Session) : Type 0 where
   pub heads : List Head
   pub places : List ℕ
   pub begun : List ℕ
   pub begins : Begins s.read heads begun
   pub open_after : IsOpen heads
   pub placed : (length places ≡ length heads) × (s.places ≡ places ++ begun)
-  pub sent : ℕ
-  pub written : s.written ≡ replies answer heads places ++ take sent (fixed 503)
-  pub whole : (sent < length (fixed 503)) → failed
+  pub written : s.written ≡ replies answer heads places
 
-abbrev pub EndsSo : (answer : ℕ → Head → Answer) → Session
-    → (read_failed write_failed : Type 0) → End → Type 0
-EndsSo answer s read_failed write_failed end.Closed = IsClosed answer s
-EndsSo answer s read_failed write_failed end.ReadFault = IsReadFault answer s read_failed
-EndsSo answer s read_failed write_failed end.WriteFault = IsWriteFault answer s write_failed
-EndsSo answer s read_failed write_failed end.NoMemory = IsOutOfMemory answer s write_failed
+-- after these bytes the reply that tells of it was written, or a prefix of it where a write failed
+abbrev pub IsTold : List ℕ → List ℕ → FaultCounts → FaultCounts → Type 0
+IsTold replied written before now =
+    ((written ≡ replied ++ fixed 503) × (now ≡ before))
+    ⊎ ((sent : ℕ) × (written ≡ replied ++ take sent (fixed 503)) × WriteFailed before now)
 
--- The connection was served over a history of so many releases. The two causes say that a read
--- failed, and that a write failed.
-pub record Served (answer : ℕ → Head → Answer) (count : ℕ) (s : Session)
-    (read_failed write_failed : Type 0) (e : End) : Type 0 where
+-- memory ran out, and that was told
+pub record IsOutOfMemory (answer : ℕ → Head → Answer) (s : Session) (before now : FaultCounts)
+    : Type 0 where
+  pub replied : List ℕ
+  pub starved : IsStarved answer (record s { written = replied })
+  pub told : IsTold replied s.written before now
+
+abbrev pub EndsSo : (answer : ℕ → Head → Answer) → Session → (before now : FaultCounts) → End
+    → Type 0
+EndsSo answer s before now end.Closed = IsClosed answer s before now
+EndsSo answer s before now end.ReadFault = IsReadFault answer s before now
+EndsSo answer s before now end.WriteFault = IsWriteFault answer s before now
+EndsSo answer s before now end.NoMemory = IsOutOfMemory answer s before now
+
+-- The connection was served over a history of so many releases, while its counts of failed reads
+-- and failed writes went from the first to the second.
+pub record Served (answer : ℕ → Head → Answer) (count : ℕ) (s : Session) (before now : FaultCounts)
+    (e : End) : Type 0 where
   pub needed : IsNeeded s.read
   pub places : ArePlaces count s.places
-  pub ends : EndsSo answer s read_failed write_failed e
+  pub ends : EndsSo answer s before now e

@@ -1,9 +1,8 @@
 ghost use Rattle.std.specs.Prelude.{◌≡◌};
-ghost use Rattle.connection.specs.DoorWorks.{DoesDoor, NoneGiven};
-ghost use Rattle.connection.specs.Turns.{NoneOut};
+ghost use Rattle.connection.specs.DoorWorks.{DoesDoor, NoneOut};
 ghost use Rattle.json_forms.specs.PlainTexts.{IsPlainRole};
 
-use crate::turn::{Turn, take_turn};
+use crate::round::{Round, serve_next};
 use catalogue::Catalogue;
 use desk_pool::StopSign;
 use publication::Desk;
@@ -14,7 +13,7 @@ use td_base::{Door, Role, Work};
 use zone_meaning::Zone;
 
 /// How many failures of a door wear it out.
-const MOST_FAILURES: u32 = 16;
+pub const MOST_FAILURES: u32 = 16;
 
 /// The work of one worker: it serves the connections of its door one after the other, over a desk
 /// of its own, and hands each back. It ends where the door answers that no connection is still to
@@ -30,7 +29,7 @@ pub struct DoorWork<D: Door> {
 }
 
 impl<D: Door> Model for DoorWork<D> {
-    ghost use Rattle.connection.specs.DoorWorks.{NoneGiven, WorkView};
+    ghost use Rattle.connection.specs.DoorWorks.{NoneOut, WorkView};
     ghost use Rattle.json_forms.specs.PlainTexts.{IsPlainRole};
 
     ghost Value = { WorkView };
@@ -42,11 +41,11 @@ impl<D: Door> Model for DoorWork<D> {
       stop = w.stop;
     } };
 
-    ghost invariant = { λ w. IsPlainRole w.role × NoneGiven (D.seen w.door) };
+    ghost invariant = { λ w. IsPlainRole w.role × NoneOut (D.seen w.door) };
 }
 
 impl<D: Door> DoorWork<D> {
-    /// The work for a door of which no connection was taken yet. It takes no memory.
+    /// The work for a door of which no connection is out. It takes no memory.
     pub fn new(
         alloc: Global,
         role: Role,
@@ -55,7 +54,7 @@ impl<D: Door> DoorWork<D> {
         stop: StopSign,
     ) -> DoorWork<D>
         requires role { IsPlainRole role }
-        requires door { NoneGiven (D.seen door) }
+        requires door { NoneOut (D.seen door) }
         ensures { result ≡ record { role = role; door = D.seen door; desk = desk; stop = stop } }
     {
         DoorWork {
@@ -105,7 +104,7 @@ impl<D: Door> Work for DoorWork<D> {
     }
 }
 
-/// Takes turns until one is the last, and tells whether the door is worn.
+/// Goes from round to round until one is the last, and tells whether the door is worn.
 fn serve_door<R: Wait, D: Door>(
     rt: &R,
     alloc: Global,
@@ -120,16 +119,16 @@ fn serve_door<R: Wait, D: Door>(
         sign.old sign.new result }
 {
     let mut failures = 0;
-    'turns: for _ in rt.forever() {
-        match take_turn(alloc, role, door, desk, sign) {
-            Turn::GoesOn => {}
-            Turn::Failed => {
+    'rounds: for _ in rt.forever() {
+        match serve_next(alloc, role, door, desk, sign) {
+            Round::GoesOn => {}
+            Round::Failed => {
                 failures += 1;
                 if failures == MOST_FAILURES {
                     return true;
                 }
             }
-            Turn::Ended | Turn::Stopped => return false,
+            Round::Ended | Round::Stopped => return false,
         }
     }
     unreachable!()

@@ -1,15 +1,17 @@
-ghost use Rattle.connection.specs.Hearing.{Feeds, Hears};
+ghost use Rattle.std.specs.Prelude.{◌<◌, ◌≤◌, length};
+ghost use Rattle.http_request.specs.declared.limits.TheConstants.{MOST_HEAD_BYTES};
+ghost use Rattle.connection.specs.Hearing.{Feeds, Hears, most_held};
 
 use http_request::{Head, Heads, Next, gives};
 use std::alloc::Global;
-use td_base::{Conn, ReadStep};
+use td_base::{Conn, NoMemory, ReadStep};
 
 /// How many bytes are asked of a connection at a time.
-const PIECE: usize = 4_096;
+pub const PIECE: usize = 4_096;
 
 /// What came of a connection.
 #[derive(Debug, Drop)]
-pub enum Heard {
+pub enum Arrival {
     /// A request.
     Request(Head),
     /// A head that is refused, with this status.
@@ -18,8 +20,6 @@ pub enum Heard {
     Ended,
     /// A read failed.
     ReadFault,
-    /// There is no memory.
-    NoMemory,
 }
 
 /// What came of one read.
@@ -36,19 +36,21 @@ pub enum Piece {
 }
 
 /// The next head. Pieces are read only while none stands whole in what is held.
-pub fn hear<C: Conn>(alloc: Global, heads: &mut Heads, conn: &mut C) -> Heard
-    ensures { Hears (C.seen conn.old) (C.seen conn.new) heads.old heads.new result }
+pub fn hear<C: Conn>(alloc: Global, heads: &mut Heads, conn: &mut C) -> Result<Arrival, NoMemory>
+    requires { heads.old.size ≤ most_held }
+    ensures hears { Hears (C.seen conn.old) (C.seen conn.new) heads.old.rest heads.new.rest
+        result }
+    ensures held { heads.new.size ≤ most_held }
 {
     'pieces: loop {
-        match heads.next(alloc) {
-            Ok(Next::Request(head)) => return Heard::Request(head),
-            Ok(Next::Bad(status)) => return Heard::Refused(status),
-            Err(_) => return Heard::NoMemory,
-            Ok(Next::More) => match feed(heads, conn) {
+        match heads.next(alloc)? {
+            Next::Request(head) => return Ok(Arrival::Request(head)),
+            Next::Bad(status) => return Ok(Arrival::Refused(status)),
+            Next::More => match feed(heads, conn) {
                 Piece::Fed => {}
-                Piece::Ended => return Heard::Ended,
-                Piece::Failed => return Heard::ReadFault,
-                Piece::NoMemory => return Heard::NoMemory,
+                Piece::Ended => return Ok(Arrival::Ended),
+                Piece::Failed => return Ok(Arrival::ReadFault),
+                Piece::NoMemory => return Err(NoMemory),
             },
         }
     }
@@ -56,7 +58,11 @@ pub fn hear<C: Conn>(alloc: Global, heads: &mut Heads, conn: &mut C) -> Heard
 
 /// Reads one piece and holds it.
 fn feed<C: Conn>(heads: &mut Heads, conn: &mut C) -> Piece
-    ensures { Feeds (C.seen conn.old) (C.seen conn.new) heads.old heads.new result }
+    requires room { length heads.old.rest < MOST_HEAD_BYTES }
+    requires held { heads.old.size ≤ most_held }
+    ensures feeds { Feeds (C.seen conn.old) (C.seen conn.new) heads.old.rest heads.new.rest
+        result }
+    ensures held { heads.new.size ≤ most_held }
 {
     let mut room = [0; PIECE];
     match conn.read(&mut room) {

@@ -10,11 +10,11 @@
 // The work of a thread: the connections of a door.
 mod door_work;
 
-// One connection, turn by turn.
+// One connection, and one round at a door.
+mod round;
 mod serving;
-mod turn;
 
-// What a turn reads, answers and writes.
+// What is read, answered and written of a connection.
 mod hearing;
 mod replying;
 mod sending;
@@ -26,10 +26,3 @@ mod send_sync;
 pub use door_work::{DoorDone, DoorWork};
 pub use laws::{nothing_needed, one_closing};
 pub use serving::serve;
-
-#[cfg(test)]
-mod door_tests;
-#[cfg(test)]
-mod listed_door;
-#[cfg(test)]
-mod tests;

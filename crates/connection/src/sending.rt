@@ -4,17 +4,6 @@ ghost use Rattle.http_request.specs.Taking.{IsRefusal};
 use http_answer::fixed;
 use td_base::{Conn, End, Written, send_whole};
 
-/// How a reply was sent.
-#[derive(Clone, Copy, Debug, PartialEq, Eq)]
-pub enum Sent {
-    /// All of it.
-    Whole,
-    /// A write failed.
-    Cut,
-    /// There was no memory for it, and that was told.
-    NoMemory,
-}
-
 /// Tells that there is no memory.
 pub fn give_up<C: Conn>(conn: &mut C)
     ensures { GivesUp (C.seen conn.old) (C.seen conn.new) }

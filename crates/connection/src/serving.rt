@@ -1,23 +1,30 @@
-ghost use Rattle.std.specs.Prelude.{◌≡◌, ◌≤◌, length, [], true};
+ghost use Rattle.std.specs.Prelude.{◌≡◌, ◌<◌, ◌≤◌, ◌+◌, ℕ, List, length, [], true, IsTrue};
+ghost use Rattle.std.specs.Prelude.{Ok, Some, None, if◌then◌else◌};
 ghost use Rattle.std.specs.List.{AllByRecursion};
 ghost use mathlib.Core.List.{IsPrefix};
-ghost use Rattle.connection.specs.Entering.{EntersFor, HasCounted};
+ghost use Rattle.catalogue.specs.declared.holding.Catalogue.{Catalogue};
+ghost use Rattle.connection.specs.Answering.{AnswersOne, EntersOn, IsServing, ServesOn};
+ghost use Rattle.connection.specs.Entering.{EntersEach, EntersFor, EntersUpTo, HasCounted};
+ghost use Rattle.connection.specs.FaultCounts.{AreLater, faults_of};
+ghost use Rattle.connection.specs.Hearing.{most_held};
 ghost use Rattle.connection.specs.Replies.{is_last};
-ghost use Rattle.connection.specs.Serving.{Serves};
+ghost use Rattle.connection.specs.Serving.{Serves, ServesUpTo};
 ghost use Rattle.json_forms.specs.PlainTexts.{IsPlainRole};
+ghost use Rattle.publication.specs.Views.{DeskView};
+ghost use Rattle.td_base.specs.TargetForm.{has_form};
+ghost use Rattle.td_base.specs.Views.{ConnView};
+ghost use Rattle.td_base.specs.declared.report.End.TheVariants as end;
+ghost use Rattle.td_base.specs.declared.report.TheConstants.{MOST_PLACES};
 
-use crate::hearing::{Heard, hear};
+use crate::hearing::{Arrival, hear};
 use crate::replying::reply_to;
-use crate::sending::{Sent, give_up, refuse};
+use crate::sending::{give_up, refuse};
 use catalogue::Catalogue;
 use http_request::{Head, Heads};
 use publication::Desk;
 use std::alloc::Global;
-use td_base::{Conn, End, Places, Report, Role};
+use td_base::{Conn, End, MOST_PLACES, NoMemory, Places, Report, Role, Written};
 use zone_meaning::Zone;
-
-/// How many requests of one connection are answered.
-const MOST_REQUESTS: usize = 1_000;
 
 /// Serves a connection over a desk, until its input ends, a request closes it, a head is refused,
 /// the 1,000th request was answered, or a fault ends it. Nothing is read or answered after that.
@@ -32,27 +39,30 @@ pub fn serve<C: Conn>(
     conn: &mut C,
 ) -> Report
     requires role { IsPlainRole role.now }
-    ensures served { Serves desk.new role.now (C.seen conn.old) (C.seen conn.new) result }
+    ensures served { Serves desk.new role.now (C.seen conn.old) (C.seen conn.new)
+        result.places result.end }
     ensures enters { EntersFor desk.old result.places desk.new result.end }
+    ensures later { AreLater (faults_of (C.seen conn.old)) (faults_of (C.seen conn.new)) }
     ensures pair { desk.new.pair ≡ desk.old.pair }
     ensures seen { IsPrefix desk.old.seen desk.new.seen }
     ensures first { AllByRecursion (λ p. length desk.old.seen ≤ p) result.places }
     ensures counted { HasCounted desk.old.enters result.places desk.new.enters result.end }
+    ensures computed { result.computed ≡ length result.places }
     ensures ended { desk.old.ended ≡ true → (desk.new.seen ≡ desk.old.seen)
         × (desk.new.ended ≡ true)
         × AllByRecursion (λ p. p ≡ length desk.old.seen) result.places }
 {
     let mut places = Places::new();
     let end = serve_requests(alloc, role, desk, conn, &mut places);
+    let computed = places.as_slice().len() as u64;
     Report {
         end,
         places,
-        // Nothing is counted while no answer is kept.
-        computed: 0,
+        computed,
     }
 }
 
-/// Answers request by request, and tells the places.
+/// Answers request by request, and tells the places. Where memory runs out that is told.
 fn serve_requests<C: Conn>(
     alloc: Global,
     role: &Role,
@@ -63,44 +73,104 @@ fn serve_requests<C: Conn>(
     requires role { IsPlainRole role.now }
     requires none { places.old ≡ [] }
     ensures served { Serves desk.new role.now (C.seen conn.old) (C.seen conn.new)
-        (record { end = result; places = places.new; computed = 0 }) }
+        places.new result }
     ensures enters { EntersFor desk.old places.new desk.new result }
+{
+    match answer_requests(alloc, role, desk, conn, places) {
+        Ok(end) => end,
+        Err(_) => {
+            give_up(conn);
+            End::NoMemory
+        }
+    }
+}
+
+/// Answers request by request, and tells the places. Where memory runs out nothing of it is told
+/// yet.
+fn answer_requests<C: Conn>(
+    alloc: Global,
+    role: &Role,
+    desk: &mut Desk<Catalogue<Zone>>,
+    conn: &mut C,
+    places: &mut Places,
+) -> Result<End, NoMemory>
+    requires role { IsPlainRole role.now }
+    requires none { places.old ≡ [] }
+    ensures served { ServesUpTo desk.new role.now (C.seen conn.old) (C.seen conn.new)
+        places.new result }
+    ensures enters { EntersUpTo desk.old places.new desk.new result }
 {
     let mut heads = Heads::new(alloc);
     'requests: loop {
-        match hear(alloc, &mut heads, conn) {
-            Heard::Request(head) => {
-                let close = is_last(places, &head);
-                let Ok(()) = desk.enter() else {
-                    give_up(conn);
-                    return End::NoMemory;
-                };
-                let catalogue = desk.value();
-                places.push(catalogue.count());
-                match reply_to(alloc, role, catalogue, conn, &head, close) {
-                    Sent::Whole => {
-                        if close {
-                            return End::Closed;
-                        }
-                    }
-                    Sent::Cut => return End::WriteFault,
-                    Sent::NoMemory => return End::NoMemory,
-                }
-            }
-            Heard::Refused(status) => return refuse(conn, status),
-            Heard::Ended => return End::Closed,
-            Heard::ReadFault => return End::ReadFault,
-            Heard::NoMemory => {
-                give_up(conn);
-                return End::NoMemory;
-            }
+        if let Some(end) = answer_next(alloc, role, desk, conn, &mut heads, places)? {
+            return Ok(end);
         }
     }
+}
+
+/// Hears once and answers what came. `None` where the connection stays open.
+fn answer_next<C: Conn>(
+    alloc: Global,
+    role: &Role,
+    desk: &mut Desk<Catalogue<Zone>>,
+    conn: &mut C,
+    heads: &mut Heads,
+    places: &mut Places,
+) -> Result<Option<End>, NoMemory>
+    requires role { IsPlainRole role.now }
+    requires held { heads.old.size ≤ most_held }
+    requires room { length places.old < MOST_PLACES }
+    ensures served { (before : ConnView)
+        → IsServing desk.old role.now before (C.seen conn.old) heads.old.rest places.old
+        → ServesOn desk.new role.now before (C.seen conn.new) heads.new.rest places.new result }
+    ensures enters { (before : DeskView (Catalogue (List ℕ)))
+        → EntersEach before places.old desk.old → EntersOn before places.new desk.new result }
+    ensures held { heads.new.size ≤ most_held }
+    ensures more { result ≡ Ok None → length places.new ≡ length places.old + 1 }
+{
+    match hear(alloc, heads, conn)? {
+        Arrival::Request(head) => answer_one(alloc, role, desk, conn, &head, places),
+        Arrival::Refused(status) => Ok(Some(refuse(conn, status))),
+        Arrival::Ended => Ok(Some(End::Closed)),
+        Arrival::ReadFault => Ok(Some(End::ReadFault)),
+    }
+}
+
+/// Lets the desk enter, tells the place and replies. `None` where the connection stays open.
+fn answer_one<C: Conn>(
+    alloc: Global,
+    role: &Role,
+    desk: &mut Desk<Catalogue<Zone>>,
+    conn: &mut C,
+    head: &Head,
+    places: &mut Places,
+) -> Result<Option<End>, NoMemory>
+    requires role { IsPlainRole role.now }
+    requires form { IsTrue (has_form head.now.target) }
+    requires room { length places.old < MOST_PLACES }
+    ensures { AnswersOne desk.old desk.new role.now head.now (C.seen conn.old) (C.seen conn.new)
+        places.old places.new result }
+{
+    let close = is_last(places, head);
+    desk.enter()?;
+    let catalogue = desk.value();
+    places.push(catalogue.count());
+    match reply_to(alloc, role, catalogue, conn, head, close)? {
+        Written::Whole => Ok(ended_by(close)),
+        Written::Cut => Ok(Some(End::WriteFault)),
+    }
+}
+
+/// How the connection ends after a whole reply, if it does.
+fn ended_by(close: bool) -> Option<End>
+    ensures { result ≡ if close then Some end.Closed else None }
+{
+    if close { Some(End::Closed) } else { None }
 }
 
 /// Whether the connection closes after this request.
 fn is_last(places: &Places, head: &Head) -> bool
     ensures { result ≡ is_last (length places.now) head.now }
 {
-    head.close || places.as_slice().len() + 1 == MOST_REQUESTS
+    head.close || places.as_slice().len() + 1 == MOST_PLACES
 }

@@ -1,34 +1,35 @@
 use Rattle.std.proofs.Common.{refl, arith, ◌∙◌}
-use Rattle.connection.proofs.TurnLemmas as turns
+use Rattle.connection.proofs.RoundLemmas as rounds
 use Rattle.connection.proofs.door_work.serve_door.Goals as goal
 
-pub turns-init : goal.turns-init
-turns-init g c = (turns.starts _ _ _, refl, turns.rose_none _, omega arith)
+pub rounds-init : goal.rounds-init
+rounds-init g c = record { served = rounds.starts _ _ _; flag = refl; rose = rounds.rose_none _; few = omega arith }
 
-pub take_turn-requires-clause-door : goal.take_turn-requires-clause-door
-take_turn-requires-clause-door g c = turns.still_none_out _ _ _ _ _ c.requires.door c.turns.invariant.0
+pub serve_next-requires-clause-door : goal.serve_next-requires-clause-door
+serve_next-requires-clause-door g c = rounds.still_none_out _ _ _ _ _ c.requires.door c.rounds.invariant.served
 
-pub turns-preserved-in-GoesOn : goal.turns-preserved-in-GoesOn
-turns-preserved-in-GoesOn g c = (
-  turns.goes_on _ _ _ _ _ _ _ c.turns.invariant.0 c.take_turn.ensures.served,
-  c.take_turn.ensures.flag ∙ c.turns.invariant.1,
-  turns.rose_later _ _ _ _ c.turns.invariant.2 c.take_turn.ensures.served.later,
-  c.turns.invariant.3,
-)
+pub rounds-preserved-in-GoesOn : goal.rounds-preserved-in-GoesOn
+rounds-preserved-in-GoesOn g c = record {
+  served = rounds.goes_on _ _ _ _ _ _ _ c.rounds.invariant.served c.serve_next.ensures.served;
+  flag = c.serve_next.ensures.flag ∙ c.rounds.invariant.flag;
+  rose = rounds.rose_same _ _ _ _ c.rounds.invariant.rose c.in-GoesOn.ensures.tells.1;
+  few = c.rounds.invariant.few;
+}
 
 pub returns-then-failures-eq-MOST_FAILURES : goal.returns-then-failures-eq-MOST_FAILURES
 returns-then-failures-eq-MOST_FAILURES g c =
-    turns.worn _ _ _ _ _ _ _ _ _ _ c.turns.failures c.turns.invariant.0 c.turns.invariant.1 c.turns.invariant.2 c.if-failures-eq-MOST_FAILURES.true
-    c.in-Failed.ensures
+    rounds.worn _ _ _ _ _ _ _ _ _ _ c.rounds.failures c.rounds.invariant.served c.rounds.invariant.flag c.rounds.invariant.rose
+    c.if-failures-eq-MOST_FAILURES.true c.in-Failed.ensures
 
-pub turns-preserved : goal.turns-preserved
-turns-preserved g c = (
-  turns.goes_on _ _ _ _ _ _ _ c.turns.invariant.0 c.take_turn.ensures.served,
-  c.take_turn.ensures.flag ∙ c.turns.invariant.1,
-  turns.rose_more _ _ _ _ c.turns.invariant.2 c.in-Failed.ensures.tells.1,
-  omega (arith, c.turns.invariant.3, c.if-failures-eq-MOST_FAILURES.false),
-)
+pub rounds-preserved : goal.rounds-preserved
+rounds-preserved g c = record {
+  served = rounds.goes_on _ _ _ _ _ _ _ c.rounds.invariant.served c.serve_next.ensures.served;
+  flag = c.serve_next.ensures.flag ∙ c.rounds.invariant.flag;
+  rose = rounds.rose_more _ _ _ _ c.rounds.invariant.rose c.in-Failed.ensures.tells.1;
+  few = omega (arith, c.rounds.invariant.few, c.if-failures-eq-MOST_FAILURES.false);
+}
 
 pub returns-in-Ended : goal.returns-in-Ended
 returns-in-Ended g c =
-    turns.last _ _ _ _ _ _ _ _ _ _ c.take_turn.result c.turns.invariant.0 c.turns.invariant.1 c.take_turn.ensures c.in-Ended.is
+    rounds.last _ _ _ _ _ _ _ _ _ _ _ c.rounds.invariant.served c.rounds.invariant.flag c.rounds.invariant.rose c.serve_next.result
+    c.rounds.invariant.few c.serve_next.ensures c.in-Ended.is

@@ -1,4 +1,4 @@
-use Rattle.connection.proofs.Exchanging.{gives_up}
+use Rattle.connection.proofs.TrafficLemmas.{gives_up}
 use Rattle.connection.proofs.sending.give_up.Goals as goal
 
 pub returns : goal.returns

@@ -1,4 +1,4 @@
-use Rattle.connection.proofs.Exchanging.{sent_cut, sent_whole}
+use Rattle.connection.proofs.TrafficLemmas.{sent_cut, sent_whole}
 use Rattle.connection.proofs.sending.refuse.Goals as goal
 
 pub returns-in-Whole : goal.returns-in-Whole

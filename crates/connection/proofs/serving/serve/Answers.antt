@@ -1,5 +1,9 @@
 use Rattle.connection.proofs.EnteringLemmas as entering
+use Rattle.connection.proofs.ServingLemmas as serving
 use Rattle.connection.proofs.serving.serve.Goals as goal
+
+pub returns-clause-later : goal.returns-clause-later
+returns-clause-later g c = serving.counts_later _ _ _ _ _ _ c.serve_requests-end.ensures.served
 
 pub returns-clause-pair : goal.returns-clause-pair
 returns-clause-pair g c = (entering.goes_on _ _ _ c.serve_requests-end.result c.serve_requests-end.ensures.enters).pair

@@ -1,36 +1,42 @@
--- A worker's turns, one after the other.
-use Rattle.std.proofs.Common.{◌≡◌, ℕ, ◌+◌, ◌≤◌, ◌⊎◌, inl, inr, List, [], ◌∷◌, length, length-append}
+-- A worker's rounds, one after the other.
+use Rattle.std.proofs.Common.{◌≡◌, ℕ, ◌+◌, ◌<◌, ◌≤◌, ◌⊎◌, inl, inr, List, [], ◌∷◌, length, length-append}
 use Rattle.std.proofs.Common.{true, false, Option, Some, None, IfSome, refl, sym, ap, ◌∙◌, subst}
 use Rattle.std.proofs.Common.{arith}
 use Rattle.std.specs.List.{AllByRecursion}
 use Rattle.catalogue.specs.declared.holding.Catalogue.{Catalogue}
 use Rattle.desk_pool.specs.Flag.{Sight}
 use Rattle.publication.specs.Views.{DeskView}
-use Rattle.td_base.specs.Views.{Rose, RoseBy, ConnView}
+use Rattle.td_base.specs.Views.{ConnView}
 use Rattle.td_base.specs.DoorViews.{DoorContent, DoorView}
 use Rattle.td_base.specs.Doors.{AcceptTold, Accepts, FinishTold, Finishes, HasOut, IsUnfailed}
 use Rattle.td_base.specs.declared.door.Accepted.TheVariants as accepted
 use Rattle.td_base.specs.declared.report.Report.{Report}
 use Rattle.td_base.specs.declared.report.Role.{Role}
-use Rattle.connection.specs.DoorWorks.{DoesDoor, ServesTold, at_end, at_flag, by_faults}
+use Rattle.connection.specs.DoorWorks.{DoesDoor, NoneOut, ServesTold, at_end, at_flag, by_faults}
 use Rattle.connection.specs.Entering.{GoesOn, HasCounted}
 use Rattle.connection.specs.Serving.{Serves}
-use Rattle.connection.specs.Turns.{HasServed, NoneOut, TakesTurn, TurnTells}
-use Rattle.connection.specs.declared.turn.Turn.{Turn}
-use Rattle.connection.specs.declared.turn.Turn.TheVariants as turn
+use Rattle.connection.specs.FaultCounts.{RoseTimes}
+use Rattle.connection.specs.Rounds.{HasServed, RoundTells, ServesNext}
+use Rattle.connection.specs.declared.door_work.TheConstants.{MOST_FAILURES}
+use Rattle.connection.specs.declared.round.Round.{Round}
+use Rattle.connection.specs.declared.round.Round.TheVariants as round
 use Rattle.connection.proofs.DoorLemmas as door
 use Rattle.connection.proofs.EnteringLemmas.{goes_on_both, goes_on_same}
 
 -- ---- the count of failures
 
-pub rose_none : (a : ℕ) → RoseBy 0 a a
-rose_none a = omega arith
+pub rose_none : (a : ℕ) → RoseTimes 0 a a
+rose_none a = record { later = omega arith; least = omega arith; most = omega arith }
 
-pub rose_later : (n a b c : ℕ) → RoseBy n a b → b ≤ c → RoseBy n a c
-rose_later n a b c p q = omega (arith, p, q)
+pub rose_same : (n a b c : ℕ) → RoseTimes n a b → c ≡ b → RoseTimes n a c
+rose_same n a b c p e = subst (RoseTimes n a) (sym e) p
 
-pub rose_more : (n a b c : ℕ) → RoseBy n a b → Rose b c → RoseBy (n + 1) a c
-rose_more n a b c p q = omega (arith, p, q)
+pub rose_more : (n a b c : ℕ) → RoseTimes n a b → RoseTimes 1 b c → RoseTimes (n + 1) a c
+rose_more n a b c p q = record {
+  later = omega (arith, p.later, q.later);
+  least = omega (arith, p.least, p.most, q.least, q.most, p.later, q.later);
+  most = omega (arith, p.most, q.most);
+}
 
 -- ---- what a door tells of one call
 
@@ -76,10 +82,10 @@ module _ (role : Role) where
   pub still_none_out : (a b : DoorView) (x y : DeskView (Catalogue (List ℕ))) → NoneOut a → HasServed role a b x y → NoneOut b
   still_none_out a b x y e p = none_out_then a.content b.content x y e p.serves
 
-  -- ---- turns before and after
+  -- ---- rounds before and after
 
   pub starts : (a : DoorView) (x : DeskView (Catalogue (List ℕ))) → HasServed role a a x x
-  starts a x = record { serves = of_content a.content; later = omega arith; desk_goes_on = goes_on_same x x refl }
+  starts a x = record { serves = of_content a.content; desk_goes_on = goes_on_same x x refl }
     where
       of_content : (o : Option DoorContent) → ServesTold role o o x x
       of_content None = tt
@@ -98,42 +104,40 @@ module _ (role : Role) where
       → HasServed role a c x z
   goes_on a b c x y z p q = record {
     serves = told_both a.content b.content c.content x y z p.desk_goes_on q.desk_goes_on p.serves q.serves;
-    later = omega (arith, p.later, q.later);
     desk_goes_on = goes_on_both x y z p.desk_goes_on q.desk_goes_on;
   }
 
-  -- ---- one turn
+  -- ---- one round
 
   -- the door tells what it told
-  kept : (a b : DoorView) (x : DeskView (Catalogue (List ℕ))) → b.content ≡ a.content → a.faults ≤ b.faults → HasServed role a b x x
-  kept a b x e later = record {
+  kept : (a b : DoorView) (x : DeskView (Catalogue (List ℕ))) → b.content ≡ a.content → HasServed role a b x x
+  kept a b x e = record {
     serves = subst (λ o. ServesTold role a.content o x x) (sym e) (starts a x).serves;
-    later = later;
     desk_goes_on = goes_on_same x x refl;
   }
 
   module _ {C : Type 0} (seen : C → ConnView) where
     -- none waited, and the sign was looked at
-    pub idle : (a b : DoorView) (x : DeskView (Catalogue (List ℕ))) (s t : Sight) (r : Turn) → Accepts seen a b accepted.Idle → t.flag ≡ s.flag
-        → TurnTells a b t.raised r → TakesTurn role a b x x s t r
-    idle a b x s t r h flag tells = record { served = kept a b x (idle_keeps seen a.content b.content h.told) h.later; tells = tells; flag = flag }
+    pub idle : (a b : DoorView) (x : DeskView (Catalogue (List ℕ))) (s t : Sight) (r : Round) → Accepts seen a b accepted.Idle → t.flag ≡ s.flag
+        → RoundTells a b t.raised r → ServesNext role a b x x s t r
+    idle a b x s t r h flag tells = record { served = kept a b x (idle_keeps seen a.content b.content h.told); tells = tells; flag = flag }
 
     pub failed : (a b : DoorView) (x : DeskView (Catalogue (List ℕ))) (s : Sight) → Accepts seen a b accepted.Failed
-        → TakesTurn role a b x x s s turn.Failed
+        → ServesNext role a b x x s s round.Failed
     failed a b x s h = record {
-      served = kept a b x (failed_keeps seen a.content b.content h.told) h.later;
-      tells = (h.last, h.failed refl);
+      served = kept a b x (failed_keeps seen a.content b.content h.told);
+      tells = (h.last, record { later = h.later; least = h.failed refl; most = h.once });
       flag = refl;
     }
 
     pub ended : (a b : DoorView) (x : DeskView (Catalogue (List ℕ))) (s : Sight) → Accepts seen a b accepted.Ended
-        → TakesTurn role a b x x s s turn.Ended
+        → ServesNext role a b x x s s round.Ended
     ended a b x s h =
         let same = ended_keeps seen a.content b.content h.told in
-        record { served = kept a b x same.0 h.later; tells = (h.last, same.1); flag = refl }
+        record { served = kept a b x same.0; tells = (h.last, same.1, h.steady refl); flag = refl }
 
     told_one : (o n m : Option DoorContent) (conn : C) (now : ConnView) (report : Report) (x y : DeskView (Catalogue (List ℕ)))
-        → AcceptTold seen o n (accepted.Given conn) → IsUnfailed (seen conn) → Serves y role (seen conn) now report
+        → AcceptTold seen o n (accepted.Given conn) → IsUnfailed (seen conn) → Serves y role (seen conn) now report.places report.end
         → AllByRecursion (λ p. length x.seen ≤ p) report.places → HasCounted x.enters report.places y.enters report.end
         → FinishTold n m now report → ServesTold role o m x y
     told_one (Some a) (Some b) (Some c) conn now report x y h u s first enters f =
@@ -146,60 +150,56 @@ module _ (role : Role) where
 
     -- a connection was given, served and handed back
     pub given : (a b c : DoorView) (conn : C) (now : ConnView) (report : Report) (x y : DeskView (Catalogue (List ℕ))) (s : Sight)
-        → Accepts seen a b (accepted.Given conn) → Serves y role (seen conn) now report → GoesOn x y
+        → Accepts seen a b (accepted.Given conn) → Serves y role (seen conn) now report.places report.end → GoesOn x y
         → AllByRecursion (λ p. length x.seen ≤ p) report.places → HasCounted x.enters report.places y.enters report.end
-        → Finishes b c now report → TakesTurn role a c x y s s turn.GoesOn
+        → Finishes b c now report → ServesNext role a c x y s s round.GoesOn
     given a b c conn now report x y s h serves longer first enters f = record {
       served = record {
         serves = told_one a.content b.content c.content conn now report x y h.told h.unfailed serves first enters f.told;
-        later = omega (arith, h.later, f.faults);
         desk_goes_on = longer;
       };
-      tells = tt;
+      tells = (inl (f.last ∙ h.last), f.faults ∙ h.steady refl);
       flag = refl;
     }
 
-  -- ---- the last turn
+  -- ---- the last round
 
-  by_end : (a b c : DoorView) (x y z : DeskView (Catalogue (List ℕ))) (s t u : Sight) → HasServed role a b x y → t.flag ≡ s.flag
-      → TakesTurn role b c y z t u turn.Ended → DoesDoor role a c x z s u false
-  by_end a b c x y z s t u p flag q =
-      let r = goes_on a b c x y z p q.served in
-      record {
-        serves = r.serves;
-        stops = at_end q.tells.0 q.tells.1 refl;
-        later = r.later;
-        desk_goes_on = r.desk_goes_on;
-        flag = q.flag ∙ flag;
-      }
+  -- of the rounds before, in each of which the door failed or was served, `n` failed
+  module _ (a b c : DoorView) (x y z : DeskView (Catalogue (List ℕ))) (s t u : Sight) (n : ℕ) (p : HasServed role a b x y) (flag : t.flag ≡ s.flag)
+      (rose : RoseTimes n a.faults b.faults) where
+    by_end : n < MOST_FAILURES → ServesNext role b c y z t u round.Ended → DoesDoor role a c x z s u false
+    by_end few q =
+        let r = goes_on a b c x y z p q.served in
+        record {
+          serves = r.serves;
+          stops = at_end q.tells.0 q.tells.1 (n, few, rose_same n a.faults b.faults c.faults rose q.tells.2) refl;
+          desk_goes_on = r.desk_goes_on;
+          flag = q.flag ∙ flag;
+        }
 
-  by_flag : (a b c : DoorView) (x y z : DeskView (Catalogue (List ℕ))) (s t u : Sight) → HasServed role a b x y → t.flag ≡ s.flag
-      → TakesTurn role b c y z t u turn.Stopped → DoesDoor role a c x z s u false
-  by_flag a b c x y z s t u p flag q =
-      let r = goes_on a b c x y z p q.served in
-      record {
-        serves = r.serves;
-        stops = at_flag q.tells.0 q.tells.1 refl;
-        later = r.later;
-        desk_goes_on = r.desk_goes_on;
-        flag = q.flag ∙ flag;
-      }
+    by_flag : n < MOST_FAILURES → ServesNext role b c y z t u round.Stopped → DoesDoor role a c x z s u false
+    by_flag few q =
+        let r = goes_on a b c x y z p q.served in
+        record {
+          serves = r.serves;
+          stops = at_flag q.tells.0 q.tells.1 (n, few, rose_same n a.faults b.faults c.faults rose q.tells.2) refl;
+          desk_goes_on = r.desk_goes_on;
+          flag = q.flag ∙ flag;
+        }
 
-  pub last : (a b c : DoorView) (x y z : DeskView (Catalogue (List ℕ))) (s t u : Sight) (r : Turn) → HasServed role a b x y → t.flag ≡ s.flag
-      → TakesTurn role b c y z t u r → (r ≡ turn.Ended) ⊎ (r ≡ turn.Stopped) → DoesDoor role a c x z s u false
-  last a b c x y z s t u r p flag q (inl e) = by_end a b c x y z s t u p flag (subst (TakesTurn role b c y z t u) e q)
-  last a b c x y z s t u r p flag q (inr e) = by_flag a b c x y z s t u p flag (subst (TakesTurn role b c y z t u) e q)
+    pub last : (r : Round) → n < MOST_FAILURES → ServesNext role b c y z t u r → (r ≡ round.Ended) ⊎ (r ≡ round.Stopped)
+        → DoesDoor role a c x z s u false
+    last r few q (inl e) = by_end few (subst (ServesNext role b c y z t u) e q)
+    last r few q (inr e) = by_flag few (subst (ServesNext role b c y z t u) e q)
 
-  pub worn : (a b c : DoorView) (x y z : DeskView (Catalogue (List ℕ))) (s t u : Sight) (n : ℕ) → HasServed role a b x y → t.flag ≡ s.flag
-      → RoseBy n a.faults b.faults → n + 1 ≡ 16 → TakesTurn role b c y z t u turn.Failed → DoesDoor role a c x z s u true
-  worn a b c x y z s t u n p flag rose e q =
-      let r = goes_on a b c x y z p q.served in
-      record {
-        serves = r.serves;
-        stops =
-            by_faults q.tells.0
-            (subst (λ m. RoseBy m a.faults c.faults) e (rose_more n a.faults b.faults c.faults rose q.tells.1)) refl;
-        later = r.later;
-        desk_goes_on = r.desk_goes_on;
-        flag = q.flag ∙ flag;
-      }
+    pub worn : n + 1 ≡ MOST_FAILURES → ServesNext role b c y z t u round.Failed → DoesDoor role a c x z s u true
+    worn e q =
+        let r = goes_on a b c x y z p q.served in
+        record {
+          serves = r.serves;
+          stops =
+              by_faults q.tells.0
+              (subst (λ m. RoseTimes m a.faults c.faults) e (rose_more n a.faults b.faults c.faults rose q.tells.1)) refl;
+          desk_goes_on = r.desk_goes_on;
+          flag = q.flag ∙ flag;
+        }

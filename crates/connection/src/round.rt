@@ -1,4 +1,5 @@
-ghost use Rattle.connection.specs.Turns.{NoneOut, TakesTurn};
+ghost use Rattle.connection.specs.DoorWorks.{NoneOut};
+ghost use Rattle.connection.specs.Rounds.{ServesNext};
 ghost use Rattle.json_forms.specs.PlainTexts.{IsPlainRole};
 
 use crate::serving::serve;
@@ -9,9 +10,9 @@ use std::alloc::Global;
 use td_base::{Accepted, Door, Role};
 use zone_meaning::Zone;
 
-/// What came of one turn.
+/// What came of one round.
 #[derive(Clone, Copy, Debug, PartialEq, Eq)]
-pub enum Turn {
+pub enum Round {
     /// A connection was served, or none waited.
     GoesOn,
     /// The door failed.
@@ -23,16 +24,16 @@ pub enum Turn {
 }
 
 /// Asks the door for a connection and serves it. Only where none waits it looks at the sign.
-pub fn take_turn<D: Door>(
+pub fn serve_next<D: Door>(
     alloc: Global,
     role: &Role,
     door: &mut D,
     desk: &mut Desk<Catalogue<Zone>>,
     sign: &mut StopSign,
-) -> Turn
+) -> Round
     requires role { IsPlainRole role.now }
     requires door { NoneOut (D.seen door.old) }
-    ensures { TakesTurn role.now (D.seen door.old) (D.seen door.new) desk.old desk.new
+    ensures { ServesNext role.now (D.seen door.old) (D.seen door.new) desk.old desk.new
         sign.old sign.new result }
 {
     match door.accept() {
@@ -40,16 +41,16 @@ pub fn take_turn<D: Door>(
             let mut conn = conn;
             let report = serve(alloc, role, desk, &mut conn);
             door.finish(conn, report);
-            Turn::GoesOn
+            Round::GoesOn
         }
         Accepted::Idle => {
             if sign.is_raised() {
-                Turn::Stopped
+                Round::Stopped
             } else {
-                Turn::GoesOn
+                Round::GoesOn
             }
         }
-        Accepted::Ended => Turn::Ended,
-        Accepted::Failed => Turn::Failed,
+        Accepted::Ended => Round::Ended,
+        Accepted::Failed => Round::Failed,
     }
 }
