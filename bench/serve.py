@@ -1,19 +1,29 @@
 #!/usr/bin/env python3
 """Measures `tzdistd serve` as it is built, over a release folder.
 
-    bench/serve.py RELEASE_DIR [--program PATH] [--only PART,..] [--seconds N] [--rounds N]
-                   [--installs N] [--zone TZID] [--no-nginx] [--no-wrk]
+    bench/serve.py RELEASE_DIR [--program PATH] [--beside PATH] [--only PART,..] [--seconds N]
+                   [--rounds N] [--installs N] [--idle N] [--slow N] [--zone TZID] [--no-nginx] [--no-wrk]
 
 The parts:
 
-    rates    requests a second and processor microseconds a request, with 1, 2 and 4 workers and as
-             many connections, beside nginx serving files of the same bodies by as many processes, at
-             the better of as many and eight times as many connections
+    rates    requests a second and processor microseconds a request over kept connections, with 1, 2 and 4
+             workers and as many connections, and with 64 connections on 4 workers; by turns with the
+             program at --beside, over as many connections as it has workers; and of nginx, which serves
+             files of the same bodies by as many processes, at the better of as many and eight times as
+             many connections
+    opened   connections that are opened for one request each and closed, by turns with the program at
+             --beside and nginx, each with 4 workers
+    crowd    --idle connections that rest, half of which asked once, and --slow ones that send or take a
+             byte a second or take nothing, beside 4 workers: how soon a good client has its replies with
+             and without them, what one that rests takes of memory, and the processor time that they cost
     installs the 99th percentile of the time to a reply, with releases installed in a loop and without
     memory   resident memory over many installs of two releases that take turns
-    idle     200 connections that asked once and stay, and the time of a new client
+    idle     200 connections that ask once and stay, and the time of a new client
     delay    replies on one connection that come later than 5 ms
     peers    memory and descriptors before and after 10,000 connections of peers that misbehave
+
+The program at --beside is one that was built before and kept, to be measured in the same run. The part
+crowd needs as many descriptors as connections and some, and takes what the system allows.
 
 Requests come from `wrk` where it is installed, and else from processes of this script. nginx is
 used where it is installed. Everything is on the loopback, every loop is bounded in count and time,
@@ -27,6 +37,8 @@ import multiprocessing
 import os
 import random
 import re
+import resource
+import select
 import shutil
 import signal
 import socket
@@ -112,8 +124,9 @@ def by_wrk(wrk, port, asked, connections, seconds):
     text = subprocess.run(words, capture_output=True, text=True, timeout=seconds + 60, check=True).stdout
 
     def percentile(part):
-        number, unit = re.search(rf"^\s+{part}%\s+([0-9.]+)(us|ms|s|m)$", text, re.M).groups()
-        return float(number) * UNITS[unit]
+        found = re.search(rf"^\s+{part}%\s+([0-9.]+)(us|ms|s|m)$", text, re.M)
+        # where no request had its reply there is none
+        return float(found[1]) * UNITS[found[2]] if found else 0.0
 
     count, took, unit = re.search(r"(\d+) requests in ([0-9.]+)(us|ms|s|m),", text).groups()
     faults = sum(map(int, re.findall(r"(?:connect|read|write|timeout) (\d+)", text)))
@@ -264,49 +277,163 @@ class Bench:
         self.words = words
         self.folder = os.path.abspath(words.folder)
         self.program = os.path.abspath(words.program)
+        self.programs = {"this": self.program}
+        if words.beside:
+            self.programs["beside"] = os.path.abspath(words.beside)
         self.wrk = None if words.no_wrk else shutil.which("wrk")
         self.nginx = None if words.no_nginx else shutil.which("nginx")
         self.drive = by_wrk if self.wrk else by_processes
         with self.served([self.folder], 1) as server:
             self.zone, self.zones, self.asked = requests_of(server.port, words.zone)
 
-    def served(self, folders, workers):
-        return Served(folders, workers, program=self.program)
+    def served(self, folders, workers, program=None):
+        return Served(folders, workers, program=program or self.program)
 
     def driven(self, port, asked, connections, seconds=None):
         return self.drive(self.wrk, port, asked, connections, seconds or self.words.seconds)
 
-    def rate(self, port, pids, asked, connections):
-        """The median of several rounds, by the rate: requests a second, and processor seconds a request."""
-        found = []
-        for _ in range(self.words.rounds):
-            before = processor_seconds(pids)
-            driven = self.driven(port, asked, connections)
-            found.append((driven.rate, (processor_seconds(pids) - before) / max(driven.count, 1), driven))
-        return sorted(found, key=lambda it: it[0])[len(found) // 2]
+    def by_turns(self, workers, connections, asked, names):
+        """For each request and program the median of rounds that take turns: requests a second, processor
+        microseconds of each, and the driven."""
+        found = {}
+        for turn in range(self.words.rounds):
+            for name in names if turn % 2 == 0 else reversed(names):
+                with self.served([self.folder], workers, self.programs[name]) as server:
+                    for one in asked:
+                        found.setdefault((one.name, name), []).append(self.once(server.port, [server.pid], one, connections))
+                    server.quit()
+        return {key: sorted(rows, key=lambda it: it[0])[len(rows) // 2] for key, rows in found.items()}
 
     def rates(self):
-        print("| Request | Bytes | Workers | Requests a second | Processor microseconds | p99, ms | nginx | its microseconds | of nginx |")
-        print("|---|---|---|---|---|---|---|---|---|")
-        rows = {}
-        for workers in (1, 2, 4):
-            with self.served([self.folder], workers) as server:
-                for one in self.asked:
-                    rows[one.name, workers] = self.rate(server.port, [server.pid], one, workers)
-                server.quit()
-            if self.nginx:
-                with Nginx(self.nginx, self.asked, workers) as nginx:
-                    for number, one in enumerate(self.asked):
-                        same = nginx.asked(number, one)
-                        # few connections need not spread over its processes
-                        many = [self.rate(nginx.port, nginx.processes(), same, it * workers) for it in (1, 8)]
-                        rows[one.name, workers] += max(many, key=lambda it: it[0])
-        for one in self.asked:
-            for workers in (1, 2, 4):
-                rate, cost, driven, *other = rows[one.name, workers]
-                beside = f"{other[0]:.0f} | {other[1] * 1e6:.1f} | {rate / other[0]:.2f}" if other else "- | - | -"
-                faults = f" ({driven.faults} faults)" if driven.faults else ""
-                print(f"| {one.name} | {one.size} | {workers} | {rate:.0f}{faults} | {cost * 1e6:.1f} | {driven.late:.2f} | {beside} |")
+        print("| Request | Bytes | Workers | Connections | Requests a second | Processor microseconds | p99, ms "
+              "| beside | its microseconds | of beside | nginx | its microseconds | of nginx |")
+        print("|---|---|---|---|---|---|---|---|---|---|---|---|---|")
+        names, others = list(self.programs), {}
+        for workers, connections in ((1, 1), (2, 2), (4, 4), (4, 64)):
+            # others are asked over as many connections as there are workers, and nginx also over more
+            alone = connections > workers
+            rows = self.by_turns(workers, connections, self.asked, names[:1] if alone else names)
+            if not alone:
+                others = {key: row for key, row in rows.items() if key[1] != "this"}
+                others.update(self.of_nginx(workers, (workers, 8 * workers), self.asked))
+            for one in self.asked:
+                print(self.row(one, rows[one.name, "this"], others, workers, connections), flush=True)
+
+    def row(self, one, this, others, workers, connections):
+        rate, cost, driven = this
+        cells = [one.name, one.size, workers, connections, f"{rate:.0f}", f"{cost:.1f}", f"{driven.late:.2f}"]
+        if driven.faults:
+            cells[4] += f" ({driven.faults} faults)"
+        for name in ("beside", "nginx"):
+            other = others.get((one.name, name))
+            cells += [f"{other[0]:.0f}", f"{other[1]:.1f}", f"{rate / max(other[0], 1):.2f}"] if other else ["-"] * 3
+        return f"| {' | '.join(map(str, cells))} |"
+
+    def of_nginx(self, workers, counts, asked, closing=()):
+        """For each request the median of rounds of nginx, at the better of these counts of connections."""
+        found = {}
+        if self.nginx:
+            with Nginx(self.nginx, asked, workers) as site:
+                for number, one in enumerate(asked):
+                    same = site.asked(number, one)
+                    same.fields += closing
+                    found[one.name, "nginx"] = max(
+                        (self.median(site.port, site.processes(), same, count) for count in counts), key=lambda it: it[0])
+        return found
+
+    def median(self, port, pids, asked, connections):
+        """The median of rounds, by the rate."""
+        rows = [self.once(port, pids, asked, connections) for _ in range(self.words.rounds)]
+        return sorted(rows, key=lambda it: it[0])[len(rows) // 2]
+
+    def once(self, port, pids, asked, connections):
+        """Requests a second, processor microseconds of each, and the driven."""
+        before = processor_seconds(pids)
+        driven = self.driven(port, asked, connections)
+        return driven.rate, (processor_seconds(pids) - before) / max(driven.count, 1) * 1e6, driven
+
+    def opened(self):
+        workers, connections = 4, 8
+        print("| Request | Bytes | Workers | Clients | Connections a second | Processor microseconds | p99, ms "
+              "| beside | its microseconds | of beside | nginx | its microseconds | of nginx |")
+        print("|---|---|---|---|---|---|---|---|---|---|---|---|---|")
+        closing = ["Connection: close"]
+        asked = [Asked(one.name, one.target, one.fields + closing, one.status) for one in self.asked]
+        for one, kept in zip(asked, self.asked):
+            one.body, one.size = kept.body, kept.size
+        rows = self.by_turns(workers, connections, asked, list(self.programs))
+        rows.update(self.of_nginx(workers, (connections,), asked, closing))
+        for one in asked:
+            print(self.row(one, rows[one.name, "this"], rows, workers, connections), flush=True)
+
+    def crowd(self):
+        idle, slow, workers = self.words.idle, self.words.slow, 4
+        most = resource.getrlimit(resource.RLIMIT_NOFILE)[1]
+        if most != resource.RLIM_INFINITY and most < idle + slow + 200:
+            raise Failure(f"the system allows {most} descriptors: ask for fewer by --idle and --slow")
+        resource.setrlimit(resource.RLIMIT_NOFILE, (most, most))
+        with self.served([self.folder], workers) as server:
+            path = f"/tzdist/zones?changedsince={server.token}"
+            rows = [("alone", *self.good(server.port, path))]
+            before = status_of(server.pid, "VmRSS")
+            mine, theirs = multiprocessing.Pipe()
+            child = multiprocessing.get_context("fork").Process(
+                target=crowd, args=(server.port, path, idle, slow, theirs), daemon=True)
+            child.start()
+            came, answered = heard(mine)
+            resting = status_of(server.pid, "VmRSS")
+            quiet = self.share(server)
+            mine.send("slow ones")
+            slow = heard(mine)
+            with_slow = status_of(server.pid, "VmRSS")
+            # once all are there, and before those that take nothing are given up
+            busy = self.share(server)
+            mine.send("again and again")
+            rows.append(("beside them", *self.good(server.port, path)))
+            mine.send("end")
+            stayed, replaced = heard(mine)
+            child.join(30)
+            print(f"{came} idle connections came, {answered} of {idle // 2} that asked were answered, and {stayed} stayed; "
+                  f"{slow} slow ones came, and {replaced} times one that was given up came again.")
+            print(f"Memory: {before} KiB before, {resting} with the idle ones, {(resting - before) / came:.2f} KiB each (at most 3); "
+                  f"{with_slow} with the slow ones, too.")
+            print(f"Processors: {quiet:.4f} with the idle ones alone (at most 0.01), {busy:.4f} with the slow ones, too.")
+            print()
+            print("| A good client | Kept: requests | p50, ms | p99, ms | Anew each: requests | p50, ms | p99, ms |")
+            print("|---|---|---|---|---|---|---|")
+            points = [[(len(it), it[len(it) // 2], it[len(it) * 99 // 100]) for it in times] for _, *times in rows]
+            for (name, *_), both in zip(rows, points):
+                print(f"| {name} | {' | '.join(f'{count} | {middle:.3f} | {late:.3f}' for count, middle, late in both)} |")
+            ratios = [(with_[1] / alone[1], with_[2] / alone[2]) for alone, with_ in zip(*points)]
+            print(f"| of alone (at most 2) | {' | '.join(f'- | {middle:.2f} | {late:.2f}' for middle, late in ratios)} |")
+            server.quit(timeout=30)
+
+    def share(self, server, seconds=5):
+        """The processors that a server takes meanwhile."""
+        time.sleep(1)
+        before, begin = processor_seconds([server.pid]), time.monotonic()
+        time.sleep(seconds)
+        return (processor_seconds([server.pid]) - before) / (time.monotonic() - begin)
+
+    def good(self, port, path, seconds=10):
+        """The times to the replies of a good client, sorted, in milliseconds: over one connection that is
+        kept, and over one for each request."""
+        kept, fresh = [], []
+        end = time.monotonic() + seconds
+        client = Client(port)
+        while time.monotonic() < end:
+            for _ in range(20):
+                begin = time.perf_counter()
+                reply = client.ask(path)
+                kept.append((time.perf_counter() - begin) * 1e3)
+                if reply.closes:
+                    client = Client(port)
+            begin = time.perf_counter()
+            with Client(port) as other:
+                other.ask(path, "Connection: close")
+            fresh.append((time.perf_counter() - begin) * 1e3)
+        client.close()
+        return sorted(kept), sorted(fresh)
 
     def two_releases(self, room):
         """Two copies of the release that differ in a zone which is not asked for."""
@@ -510,7 +637,98 @@ def resetting(peer, rng):
     peer.reset()
 
 
-PARTS = ["rates", "installs", "memory", "idle", "delay", "peers"]
+def drip(port):
+    """a byte a second inside a head"""
+    peer = socket.create_connection((HOST, port), 20)
+    peer.sendall(b"GET /tzdist/zones HTTP/1.1\r\nHost: x\r\nSlow: ")
+    return peer, lambda: peer.send(b"x")
+
+
+def deaf(port):
+    """nothing taken of many lists"""
+    peer = small_window(port)
+    peer.sendall(request("/tzdist/zones") * 100)
+    return peer, lambda: None
+
+
+def sip(port):
+    """a byte of them a second"""
+    peer = small_window(port)
+    peer.sendall(request("/tzdist/zones") * 100)
+
+    def turn():
+        peer.setblocking(False)
+        try:
+            if not peer.recv(1):
+                raise ConnectionResetError
+        except BlockingIOError:
+            pass
+
+    return peer, turn
+
+
+def small_window(port):
+    peer = socket.socket()
+    peer.settimeout(20)
+    peer.setsockopt(socket.SOL_SOCKET, socket.SO_RCVBUF, 4096)
+    peer.connect((HOST, port))
+    return peer
+
+
+def has_ended(peer):
+    """Whether the other side has ended a connection."""
+    poll = select.poll()
+    poll.register(peer, select.POLLRDHUP)
+    return bool(poll.poll(0))
+
+
+def heard(pipe):
+    """What the process of the crowd says next."""
+    if not pipe.poll(180):
+        raise Failure("the crowd said nothing for 180 seconds")
+    return pipe.recv()
+
+
+def crowd(port, path, idle, slow, pipe):
+    """The process that has the connections of the part crowd: those that rest, and from a first word on the
+    slow ones. From the second on those that were given up come again. It ends at the third, or after ten
+    minutes."""
+    end = time.monotonic() + 600
+    resting = []
+    for number in range(idle):
+        resting.append(socket.create_connection((HOST, port), 20))
+        if number % 2:
+            resting[-1].sendall(request(path))
+    answered = sum(peer.recv(4096).startswith(b"HTTP/1.1 200") for peer in resting[1::2])
+    pipe.send((len(resting), answered))
+    if not pipe.poll(60):
+        return
+    pipe.recv()
+    kinds = (drip, deaf, sip)
+    slow = [(kinds[number % 3], *kinds[number % 3](port)) for number in range(slow)]
+    pipe.send(len(slow))
+    replaced, words = 0, 0
+    while time.monotonic() < end and words < 2:
+        if pipe.poll(1):
+            words += bool(pipe.recv())
+        for number, (kind, peer, turn) in enumerate(slow):
+            try:
+                turn()
+                if kind is deaf and has_ended(peer):
+                    raise ConnectionResetError
+            except OSError:
+                if words == 0:
+                    continue
+                peer.close()
+                try:
+                    slow[number] = (kind, *kind(port))
+                    replaced += 1
+                except OSError:
+                    pass
+    pipe.send((idle - sum(map(has_ended, resting)), replaced))
+
+
+PARTS = ["rates", "opened", "crowd", "installs", "memory", "idle", "delay", "peers"]
 
 
 def processor():
@@ -526,10 +744,13 @@ def main():
     parser = argparse.ArgumentParser(description=__doc__.split("\n")[0])
     parser.add_argument("folder", metavar="RELEASE_DIR")
     parser.add_argument("--program", default=PROGRAM)
+    parser.add_argument("--beside", help="another program, measured by turns with it")
     parser.add_argument("--only", default=",".join(PARTS), help=f"parts of {','.join(PARTS)}")
     parser.add_argument("--seconds", type=int, default=3, help="of each drive")
     parser.add_argument("--rounds", type=int, default=3, help="of which the median is taken")
     parser.add_argument("--installs", type=int, default=10_000, help="of the part memory")
+    parser.add_argument("--idle", type=int, default=10_000, help="of the part crowd")
+    parser.add_argument("--slow", type=int, default=500, help="of the part crowd")
     parser.add_argument("--zone")
     parser.add_argument("--no-nginx", action="store_true")
     parser.add_argument("--no-wrk", action="store_true")

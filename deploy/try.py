@@ -148,7 +148,7 @@ class Deployed:
             **os.environ,
             "RUNTIME_DIRECTORY": os.path.join(room, "run"),
             "ADDRESS": f"{HOST}:{self.port}",
-            "WORKERS": "8",
+            "WORKERS": "2",
             "RELEASES": self.releases,
             "TZDISTD": program,
         }

@@ -21,7 +21,7 @@ from concurrent.futures import ThreadPoolExecutor
 
 sys.dont_write_bytecode = True
 
-from served import DATA, PROGRAM, Client, Failure, Served, address_of, free_port, request, slim_zone
+from served import DATA, HOST, PROGRAM, Client, Failure, Reply, Served, address_of, free_port, request, slim_zone
 
 FIRST, SECOND = "1-e2b2cb478d218163", "2-d7dd2fc2e202fff3"
 TAG = "b9b07a4d02b54496f4440279edbde39c"
@@ -37,11 +37,12 @@ TZIF = "Accept: application/tzif"
 NOWHERE = "refused 8 Absent nowhere/manifest.json"
 BACK = "refused 3 StampBack 2025-03-22T00:00:00Z 2025-01-20T00:00:00Z"
 
-# How long a stream may give nothing, alone and while another connection waits, and how long a
-# write may wait; beside each the slack of a busy machine. A peer that reads nothing is still taken
-# from by its system for a while, whose buffers grow as they fill.
-ALONE, CROWDED, STALLED, GROWING, SLACK = 10, 1, 10, 10, 4
-WHOLE = 240
+# For how long a connection may rest between requests, and give or take nothing inside one; after what
+# time a request must be whole; for how long peers are still sent what is owed to them at the end.
+IDLE, PROGRESS, HEAD, OWED = 60, 10, 30, 2
+# What a busy machine may add to a time, and how long anything else may take. No check measures speed.
+SLACK, LONG = 40, 60
+WHOLE = 420
 
 
 def same(what, seen, wanted):
@@ -125,14 +126,23 @@ def pipelined(program):
                 same("the second", client.reply(head_only=True).fields["Content-Length"], "111")
                 same("the third", client.reply().status, 304)
         with Client(server.port) as client:
+            # all heads are there before the server looks for the second time
+            same("the list", client.ask(ZONES).body, LIST)
+            os.kill(server.pid, signal.SIGSTOP)
             client.send(request(ZONES) * 1001)
+            os.kill(server.pid, signal.SIGCONT)
             for number in range(1, 1001):
-                reply = client.reply()
+                reply = client.reply(timeout=LONG)
                 same(f"reply {number}", (reply.body, reply.closes), (LIST, number == 1000))
             try:
-                client.seconds_to_end(SLACK)
+                client.seconds_to_end(LONG)
             except ConnectionError:
                 pass
+        with Client(server.port) as client:
+            # with pauses between them there is no end to them
+            for number in range(1, 1202):
+                reply = client.ask(ZONES, timeout=LONG)
+                same(f"reply {number} of one after another", (reply.body, reply.closes), (LIST, False))
         same("the status", server.quit(), 0)
 
 
@@ -251,14 +261,11 @@ def whole_releases(program):
 
 
 def ends(program):
-    """`quit` and the end of the input let connections end, and then the server."""
+    """`quit` and the end of the input end the server, and the connections that wait for a request."""
     with Served(["data/a"], program=program) as server, Client(server.port) as client:
         client.ask(ZONES)
         same("quit", server.say("quit"), "bye")
-        time.sleep(0.3)
-        same("an open connection after quit", client.ask(ZONES).body, LIST)
-        holds("it ended before its connection", server.child.poll() is None)
-        client.close()
+        client.seconds_to_end(LONG)
         same("the end after quit", server.ended(), (0, b""))
         try:
             socket.create_connection(("127.0.0.1", server.port), 2).close()
@@ -327,20 +334,16 @@ def sixth_version(program):
 
 
 def quick_answer(server, arrange):
-    """Beside peers a new client has its answer within two seconds. A busy machine gets three tries."""
-    took = []
-    for _ in range(3):
-        peers = arrange(server.port)
-        time.sleep(0.3)
-        begin = time.monotonic()
-        with Client(server.port) as client:
-            same(f"the list beside {arrange.__name__}", client.ask(ZONES, "Connection: close").body, LIST)
-        took.append(time.monotonic() - begin)
-        for peer in peers:
-            peer.close()
-        if took[-1] <= 2:
-            return
-    raise Failure(f"beside {arrange.__name__} an answer came after {took} seconds")
+    """Beside peers a new client has its answer, long before these are given up."""
+    peers = arrange(server.port)
+    time.sleep(0.3)
+    begin = time.monotonic()
+    with Client(server.port) as client:
+        same(f"the list beside {arrange.__name__}", client.ask(ZONES, "Connection: close", timeout=LONG).body, LIST)
+    took = time.monotonic() - begin
+    for peer in peers:
+        peer.close()
+    holds(f"beside {arrange.__name__} an answer came after {took} seconds", took < PROGRESS - 1)
 
 
 def silent(port):
@@ -364,16 +367,6 @@ def resetting(port):
     return []
 
 
-def half_closed(port):
-    """Peers that say nothing, or half a request, and end their side."""
-    peers = [Client(port) for _ in range(20)]
-    for number, peer in enumerate(peers):
-        if number % 2:
-            peer.send(request(ZONES)[:-5])
-        peer.end_sending()
-    return peers
-
-
 def garbage(port):
     """Peers that send what is no request."""
     peers = [Client(port) for _ in range(20)]
@@ -395,25 +388,97 @@ def drip(port, done):
 
 
 def bad_peers(program):
-    """Beside a slow peer, which keeps one of two workers, others do not keep the second."""
-    with Served(["data/a"], workers=2, program=program) as server:
+    """Beside peers that misbehave others are served, by the one worker that there is."""
+    with Served(["data/a"], workers=1, program=program) as server:
         done = threading.Event()
         slow = threading.Thread(target=drip, args=(server.port, done))
         slow.start()
         time.sleep(0.3)
         try:
-            for arrange in (silent, idle, resetting, half_closed, garbage):
+            for arrange in (silent, idle, resetting, garbage):
                 quick_answer(server, arrange)
-            with Client(server.port) as peer:
-                peer.send(request(ZONES))
-                peer.end_sending()
-                same("the reply to a half-closed peer", peer.reply().body, LIST)
-                peer.seconds_to_end(SLACK)
         finally:
             done.set()
             slow.join(SLACK)
         same("the status", server.quit(), 0)
         same("standard error", server.errors, b"")
+
+
+def half_closed(program):
+    """A peer that ends its side gets its replies, and then the end; without a whole head it gets the
+    end alone, and is not waited for."""
+    whole, part = request(ZONES), request(ZONES)[:-2]
+    cases = [
+        ("nothing", [b""], 0),
+        ("a part", [part], 0),
+        ("a part in pieces", [part[:5], part[5:]], 0),
+        ("a head", [whole], 1),
+        ("a head in pieces", [whole[:5], whole[5:]], 1),
+        ("a head and a part", [whole + part], 1),
+        ("forty heads", [whole * 40], 40),
+        ("heads that fill a piece", [request(ZONES, "Long: " + "x" * 4040) + whole], 2),
+    ]
+    with Served(["data/a"], workers=1, program=program) as server:
+        # the end comes with the last bytes, or after them
+        for pause in (0, 0.05):
+            for name, pieces, count in cases:
+                with Client(server.port) as peer:
+                    for piece in pieces:
+                        peer.send(piece)
+                        time.sleep(pause)
+                    peer.end_sending()
+                    begin = time.monotonic()
+                    for _ in range(count):
+                        same(f"a reply to {name}", peer.reply(timeout=LONG).body, LIST)
+                    peer.seconds_to_end(LONG)
+                    took = time.monotonic() - begin
+                    holds(f"{name}: the end came after {took} seconds", took < PROGRESS - 1)
+        same("the status", server.quit(), 0)
+
+
+def resets(program):
+    """Peers reset at each point of a request and of its replies, and the server goes on."""
+    whole = request(ZONES)
+    with Served(["data/a"], workers=1, program=program) as server:
+        before = descriptors(server)
+        for cut in range(len(whole) + 1):
+            with Client(server.port) as peer:
+                peer.send(whole[:cut])
+                peer.reset()
+        for replies_read in range(5):
+            with Client(server.port) as peer:
+                peer.send(whole * 8)
+                for _ in range(replies_read):
+                    same("a reply before a reset", peer.reply(timeout=LONG).body, LIST)
+                peer.reset()
+        with Client(server.port) as client:
+            same("the list after resets", client.ask(ZONES, timeout=LONG).body, LIST)
+        until = time.monotonic() + LONG
+        while descriptors(server) > before:
+            holds("connections that were reset stay", time.monotonic() < until)
+            time.sleep(0.1)
+        same("the status", server.quit(), 0)
+        same("standard error", server.errors, b"")
+
+
+def byte_by_byte(program):
+    """A head of 16,384 bytes is taken byte by byte, and one of a byte more is refused."""
+    front, back = request(ZONES, "Long: ")[:-4], b"\r\n\r\n"
+    with Served(["data/a"], workers=1, program=program) as server:
+        for size, status in ((16_384, 200), (16_385, 431)):
+            head = front + b"x" * (size - len(front) - len(back)) + back
+            begin = time.monotonic()
+            try:
+                with Client(server.port) as client:
+                    for at in range(len(head)):
+                        client.send(head[at : at + 1])
+                    reply = client.reply(timeout=LONG)
+                same(f"a head of {size} bytes", (reply.status, reply.closes), (status, status == 431))
+            except (Failure, OSError):
+                # a machine that was as slow as no head may be is not judged
+                if time.monotonic() - begin < HEAD - 1:
+                    raise
+        same("the status", server.quit(), 0)
 
 
 def few_descriptors(program):
@@ -422,8 +487,7 @@ def few_descriptors(program):
         # as many descriptors as a server has, and two connections
         most = len(os.listdir(f"/proc/{server.pid}/fd")) + 2
         same("the status", server.quit(), 0)
-    by = ["sh", "-c", f'ulimit -n {most}; exec "$@"', "sh"]
-    with Served(["data/a"], workers=4, program=program, by=by) as server:
+    with Served(["data/a"], workers=4, program=program, by=limited(most)) as server:
         peers = [Client(server.port) for _ in range(20)]
         for peer in peers:
             peer.send(request(ZONES)[:-2])
@@ -433,52 +497,242 @@ def few_descriptors(program):
             peer.reset()
         for _ in range(16):
             with Client(server.port) as client:
-                same("the list", client.ask(ZONES, "Connection: close").body, LIST)
+                same("the list", client.ask(ZONES, "Connection: close", timeout=LONG).body, LIST)
         same("status", server.say("status"), f"serving {FIRST} 1")
         same("the status", server.quit(), 0)
 
 
-def silence(program):
-    """A stream that gives nothing ends: after a second if another waits, else after ten."""
-    with Served(["data/a"], workers=1, program=program) as server, Client(server.port) as first:
-        same("the list", first.ask(ZONES).body, LIST)
-        time.sleep(2 * CROWDED)
-        same("the list after a pause alone", first.ask(ZONES).body, LIST)
-        with Client(server.port) as second:
-            second.send(request(ZONES))
-            took = first.seconds_to_end(CROWDED + SLACK)
-            holds(f"an idle connection ended {took} seconds after another came", took > 0.2)
-            same("the list for who waited", second.reply(timeout=SLACK).body, LIST)
-            took = second.seconds_to_end(ALONE + SLACK)
-            holds(f"a silent connection ended after {took} seconds alone", took > ALONE - 1)
+def limited(most):
+    """Words that begin a program which may open so many descriptors."""
+    return ["sh", "-c", f'ulimit -n {most}; exec "$@"', "sh"]
+
+
+def many_idle(program):
+    """Where no descriptor is left for more, the connections that did the least lately give way."""
+    kept, reserved = 30, 64
+    with Served(["data/a"], workers=1, program=program, by=limited(reserved + 1 + kept)) as server:
+        clients = []
+        for _ in range(50):
+            clients.append(Client(server.port))
+            same("the list", clients[-1].ask(ZONES, timeout=LONG).body, LIST)
+            # the first asks again and again, and so stays
+            same("the list of the first", clients[0].ask(ZONES, timeout=LONG).body, LIST)
+        for client in clients[1:20]:
+            client.seconds_to_end(LONG)
+        for client in [clients[0], *clients[23:]]:
+            same("the list of who stayed", client.ask(ZONES, timeout=LONG).body, LIST)
+        for client in clients:
+            client.close()
         same("the status", server.quit(), 0)
 
 
-def stalled_write(program):
-    """A peer that takes nothing holds its worker until its system took nothing for ten seconds."""
+def is_ended(client):
+    """Whether the peer has ended a connection on which nothing comes before that."""
+    client.socket.setblocking(False)
+    try:
+        piece = client.socket.recv(1)
+    except BlockingIOError:
+        return False
+    except ConnectionError:
+        return True
+    holds("a byte came where the connection should end", not piece)
+    return True
+
+
+def silence(program):
+    """A connection that gives nothing keeps no worker, and is ended in time: between requests after
+    sixty seconds, inside one after ten, and after thirty where a byte comes now and then."""
+    least = {"silent": IDLE, "idle": IDLE, "inside": PROGRESS, "slow": HEAD}
+    with Served(["data/a"], workers=1, program=program) as server:
+        begin = last = time.monotonic()
+        left = {name: Client(server.port) for name in least}
+        same("the list", left["idle"].ask(ZONES, timeout=LONG).body, LIST)
+        left["inside"].send(request(ZONES)[:-2])
+        took, gap = {}, 0
+        while left and time.monotonic() < begin + IDLE + SLACK:
+            for name in [name for name in left if is_ended(left[name])]:
+                left.pop(name).close()
+                took[name] = time.monotonic() - begin
+            if "slow" in left:
+                gap, last = max(gap, time.monotonic() - last), time.monotonic()
+                try:
+                    left["slow"].send(b"G" if gap == 0 else b"x")
+                except ConnectionError:
+                    pass
+            with Client(server.port) as other:
+                same("the list beside them", other.ask(ZONES, timeout=LONG).body, LIST)
+            time.sleep(1)
+        holds(f"{list(left)} had not ended", not left)
+        for name, seconds in least.items():
+            # a machine that stood still was silent, too
+            early = name == "slow" and gap > PROGRESS - 1
+            holds(f"{name} ended after {took[name]} seconds", early or seconds <= took[name] < seconds + SLACK)
+        same("the status", server.quit(), 0)
+
+
+def descriptors(server):
+    """How many descriptors the server has."""
+    return len(os.listdir(f"/proc/{server.pid}/fd"))
+
+
+def large_release(room):
+    """A release of which a list is large."""
+    return release(f"{room}/large", "1", {f"Test/{'Z' * 50}{number}": 1 for number in range(900)})
+
+
+def small_window(port):
+    """A connection whose system takes little for who does not read."""
+    peer = socket.socket()
+    peer.settimeout(LONG)
+    peer.setsockopt(socket.SOL_SOCKET, socket.SO_RCVBUF, 4096)
+    peer.connect((HOST, port))
+    return peer
+
+
+def all_that_comes(peer, pause=0):
+    """The bytes that come until the end, read a piece at a time."""
+    pieces = []
+    while piece := peer.recv(1 << 18):
+        pieces.append(piece)
+        time.sleep(pause)
+    return b"".join(pieces)
+
+
+def whole_replies(stream):
+    """How many replies there are in a stream, none of them cut."""
+    count = 0
+    while stream:
+        head, _, rest = stream.partition(b"\r\n\r\n")
+        size = int(Reply(head, b"").fields["Content-Length"])
+        holds(f"a reply was cut {size - len(rest)} bytes before its end", len(rest) >= size)
+        stream = rest[size:]
+        count += 1
+    return count
+
+
+def deaf_peers(program):
+    """A peer that takes nothing keeps no worker, and is given up after ten seconds."""
     with tempfile.TemporaryDirectory() as room:
-        large = release(f"{room}/large", "1", {f"Test/{'Z' * 50}{number}": 1 for number in range(900)})
-        with Served([large], workers=1, program=program) as server:
-            with socket.socket() as peer:
-                peer.setsockopt(socket.SOL_SOCKET, socket.SO_RCVBUF, 4096)
-                peer.connect(("127.0.0.1", server.port))
+        with Served([large_release(room)], workers=1, program=program) as server:
+            before = descriptors(server)
+            with small_window(server.port) as peer:
+                begin = time.monotonic()
                 peer.sendall(request(ZONES) * 400)
-                time.sleep(0.5)
-                most = STALLED + GROWING + SLACK
-                with Client(server.port, timeout=most) as client:
-                    begin = time.monotonic()
-                    reply = client.ask(ZONES, timeout=most)
+                while descriptors(server) == before:
+                    time.sleep(0.01)
+                while descriptors(server) > before:
                     took = time.monotonic() - begin
-                    same("the token", token_of(reply), server.token)
-                    holds(f"the worker was free after {took} seconds", took > STALLED / 2)
+                    holds("the peer was not given up", took < PROGRESS + SLACK)
+                    with Client(server.port) as client:
+                        same("the token beside it", token_of(client.ask(ZONES, timeout=LONG)), server.token)
+                    time.sleep(0.5)
+                holds(f"the peer was given up after {took} seconds", took > PROGRESS - 1)
             same("the status", server.quit(), 0)
 
 
+def slow_readers(program):
+    """Peers that read slowly get all their replies, in order, beyond the end of a stretch; others are
+    served beside them by the one worker."""
+    count = 24
+    with tempfile.TemporaryDirectory() as room:
+        with Served([large_release(room)], workers=1, program=program) as server:
+            with Client(server.port) as client:
+                listing = client.ask(ZONES, timeout=LONG).body
+            faults = []
+
+            def read(pause):
+                try:
+                    with small_window(server.port) as peer:
+                        peer.sendall((request(ZONES) + request(ZONES, method="HEAD")) * count + request("/nothing", "Connection: close"))
+                        stream = all_that_comes(peer, pause)
+                        fronts = stream.split(listing)
+                        same("the lists", len(fronts), count + 1)
+                        same("the heads between them", {front.count(b"HTTP/1.1 200 OK") for front in fronts[1:-1]}, {2})
+                        same("the end", (fronts[0].count(b"200 OK"), fronts[-1].count(b"200 OK"), fronts[-1].count(b"400 Bad")), (1, 1, 1))
+                except (Failure, OSError) as fault:
+                    faults.append(f"with pauses of {pause}: {fault}")
+
+            reading = [threading.Thread(target=read, args=(pause,)) for pause in (0, 0.002, 0.005)]
+            for thread in reading:
+                thread.start()
+            while any(thread.is_alive() for thread in reading):
+                with Client(server.port) as client:
+                    same("the list beside them", client.ask(ZONES, timeout=LONG).body, listing)
+                time.sleep(0.2)
+            for thread in reading:
+                thread.join()
+            same("faults of slow readers", faults, [])
+            same("the status", server.quit(), 0)
+
+
+def at_the_end(program, folder, deaf):
+    """Ends a server that owes lists to four readers, and as much to so many peers that take nothing: after
+    how many seconds the readers had their end, and how many of them had a reply that was cut."""
+    with Served([folder], workers=2, program=program) as server:
+        peers = [small_window(server.port) for _ in range(deaf + 4)]
+        for peer in peers:
+            peer.sendall(request(ZONES) * 60)
+        # something has come of all, and more waits behind it
+        first = [peer.recv(1) for peer in peers]
+        time.sleep(0.5)
+        same("quit", server.say("quit"), "bye")
+        begin = time.monotonic()
+        for peer in peers[deaf:]:
+            peer.setsockopt(socket.SOL_SOCKET, socket.SO_RCVBUF, 1 << 18)
+        with ThreadPoolExecutor(4) as pool:
+            rest = list(pool.map(until_the_end, peers[deaf:]))
+        took = time.monotonic() - begin
+        for peer in peers:
+            peer.close()
+        same("the end", server.ended(timeout=LONG), (0, b""))
+        return took, sum(is_cut(one + more) for one, more in zip(first[deaf:], rest))
+
+
+def until_the_end(peer):
+    """The bytes that come until the end, which may be a reset."""
+    pieces = []
+    try:
+        while piece := peer.recv(1 << 18):
+            pieces.append(piece)
+    except ConnectionError:
+        pass
+    return b"".join(pieces)
+
+
+def is_cut(stream):
+    """Whether the last reply of a stream is cut."""
+    try:
+        return whole_replies(stream) == 0
+    except Failure:
+        return True
+
+
+def owed_at_the_end(program):
+    """What is owed to peers at the end goes out whole, for two seconds at most, and nobody waits for the
+    peers of another worker."""
+    with tempfile.TemporaryDirectory() as room:
+        folder = large_release(room)
+        for _ in range(3):
+            took, cut = at_the_end(program, folder, 4)
+            if cut == 0:
+                return
+            # where readers alone need as long the machine is slow, and is not judged
+            if at_the_end(program, folder, 0)[0] > OWED / 4:
+                return
+        raise Failure(f"{cut} of 4 readers had a part of a reply, after {took} seconds")
+
+
 CHECKS = [
-    stalled_write,
     silence,
+    deaf_peers,
+    slow_readers,
+    owed_at_the_end,
     bad_peers,
+    half_closed,
+    resets,
+    byte_by_byte,
     few_descriptors,
+    many_idle,
     whole_releases,
     replies,
     pipelined,

@@ -1,4 +1,6 @@
+pub mod Flows
 pub mod Gates
 pub mod Opened
 pub mod RealDoors
 pub mod RealUpstreams
+pub mod Sockets

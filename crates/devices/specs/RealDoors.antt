@@ -6,16 +6,18 @@ use Rattle.devices.specs.declared.real_door.RealDoor.{RealDoor}
 use Rattle.td_base.specs.DoorViews.{DoorView}
 use Rattle.td_base.specs.Views.{ConnView}
 
-abbrev pub conn_view : RealConn → ConnView
-conn_view c = record {
-  given = None;
-  left = None;
-  taken = None;
-  read_faults = c.read_faults;
-  write_faults = c.write_faults;
-  source = 0;
-  sink = 0;
-}
+module _ {S : Type 0} where
+  abbrev pub conn_view : RealConn S → ConnView
+  conn_view c = record {
+    given = None;
+    left = None;
+    taken = None;
+    read_faults = c.read_faults;
+    write_faults = c.write_faults;
+    source = 0;
+    sink = 0;
+  }
 
-abbrev pub door_view : RealDoor → DoorView
-door_view d = record { content = None; last = d.last; faults = d.faults }
+module _ {R : Type 0} where
+  abbrev pub door_view : RealDoor R → DoorView
+  door_view d = record { content = None; last = d.last; faults = d.faults }

@@ -1,9 +1,11 @@
 //! The real objects of the outside, each over one of the traits of `td_base`, and a pair of doors
 //! in memory for tests of two threads. [`RealSource`] and [`RealSink`] are streams, [`RealStore`]
 //! the files of the system, [`RealNetwork`], [`RealDoor`] and [`RealConn`] a TCP listener with its
-//! connections, [`RealUpstream`] another server, [`RealSpawner`] threads. They tell what the system tells, which is nothing beyond
-//! the count of what failed (`specs/Opened.antt`, `specs/RealDoors.antt`). [`gate_pair`] makes the
-//! two doors (`specs/Gates.antt`).
+//! connections, [`RealUpstream`] another server, [`RealSpawner`] threads. They tell what the system
+//! tells, which is nothing beyond the count of what failed (`specs/Opened.antt`,
+//! `specs/RealDoors.antt`). A door keeps the connections that no worker serves; what it decides of
+//! them is `stretches`, and that no byte of one is lost or moved is `specs/Flows.antt`.
+//! [`gate_pair`] makes the two doors in memory (`specs/Gates.antt`).
 #![tactic(auto)]
 
 // Streams and files.
@@ -14,13 +16,21 @@ mod real_store;
 // Threads.
 mod real_spawner;
 
-// A TCP listener, its doors and their connections.
-mod link;
+// One connection: its stream, what it holds, and a stretch of it.
+mod incoming;
+mod outgoing;
+mod real_conn;
+mod socket;
+mod wire;
+
+// A TCP listener, its doors, and the connections that rest at them.
+mod hall;
 mod listening;
 mod passing;
-mod real_conn;
 mod real_door;
 mod real_network;
+mod resting;
+mod shares;
 
 // Another server, and one exchange with it.
 mod asking;
@@ -39,22 +49,17 @@ mod send_sync;
 pub use gate_conn::GateConn;
 pub use gate_door::GateDoor;
 pub use gates::gate_pair;
-pub use link::{
-    LINGER_BYTES, LINGER_TURNS, LINGER_WAIT_MILLIS, READ_WAIT_SECONDS, WRITE_WAIT_SECONDS,
-};
+pub use hall::IDLE_ANSWER_MILLIS;
+pub use outgoing::{MOST_UNSENT, STRETCH_BYTES};
 pub use patience::{EXCHANGE_SECONDS, PROGRESS_WAIT_SECONDS};
 pub use real_conn::RealConn;
-pub use real_door::{ACCEPT_WAIT_MILLIS, RealDoor};
+pub use real_door::{RealDoor, drain};
 pub use real_network::{ListenFailure, RealNetwork};
 pub use real_sink::RealSink;
 pub use real_source::RealSource;
 pub use real_spawner::RealSpawner;
 pub use real_store::{LookFailure, RealStore};
 pub use real_upstream::RealUpstream;
-
-#[cfg(test)]
-mod net_tests;
-#[cfg(test)]
-mod stream_tests;
-#[cfg(test)]
-mod thread_tests;
+pub use resting::MOST_UNSENT_OF_ALL;
+pub use shares::RESERVED_DESCRIPTORS;
+pub use wire::LINGER_BYTES;

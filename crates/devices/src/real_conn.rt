@@ -1,66 +1,83 @@
-ghost use Rattle.std.specs.Prelude.{IfOk};
+ghost use Rattle.std.specs.Prelude.{◌<◌, ◌≡◌, length};
 ghost use Rattle.td_base.specs.Doors.{IsUnfailed};
+ghost use Rattle.td_base.specs.Outside.{ConnReads, ConnWrites, WriteTells};
+ghost use Rattle.devices.specs.Flows.{EndsStretch, GivesStep, to_give, written};
 ghost use Rattle.devices.specs.RealDoors.{conn_view};
 
-use crate::link::Link;
-use crate::listening::Listening;
-use std::io;
-use std::net::TcpStream;
+use crate::incoming::Given;
+use crate::socket::Sent;
+use crate::wire::Wire;
+use std::io::{Read, Write};
 use td_base::{Conn, ReadStep, WriteStep};
 
-/// A TCP connection. It tells nothing of its bytes. A read that waits for a byte in vain fails, as
-/// does one that waited for a second while another connection waits at the same socket; that one it
-/// accepts for its door. Its counts are those of its failed reads and its failed writes.
+/// A connection over a stream that does not block, as those of TCP, for a stretch of whole heads.
+/// To the contract of [`Conn`] it tells nothing of its bytes, since the end of a stretch is not
+/// that of its stream. Its counts are those of the stretch's failed reads and failed writes.
 #[derive(Drop)]
-pub struct RealConn {
-    link: Link,
+pub struct RealConn<S> {
+    wire: Wire<S>,
     read_faults: u64,
     write_faults: u64,
 }
 
-impl RealConn {
-    /// The connection of a stream that was accepted at the socket, of which no call failed yet.
-    pub(crate) fn new(stream: TcpStream, listening: Listening) -> io::Result<RealConn>
-        ensures { IfOk result (λ conn. IsUnfailed (conn_view conn)) }
+impl<S> RealConn<S> {
+    /// The connection, of which no call failed in this stretch yet.
+    pub(crate) fn new(wire: Wire<S>) -> RealConn<S>
+        ensures { IsUnfailed (conn_view result) }
     {
-        let link = Link::new(stream, listening)?;
-        Ok(RealConn {
-            link,
+        RealConn {
+            wire,
             read_faults: 0,
             write_faults: 0,
-        })
+        }
     }
 
-    /// Closes the connection, and gives the one that it accepted.
-    pub(crate) fn close(self) -> Option<TcpStream> {
-        let RealConn { link, .. } = self;
-        link.close()
+    /// What is left of the connection at the end of the stretch.
+    pub(crate) fn into_wire(self) -> Wire<S>
+        ensures { result ≡ self.wire }
+    {
+        let RealConn { wire, .. } = self;
+        wire
     }
 }
 
-impl Conn for RealConn {
+impl<S: Read + Write> Conn for RealConn<S> {
     ghost seen = { conn_view };
 
-    /// A read of nothing is the end: the peer sends no more.
-    fn read(&mut self, room: &mut [u8]) -> ReadStep {
-        match self.link.receive(room) {
-            Ok(0) => ReadStep::End,
-            Ok(count) => ReadStep::Got(count),
-            Err(_) => {
+    /// The end is that of the stretch.
+    fn read(&mut self, room: &mut [u8]) -> ReadStep
+        requires { 0 < length room.old }
+        ensures read { ConnReads (conn_view self.old) (conn_view self.new) result room.new }
+        ensures gives { GivesStep
+            (to_give self.old.wire.incoming (S.remaining self.old.wire.stream))
+            (to_give self.new.wire.incoming (S.remaining self.new.wire.stream)) result room.new }
+        ensures end { result ≡ ReadStep.End
+            → EndsStretch self.old.wire.outgoing self.new.wire.incoming }
+    {
+        match self.wire.read(room) {
+            Given::Bytes(count) => ReadStep::Got(count),
+            Given::End => ReadStep::End,
+            Given::Broken => {
                 self.read_faults = self.read_faults.saturating_add(1);
                 ReadStep::Failed
             }
         }
     }
 
-    /// A write that takes nothing of a piece with a byte failed.
-    fn write(&mut self, piece: &[u8]) -> WriteStep {
-        match self.link.send(piece) {
-            Ok(0) | Err(_) => {
+    /// A write fails where the stream does, or where no more may be held.
+    fn write(&mut self, piece: &[u8]) -> WriteStep
+        requires { 0 < length piece.now }
+        ensures write { ConnWrites (conn_view self.old) (conn_view self.new) result piece.now }
+        ensures written { WriteTells
+            (written self.old.wire.outgoing (S.contents self.old.wire.stream))
+            (written self.new.wire.outgoing (S.contents self.new.wire.stream)) result piece.now }
+    {
+        match self.wire.write(piece) {
+            Sent::Bytes(count) => WriteStep::Took(count),
+            Sent::Nothing | Sent::Broken => {
                 self.write_faults = self.write_faults.saturating_add(1);
                 WriteStep::Failed
             }
-            Ok(count) => WriteStep::Took(count),
         }
     }
 }

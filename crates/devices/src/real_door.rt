@@ -1,62 +1,46 @@
-ghost use Rattle.std.specs.Prelude.{◌≡◌, IfOk};
-ghost use Rattle.td_base.specs.Doors.{IsNewDoor, IsUnfailed};
-ghost use Rattle.devices.specs.RealDoors.{conn_view, door_view};
+ghost use Rattle.std.specs.Prelude.{◌≡◌};
+ghost use Rattle.td_base.specs.Doors.{IsNewDoor};
+ghost use Rattle.devices.specs.RealDoors.{door_view};
 
-use crate::listening::{Listening, next_stream};
-use crate::passing::is_passing;
+use crate::hall::Hall;
 use crate::real_conn::RealConn;
-use mio::unix::SourceFd;
-use mio::{Events, Interest, Poll, Token};
-use std::alloc::Global;
 use std::io;
 use std::io::ErrorKind;
-use std::net::{Net, SocketAddr, TcpStream};
-use std::os::fd::AsRawFd;
-use std::sync::Arc;
-use std::time::Duration;
+use std::net::{SocketAddr, TcpStream};
+use std::time::Clock;
 use td_base::{Accepted, Door, DoorAnswer, Report};
 
-/// For how many milliseconds a door waits for a connection before it answers that none waits.
-pub const ACCEPT_WAIT_MILLIS: u64 = 250;
+/// How often doors send on at the end.
+const MOST_TURNS: u32 = 65_536;
 
-/// One of the doors at a listening socket, each of which waits on its own. It tells nothing of its
-/// connections. What it hands back it closes.
+/// One of the doors at a listening socket. It keeps the connections that no worker serves, any
+/// number of them, and gives one only where a whole head has come of it, or bytes of which no head
+/// can come. It tells nothing of its connections. What is handed back it keeps until the next head
+/// has come, or closes.
 #[derive(Drop)]
-pub struct RealDoor {
-    listening: Listening,
-    poll: Poll,
-    events: Events<Global>,
-    next: Option<TcpStream>,
+pub struct RealDoor<R> {
+    hall: Hall<R>,
     last: Option<DoorAnswer>,
     faults: u64,
     failure: Option<ErrorKind>,
 }
 
-impl RealDoor {
-    /// A door at a socket, which was not asked yet.
-    pub(crate) fn new<R: Net>(rt: &R, alloc: Global, listening: &Listening) -> io::Result<RealDoor>
-        ensures { IfOk result (λ door. IsNewDoor (door_view door)) }
+impl<R: Clock> RealDoor<R> {
+    /// A door that was not asked yet.
+    pub(crate) fn new(hall: Hall<R>) -> RealDoor<R>
+        ensures { IsNewDoor (door_view result) }
     {
-        let poll = Poll::new(rt)?;
-        let events = Events::with_capacity(alloc, 1)?;
-        let listening = Arc::try_clone(listening)?;
-        let descriptor = listening.as_raw_fd();
-        poll.registry()
-            .register(&mut SourceFd(&descriptor), Token(0), Interest::READABLE)?;
-        Ok(RealDoor {
-            listening,
-            poll,
-            events,
-            next: None,
+        RealDoor {
+            hall,
             last: None,
             faults: 0,
             failure: None,
-        })
+        }
     }
 
     /// The address at which it listens.
     pub fn local_addr(&self) -> io::Result<SocketAddr> {
-        self.listening.local_addr()
+        self.hall.local_addr()
     }
 
     /// Why the accept that failed last did so.
@@ -66,55 +50,56 @@ impl RealDoor {
         self.failure
     }
 
-    /// The next connection, if one waits: the one that the connection before it accepted, or one at
-    /// the socket.
-    fn next_conn(&mut self) -> io::Result<RealConn>
-        ensures same { door_view self.new ≡ door_view self.old }
-        ensures conn { IfOk result (λ conn. IsUnfailed (conn_view conn)) }
-    {
-        let listening = Arc::try_clone(&self.listening)?;
-        let stream = match self.next.take() {
-            Some(stream) => stream,
-            None => next_stream(&listening)?,
-        };
-        RealConn::new(stream, listening)
+    /// How many connections rest at it.
+    pub fn resting(&self) -> usize {
+        self.hall.resting()
     }
+}
 
-    /// Waits until a connection may have come, but not for long.
-    fn wait(&mut self) -> io::Result<()>
-        ensures same { door_view self.new ≡ door_view self.old }
-    {
-        let wait = Duration::from_millis(ACCEPT_WAIT_MILLIS);
-        self.poll.poll(&mut self.events, Some(wait))
-    }
-
-    /// The next connection, which may come within a short while.
-    fn coming_conn(&mut self) -> io::Result<RealConn>
-        ensures same { door_view self.new ≡ door_view self.old }
-        ensures conn { IfOk result (λ conn. IsUnfailed (conn_view conn)) }
-    {
-        match self.next_conn() {
-            Err(error) if is_passing(&error) => {
-                self.wait()?;
-                self.next_conn()
-            }
-            coming => coming,
+/// Closes the connections of doors that are asked no more, each once what was written to it has
+/// gone out. Where peers do not take that, it waits for them for so many milliseconds at most.
+pub fn drain<R: Clock>(doors: &mut [RealDoor<R>], millis: u64) {
+    let Some(first) = doors.first_mut() else {
+        return;
+    };
+    let end = first.hall.time().saturating_add(millis);
+    leave(doors);
+    for _ in 0..MOST_TURNS {
+        if !drain_in_turn(doors, end) {
+            return;
         }
     }
 }
 
-impl Door for RealDoor {
-    type Conn = RealConn;
+/// No connection is served any more.
+fn leave<R: Clock>(doors: &mut [RealDoor<R>]) {
+    for door in doors.iter_mut() {
+        door.hall.leave();
+    }
+}
+
+/// Has each door send on for a moment, so that none waits for the peers of another. It tells
+/// whether one has more to send.
+fn drain_in_turn<R: Clock>(doors: &mut [RealDoor<R>], end: u64) -> bool {
+    let mut owes = false;
+    for door in doors.iter_mut() {
+        owes |= door.hall.drain(end);
+    }
+    owes
+}
+
+impl<R: Clock> Door for RealDoor<R> {
+    type Conn = RealConn<TcpStream>;
 
     ghost seen = { door_view };
 
-    fn accept(&mut self) -> Accepted<RealConn> {
-        match self.coming_conn() {
-            Ok(conn) => {
+    fn accept(&mut self) -> Accepted<RealConn<TcpStream>> {
+        match self.hall.next() {
+            Ok(Some(wire)) => {
                 self.last = Some(DoorAnswer::Given);
-                Accepted::Given(conn)
+                Accepted::Given(RealConn::new(wire))
             }
-            Err(error) if is_passing(&error) => {
+            Ok(None) => {
                 self.last = Some(DoorAnswer::Idle);
                 Accepted::Idle
             }
@@ -127,10 +112,7 @@ impl Door for RealDoor {
         }
     }
 
-    fn finish(&mut self, conn: RealConn, _report: Report) {
-        let follower = conn.close();
-        if self.next.is_none() {
-            self.next = follower;
-        }
+    fn finish(&mut self, conn: RealConn<TcpStream>, report: Report) {
+        self.hall.take_back(conn.into_wire(), report.end);
     }
 }

@@ -3,15 +3,17 @@ ghost use Rattle.td_base.specs.Views.{Rose};
 ghost use Rattle.td_base.specs.Doors.{IsNewDoor};
 ghost use Rattle.devices.specs.RealDoors.{door_view};
 
+use crate::hall::Hall;
 use crate::listening::Listening;
 use crate::real_door::RealDoor;
 use crate::real_upstream::RealUpstream;
+use crate::shares::{Counter, counter, most_of_each};
 use std::alloc::{AllocError, AllocFailed, Global};
 use std::io::{Error, ErrorKind};
 use std::net::{Net, TcpListener, TcpStream};
-use std::str;
 use std::sync::Arc;
 use std::time::Clock;
+use std::{io, str};
 use td_base::{Bytes, Door, Made, Network, NoMemory};
 
 /// At which address no door was opened last, if there was memory to keep it, and why.
@@ -86,9 +88,9 @@ impl<'a, R> RealNetwork<'a, R> {
     }
 }
 
-impl<'a, R: Net<Listener = TcpListener, Stream = TcpStream> + Clock> Network
+impl<'a, R: Net<Listener = TcpListener, Stream = TcpStream> + Clock + Copy> Network
     for RealNetwork<'a, R> {
-    type Door = RealDoor;
+    type Door = RealDoor<R>;
 
     type Up = RealUpstream<'a, R>;
 
@@ -96,7 +98,7 @@ impl<'a, R: Net<Listener = TcpListener, Stream = TcpStream> + Clock> Network
 
     /// Binds one socket, at which each of the doors accepts. An address without a port, one that is
     /// in use and one that no name server knows are failed calls.
-    fn doors(&mut self, alloc: Global, address: &[u8], number: u32) -> Made<Vec<RealDoor>> {
+    fn doors(&mut self, alloc: Global, address: &[u8], number: u32) -> Made<Vec<RealDoor<R>>> {
         match open(self.rt, alloc, address, number) {
             Ok(doors) => Made::Given(doors),
             Err(OpenFault::NoMemory) => Made::NoMemory,
@@ -117,21 +119,38 @@ impl<'a, R: Net<Listener = TcpListener, Stream = TcpStream> + Clock> Network
 }
 
 /// Binds a socket and makes so many doors at it.
-fn open<R: Net<Listener = TcpListener, Stream = TcpStream>>(
+fn open<R: Net<Listener = TcpListener, Stream = TcpStream> + Clock + Copy>(
     rt: &R,
     alloc: Global,
     address: &[u8],
     number: u32,
-) -> Result<Vec<RealDoor>, OpenFault>
+) -> Result<Vec<RealDoor<R>>, OpenFault>
     ensures number { IfOk result (λ doors. length doors.items ≡ number) }
     ensures new { IfOk result (λ doors. All (λ door. IsNewDoor (door_view door)) doors.items) }
 {
     let listening = listen(rt, alloc, address)?;
+    let most = most_of_each(number);
+    let all = counter(alloc)?;
     let mut doors = Vec::new(alloc);
     for _ in 0..number {
-        doors.push(RealDoor::new(rt, alloc, &listening)?)?;
+        doors.push(door_at(rt, alloc, &listening, &all, number, most)?)?;
     }
     Ok(doors)
+}
+
+/// One of so many doors at a socket.
+fn door_at<R: Net + Clock + Copy>(
+    rt: &R,
+    alloc: Global,
+    listening: &Listening,
+    all: &Counter,
+    doors: u32,
+    most: usize,
+) -> io::Result<RealDoor<R>>
+    ensures { IfOk result (λ door. IsNewDoor (door_view door)) }
+{
+    let hall = Hall::new(rt, *rt, alloc, listening, all, doors, most)?;
+    Ok(RealDoor::new(hall))
 }
 
 /// Binds a socket that does not block.

@@ -3,9 +3,9 @@ use crate::{GateConn, GateDoor, RealConn, RealDoor};
 
 fn is_sent<T: Send>() {}
 
-fn types_are_sent() {
-    is_sent::<RealConn>();
-    is_sent::<RealDoor>();
+fn types_are_sent<R: Send, S: Send>() {
+    is_sent::<RealConn<S>>();
+    is_sent::<RealDoor<R>>();
     is_sent::<GateConn>();
     is_sent::<GateDoor>();
 }

@@ -11,12 +11,15 @@ mod complaint;
 mod words;
 
 use complaint::{Failures, complain};
-use devices::{RealDoor, RealNetwork, RealSink, RealSource, RealSpawner, RealStore};
+use devices::{RealDoor, RealNetwork, RealSink, RealSource, RealSpawner, RealStore, drain};
 use std::io::ErrorKind;
 use std::process::ExitCode;
 
 /// The status where memory ran out.
 const OUT_OF_MEMORY: u8 = 70;
+
+/// For how many milliseconds what is owed to peers may still go out before the program ends.
+const OWED_MILLIS: u64 = 2_000;
 
 fn main(rt: HostRuntime) -> ExitCode {
     let Ok(words) = words::collect(rt.alloc(), &rt) else {
@@ -28,7 +31,7 @@ fn main(rt: HostRuntime) -> ExitCode {
     let mut output = RealSink::new(rt.stdout());
     let mut net = RealNetwork::new(&rt);
     let mut spawner = RealSpawner::new();
-    let outcome = td_top::run(
+    let mut outcome = td_top::run(
         &rt,
         rt.alloc(),
         words.as_slice(),
@@ -38,6 +41,7 @@ fn main(rt: HostRuntime) -> ExitCode {
         &mut net,
         &mut spawner,
     );
+    drain(&mut outcome.doors, OWED_MILLIS);
     let failures = Failures {
         store: store.failure(),
         input: input.failure(),
@@ -50,7 +54,7 @@ fn main(rt: HostRuntime) -> ExitCode {
 }
 
 /// Why one of the doors failed last, if one did.
-fn door_failure(doors: &[RealDoor]) -> Option<ErrorKind> {
+fn door_failure(doors: &[RealDoor<HostRuntime>]) -> Option<ErrorKind> {
     for door in doors {
         if let Some(kind) = door.failure() {
             return Some(kind);

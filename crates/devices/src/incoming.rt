@@ -1,0 +1,221 @@
+ghost use Rattle.std.specs.Prelude.{◌≡◌, ◌<◌, ◌≤◌, ◌⊎◌, ◌++◌, length, take, IfSome, None};
+ghost use Rattle.std.specs.Prelude.{true, false};
+ghost use Rattle.std.specs.Io.KnownBytes.{IsAtEnd, Keeps};
+ghost use Rattle.devices.specs.Flows.{Gives, GivesHeld, to_give};
+ghost use Rattle.stretches.specs.Fronts.{front_length};
+
+use crate::socket::{Received, receive};
+use std::alloc::Global;
+use std::io::Read;
+use stretches::Intake;
+
+/// How many bytes are received at a time.
+const PIECE: usize = 4_096;
+
+/// How many pieces are received before others have their turn.
+const MOST_PIECES: u32 = 16;
+
+/// What a read in a stretch gave.
+#[derive(Clone, Copy, Debug, PartialEq, Eq)]
+pub enum Given {
+    /// So many bytes, at least one.
+    Bytes(usize),
+    /// No further head has come, which ends the stretch.
+    End,
+    /// The stream failed, or there is no memory for what it gave.
+    Broken,
+}
+
+/// The bytes that came of a stream and were not given yet, and what is known of those to come.
+#[derive(Drop)]
+pub struct Incoming {
+    intake: Intake,
+    /// Whether nothing more had come when bytes were received last.
+    drained: bool,
+    /// Whether its peer is known to have ended its side, so that the end is still to be received.
+    ending: bool,
+    /// Whether the end was received.
+    ended: bool,
+    broken: bool,
+}
+
+impl Incoming {
+    /// Nothing came yet.
+    pub fn new(alloc: Global) -> Incoming {
+        Incoming {
+            intake: Intake::new(alloc),
+            drained: false,
+            ending: false,
+            ended: false,
+            broken: false,
+        }
+    }
+
+    /// Whether the end was received.
+    pub fn is_ended(&self) -> bool
+        ensures { result ≡ self.now.ended }
+    {
+        self.ended
+    }
+
+    /// Whether no more can be received, so that what cannot be given by now never can.
+    pub fn is_over(&self) -> bool {
+        self.ended || self.broken
+    }
+
+    /// Whether no byte of a head is held.
+    pub fn is_empty(&self) -> bool {
+        self.intake.is_empty()
+    }
+
+    /// More may have come; `ending` tells that the peer has ended its side.
+    pub fn wake(&mut self, ending: bool)
+        ensures { self.new.intake ≡ self.old.intake }
+    {
+        self.drained = false;
+        self.ending |= ending;
+    }
+
+    /// Gives memory back that nothing needs.
+    pub fn let_go(&mut self, alloc: Global)
+        ensures { self.new.intake.bytes ≡ self.old.intake.bytes }
+    {
+        if self.intake.is_empty() {
+            self.intake = Intake::new(alloc);
+        }
+    }
+
+    /// Receives until a head can be given, or nothing more is there. It tells whether bytes came.
+    pub fn hear<R: Read>(&mut self, stream: &mut R) -> bool
+        ensures kept { self.new.broken ≡ false
+            → Keeps (to_give self.old (R.remaining stream.old))
+            (to_give self.new (R.remaining stream.new)) }
+    {
+        let mut moved = false;
+        for _ in 0..MOST_PIECES {
+            if self.intake.look() || !self.hear_more(stream) {
+                break;
+            }
+            moved = true;
+        }
+        moved
+    }
+
+    /// Whether something can be given.
+    pub fn is_ready(&mut self) -> bool
+        ensures { self.new.intake.bytes ≡ self.old.intake.bytes }
+    {
+        self.intake.look()
+    }
+
+    /// Receives a piece, where one may be there, and tells whether bytes came. After a piece that
+    /// did not fill its room there is nothing more, unless an event came since; of an end that
+    /// came with it no other event tells.
+    fn hear_more<R: Read>(&mut self, stream: &mut R) -> bool
+        ensures kept { self.new.broken ≡ false
+            → Keeps (to_give self.old (R.remaining stream.old))
+            (to_give self.new (R.remaining stream.new)) }
+        ensures ended { self.new.ended ≡ true
+            → (self.old.ended ≡ true) ⊎ IsAtEnd (R.remaining stream.new) }
+        ensures sound { result ≡ true → self.new.broken ≡ false }
+    {
+        if self.broken {
+            return false;
+        }
+        if self.ended || (self.drained && !self.ending) {
+            return false;
+        }
+        self.receive(stream)
+    }
+
+    /// Receives a piece, and tells whether bytes came.
+    fn receive<R: Read>(&mut self, stream: &mut R) -> bool
+        requires { self.old.broken ≡ false }
+        ensures kept { self.new.broken ≡ false
+            → Keeps (to_give self.old (R.remaining stream.old))
+            (to_give self.new (R.remaining stream.new)) }
+        ensures ended { self.new.ended ≡ true
+            → (self.old.ended ≡ true) ⊎ IsAtEnd (R.remaining stream.new) }
+        ensures sound { result ≡ true → self.new.broken ≡ false }
+    {
+        let mut room = [0; PIECE];
+        match receive(stream, &mut room) {
+            Received::Bytes(count) => {
+                self.drained = count < PIECE;
+                self.hold(&room[..count])
+            }
+            Received::Nothing => {
+                self.drained = true;
+                false
+            }
+            Received::End => {
+                self.ended = true;
+                false
+            }
+            Received::Broken => {
+                self.broken = true;
+                false
+            }
+        }
+    }
+
+    /// Holds a piece, or breaks where there is no memory for it.
+    fn hold(&mut self, piece: &[u8]) -> bool
+        ensures held { self.new.broken ≡ false
+            → self.new.intake.bytes ≡ self.old.intake.bytes ++ piece.now }
+        ensures ended { self.new.ended ≡ self.old.ended }
+        ensures sound { result ≡ true → self.new.broken ≡ self.old.broken }
+    {
+        if self.intake.append(piece).is_err() {
+            self.broken = true;
+            return false;
+        }
+        true
+    }
+
+    /// Gives bytes of heads that have come whole, where there are any.
+    fn give(&mut self, room: &mut [u8]) -> Option<usize>
+        requires { 0 < length room.old }
+        ensures some { IfSome result (λ count. (0 < count) × (count ≤ length room.new)
+            × (take count room.new ++ self.new.intake.bytes ≡ self.old.intake.bytes)) }
+        ensures none { result ≡ None → (self.new.intake.bytes ≡ self.old.intake.bytes)
+            × (front_length self.new.intake.bytes ≡ 0) }
+        ensures broken { self.new.broken ≡ self.old.broken }
+    {
+        if self.intake.look() {
+            Some(self.intake.give(room))
+        } else {
+            None
+        }
+    }
+
+    /// Gives bytes of heads that have come whole. Where there are none it looks whether more came.
+    pub fn read<R: Read>(&mut self, stream: &mut R, room: &mut [u8]) -> Given
+        requires { 0 < length room.old }
+        ensures gives { Gives (to_give self.old (R.remaining stream.old))
+            (to_give self.new (R.remaining stream.new)) result room.new }
+        ensures end { result ≡ Given.End → front_length self.new.intake.bytes ≡ 0 }
+    {
+        match self.give(room) {
+            Some(count) => Given::Bytes(count),
+            None => {
+                self.hear_more(stream);
+                self.give_now(room)
+            }
+        }
+    }
+
+    /// Gives what there is.
+    fn give_now(&mut self, room: &mut [u8]) -> Given
+        requires { 0 < length room.old }
+        ensures bytes { GivesHeld self.old self.new result room.new }
+    {
+        if self.broken {
+            return Given::Broken;
+        }
+        match self.give(room) {
+            Some(count) => Given::Bytes(count),
+            None => Given::End,
+        }
+    }
+}

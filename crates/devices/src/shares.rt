@@ -1,0 +1,78 @@
+//! How the connections at a socket are shared out among its doors.
+use std::alloc::{AllocError, Global};
+use std::sync::Arc;
+use std::sync::atomic::{AtomicU64, Ordering};
+use stretches::accepts;
+
+/// How many descriptors a process has where the system does not tell.
+const USUAL_DESCRIPTORS: u64 = 1_024;
+
+/// How many of them are left for files, streams and the listening socket.
+pub const RESERVED_DESCRIPTORS: u64 = 64;
+
+/// How many connections one door keeps at most.
+const MOST_CONNECTIONS: u64 = 65_536;
+
+/// How many connections all doors at a socket have.
+pub type Counter = Arc<AtomicU64, Global>;
+
+/// How many connections one of the doors has beside the others.
+#[derive(Drop)]
+pub struct Shares {
+    all: Counter,
+    doors: u32,
+    own: u32,
+}
+
+impl Shares {
+    /// Those of a door that has none yet, one of so many.
+    pub fn new(all: Counter, doors: u32) -> Shares {
+        Shares { all, doors, own: 0 }
+    }
+
+    /// The door has so many connections now, which it tells the others.
+    pub fn tell(&mut self, own: usize) {
+        let own = u32::try_from(own).unwrap_or(u32::MAX);
+        if own > self.own {
+            let more = u64::from(own - self.own);
+            self.all.fetch_add(more, Ordering::SeqCst);
+        }
+        if own < self.own {
+            let fewer = u64::from(self.own - own);
+            self.all.fetch_sub(fewer, Ordering::SeqCst);
+        }
+        self.own = own;
+    }
+
+    /// Whether the door takes a connection that has waited for so many milliseconds.
+    pub fn takes(&self, waited: u64) -> bool {
+        let all = self.all.load(Ordering::SeqCst);
+        accepts(self.own, all, self.doors, waited)
+    }
+}
+
+/// A count of none.
+pub fn counter(alloc: Global) -> Result<Counter, AllocError> {
+    Ok(Arc::new(alloc, AtomicU64::new(0))?)
+}
+
+/// How many connections each of so many doors may keep: its share of the descriptors that the
+/// process may open, less those that are needed for all else, and at least one.
+pub fn most_of_each(doors: u32) -> usize {
+    let kept = RESERVED_DESCRIPTORS.saturating_add(u64::from(doors));
+    let share = descriptors().saturating_sub(kept) / u64::from(doors.max(1));
+    usize::try_from(share.clamp(1, MOST_CONNECTIONS)).unwrap_or(1)
+}
+
+/// How many descriptors the process may open.
+fn descriptors() -> u64 {
+    let mut limit = libc::types::rlimit {
+        rlim_cur: 0,
+        rlim_max: 0,
+    };
+    if libc::getrlimit(libc::RLIMIT_NOFILE, &mut limit) == 0 {
+        limit.rlim_cur
+    } else {
+        USUAL_DESCRIPTORS
+    }
+}

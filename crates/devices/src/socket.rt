@@ -1,0 +1,70 @@
+//! One call of a stream that does not block.
+ghost use Rattle.std.specs.Prelude.{◌<◌, length};
+ghost use Rattle.devices.specs.Sockets.{Receives, Sends};
+
+use std::io::{ErrorKind, Read, Write};
+
+/// How often a call that a signal interrupted is made.
+const MOST_CALLS: u32 = 64;
+
+/// What a stream that does not block gave at this moment.
+#[derive(Clone, Copy, Debug, PartialEq, Eq)]
+pub enum Received {
+    /// So many bytes, at least one.
+    Bytes(usize),
+    /// Nothing so far.
+    Nothing,
+    /// Its peer sends no more.
+    End,
+    /// It failed.
+    Broken,
+}
+
+/// What a stream that does not block took at this moment.
+#[derive(Clone, Copy, Debug, PartialEq, Eq)]
+pub enum Sent {
+    /// So many bytes, at least one.
+    Bytes(usize),
+    /// Nothing, since there is no room.
+    Nothing,
+    /// It failed.
+    Broken,
+}
+
+/// Receives what is there, again where a signal came.
+pub fn receive<R: Read>(stream: &mut R, room: &mut [u8]) -> Received
+    requires { 0 < length room.old }
+    ensures { Receives (R.remaining stream.old) (R.remaining stream.new) result room.new }
+{
+    for _ in 0..MOST_CALLS {
+        match stream.read(room) {
+            Ok(0) => return Received::End,
+            Ok(count) => return Received::Bytes(count),
+            Err(error) => match error.kind() {
+                ErrorKind::Interrupted => {}
+                ErrorKind::WouldBlock => return Received::Nothing,
+                _ => return Received::Broken,
+            },
+        }
+    }
+    Received::Broken
+}
+
+/// Sends what there is room for, again where a signal came.
+pub fn send<W: Write>(stream: &mut W, piece: &[u8]) -> Sent
+    requires { 0 < length piece.now }
+    ensures { Sends (W.contents stream.old) (W.contents stream.new) result piece.now }
+{
+    for _ in 0..MOST_CALLS {
+        match stream.write(piece) {
+            Ok(0) => return Sent::Broken,
+            Ok(count) => return Sent::Bytes(count),
+            Err(error) => match error.kind() {
+                ErrorKind::Interrupted => {}
+                ErrorKind::WouldBlock => return Sent::Nothing,
+                _ => return Sent::Broken,
+            },
+        }
+    }
+    Sent::Broken
+}

@@ -1,0 +1,96 @@
+ghost use Rattle.std.specs.Prelude.{◌≡◌, ◌<◌, ◌++◌, ◌↔◌, [], OnOk, OnErr, IsTrue, false};
+ghost use Rattle.stretches.specs.Fronts.{front_length};
+ghost use Rattle.stretches.specs.Intakes.{Gives, ready_after};
+
+use crate::looking::{Look, look_at};
+use http_request::{Held, Scan, searches};
+use std::alloc::Global;
+use std::marker::Model;
+use td_base::NoMemory;
+
+/// The bytes of a connection that came and were not given yet. Whole heads alone are given, one
+/// after the other, and so who takes them never waits for the rest of one.
+#[derive(Debug, Drop)]
+pub struct Intake {
+    held: Held,
+    ready: usize,
+    scan: Scan,
+}
+
+impl Model for Intake {
+    ghost use Rattle.std.specs.Prelude.{◌≤◌, length, drop};
+    ghost use Rattle.http_request.specs.Scans.{IsScanned};
+    ghost use Rattle.stretches.specs.Intakes.{Came};
+
+    ghost Value = { Came };
+
+    ghost view = { λ i. record { bytes = i.held.rest; ready = i.ready } };
+
+    ghost invariant = { λ i. (i.ready ≤ length i.held.rest)
+        × IsScanned (drop i.ready i.held.rest) i.scan };
+}
+
+impl Intake {
+    /// Nothing came yet. It takes no memory, and grows by the allocator.
+    pub fn new(alloc: Global) -> Intake
+        ensures { result ≡ record { bytes = []; ready = 0 } }
+    {
+        Intake {
+            held: Held::new(alloc),
+            ready: 0,
+            scan: Scan::start(),
+        }
+    }
+
+    /// Whether nothing is held.
+    pub fn is_empty(&self) -> bool
+        ensures { IsTrue result ↔ (self.now.bytes ≡ []) }
+    {
+        self.held.as_slice().is_empty()
+    }
+
+    /// Appends what came.
+    pub fn append(&mut self, piece: &[u8]) -> Result<(), NoMemory>
+        ensures ok { OnOk result
+            (self.new ≡ record self.old { bytes = self.old.bytes ++ piece.now }) }
+        ensures err { OnErr result (self.new ≡ self.old) }
+    {
+        searches();
+        self.held.append(piece)?;
+        Ok(())
+    }
+
+    /// Whether something may be given. Where nothing could be given so far it looks once more, at
+    /// what was not searched yet.
+    pub fn look(&mut self) -> bool
+        ensures after { self.new ≡ record self.old { ready = ready_after self.old } }
+        ensures ready { IsTrue result ↔ (0 < self.new.ready) }
+        ensures waits { result ≡ false → front_length self.new.bytes ≡ 0 }
+    {
+        if self.ready > 0 {
+            return true;
+        }
+        match look_at(self.held.as_slice(), self.scan) {
+            Look::Ready(count) => {
+                self.ready = count;
+                self.scan = Scan::start();
+                true
+            }
+            Look::Waiting(scan) => {
+                self.scan = scan;
+                false
+            }
+        }
+    }
+
+    /// Gives bytes that are ready, as many as there is room for.
+    pub fn give(&mut self, room: &mut [u8]) -> usize
+        ensures { Gives self.old self.new room.new result }
+    {
+        let count = self.ready.min(room.len());
+        room[..count].copy_from_slice(&self.held.as_slice()[..count]);
+        self.held.take(count);
+        self.ready -= count;
+        count
+    }
+}

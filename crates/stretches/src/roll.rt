@@ -1,0 +1,110 @@
+ghost use Rattle.std.specs.Prelude.{◌≡◌, ◌↔◌, ℕ, [], length, Some, None, OnOk, OnErr, IsTrue};
+ghost use Rattle.stretches.specs.Rolls.{IsLongest, IsNextOver, Puts, is_sooner, life_at};
+
+use crate::life::Life;
+use std::alloc::Global;
+use std::marker::Model;
+use td_base::NoMemory;
+
+/// The lives of the connections that rest, by their keys.
+#[derive(Debug, Drop)]
+pub struct Roll {
+    lives: Vec<Option<Life>>,
+}
+
+impl Model for Roll {
+    ghost use Rattle.std.specs.Prelude.{List, Option};
+    ghost use Rattle.stretches.specs.declared.life.Life.{Life};
+
+    ghost Value = { List (Option Life) };
+
+    ghost view = { λ r. r.lives.items };
+}
+
+impl Roll {
+    /// No connection rests.
+    pub fn new(alloc: Global) -> Roll
+        ensures { result ≡ [] }
+    {
+        Roll {
+            lives: Vec::new(alloc),
+        }
+    }
+
+    /// One more than the largest key that was used.
+    pub fn len(&self) -> usize
+        ensures { result ≡ length self.now }
+    {
+        self.lives.len()
+    }
+
+    /// Whether no key was used yet.
+    pub fn is_empty(&self) -> bool
+        ensures { IsTrue result ↔ (self.now ≡ []) }
+    {
+        self.lives.is_empty()
+    }
+
+    /// A connection rests at this key. Keys are small: there is a place for each below the largest.
+    pub fn set(&mut self, key: usize, life: Life) -> Result<(), NoMemory>
+        ensures ok { OnOk result (Puts self.old self.new key (Some life)) }
+        ensures err { OnErr result ((k : ℕ) → life_at self.new k ≡ life_at self.old k) }
+    {
+        while self.lives.len() <= key {
+            self.lives.push(None)?;
+        }
+        self.lives[key] = Some(life);
+        Ok(())
+    }
+
+    /// No connection rests at this key.
+    pub fn clear(&mut self, key: usize)
+        ensures { Puts self.old self.new key None }
+    {
+        if let Some(life) = self.lives.get_mut(key) {
+            *life = None;
+        }
+    }
+
+    /// The connection that turned longest ago, if any rests.
+    pub fn longest(&self) -> Option<usize>
+        ensures { IsLongest self.now (length self.now) result }
+    {
+        let mut found: Option<(usize, Life)> = None;
+        for key in 0..self.lives.len() {
+            if let Some(life) = self.lives[key] {
+                if is_sooner(life, found) {
+                    found = Some((key, life));
+                }
+            }
+        }
+        match found {
+            Some((key, _)) => Some(key),
+            None => None,
+        }
+    }
+
+    /// The first connection from a place on that is to be given up.
+    pub fn next_over(&self, from: usize, now: u64) -> Option<usize>
+        ensures { IsNextOver self.now from now result }
+    {
+        for key in from..self.lives.len() {
+            if let Some(life) = self.lives[key] {
+                if life.is_over(now) {
+                    return Some(key);
+                }
+            }
+        }
+        None
+    }
+}
+
+/// Whether the life turned before the one that was found, if one was.
+fn is_sooner(life: Life, found: Option<(usize, Life)>) -> bool
+    ensures { result ≡ is_sooner life found }
+{
+    match found {
+        Some((_, other)) => life.turned < other.turned,
+        None => true,
+    }
+}
