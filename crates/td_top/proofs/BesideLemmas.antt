@@ -6,9 +6,9 @@ use Rattle.connection.specs.DoorWorks.{WorkView}
 use Rattle.connection.specs.declared.door_work.DoorDone.{DoorDone}
 use Rattle.desk_pool.specs.Pool.{DoesEach}
 use Rattle.catalogue.specs.Holdings.{history_of}
-use Rattle.td_top.specs.Consoles.{ConsoleView, Halted, Ran}
+use Rattle.td_top.specs.ConsoleBeside.{ConsoleView, Halted, Ran}
 use Rattle.td_top.specs.Outside.{Later, Outside}
-use Rattle.td_top.specs.Serving.{Concludes, ServesBeside}
+use Rattle.td_top.specs.ServerSteps.{Concludes, ServesBeside}
 use Rattle.td_top.specs.Talking.{ComesTo}
 use Rattle.td_top.specs.Works.{HasWorks}
 use Rattle.td_top.specs.declared.session.Session.{Session}
@@ -28,8 +28,9 @@ module _ {D : Type 0} (seen : D → DoorView) where
       subst (λ v. ServesBeside before.scene.session works before.scene.outside v.scene.outside r r' (map seen doors) is) (sym halted) (record {
         later = outside_refl before.scene.outside;
         starting = later;
-        ends = λ given are.
-            unstarted seen (history_of before.scene.session.installer.list) given before.scene.outside before.scene.outside r r' doors is e none (refl, refl)
+        ends = λ server given are.
+            unstarted seen server (history_of before.scene.session.installer.list) given before.scene.outside before.scene.outside r r' doors is e none
+            (refl, refl)
             rose;
       })
 
@@ -39,7 +40,7 @@ module _ {D : Type 0} (seen : D → DoorView) where
   starved session works o p r r' doors is outside later e none = record {
     later = outside;
     starting = later;
-    ends = λ given are. without_memory seen (history_of session.installer.list) given o p r r' doors is e none;
+    ends = λ server given are. without_memory seen server (history_of session.installer.list) given o p r r' doors is e none;
   }
 
   -- before the talk was begun
@@ -69,8 +70,8 @@ module _ {D C : Type 0} (seen : D → DoorView) where
       let talked = (came before mid now ran halted).0 in record {
         later = (comes_later before.scene now.scene now.end talked).outside;
         starting = later;
-        ends = λ given are.
-            comes_concluded seen before.scene now.scene ended works dones doors is given r r' are does
+        ends = λ server given are.
+            comes_concluded seen server before.scene now.scene ended works dones doors is given r r' are does
             (subst (λ x. ComesTo before.scene now.scene x) e talked) concluded;
       }
 
@@ -81,4 +82,4 @@ module _ {D C : Type 0} (seen : D → DoorView) where
   pairs_now before mid now works dones ran halted has does =
       subst (λ p. All (λ d. d.desk.pair ≡ p) dones)
       (sym (comes_later before.scene now.scene now.end (came before mid now ran halted).0).session.installer)
-      (same_pairs seen before.scene.session.installer.pair has.0 works dones has.1 does)
+      (same_pairs seen has.0 before.scene.session.installer.pair has.1 works dones has.2 does)

@@ -1,5 +1,5 @@
 -- How folders are checked: the lines of a history, one folder more, and the ends.
-use Rattle.std.proofs.Common.{◌≡◌, ◌≢◌, ℕ, ◌+◌, ◌<◌, List, [], ◌∷◌, ◌++◌, length, take, drop}
+use Rattle.std.proofs.Common.{◌≡◌, ℕ, ◌+◌, ◌<◌, List, [], ◌∷◌, ◌++◌, length, take, drop}
 use Rattle.std.proofs.Common.{get_or, Option, None, Some, IfSome, Result, Ok, Err, inl, inr, refl}
 use Rattle.std.proofs.Common.{sym, subst, ap, ◌∙◌, append_assoc, append-nil, arith}
 use Rattle.std.proofs.KnownBytes.{Appends-nil, Appends-trans}
@@ -17,23 +17,23 @@ use Rattle.catalogue.specs.declared.holding.Catalogue.{Catalogue}
 use Rattle.installer.specs.Installing.{Installs}
 use Rattle.installer.specs.declared.install_fault.InstallFault.{InstallFault}
 use Rattle.installer.specs.declared.install_fault.InstallFault.TheVariants as install
-use Rattle.release_check.specs.FaultText.{fault_text as folder_text}
-use Rattle.release_check.specs.declared.check_fault.CheckFault.{CheckFault}
+use Rattle.installer.specs.FaultText.{fault_text}
 use Rattle.release_check.specs.declared.check_fault.CheckFault.TheVariants as fault
 use Rattle.zone_meaning.specs.Sound.{IsSound}
 use Rattle.zone_meaning.specs.ZoneHistories.{HasZoneHistory}
-use Rattle.td_top.specs.Checks.{Checks, all, refused, cut, unread, out_of_memory}
-use Rattle.td_top.specs.Ends.{checked, Printed}
-use Rattle.td_top.specs.Folders.{FoldersBegin, FoldersGive, GivesAfter, none, more}
-use Rattle.td_top.specs.Grammar.{check}
-use Rattle.td_top.specs.Lines.{ok_line, ok_lines, ok_lines_after, refused_line}
+use Rattle.td_top.specs.Checking.{Checks, all, refused, cut, unread, out_of_memory}
+use Rattle.td_top.specs.Tells.{ChecksFolders}
+use Rattle.td_top.specs.Folders.{FoldersBegin, FoldersGive, GivesAfter, IsOfFiles, none, more}
+use Rattle.td_top.specs.Checking.{ok_line, ok_lines, ok_lines_after}
+use Rattle.td_top.specs.Printing.{refused_line}
 use Rattle.td_top.specs.Outside.{outside}
-use Rattle.td_top.specs.Steps.{ChecksNext, EndsAt, PrintsRelease, IsCheckedTo, Stands, TellsRelease}
-use Rattle.td_top.specs.Steps.{grown}
+use Rattle.td_top.specs.Printing.{Printed}
+use Rattle.td_top.specs.CheckingSteps.{ChecksNext, EndsAt, PrintsRelease, IsCheckedTo, Stands, TellsRelease}
+use Rattle.td_top.specs.CheckingSteps.{grown}
 use Rattle.td_top.specs.Tells.{EndsLater, TellsRefused, RefusesInstall}
 use Rattle.td_top.specs.declared.status.Status.{Status}
 use Rattle.td_top.specs.declared.status.Status.TheVariants as status
-use Rattle.td_top.proofs.Installing.{blames, kept_gives, parted, stops_here, taken_more}
+use Rattle.td_top.proofs.Installing.{gives_fault, kept_gives, parted, stops_here, taken_more}
 
 -- ---- lines
 
@@ -114,31 +114,30 @@ left : (old new : SinkView) → new ≡ old → LaterSink old new
 left old new e = subst (λ (v : SinkView). LaterSink old v) (sym e) (sink_refl old)
 
 -- the line of a fault
-told_refused : (H : List ReleaseData) (dir : List ℕ) (s t : StoreView) (old new : SinkView) (f : CheckFault) (end : Status) → LaterStore s t
-    → f ≢ fault.NoMemory → f ≢ fault.ReadFault → GivesAfter s.files H dir (Err f) → Printed status.Refused (refused_line (folder_text f)) old new end
+told_refused : (H : List ReleaseData) (dir : List ℕ) (s t : StoreView) (old new : SinkView) (f : InstallFault) (end : Status) → LaterStore s t
+    → IsOfFiles f → GivesAfter s.files H dir (Err f) → Printed status.Refused (refused_line (fault_text f)) old new end
     → ChecksNext H dir s t old new (Err end)
-told_refused H dir s t old new f status.Refused store memory read give h = record {
+told_refused H dir s t old new f status.Refused store of give h = record {
   store = store;
-  output = prints_later old new (refused_line (folder_text f)) h;
-  comes = record { why = f; of_files = (memory, read); gives = give; line = h };
+  output = prints_later old new (refused_line (fault_text f)) h;
+  comes = record { why = f; of_files = of; gives = give; line = h };
 }
-told_refused H dir s t old new f end store memory read give h = absurd h
+told_refused H dir s t old new f end store of give h = absurd h
 
-refused_by : (H : List ReleaseData) (dir : List ℕ) (s t : StoreView) (old new : SinkView) (f : CheckFault) (end : Status) → LaterStore s t
-    → f ≢ fault.NoMemory → f ≢ fault.ReadFault → GivesAfter s.files H dir (Err f) → TellsRefused (folder_text f) old new end
+refused_by : (H : List ReleaseData) (dir : List ℕ) (s t : StoreView) (old new : SinkView) (f : InstallFault) (end : Status) → LaterStore s t
+    → IsOfFiles f → GivesAfter s.files H dir (Err f) → TellsRefused (fault_text f) old new end
     → ChecksNext H dir s t old new (Err end)
-refused_by H dir s t old new f end store memory read give (inl h) = told_refused H dir s t old new f end store memory read give h
-refused_by H dir s t old new f end store memory read give (inr h) = ended H dir s t old new status.NoMemory end h.0 store (left old new h.1) h.1
+refused_by H dir s t old new f end store of give (inl h) = told_refused H dir s t old new f end store of give h
+refused_by H dir s t old new f end store of give (inr h) = ended H dir s t old new status.NoMemory end h.0 store (left old new h.1) h.1
 
 pub comes_refused : {A : Type 0} (H : List ReleaseData) (dir : List ℕ) (s t : StoreView) (old new : SinkView) (history : A → List ReleaseData)
     (e : InstallFault) (end : Status) → Installs s t dir H history (Err e) → RefusesInstall e old new end → ChecksNext H dir s t old new (Err end)
 comes_refused H dir s t old new history install.NoMemory end h r = ended H dir s t old new status.NoMemory end r.0 h.later (left old new r.1) r.1
-comes_refused H dir s t old new history (install.Check fault.NoMemory) end h r =
-    ended H dir s t old new status.NoMemory end r.0 h.later (left old new r.1) r.1
+comes_refused H dir s t old new history (install.Check fault.NoMemory) end h r = absurd (h.memory refl)
 comes_refused H dir s t old new history (install.Check fault.ReadFault) end h r =
     ended H dir s t old new status.NotRead end r.0 h.later (left old new r.1) (h.failed refl, r.1)
 comes_refused H dir s t old new history (install.Check f) end h r =
-    refused_by H dir s t old new f end h.later (λ e. cc) (λ e. cc) (blames s t dir H history f h (λ e. cc) (λ e. cc)) r
+    refused_by H dir s t old new (install.Check f) end h.later ((λ e. cc), (λ e. cc)) (gives_fault s t dir H history (install.Check f) h) r
 
 -- ---- all folders
 
@@ -169,14 +168,14 @@ checked_more dirs i d last next s t u old middle new less is so h =
 
 -- the ends
 checks : (dirs : List (List ℕ)) (s t : StoreView) (i : SourceView) (old new : SinkView) (end : Status) → LaterStore s t → LaterSink old new
-    → Checks dirs s t old new end → EndsLater (Some (check dirs)) (outside s i old) (outside t i new) end
+    → Checks dirs s t old new end → EndsLater (ChecksFolders dirs) (outside s i old) (outside t i new) end
 checks dirs s t i old new end store output h = record {
-  ends = checked dirs end refl h refl;
+  ends = (h, refl);
   later = record { store = store; input = source_refl i; output = output };
 }
 
 pub ends_checked : (dirs row : List (List ℕ)) (last : Option (Catalogue (List ℕ))) (s t : StoreView) (i : SourceView) (old new : SinkView)
-    → row ≡ dirs → IsCheckedTo row last s t old new → EndsLater (Some (check dirs)) (outside s i old) (outside t i new) status.Done
+    → row ≡ dirs → IsCheckedTo row last s t old new → EndsLater (ChecksFolders dirs) (outside s i old) (outside t i new) status.Done
 ends_checked dirs row last s t i old new same so =
     checks dirs s t i old new status.Done so.store (writes_all_later old new (ok_lines so.history) written.Whole so.lines)
     (all so.history (subst (λ (front : List (List ℕ)). FoldersGive s.files front so.history) same so.give) so.lines)
@@ -202,14 +201,10 @@ cut_more a b c one two p q = record {
 stopped : (dirs : List (List ℕ)) (i : ℕ) (d : List ℕ) (s t u : StoreView) (old middle new : SinkView) (H : List ReleaseData) (end : Status)
     → i < length dirs → d ≡ get_or dirs i d → LaterStore s t → LaterStore t u → FoldersGive s.files (take i dirs) H
     → WritesAll old middle (ok_lines H) written.Whole → EndsAt H d t u middle new end → Checks dirs s u old new end
-stopped dirs i d s t u old middle new H status.Done less is store next give lines h = absurd h
-stopped dirs i d s t u old middle new H status.Usage less is store next give lines h = absurd h
-stopped dirs i d s t u old middle new H status.NotStarted less is store next give lines h = absurd h
-stopped dirs i d s t u old middle new H status.NoNetwork less is store next give lines h = absurd h
 stopped dirs i d s t u old middle new H status.Refused less is store next give lines h =
     refused H h.why middle
     (stops_here s.files (take i dirs) d (drop (i + 1) dirs) dirs H h.why (parted dirs i d less is) give (kept_gives s t H d (Err h.why) store h.gives)
-    h.of_files.0 h.of_files.1) lines h.line
+    h.of_files) lines h.line
 stopped dirs i d s t u old middle new H status.NotRead less is store next give lines h =
     unread H (begun s.files dirs i H give) (subst (λ (v : SinkView). WritesAll old v (ok_lines H) written.Whole) (sym h.1) lines)
     (omega (arith, store.later, h.0))
@@ -223,10 +218,11 @@ stopped dirs i d s t u old middle new H status.NotWritten less is store next giv
     (cut_more old middle new (ok_lines H) (ok_line (H ++ h.release ∷ [])) lines h.line))
 stopped dirs i d s t u old middle new H status.NoMemory less is store next give lines h =
     out_of_memory H (begun s.files dirs i H give) (subst (λ (v : SinkView). WritesAll old v (ok_lines H) written.Whole) (sym h) lines)
+stopped dirs i d s t u old middle new H end less is store next give lines h = absurd h
 
 pub ends_stopped : (dirs : List (List ℕ)) (i : ℕ) (d : List ℕ) (last : Option (Catalogue (List ℕ))) (s t u : StoreView) (v : SourceView)
     (old middle new : SinkView) (end : Status) → i < length dirs → d ≡ get_or dirs i d → (so : IsCheckedTo (take i dirs) last s t old middle)
-    → ChecksNext so.history d t u middle new (Err end) → EndsLater (Some (check dirs)) (outside s v old) (outside u v new) end
+    → ChecksNext so.history d t u middle new (Err end) → EndsLater (ChecksFolders dirs) (outside s v old) (outside u v new) end
 ends_stopped dirs i d last s t u v old middle new end less is so h =
     checks dirs s u v old new end (store_trans s t u so.store h.store)
     (sink_trans old middle new (writes_all_later old middle (ok_lines so.history) written.Whole so.lines) h.output)

@@ -11,20 +11,25 @@ use Rattle.td_base.proofs.lemmas.LaterLemmas.{source_refl, sink_refl, looks_late
 use Rattle.td_base.proofs.lemmas.LaterLemmas.{prints_later}
 use Rattle.catalogue.specs.Releases.{ReleaseData}
 use Rattle.catalogue.specs.declared.holding.Catalogue.{Catalogue}
-use Rattle.release_check.specs.FaultText.{fault_text}
+use Rattle.installer.specs.FaultText.{fault_text}
 use Rattle.catalogue.specs.Holdings.{history_of}
 use Rattle.installer.specs.declared.install_fault.InstallFault.{InstallFault}
 use Rattle.installer.specs.declared.install_fault.InstallFault.TheVariants as install
 use Rattle.release_check.specs.declared.check_fault.CheckFault.TheVariants as fault
+use Rattle.zone_meaning.specs.FaultText.{fault_text as zone_text}
 use Rattle.zone_meaning.specs.Faults.{zone_fault}
+use Rattle.zone_meaning.specs.State.{zone_state}
 use Rattle.zone_meaning.specs.declared.zone_fault.ZoneFault.{ZoneFault}
-use Rattle.td_top.specs.Ends.{print, CallsFor, folders_of, releases, no_release, state, no_zone}
-use Rattle.td_top.specs.Ends.{no_file, printed, served, unread, out_of_memory, IsSilent, Printed}
+use Rattle.td_top.specs.Answering.{Answers, nothing, served}
 use Rattle.td_top.specs.Folders.{StopsAtFault}
-use Rattle.td_top.specs.Grammar.{Asked, answer, at}
-use Rattle.td_top.specs.Installed.{InstallsAll}
-use Rattle.td_top.specs.Lines.{refused_line}
-use Rattle.td_top.specs.Outside.{outside, Later}
+use Rattle.td_top.specs.Opening.{InstallsAll}
+use Rattle.td_top.specs.Printing.{refused_line}
+use Rattle.td_top.specs.StateLine.{state_line}
+use Rattle.td_top.specs.Outside.{Later, LeavesStreams, Outside, outside}
+use Rattle.td_top.specs.Printing.{Printed}
+use Rattle.td_top.specs.Folders.{ServesNothing, out_of_memory, refused, unread}
+use Rattle.td_top.specs.StateLine.{ShowsState, no_file, no_zone, state}
+use Rattle.td_top.specs.StateLine.{out_of_memory as out_of_memory_shown, unread as unread_shown}
 use Rattle.td_top.specs.Tells.{EndsLater, ServesLast, Tells, TellsRefused, RefusesInstall, Shows}
 use Rattle.td_top.specs.Tells.{ShowsBy}
 use Rattle.td_top.specs.declared.status.Status.{Status}
@@ -48,74 +53,101 @@ abbrev later_by : (s t : StoreView) (i : SourceView) (old new : SinkView) → La
 later_by s t i old new store output = record { store = store; input = source_refl i; output = output }
 
 -- memory ran out before anything was printed
-pub ends_empty : (asked : Option Asked) (s t : StoreView) (i : SourceView) (old new : SinkView) (end : Status) → IsSilent asked
-    → LaterStore s t → end ≡ status.NoMemory → new ≡ old → EndsLater asked (outside s i old) (outside t i new) end
-ends_empty asked s t i old new end some store is e =
-    subst (λ (x : Status). EndsLater asked (outside s i old) (outside t i new) x) (sym is) (record {
-      ends = out_of_memory some refl e;
+ends_empty : (ends_so : Outside → Outside → Status → Type 0) (s t : StoreView) (i : SourceView) (old new : SinkView) (end : Status) → LaterStore s t
+    → (LeavesStreams (outside s i old) (outside t i new) → ends_so (outside s i old) (outside t i new) status.NoMemory)
+    → end ≡ status.NoMemory → new ≡ old → EndsLater ends_so (outside s i old) (outside t i new) end
+ends_empty ends_so s t i old new end store row is e =
+    subst (λ (x : Status). EndsLater ends_so (outside s i old) (outside t i new) x) (sym is) (record {
+      ends = row (refl, e);
       later = later_by s t i old new store (left_sink old new e);
     })
 
 -- a file was not read
-pub ends_unread : (asked : Option Asked) (s t : StoreView) (i : SourceView) (old new : SinkView) (end : Status) → IsSilent asked → StoreFailed s t
-    → LaterStore s t → end ≡ status.NotRead → new ≡ old → EndsLater asked (outside s i old) (outside t i new) end
-ends_unread asked s t i old new end some failed store is e =
-    subst (λ (x : Status). EndsLater asked (outside s i old) (outside t i new) x) (sym is) (record {
-      ends = unread some failed refl e;
+ends_unread : (ends_so : Outside → Outside → Status → Type 0) (s t : StoreView) (i : SourceView) (old new : SinkView) (end : Status) → LaterStore s t
+    → (LeavesStreams (outside s i old) (outside t i new) → ends_so (outside s i old) (outside t i new) status.NotRead)
+    → end ≡ status.NotRead → new ≡ old → EndsLater ends_so (outside s i old) (outside t i new) end
+ends_unread ends_so s t i old new end store row is e =
+    subst (λ (x : Status). EndsLater ends_so (outside s i old) (outside t i new) x) (sym is) (record {
+      ends = row (refl, e);
       later = later_by s t i old new store (left_sink old new e);
     })
 
--- what is called for was printed, or memory ran out before
-pub ends_printed : (asked : Option Asked) (s t : StoreView) (i : SourceView) (old new : SinkView) (called : Status) (text : List ℕ) (end : Status)
-    → CallsFor s.files asked (print called text) → LaterStore s t → Printed called text old new end → EndsLater asked (outside s i old) (outside t i new) end
-ends_printed asked s t i old new called text end calls store h = record {
-  ends = printed called end text calls h refl;
+-- a text was printed
+pub ends_printed : (ends_so : Outside → Outside → Status → Type 0) (s t : StoreView) (i : SourceView) (old new : SinkView) (called : Status) (text : List ℕ)
+    (end : Status) → LaterStore s t → ends_so (outside s i old) (outside t i new) end → Printed called text old new end
+    → EndsLater ends_so (outside s i old) (outside t i new) end
+ends_printed ends_so s t i old new called text end store row h = record {
+  ends = row;
   later = later_by s t i old new store (printed_later called end text old new h);
 }
 
-pub ends_told : (asked : Option Asked) (s t : StoreView) (i : SourceView) (old new : SinkView) (called : Status) (text : List ℕ) (end : Status)
-    → IsSilent asked → CallsFor s.files asked (print called text) → LaterStore s t → Tells called text old new end
-    → EndsLater asked (outside s i old) (outside t i new) end
-ends_told asked s t i old new called text end some calls store (inl h) = ends_printed asked s t i old new called text end calls store h
-ends_told asked s t i old new called text end some calls store (inr h) = ends_empty asked s t i old new end some store h.0 h.1
+-- or memory ran out before
+ends_told : (ends_so : Outside → Outside → Status → Type 0) (s t : StoreView) (i : SourceView) (old new : SinkView) (called : Status) (text : List ℕ)
+    (end : Status) → LaterStore s t
+    → (Printed called text old new end → ends_so (outside s i old) (outside t i new) end)
+    → (LeavesStreams (outside s i old) (outside t i new) → ends_so (outside s i old) (outside t i new) status.NoMemory)
+    → Tells called text old new end → EndsLater ends_so (outside s i old) (outside t i new) end
+ends_told ends_so s t i old new called text end store row empty (inl h) = ends_printed ends_so s t i old new called text end store (row h) h
+ends_told ends_so s t i old new called text end store row empty (inr h) = ends_empty ends_so s t i old new end store empty h.0 h.1
 
--- a folder that is refused
-pub ends_refused : (asked : Asked) (dirs : List (List ℕ)) (e : InstallFault) (s t : StoreView) (i : SourceView)
-    (old new : SinkView) (end : Status) → folders_of asked ≡ Some dirs → IsSilent (Some asked) → InstallsAll dirs s t (Err e) → RefusesInstall e old new end
-    → EndsLater (Some asked) (outside s i old) (outside t i new) end
-ends_refused asked dirs install.NoMemory s t i old new end folders silent h r = ends_empty (Some asked) s t i old new end silent h.later r.0 r.1
-ends_refused asked dirs (install.Check fault.NoMemory) s t i old new end folders silent h r = ends_empty (Some asked) s t i old new end silent h.later r.0 r.1
-ends_refused asked dirs (install.Check fault.ReadFault) s t i old new end folders silent h r =
-    ends_unread (Some asked) s t i old new end silent (h.failed refl) h.later r.0 r.1
-ends_refused asked dirs (install.Check f) s t i old new end folders silent h r =
-    let stops : (H : List ReleaseData) × StopsAtFault s.files dirs H f = h.came (λ e. cc) (λ e. cc) in
-    ends_told (Some asked) s t i old new status.Refused (refused_line (fault_text f)) end silent (no_release asked dirs stops.0 f folders stops.1) h.later r
+-- ---- folders
+
+-- a folder that was not installed
+pub ends_nothing : (dirs : List (List ℕ)) (e : InstallFault) (s t : StoreView) (i : SourceView) (old new : SinkView) (end : Status)
+    → InstallsAll dirs s t (Err e) → RefusesInstall e old new end → EndsLater (ServesNothing dirs) (outside s i old) (outside t i new) end
+ends_nothing dirs install.NoMemory s t i old new end h r = ends_empty (ServesNothing dirs) s t i old new end h.later (λ left. out_of_memory left) r.0 r.1
+ends_nothing dirs (install.Check fault.NoMemory) s t i old new end h r = absurd (h.memory refl)
+ends_nothing dirs (install.Check fault.ReadFault) s t i old new end h r =
+    ends_unread (ServesNothing dirs) s t i old new end h.later (λ left. unread (h.failed refl) left) r.0 r.1
+ends_nothing dirs (install.Check f) s t i old new end h r =
+    let stops : (H : List ReleaseData) × StopsAtFault s.files dirs H (install.Check f) = h.came ((λ e. cc), (λ e. cc)) in
+    ends_told (ServesNothing dirs) s t i old new status.Refused (refused_line (fault_text (install.Check f))) end h.later
+    (λ printed. refused stops.0 (install.Check f) end stops.1 printed refl) (λ left. out_of_memory left) r
+
+pub ends_unanswered : (dirs : List (List ℕ)) (e : InstallFault) (s t : StoreView) (i : SourceView) (old new : SinkView) (end : Status)
+    → InstallsAll dirs s t (Err e) → RefusesInstall e old new end → EndsLater (Answers dirs) (outside s i old) (outside t i new) end
+ends_unanswered dirs e s t i old new end h r =
+    let so = ends_nothing dirs e s t i old new end h r in record { ends = nothing end so.ends; later = so.later }
 
 -- a history that is served, or for which there is no memory
 pub ends_served : (dirs : List (List ℕ)) (list : List (Catalogue (List ℕ))) (s t : StoreView) (i j : SourceView)
     (old new : SinkView) (is : Status) → InstallsAll dirs s t (Ok list)
-    → ServesLast (history_of list) i j old new is → EndsLater (Some (answer dirs)) (outside s i old) (outside t j new) is
+    → ServesLast (history_of list) i j old new is → EndsLater (Answers dirs) (outside s i old) (outside t j new) is
 ends_served dirs list s t i j old new is h (inl so) =
-    subst (λ (e : Status). EndsLater (Some (answer dirs)) (outside s i old) (outside t j new) e) (sym so.1) (record {
-      ends = served (history_of list) so.0 (releases dirs (history_of list) h.came) (so.2.serves s t);
+    subst (λ (e : Status). EndsLater (Answers dirs) (outside s i old) (outside t j new) e) (sym so.1) (record {
+      ends = served (history_of list) so.0 h.came (so.2.serves s t);
       later = record { store = h.later; input = so.2.input; output = so.2.output };
     })
 ends_served dirs list s t i j old new is h (inr none) =
-    subst (λ (k : SourceView). EndsLater (Some (answer dirs)) (outside s i old) (outside t k new) is) (sym none.1.0)
-    (ends_empty (Some (answer dirs)) s t i old new is tt h.later none.0 none.1.1)
+    subst (λ (k : SourceView). EndsLater (Answers dirs) (outside s i old) (outside t k new) is) (sym none.1.0)
+    (ends_empty (Answers dirs) s t i old new is h.later (λ left. nothing status.NoMemory (out_of_memory left)) none.0 none.1.1)
 
--- a zone file whose state is shown
+-- ---- a zone file
+
+pub ends_unshown : (path : List ℕ) (m : ℤ) (s t : StoreView) (i : SourceView) (old new : SinkView) → StoreFailed s t → LaterStore s t → new ≡ old
+    → EndsLater (ShowsState path m) (outside s i old) (outside t i new) status.NotRead
+ends_unshown path m s t i old new failed store e =
+    ends_unread (ShowsState path m) s t i old new status.NotRead store (λ left. unread_shown failed left) refl e
+
+pub ends_starved : (path : List ℕ) (m : ℤ) (s t : StoreView) (i : SourceView) (old new : SinkView) → LaterStore s t → new ≡ old
+    → EndsLater (ShowsState path m) (outside s i old) (outside t i new) status.NoMemory
+ends_starved path m s t i old new store e =
+    ends_empty (ShowsState path m) s t i old new status.NoMemory store (λ left. out_of_memory_shown left) refl e
+
+-- its state, or its fault
 shows : (path bytes : List ℕ) (m : ℤ) (s t : StoreView) (i : SourceView) (old new : SinkView) (end : Status) (f : Option ZoneFault)
     → zone_fault bytes ≡ f → IsOfPrefix path bytes s.files → LaterStore s t → ShowsBy bytes m f old new end
-    → EndsLater (Some (at path m)) (outside s i old) (outside t i new) end
+    → EndsLater (ShowsState path m) (outside s i old) (outside t i new) end
 shows path bytes m s t i old new end None is of store h =
-    ends_told (Some (at path m)) s t i old new status.Done _ end tt (state path bytes m (of.clear is) is) store h
+    ends_told (ShowsState path m) s t i old new status.Done (state_line (zone_state bytes m)) end store
+    (λ printed. state bytes end (of.clear is) is printed refl) (λ left. out_of_memory_shown left) h
 shows path bytes m s t i old new end (Some f) is of store h =
     let whole = of.refused f is in
-    ends_told (Some (at path m)) s t i old new status.Refused _ end tt (no_zone path whole.0 m f whole.1 whole.2) store h
+    ends_told (ShowsState path m) s t i old new status.Refused (refused_line (zone_text f)) end store
+    (λ printed. no_zone whole.0 f end whole.1 whole.2 printed refl) (λ left. out_of_memory_shown left) h
 
 pub ends_shown : (path bytes : List ℕ) (m : ℤ) (s t : StoreView) (i : SourceView) (old new : SinkView) (end : Status)
-    → Looks s t path 65537 (looked.Found bytes) → Shows bytes m old new end → EndsLater (Some (at path m)) (outside s i old) (outside t i new) end
+    → Looks s t path 65537 (looked.Found bytes) → Shows bytes m old new end → EndsLater (ShowsState path m) (outside s i old) (outside t i new) end
 ends_shown path bytes m s t i old new end looks h =
     shows path bytes m s t i old new end (zone_fault bytes) refl (of_prefix path bytes s.files looks.told)
     (looks_later s t path 65537 (looked.Found bytes) looks) h
@@ -127,7 +159,8 @@ absent path (Some fs) told = told
 
 pub ends_absent : (path : List ℕ) (m : ℤ) (s t : StoreView) (i : SourceView) (old new : SinkView) (end : Status)
     → Looks s t path 65537 looked.Absent → TellsRefused (codes "8 Absent " ++ path) old new end
-    → EndsLater (Some (at path m)) (outside s i old) (outside t i new) end
+    → EndsLater (ShowsState path m) (outside s i old) (outside t i new) end
 ends_absent path m s t i old new end looks h =
-    ends_told (Some (at path m)) s t i old new status.Refused _ end tt (no_file path m (absent path s.files looks.told))
-    (looks_later s t path 65537 looked.Absent looks) h
+    ends_told (ShowsState path m) s t i old new status.Refused (refused_line (codes "8 Absent " ++ path)) end
+    (looks_later s t path 65537 looked.Absent looks)
+    (λ printed. no_file end (absent path s.files looks.told) printed refl) (λ left. out_of_memory_shown left) h

@@ -1,5 +1,5 @@
 -- How a row of folders is installed, one after another.
-use Rattle.std.proofs.Common.{◌≡◌, ◌≢◌, ℕ, ◌+◌, ◌-◌, ◌<◌, List, [], ◌∷◌, ◌++◌, length, take, drop}
+use Rattle.std.proofs.Common.{◌≡◌, ℕ, ◌+◌, ◌-◌, ◌<◌, List, [], ◌∷◌, ◌++◌, length, take, drop}
 use Rattle.std.proofs.Common.{get_or, false, All, Option, None, Some, IfSome, IsErrOf, Result, Ok}
 use Rattle.std.proofs.Common.{Err, refl, sym, subst, ap, ◌∙◌, append_assoc, arith}
 use Rattle.std.proofs.lemmas.List.{length-append, take-append-drop, take_all}
@@ -16,11 +16,9 @@ use Rattle.installer.specs.declared.install_fault.InstallFault.TheVariants as in
 use Rattle.json_forms.proofs.lemmas.ListSteps.{take_next}
 use Rattle.logbook.specs.Pages.{Book}
 use Rattle.publication.specs.Views.{DeskView, IsNewDesk}
-use Rattle.release_check.specs.Found.{Blames}
-use Rattle.release_check.specs.declared.check_fault.CheckFault.{CheckFault}
 use Rattle.release_check.specs.declared.check_fault.CheckFault.TheVariants as fault
-use Rattle.td_top.specs.Folders.{FoldersGive, GivesAfter, StopsAtFault, none, more}
-use Rattle.td_top.specs.Installed.{Extends, InstallsAll, InstallsRest, Refused}
+use Rattle.td_top.specs.Folders.{FoldersGive, GivesAfter, IsOfFiles, StopsAtFault, none, more}
+use Rattle.td_top.specs.Opening.{Extends, InstallsAll, InstallsRest, Refused}
 
 -- ---- rows
 
@@ -64,14 +62,14 @@ pub gives : {A : Type 0} (s t : StoreView) (dir : List ℕ) (H : List ReleaseDat
 gives s t dir H history a r is h = gave s.files dir H history a r is h.told
 
 -- and of a fault
-blamed : (o : Option (List File)) (dir : List ℕ) (H : List ReleaseData) {A : Type 0} (history : A → List ReleaseData) (f : CheckFault)
-    → IfSome o (λ files. Installed files dir H history (Err (install.Check f))) → Blames f (GivesAfter o H dir (Err f))
-blamed None dir H history f told = λ memory read. tt
-blamed (Some fs) dir H history f told = told
+refused_after : (o : Option (List File)) (dir : List ℕ) (H : List ReleaseData) {A : Type 0} (history : A → List ReleaseData) (e : InstallFault)
+    → IfSome o (λ files. Installed files dir H history (Err e)) → GivesAfter o H dir (Err e)
+refused_after None dir H history e told = tt
+refused_after (Some fs) dir H history e told = told
 
-pub blames : {A : Type 0} (s t : StoreView) (dir : List ℕ) (H : List ReleaseData) (history : A → List ReleaseData) (f : CheckFault)
-    → Installs s t dir H history (Err (install.Check f)) → Blames f (GivesAfter s.files H dir (Err f))
-blames s t dir H history f h = blamed s.files dir H history f h.told
+pub gives_fault : {A : Type 0} (s t : StoreView) (dir : List ℕ) (H : List ReleaseData) (history : A → List ReleaseData) (e : InstallFault)
+    → Installs s t dir H history (Err e) → GivesAfter s.files H dir (Err e)
+gives_fault s t dir H history e h = refused_after s.files dir H history e h.told
 
 -- an error of one result as that of another
 err_as : {A B : Type 0} (e x : InstallFault) → IsErrOf {T = A} (Err e) x → IsErrOf {T = B} (Err e) x
@@ -79,17 +77,16 @@ err_as e x h = let same : e ≡ x = cc in ap Err same
 
 -- ---- a row of folders
 
-pub stops_here : (files : Option (List File)) (first : List (List ℕ)) (dir : List ℕ) (rest dirs : List (List ℕ)) (H : List ReleaseData) (f : CheckFault)
-    → dirs ≡ first ++ dir ∷ rest → FoldersGive files first H → GivesAfter files H dir (Err f) → f ≢ fault.NoMemory → f ≢ fault.ReadFault
-    → StopsAtFault files dirs H f
-stops_here files first dir rest dirs H f is give after memory read = record {
+pub stops_here : (files : Option (List File)) (first : List (List ℕ)) (dir : List ℕ) (rest dirs : List (List ℕ)) (H : List ReleaseData) (f : InstallFault)
+    → dirs ≡ first ++ dir ∷ rest → FoldersGive files first H → GivesAfter files H dir (Err f) → IsOfFiles f → StopsAtFault files dirs H f
+stops_here files first dir rest dirs H f is give after of = record {
   first = first;
   dir = dir;
   rest = rest;
   dirs_are = is;
   give = give;
   gives = after;
-  of_files = (memory, read);
+  of_files = of;
 }
 
 -- one folder more
@@ -104,7 +101,7 @@ extends_more files dirs i d old now next less is extends r next_is after = λ fi
     (subst (λ (front : List (List ℕ)). FoldersGive files front (now ++ r ∷ [])) row one)
 
 -- the files are those of the beginning
-pub kept_gives : (s t : StoreView) (H : List ReleaseData) (dir : List ℕ) (r : Result ReleaseData CheckFault) → LaterStore s t
+pub kept_gives : (s t : StoreView) (H : List ReleaseData) (dir : List ℕ) (r : Result ReleaseData InstallFault) → LaterStore s t
     → GivesAfter t.files H dir r → GivesAfter s.files H dir r
 kept_gives s t H dir r store h = subst (λ (files : Option (List File)). GivesAfter files H dir r) store.kept h
 
@@ -119,13 +116,12 @@ rest_more s t u dirs i d old now next history a less is store extends h grows sa
 refused_at : {A : Type 0} (s t u : StoreView) (dirs : List (List ℕ)) (i : ℕ) (d : List ℕ) (old now : List ReleaseData) (history : A → List ReleaseData)
     (e : InstallFault) → i < length dirs → d ≡ get_or dirs i d → LaterStore s t → Extends s.files (take i dirs) old now
     → Installs t u d now history (Err e) → (first : List (List ℕ)) → FoldersGive s.files first old → Refused s.files (first ++ dirs) e
-refused_at s t u dirs i d old now history install.NoMemory less is store extends h first give = tt
-refused_at s t u dirs i d old now history (install.Check f) less is store extends h first give = λ memory read.
+refused_at s t u dirs i d old now history e less is store extends h first give = λ of.
     let row : first ++ dirs ≡ (first ++ take i dirs) ++ d ∷ drop (i + 1) dirs =
     ap (λ (all : List (List ℕ)). first ++ all) (parted dirs i d less is) ∙ sym (append_assoc first (take i dirs) (d ∷ drop (i + 1) dirs)) in (
       now,
-      stops_here s.files (first ++ take i dirs) d (drop (i + 1) dirs) (first ++ dirs) now f row (extends first give)
-          (kept_gives s t now d (Err f) store (blames t u d now history f h memory read)) memory read,
+      stops_here s.files (first ++ take i dirs) d (drop (i + 1) dirs) (first ++ dirs) now e row (extends first give)
+          (kept_gives s t now d (Err e) store (gives_fault t u d now history e h)) of,
     )
 
 pub rest_refused : {A : Type 0} (s t u : StoreView) (dirs : List (List ℕ)) (i : ℕ) (d : List ℕ) (old now end : List (Catalogue (List ℕ)))
@@ -146,9 +142,7 @@ first_gives files d H r is after = subst (λ (x : List ReleaseData). FoldersGive
 
 pub first_refused : {A : Type 0} (s t : StoreView) (d : List ℕ) (rest dirs : List (List ℕ)) (history : A → List ReleaseData) (e : InstallFault)
     → dirs ≡ d ∷ rest → Installs s t d [] history (Err e) → Refused s.files dirs e
-first_refused s t d rest dirs history install.NoMemory is h = tt
-first_refused s t d rest dirs history (install.Check f) is h = λ memory read.
-    ([], stops_here s.files [] d rest dirs [] f is none (blames s t d [] history f h memory read) memory read)
+first_refused s t d rest dirs history e is h = λ of. ([], stops_here s.files [] d rest dirs [] e is none (gives_fault s t d [] history e h) of)
 
 -- ---- all folders
 

@@ -1,17 +1,18 @@
 -- How runs end, by what is equal.
 use Rattle.std.proofs.Common.{◌≡◌, ◌≢◌, List, ℕ, refl, subst}
 use Rattle.td_base.specs.Views.{SinkView}
-use Rattle.release_check.specs.FaultText.{fault_text}
-use Rattle.release_check.specs.declared.check_fault.CheckFault.{CheckFault}
+use Rattle.installer.specs.FaultText.{fault_text}
+use Rattle.installer.specs.declared.install_fault.InstallFault.{InstallFault}
+use Rattle.installer.specs.declared.install_fault.InstallFault.TheVariants as install
 use Rattle.release_check.specs.declared.check_fault.CheckFault.TheVariants as fault
-use Rattle.td_top.specs.Tells.{TellsRefused, RefusesFolder}
+use Rattle.td_top.specs.Tells.{TellsRefused, RefusesInstall}
 use Rattle.td_top.specs.declared.status.Status.{Status}
 
--- the fault of a folder ends a run by its text, unless memory or a read failed
-pub refuses_told : (f : CheckFault) (old new : SinkView) (end : Status) → f ≢ fault.NoMemory → f ≢ fault.ReadFault
-    → TellsRefused (fault_text f) old new end → RefusesFolder f old new end
-refuses_told fault.NoMemory old new end memory read tells = absurd (memory refl)
-refuses_told fault.ReadFault old new end memory read tells = absurd (read refl)
+-- what was not installed ends a run by its text, unless memory or a read failed
+pub refuses_told : (f : InstallFault) (old new : SinkView) (end : Status) → f ≢ install.NoMemory → f ≢ install.Check fault.ReadFault
+    → TellsRefused (fault_text f) old new end → RefusesInstall f old new end
+refuses_told install.NoMemory old new end memory read tells = absurd (memory refl)
+refuses_told (install.Check fault.ReadFault) old new end memory read tells = absurd (read refl)
 refuses_told f old new end memory read tells = tells
 
 -- a reason that is another

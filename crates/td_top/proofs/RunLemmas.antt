@@ -2,6 +2,7 @@
 use Rattle.std.proofs.Common.{◌≡◌, ℕ, ◌≤◌, List, [], map, Option, Some, Ok, refl, sym, subst, arith}
 use Rattle.td_base.specs.Views.{File, LaterStore, SinkView, SourceView, StoreView}
 use Rattle.td_base.specs.DoorViews.{DoorView, NetworkView}
+use Rattle.td_base.specs.declared.report.Role.TheVariants as role
 use Rattle.td_base.proofs.lemmas.LaterLemmas.{sink_refl, source_refl, store_refl, store_trans}
 use Rattle.catalogue.specs.Releases.{ReleaseData}
 use Rattle.catalogue.specs.declared.holding.Catalogue.{Catalogue}
@@ -9,14 +10,15 @@ use Rattle.connection.specs.DoorWorks.{WorkView}
 use Rattle.console.specs.declared.line.Line.{Line}
 use Rattle.catalogue.specs.Holdings.{history_of}
 use Rattle.td_top.specs.Grammar.{Asked, serve}
-use Rattle.td_top.specs.Installed.{InstallsAll}
-use Rattle.td_top.specs.Outside.{Later, Outside, outside, World, world}
-use Rattle.td_top.specs.RunEnds.{RunEndsLater, alone, opened}
-use Rattle.td_top.specs.Server.{OpenedEnds, OpensDoors, no_network, served as served_opened}
+use Rattle.td_top.specs.Opening.{InstallsAll}
+use Rattle.td_top.specs.Outside.{IsAlone, Later, Outside, outside, World, world}
+use Rattle.td_top.specs.Running.{RunEnds, RunEndsLater, served as served_run}
+use Rattle.td_top.specs.Server.{OpenedEnds, OpensDoors, no_network, opened, served as served_opened}
 use Rattle.td_top.specs.Server.{not_started as not_started_opened}
 use Rattle.td_top.specs.Server.{out_of_memory as out_of_memory_opened}
-use Rattle.td_top.specs.Serving.{ServesBeside, ServesOpened}
-use Rattle.td_top.specs.Talk.{Talks, talk_begun}
+use Rattle.td_top.specs.ServerSteps.{ServesBeside, ServesOpened}
+use Rattle.console.specs.Lines.{IsInstall}
+use Rattle.td_top.specs.Talk.{InstallsFolder, Talks, talk_begun}
 use Rattle.td_top.specs.Talking.{AnswersOperator, EndsBy}
 use Rattle.td_top.specs.Tells.{EndsLater}
 use Rattle.td_top.specs.Works.{AreWorks, WorksEnd, not_started, out_of_memory, served}
@@ -34,26 +36,27 @@ outside_refl a = record { store = store_refl a.store; input = source_refl a.inpu
 -- the doors of an address were served beside a talk
 ends_opened : (address : List ℕ) (workers : ℕ) (opening : List ReleaseData) (before after : World) (given doors : List DoorView) (is : Status)
     → OpensDoors before.network after.network address workers given
-    → WorksEnd opening given before.outside after.outside before.spawner after.spawner doors is
-    → OpenedEnds address workers opening before after doors is
+    → WorksEnd role.Primary opening given before.outside after.outside before.spawner after.spawner doors is
+    → OpenedEnds role.Primary address workers opening before after doors is
 ends_opened address workers opening before after given doors is opens (served history ds ended worn operator over) =
-    served_opened ds ended worn (record { history = history; operator = operator; given = given; opened = opens; served = over })
+    served_opened history given ds ended worn operator opens over
 ends_opened address workers opening before after given doors is opens (not_started left rose) = not_started_opened given left opens rose
 ends_opened address workers opening before after given doors is opens out_of_memory = out_of_memory_opened
 
 pub served_beside : (address : List ℕ) (workers : ℕ) (session : Session) (works : List WorkView) (given doors : List DoorView) (is : Status)
-    (o p : Outside) (n m : NetworkView) (r q : ℕ) → OpensDoors n m address workers given → n.faults ≤ m.faults → AreWorks session.installer.pair given works
+    (o p : Outside) (n m : NetworkView) (r q : ℕ) → OpensDoors n m address workers given → n.faults ≤ m.faults
+    → AreWorks role.Primary session.installer.pair given works
     → ServesBeside session works o p r q doors is
     → ServesOpened address workers (history_of session.installer.list) (world o n r) (world p m q) doors is
 served_beside address workers session works given doors is o p n m r q opens later are h = record {
   later = record { outside = h.later; network = later; spawner = h.starting };
-  ends = ends_opened address workers (history_of session.installer.list) (world o n r) (world p m q) given doors is opens (h.ends given are);
+  ends = ends_opened address workers (history_of session.installer.list) (world o n r) (world p m q) given doors is opens (h.ends role.Primary given are);
 }
 
 module _ {D : Type 0} (seen : D → DoorView) where
   -- nothing was served: the network failed, or memory ran out
   pub given_up : (address : List ℕ) (workers : ℕ) (opening : List ReleaseData) (o : Outside) (n m : NetworkView) (r : ℕ) (doors : List D) (is end : Status)
-      → is ≡ end → doors ≡ [] → n.faults ≤ m.faults → OpenedEnds address workers opening (world o n r) (world o m r) [] end
+      → is ≡ end → doors ≡ [] → n.faults ≤ m.faults → OpenedEnds role.Primary address workers opening (world o n r) (world o m r) [] end
       → ServesOpened address workers opening (world o n r) (world o m r) (map seen doors) is
   given_up address workers opening o n m r doors is end e none later ends =
       subst (λ ds. ServesOpened address workers opening (world o n r) (world o m r) (map seen ds) is) (sym none)
@@ -65,15 +68,16 @@ module _ {D : Type 0} (seen : D → DoorView) where
   -- ---- a whole run
 
   -- a run that serves no door
-  pub ran_alone : (asked other : Option Asked) (before after : Outside) (n : NetworkView) (r : ℕ) (doors : List D) (is end : Status) → is ≡ end → doors ≡ []
-      → asked ≡ other → EndsLater asked before after end → RunEndsLater other (world before n r) (world after n r) (map seen doors) is
-  ran_alone asked other before after n r doors is end e none same h =
-      subst (λ ds. RunEndsLater other (world before n r) (world after n r) (map seen ds) is) (sym none)
-      (subst (λ s. RunEndsLater other (world before n r) (world after n r) [] s) (sym e)
-      (subst (λ a. RunEndsLater a (world before n r) (world after n r) [] end) same (record {
-        ends = alone end h.ends refl refl;
+  pub ran_alone : (ends_so : Outside → Outside → Status → Type 0) (asked : Option Asked) (before after : Outside) (n : NetworkView) (r : ℕ) (doors : List D)
+      (is end : Status) → is ≡ end → doors ≡ [] → EndsLater ends_so before after end
+      → (ends_so before after end → IsAlone (world before n r) (world after n r) → RunEnds asked (world before n r) (world after n r) [] end)
+      → RunEndsLater asked (world before n r) (world after n r) (map seen doors) is
+  ran_alone ends_so asked before after n r doors is end e none h row =
+      subst (λ ds. RunEndsLater asked (world before n r) (world after n r) (map seen ds) is) (sym none)
+      (subst (λ s. RunEndsLater asked (world before n r) (world after n r) [] s) (sym e) (record {
+        ends = row h.ends (refl, refl);
         later = record { outside = h.later; network = omega arith; spawner = omega arith };
-      })))
+      }))
 
 -- ---- from the start of a run
 
@@ -85,7 +89,8 @@ ends_by s t i o now asked ignored end.NotRead h = h
 ends_by s t i o now asked ignored end.NotWritten h = h
 
 operated_from : (opening whole : List ReleaseData) (s t : StoreView) (i : SourceView) (o : SinkView) (now : Outside) (ended : TalkEnd) → LaterStore s t
-    → AnswersOperator opening whole (outside t i o) now ended → AnswersOperator opening whole (outside s i o) now ended
+    → AnswersOperator IsInstall (InstallsFolder t.files) opening whole (outside t i o) now ended
+    → AnswersOperator IsInstall (InstallsFolder s.files) opening whole (outside s i o) now ended
 operated_from opening whole s t i o now ended store h = record {
   read = h.read;
   asked = h.asked;
@@ -93,7 +98,7 @@ operated_from opening whole s t i o now ended store h = record {
   told = h.told;
   last = h.last;
   reads = h.reads;
-  talks = subst (λ (files : Option (List File)). Talks files whole (talk_begun opening) h.asked h.told h.last) store.kept h.talks;
+  talks = subst (λ (files : Option (List File)). Talks IsInstall (InstallsFolder files) whole (talk_begun opening) h.asked h.told h.last) store.kept h.talks;
   published = h.published;
   ready = h.ready;
   since = store_trans s t h.ready store h.since;
@@ -104,16 +109,10 @@ operated_from opening whole s t i o now ended store h = record {
 
 opened_from : (address : List ℕ) (workers : ℕ) (opening : List ReleaseData) (s t : StoreView) (i : SourceView) (o : SinkView) (n : NetworkView) (r : ℕ)
     (after : World) (doors : List DoorView) (is : Status) → LaterStore s t
-    → OpenedEnds address workers opening (world (outside t i o) n r) after doors is
-    → OpenedEnds address workers opening (world (outside s i o) n r) after doors is
-opened_from address workers opening s t i o n r after doors is store (served_opened ds ended worn h) =
-    served_opened ds ended worn (record {
-      history = h.history;
-      operator = operated_from opening h.history s t i o after.outside ended store h.operator;
-      given = h.given;
-      opened = h.opened;
-      served = h.served;
-    })
+    → OpenedEnds role.Primary address workers opening (world (outside t i o) n r) after doors is
+    → OpenedEnds role.Primary address workers opening (world (outside s i o) n r) after doors is
+opened_from address workers opening s t i o n r after doors is store (served_opened history given ds ended worn operator opens over) =
+    served_opened history given ds ended worn (operated_from opening history s t i o after.outside ended store operator) opens over
 opened_from address workers opening s t i o n r after doors is store (no_network left told rose) = no_network left told rose
 opened_from address workers opening s t i o n r after doors is store (not_started_opened given left opens rose) = not_started_opened given left opens rose
 opened_from address workers opening s t i o n r after doors is store out_of_memory_opened = out_of_memory_opened
@@ -124,8 +123,8 @@ pub ran_doors : (address : List ℕ) (workers : ℕ) (dirs : List (List ℕ)) (l
     → ServesOpened address workers (history_of list) (world (outside t i o) n r) after doors is
     → RunEndsLater (Some (serve address workers dirs)) (world (outside s i o) n r) after doors is
 ran_doors address workers dirs list s t i o n r after doors is all h = record {
-  ends = opened address workers dirs (history_of list) doors is refl all.came
-      (opened_from address workers (history_of list) s t i o n r after doors is all.later h.ends);
+  ends = served_run address workers dirs doors is refl (opened (history_of list) doors is all.came
+      (opened_from address workers (history_of list) s t i o n r after doors is all.later h.ends));
   later = record {
     outside = record {
       store = store_trans s t after.outside.store all.later h.later.outside.store;

@@ -1,6 +1,6 @@
 -- What doors that were served beside a talk come to, over the history of the run.
 use Rattle.std.proofs.Common.{◌≡◌, ℕ, List, [], ◌∷◌, length, map, Bool, true, false, All, Option}
-use Rattle.std.proofs.Common.{None, Some, inl, inr, sym, subst, ap, ◌∙◌}
+use Rattle.std.proofs.Common.{None, Some, IfSome, inl, inr, sym, subst, ap, ◌∙◌}
 use Rattle.std.specs.List.{list_any}
 use Rattle.std.specs.Global.{Vec}
 use Rattle.std.proofs.lemmas.List.{length-map}
@@ -8,15 +8,17 @@ use Rattle.std.proofs.lemmas.Simd.{map-map}
 use Rattle.std.proofs.lemmas.List.Elements.{All-cons, All-head, All-nil, All-tail, All-weaker}
 use Rattle.std.proofs.lemmas.Bool.{true≢false}
 use mathlib.Core.List.{IsPrefix}
-use Rattle.td_base.specs.Views.{Rose, RoseBy}
+use Rattle.td_base.specs.Views.{Rose}
 use Rattle.td_base.specs.DoorViews.{DoorContent, DoorView, NetworkContent, NetworkView}
 use Rattle.td_base.specs.Doors.{IsNewDoor, OpenTold, Opens}
 use Rattle.td_base.specs.declared.network.Made.TheVariants as made
-use Rattle.td_base.specs.declared.report.Role.TheVariants as role
+use Rattle.td_base.specs.declared.report.Role.{Role}
 use Rattle.catalogue.specs.Releases.{ReleaseData}
 use Rattle.catalogue.specs.declared.holding.Catalogue.{Catalogue}
-use Rattle.connection.specs.DoorWorks.{DoesDoor, NoneGiven, ServesTold, Stops, WorkView, at_end}
+use Rattle.connection.specs.DoorWorks.{DoesDoor, NoneOut, ServesTold, Stops, WorkView, at_end}
 use Rattle.connection.specs.DoorWorks.{at_flag, by_faults}
+use Rattle.connection.specs.FaultCounts.{RoseTimes}
+use Rattle.connection.specs.declared.door_work.TheConstants.{MOST_FAILURES}
 use Rattle.connection.specs.declared.door_work.DoorDone.{DoorDone}
 use Rattle.desk_pool.specs.Flag.{Sight}
 use Rattle.desk_pool.specs.Pool.{DoesEach}
@@ -25,11 +27,13 @@ use Rattle.logbook.specs.Pages.{Book}
 use Rattle.publication.specs.Views.{DeskView}
 use Rattle.td_base.proofs.lemmas.Beginnings.{prefix_self}
 use Rattle.td_base.proofs.lemmas.LaterLemmas.{store_refl}
-use Rattle.td_top.specs.Consoles.{ConsoleView, Halted, Ran}
-use Rattle.td_top.specs.Outside.{Outside}
-use Rattle.td_top.specs.Server.{CalledTold, ConnsTold, IsDone, LeavesStreams, OpensDoors, OpenedTold}
+use Rattle.td_top.specs.ConsoleBeside.{ConsoleView, Halted, Ran}
+use Rattle.td_top.specs.Outside.{LeavesStreams, Outside}
+use Rattle.td_top.specs.Server.{CalledTold, ConnsTold, IsDone, OpensDoors, OpenedTold}
 use Rattle.td_top.specs.Server.{ServesDoor, ServesDoors, no_door, one_more}
-use Rattle.td_top.specs.Serving.{Concludes, LearntAll}
+use Rattle.td_top.specs.ServerSteps.{Concludes, LearntAll}
+use Rattle.console.specs.Lines.{IsInstall}
+use Rattle.td_top.specs.Talk.{InstallsFolder}
 use Rattle.td_top.specs.Talking.{AnswersOperator, ComesTo, LaterScene, Scene, Talked}
 use Rattle.td_top.specs.Works.{AreWorks, WorksEnd, not_started, out_of_memory, served}
 use Rattle.td_top.specs.declared.status.Status.{Status}
@@ -41,7 +45,8 @@ use Rattle.catalogue.proofs.lemmas.HistoryLemmas.{history_longer}
 
 -- over the history that was published, of which the console's desk has seen no more
 pub operated : (before now : Scene) (ended : TalkEnd) → IsPrefix now.session.desk.seen now.session.installer.list → Talked before now ended
-    → AnswersOperator (history_of before.session.installer.list) (history_of now.session.installer.list) before.outside now.outside ended
+    → AnswersOperator IsInstall (InstallsFolder before.outside.store.files) (history_of before.session.installer.list)
+    (history_of now.session.installer.list) before.outside now.outside ended
 operated before now ended seen t =
     let whole : List ReleaseData = history_of now.session.installer.list in
     let talk = t.over.talks whole (record {
@@ -66,9 +71,10 @@ operated before now ended seen t =
 
 -- ---- doors
 
-told_over : (list : List (Catalogue (List ℕ))) (before now : Option DoorContent) (desk desk' : DeskView (Catalogue (List ℕ))) → IsPrefix desk'.seen list
-    → ServesTold role.Primary before now desk desk' → ConnsTold (history_of list) before now
-told_over list (Some before) (Some now) desk desk' seen h = record {
+told_over : (server : Role) (list : List (Catalogue (List ℕ))) (before now : Option DoorContent) (desk desk' : DeskView (Catalogue (List ℕ)))
+    → IsPrefix desk'.seen list
+    → ServesTold server before now desk desk' → ConnsTold server (history_of list) before now
+told_over server list (Some before) (Some now) desk desk' seen h = record {
   inputs = h.inputs;
   finished = h.finished;
   given = h.given;
@@ -77,24 +83,25 @@ told_over list (Some before) (Some now) desk desk' seen h = record {
   served = h.served (history_of list) (history_longer desk'.seen list seen);
   rising = h.rising;
 }
-told_over list (Some before) None desk desk' seen h = absurd h
-told_over list None (Some now) desk desk' seen h = absurd h
-told_over list None None desk desk' seen h = tt
+told_over server list (Some before) None desk desk' seen h = absurd h
+told_over server list None (Some now) desk desk' seen h = absurd h
+told_over server list None None desk desk' seen h = tt
 
 done_by : (before now : DoorView) (raised worn : Bool) → Stops before now raised worn → worn ≡ false → IsDone now
-done_by before now raised worn (at_end last none is) e = inl (last, none)
-done_by before now raised worn (at_flag last up is) e = inr last
+done_by before now raised worn (at_end last none few is) e = inl (last, none)
+done_by before now raised worn (at_flag last up few is) e = inr last
 done_by before now raised worn (by_faults last rose is) e = absurd (true≢false (sym is ∙ e))
 
-worn_by : (before now : DoorView) (raised worn : Bool) → Stops before now raised worn → worn ≡ true → RoseBy 16 before.faults now.faults
-worn_by before now raised worn (at_end last none is) e = absurd (true≢false (sym e ∙ is))
-worn_by before now raised worn (at_flag last up is) e = absurd (true≢false (sym e ∙ is))
+worn_by : (before now : DoorView) (raised worn : Bool) → Stops before now raised worn → worn ≡ true → RoseTimes MOST_FAILURES before.faults now.faults
+worn_by before now raised worn (at_end last none few is) e = absurd (true≢false (sym e ∙ is))
+worn_by before now raised worn (at_flag last up few is) e = absurd (true≢false (sym e ∙ is))
 worn_by before now raised worn (by_faults last rose is) e = rose
 
-door_served : (list : List (Catalogue (List ℕ))) (before now : DoorView) (desk desk' : DeskView (Catalogue (List ℕ))) (sign sign' : Sight) (worn : Bool)
-    → IsPrefix desk'.seen list → DoesDoor role.Primary before now desk desk' sign sign' worn → ServesDoor (history_of list) before now worn
-door_served list before now desk desk' sign sign' worn seen h = record {
-  told = told_over list before.content now.content desk desk' seen h.serves;
+door_served : (server : Role) (list : List (Catalogue (List ℕ))) (before now : DoorView) (desk desk' : DeskView (Catalogue (List ℕ))) (sign sign' : Sight)
+    (worn : Bool)
+    → IsPrefix desk'.seen list → DoesDoor server before now desk desk' sign sign' worn → ServesDoor server (history_of list) before now worn
+door_served server list before now desk desk' sign sign' worn seen h = record {
+  told = told_over server list before.content now.content desk desk' seen h.serves;
   done = done_by before now sign'.raised worn h.stops;
   failed = worn_by before now sign'.raised worn h.stops;
 }
@@ -102,17 +109,17 @@ door_served list before now desk desk' sign sign' worn seen h = record {
 -- ---- no doors
 
 module _ {D : Type 0} (seen : D → DoorView) where
-  pub without_memory : (opening : List ReleaseData) (given : List DoorView) (before now : Outside) (r r' : ℕ) (doors : List D) (is : Status)
-      → is ≡ status.NoMemory → doors ≡ [] → WorksEnd opening given before now r r' (map seen doors) is
-  without_memory opening given before now r r' doors is e none =
-      subst (λ ds. WorksEnd opening given before now r r' (map seen ds) is) (sym none)
-      (subst (λ s. WorksEnd opening given before now r r' [] s) (sym e) out_of_memory)
+  pub without_memory : (server : Role) (opening : List ReleaseData) (given : List DoorView) (before now : Outside) (r r' : ℕ) (doors : List D) (is : Status)
+      → is ≡ status.NoMemory → doors ≡ [] → WorksEnd server opening given before now r r' (map seen doors) is
+  without_memory server opening given before now r r' doors is e none =
+      subst (λ ds. WorksEnd server opening given before now r r' (map seen ds) is) (sym none)
+      (subst (λ s. WorksEnd server opening given before now r r' [] s) (sym e) out_of_memory)
 
-  pub unstarted : (opening : List ReleaseData) (given : List DoorView) (before now : Outside) (r r' : ℕ) (doors : List D) (is : Status)
-      → is ≡ status.NotStarted → doors ≡ [] → LeavesStreams before now → Rose r r' → WorksEnd opening given before now r r' (map seen doors) is
-  unstarted opening given before now r r' doors is e none left rose =
-      subst (λ ds. WorksEnd opening given before now r r' (map seen ds) is) (sym none)
-      (subst (λ s. WorksEnd opening given before now r r' [] s) (sym e) (not_started left rose))
+  pub unstarted : (server : Role) (opening : List ReleaseData) (given : List DoorView) (before now : Outside) (r r' : ℕ) (doors : List D) (is : Status)
+      → is ≡ status.NotStarted → doors ≡ [] → LeavesStreams before now → Rose r r' → WorksEnd server opening given before now r r' (map seen doors) is
+  unstarted server opening given before now r r' doors is e none left rose =
+      subst (λ ds. WorksEnd server opening given before now r r' (map seen ds) is) (sym none)
+      (subst (λ s. WorksEnd server opening given before now r r' [] s) (sym e) (not_started left rose))
 
 -- ---- doors that were served
 
@@ -121,60 +128,62 @@ module _ {D C : Type 0} (seen : D → DoorView) where
   abbrev pub Does : WorkView → DoorDone D C → Type 0
   Does w d = DoesDoor w.role w.door (seen d.door) w.desk d.desk w.stop d.sign d.worn
 
-  one_served : (list : List (Catalogue (List ℕ))) (pair : Book) (given : DoorView) (w : WorkView) (d : DoorDone D C)
-      → (w.role ≡ role.Primary) × (w.door ≡ given) × (w.desk.pair ≡ pair) → IsPrefix d.desk.seen list → Does w d
-      → ServesDoor (history_of list) given (seen d.door) d.worn
-  one_served list pair given w d is held does =
-      door_served list given (seen d.door) w.desk d.desk w.stop d.sign d.worn held
-      (subst (λ b. DoesDoor role.Primary b (seen d.door) w.desk d.desk w.stop d.sign d.worn) is.1
+  one_served : (server : Role) (list : List (Catalogue (List ℕ))) (pair : Book) (given : DoorView) (w : WorkView) (d : DoorDone D C)
+      → (w.role ≡ server) × (w.door ≡ given) × (w.desk.pair ≡ pair) → IsPrefix d.desk.seen list → Does w d
+      → ServesDoor server (history_of list) given (seen d.door) d.worn
+  one_served server list pair given w d is held does =
+      door_served server list given (seen d.door) w.desk d.desk w.stop d.sign d.worn held
+      (subst (λ b. DoesDoor server b (seen d.door) w.desk d.desk w.stop d.sign d.worn) is.1
       (subst (λ r. DoesDoor r w.door (seen d.door) w.desk d.desk w.stop d.sign d.worn) is.0 does))
 
-  pub all_served : (list : List (Catalogue (List ℕ))) (pair : Book) (given : List DoorView) (works : List WorkView) (dones : List (DoorDone D C))
-      → AreWorks pair given works → All (λ d. IsPrefix d.desk.seen list) dones → DoesEach Does works dones
-      → ServesDoors (history_of list) given (map seen (map (λ d. d.door) dones)) (list_any (λ d. d.worn) dones)
-  all_served list pair [] [] [] are held does = no_door
-  all_served list pair [] (w ∷ ws) dones are held does = absurd are
-  all_served list pair (g ∷ gs) [] dones are held does = absurd are
-  all_served list pair [] [] (d ∷ ds) are held does = absurd does
-  all_served list pair (g ∷ gs) (w ∷ ws) [] are held does = absurd does
-  all_served list pair (g ∷ gs) (w ∷ ws) (d ∷ ds) are held does =
+  pub all_served : (server : Role) (list : List (Catalogue (List ℕ))) (pair : Book) (given : List DoorView) (works : List WorkView)
+      (dones : List (DoorDone D C))
+      → AreWorks server pair given works → All (λ d. IsPrefix d.desk.seen list) dones → DoesEach Does works dones
+      → ServesDoors server (history_of list) given (map seen (map (λ d. d.door) dones)) (list_any (λ d. d.worn) dones)
+  all_served server list pair [] [] [] are held does = no_door
+  all_served server list pair [] (w ∷ ws) dones are held does = absurd are
+  all_served server list pair (g ∷ gs) [] dones are held does = absurd are
+  all_served server list pair [] [] (d ∷ ds) are held does = absurd does
+  all_served server list pair (g ∷ gs) (w ∷ ws) [] are held does = absurd does
+  all_served server list pair (g ∷ gs) (w ∷ ws) (d ∷ ds) are held does =
       one_more g (seen d.door) gs (map seen (map (λ d. d.door) ds)) d.worn (list_any (λ d. d.worn) ds)
-      (one_served list pair g w d are.0 (All-head (λ d. IsPrefix d.desk.seen list) d ds held) does.0)
-      (all_served list pair gs ws ds are.1 (All-tail (λ d. IsPrefix d.desk.seen list) d ds held) does.1)
+      (one_served server list pair g w d are.0 (All-head (λ d. IsPrefix d.desk.seen list) d ds held) does.0)
+      (all_served server list pair gs ws ds are.1 (All-tail (λ d. IsPrefix d.desk.seen list) d ds held) does.1)
 
   -- the desks of the workers are of their pair
-  pub same_pairs : (pair : Book) (given : List DoorView) (works : List WorkView) (dones : List (DoorDone D C))
-      → AreWorks pair given works → DoesEach Does works dones → All (λ d. d.desk.pair ≡ pair) dones
-  same_pairs pair [] [] [] are does = All-nil (λ d. d.desk.pair ≡ pair)
-  same_pairs pair [] (w ∷ ws) dones are does = absurd are
-  same_pairs pair (g ∷ gs) [] dones are does = absurd are
-  same_pairs pair [] [] (d ∷ ds) are does = absurd does
-  same_pairs pair (g ∷ gs) (w ∷ ws) [] are does = absurd does
-  same_pairs pair (g ∷ gs) (w ∷ ws) (d ∷ ds) are does =
-      All-cons (λ d. d.desk.pair ≡ pair) d ds (does.0.desk_goes_on.pair ∙ are.0.2) (same_pairs pair gs ws ds are.1 does.1)
+  pub same_pairs : (server : Role) (pair : Book) (given : List DoorView) (works : List WorkView) (dones : List (DoorDone D C))
+      → AreWorks server pair given works → DoesEach Does works dones → All (λ d. d.desk.pair ≡ pair) dones
+  same_pairs server pair [] [] [] are does = All-nil (λ d. d.desk.pair ≡ pair)
+  same_pairs server pair [] (w ∷ ws) dones are does = absurd are
+  same_pairs server pair (g ∷ gs) [] dones are does = absurd are
+  same_pairs server pair [] [] (d ∷ ds) are does = absurd does
+  same_pairs server pair (g ∷ gs) (w ∷ ws) [] are does = absurd does
+  same_pairs server pair (g ∷ gs) (w ∷ ws) (d ∷ ds) are does =
+      All-cons (λ d. d.desk.pair ≡ pair) d ds (does.0.desk_goes_on.pair ∙ are.0.2) (same_pairs server pair gs ws ds are.1 does.1)
 
   -- ---- the end
 
-  pub concluded : (before now : Scene) (ended : TalkEnd) (works : List WorkView) (dones : List (DoorDone D C)) (doors : List D) (is : Status)
-      (given : List DoorView) (r r' : ℕ) → AreWorks before.session.installer.pair given works → DoesEach Does works dones
+  pub concluded : (server : Role) (before now : Scene) (ended : TalkEnd) (works : List WorkView) (dones : List (DoorDone D C)) (doors : List D) (is : Status)
+      (given : List DoorView) (r r' : ℕ) → AreWorks server before.session.installer.pair given works → DoesEach Does works dones
       → Talked before now ended → LearntAll now.session dones ended doors is
-      → WorksEnd (history_of before.session.installer.list) given before.outside now.outside r r' (map seen doors) is
-  concluded before now ended works dones doors is given r r' are does talked learnt =
+      → WorksEnd server (history_of before.session.installer.list) given before.outside now.outside r r' (map seen doors) is
+  concluded server before now ended works dones doors is given r r' are does talked learnt =
       let list = now.session.installer.list in
-      let over : ServesDoors (history_of list) given (map seen doors) (list_any (λ d. d.worn) dones) =
-      subst (λ ds. ServesDoors (history_of list) given (map seen ds) (list_any (λ d. d.worn) dones)) (sym learnt.workers.doors_are)
-      (all_served list before.session.installer.pair given works dones are learnt.workers.seen does) in
-      subst (λ e. WorksEnd (history_of before.session.installer.list) given before.outside now.outside r r' (map seen doors) e) (sym learnt.ending)
+      let over : ServesDoors server (history_of list) given (map seen doors) (list_any (λ d. d.worn) dones) =
+      subst (λ ds. ServesDoors server (history_of list) given (map seen ds) (list_any (λ d. d.worn) dones)) (sym learnt.workers.doors_are)
+      (all_served server list before.session.installer.pair given works dones are learnt.workers.seen does) in
+      subst (λ e. WorksEnd server (history_of before.session.installer.list) given before.outside now.outside r r' (map seen doors) e) (sym learnt.ending)
       (served (history_of list) (map seen doors) ended (list_any (λ d. d.worn) dones) (operated before now ended learnt.seen talked) over)
 
-  pub comes_concluded : (before now : Scene) (ended : TalkEnd) (works : List WorkView) (dones : List (DoorDone D C)) (doors : List D) (is : Status)
-      (given : List DoorView) (r r' : ℕ) → AreWorks before.session.installer.pair given works → DoesEach Does works dones
+  pub comes_concluded : (server : Role) (before now : Scene) (ended : TalkEnd) (works : List WorkView) (dones : List (DoorDone D C)) (doors : List D)
+      (is : Status)
+      (given : List DoorView) (r r' : ℕ) → AreWorks server before.session.installer.pair given works → DoesEach Does works dones
       → ComesTo before now (Some ended) → Concludes now.session dones ended doors is
-      → WorksEnd (history_of before.session.installer.list) given before.outside now.outside r r' (map seen doors) is
-  comes_concluded before now ended works dones doors is given r r' are does talked (inl learnt) =
-      concluded before now ended works dones doors is given r r' are does talked learnt
-  comes_concluded before now ended works dones doors is given r r' are does talked (inr none) =
-      without_memory seen (history_of before.session.installer.list) given before.outside now.outside r r' doors is none.0 none.1
+      → WorksEnd server (history_of before.session.installer.list) given before.outside now.outside r r' (map seen doors) is
+  comes_concluded server before now ended works dones doors is given r r' are does talked (inl learnt) =
+      concluded server before now ended works dones doors is given r r' are does talked learnt
+  comes_concluded server before now ended works dones doors is given r r' are does talked (inr none) =
+      without_memory seen server (history_of before.session.installer.list) given before.outside now.outside r r' doors is none.0 none.1
 
 -- the talk beside the works, and what it was lent
 pub came : (before mid now : ConsoleView) → Ran before mid → Halted mid now → (ComesTo before.scene now.scene now.end) × (now.lent ≡ before.lent)
@@ -218,6 +227,10 @@ module _ {D : Type 0} (seen : D → DoorView) where
         told = opened_told before.content now.content address n doors many h.told;
       }
 
-  -- a new door has given no connection
-  pub none_given : (doors : List D) → All (λ d. IsNewDoor (seen d)) doors → All (λ d. NoneGiven (seen d)) doors
-  none_given doors h = All-weaker (λ d. IsNewDoor (seen d)) (λ d. NoneGiven (seen d)) (λ d new. new.content) doors h
+  -- of a new door no connection is out
+  told_none : (o : Option DoorContent) → IfSome o (λ c. (c.given ≡ []) × (c.finished ≡ [])) → IfSome o (λ c. length c.finished ≡ length c.given)
+  told_none None h = tt
+  told_none (Some c) h = ap length h.1 ∙ sym (ap length h.0)
+
+  pub none_out : (doors : List D) → All (λ d. IsNewDoor (seen d)) doors → All (λ d. NoneOut (seen d)) doors
+  none_out doors h = All-weaker (λ d. IsNewDoor (seen d)) (λ d. NoneOut (seen d)) (λ d new. told_none (seen d).content new.content) doors h

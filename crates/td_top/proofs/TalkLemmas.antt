@@ -21,15 +21,14 @@ use Rattle.console.specs.Replies.{reply_text}
 use Rattle.console.specs.Steps.{GivesLines}
 use Rattle.console.specs.declared.line.Line.{Line}
 use Rattle.console.specs.declared.line.Line.TheVariants as line
-use Rattle.console.specs.declared.said.Said.{Said}
 use Rattle.console.specs.declared.said.Said.TheVariants as said
 use Rattle.td_base.proofs.lemmas.Beginnings.{prefix_trans}
 use Rattle.td_top.specs.Outside.{outside}
 use Rattle.td_top.specs.Sessions.{AnswersLine, BeginsWhole, LaterSession}
 use Rattle.td_top.specs.Talk.{KeepsTalking, talk_begun, last_token, more, none}
 use Rattle.td_top.specs.Talking.{ComesTo, IsAt, LaterScene, Scene, TalksOver, at_ready, at_reply, scene, talk_text}
-use Rattle.td_top.specs.Turns.{FeedsHeld, FeedsTalk, HasNone, IsNextLine, Reaches, SaysBye}
-use Rattle.td_top.specs.Turns.{SaysText}
+use Rattle.td_top.specs.TalkingSteps.{FeedsHeld, FeedsTalk, HasNone, IsNextLine, Reaches, SaysBye}
+use Rattle.td_top.specs.TalkingSteps.{SaysText}
 use Rattle.td_top.specs.declared.talking.Turn.{Turn}
 use Rattle.td_top.specs.declared.talking.Turn.TheVariants as turn
 use Rattle.td_top.specs.declared.session.Session.{Session}
@@ -69,11 +68,11 @@ all_more P (y ∷ ys) x h p = (h.0, all_more P ys x h.1 p)
 
 -- ---- texts
 
-text_more : (H : List ReleaseData) (told : List Said) (a : Said) → talk_text H told ++ reply_text a ≡ talk_text H (told ++ a ∷ [])
+text_more : (H : List ReleaseData) (told : List (List ℕ)) (a : List ℕ) → talk_text H told ++ a ≡ talk_text H (told ++ a ∷ [])
 text_more H told a =
-    append_assoc (reply_text (said.Ready (last_token H))) (flat_map reply_text told) (reply_text a)
+    append_assoc (reply_text (said.Ready (last_token H))) (flat_map (λ (text : List ℕ). text) told) a
     ∙ ap (λ (l : List ℕ). reply_text (said.Ready (last_token H)) ++ l)
-    (ap (λ (l : List ℕ). flat_map reply_text told ++ l) (sym (append-nil (reply_text a))) ∙ sym (flat_map-append reply_text told (a ∷ [])))
+    (ap (λ (l : List ℕ). flat_map (λ (text : List ℕ). text) told ++ l) (sym (append-nil a)) ∙ sym (flat_map-append (λ (text : List ℕ). text) told (a ∷ [])))
 
 first_text : (H : List ReleaseData) → reply_text (said.Ready (last_token H)) ≡ talk_text H []
 first_text H = sym (append-nil (reply_text (said.Ready (last_token H))))
@@ -140,7 +139,7 @@ later_input start s i j o x later input = record {
   session = later.session;
 }
 
-over_input : (start : Scene) (s : StoreView) (i j : SourceView) (o : SinkView) (x : Session) (asked : List Line) (told : List Said) → LaterSource i j
+over_input : (start : Scene) (s : StoreView) (i j : SourceView) (o : SinkView) (x : Session) (asked : List Line) (told : List (List ℕ)) → LaterSource i j
     → TalksOver start (scene (outside s i o) x) asked told → TalksOver start (scene (outside s j o) x) asked told
 over_input start s i j o x asked told input over = record { later = later_input start s i j o x over.later input; talks = over.talks }
 
@@ -203,7 +202,8 @@ read_turn start s i j o x held held' new turn.NoMemory at whole input f = later_
 
 -- ---- a line
 
-over_more : (start : Scene) (s t : StoreView) (i : SourceView) (o p : SinkView) (x y : Session) (asked : List Line) (told : List Said) (next : Line) (a : Said)
+over_more : (start : Scene) (s t : StoreView) (i : SourceView) (o p : SinkView) (x y : Session) (asked : List Line) (told : List (List ℕ)) (next : Line)
+    (a : List ℕ)
     → AllByRecursion KeepsTalking asked → LaterSink o p → TalksOver start (scene (outside s i o) x) asked told → AnswersLine s t x y next a
     → TalksOver start (scene (outside t i p) y) (asked ++ next ∷ []) (told ++ a ∷ [])
 over_more start s t i o p x y asked told next a goes sink over answers = record {
@@ -224,8 +224,8 @@ over_more start s t i o p x y asked told next a goes sink over answers = record 
       );
 }
 
-cut_by : (start : Scene) (s t : StoreView) (i : SourceView) (o p : SinkView) (x y : Session) (held new : List ℕ) (next : Line) (a : Said)
-    → IsAt start (scene (outside s i o) x) held → IsNextLine held new next → AnswersLine s t x y next a → WritesAll o p (reply_text a) written.Cut
+cut_by : (start : Scene) (s t : StoreView) (i : SourceView) (o p : SinkView) (x y : Session) (held new : List ℕ) (next : Line) (a : List ℕ)
+    → IsAt start (scene (outside s i o) x) held → IsNextLine held new next → AnswersLine s t x y next a → WritesAll o p a written.Cut
     → ComesTo start (scene (outside t i p) y) (Some end.NotWritten)
 cut_by start s t i o p x y held new next a at is answers h = record {
   read = at.read;
@@ -233,22 +233,22 @@ cut_by start s t i o p x y held new next a at is answers h = record {
   ignored = lines_of new;
   told = at.told ++ a ∷ [];
   reads = (at.consumed, lines_held at.read new (at.asked ++ next ∷ []) (is at.read at.asked at.gives));
-  over = over_more start s t i o p x y at.asked at.told next a at.goes_on (writes_all_later o p (reply_text a) written.Cut h) at.over answers;
+  over = over_more start s t i o p x y at.asked at.told next a at.goes_on (writes_all_later o p a written.Cut h) at.over answers;
   written = at_reply at.told a o at.written h;
   ends = tt;
 }
 
-said_whole : (start : Scene) (o p : SinkView) (told : List Said) (a : Said)
-    → WritesAll start.outside.output o (talk_text (history_of start.session.installer.list) told) written.Whole → WritesAll o p (reply_text a) written.Whole
+said_whole : (start : Scene) (o p : SinkView) (told : List (List ℕ)) (a : List ℕ)
+    → WritesAll start.outside.output o (talk_text (history_of start.session.installer.list) told) written.Whole → WritesAll o p a written.Whole
     → WritesAll start.outside.output p (talk_text (history_of start.session.installer.list) (told ++ a ∷ [])) written.Whole
 said_whole start o p told a g h =
-    as_text start.outside.output p (talk_text (history_of start.session.installer.list) told ++ reply_text a)
+    as_text start.outside.output p (talk_text (history_of start.session.installer.list) told ++ a)
     (talk_text (history_of start.session.installer.list) (told ++ a ∷ [])) written.Whole (text_more (history_of start.session.installer.list) told a)
-    (written_more start.outside.output o p (talk_text (history_of start.session.installer.list) told) (reply_text a) g h)
+    (written_more start.outside.output o p (talk_text (history_of start.session.installer.list) told) a g h)
 
-answered : (start : Scene) (s t : StoreView) (i : SourceView) (o p : SinkView) (x y : Session) (held new : List ℕ) (next : Line) (a : Said)
+answered : (start : Scene) (s t : StoreView) (i : SourceView) (o p : SinkView) (x y : Session) (held new : List ℕ) (next : Line) (a : List ℕ)
     → KeepsTalking next → IsAt start (scene (outside s i o) x) held → IsNextLine held new next → AnswersLine s t x y next a
-    → WritesAll o p (reply_text a) written.Whole → IsAt start (scene (outside t i p) y) new
+    → WritesAll o p a written.Whole → IsAt start (scene (outside t i p) y) new
 answered start s t i o p x y held new next a goes at is answers h = record {
   read = at.read;
   asked = at.asked ++ next ∷ [];
@@ -256,48 +256,41 @@ answered start s t i o p x y held new next a goes at is answers h = record {
   consumed = at.consumed;
   gives = is at.read at.asked at.gives;
   goes_on = all_more KeepsTalking at.asked next at.goes_on goes;
-  over = over_more start s t i o p x y at.asked at.told next a at.goes_on (writes_all_later o p (reply_text a) written.Whole h) at.over answers;
+  over = over_more start s t i o p x y at.asked at.told next a at.goes_on (writes_all_later o p a written.Whole h) at.over answers;
   written = said_whole start o p at.told a at.written h;
 }
 
-said_turn : (start : Scene) (s t : StoreView) (i : SourceView) (o p : SinkView) (x y : Session) (held new : List ℕ) (next : Line) (a : Said) (r : Turn)
-    → KeepsTalking next → IsAt start (scene (outside s i o) x) held → IsNextLine held new next → AnswersLine s t x y next a → SaysText o p (reply_text a) r
+pub line_turn : (start : Scene) (s t : StoreView) (i : SourceView) (o p : SinkView) (x y : Session) (held new : List ℕ) (next : Line) (a : List ℕ) (r : Turn)
+    → KeepsTalking next → IsAt start (scene (outside s i o) x) held → IsNextLine held new next → AnswersLine s t x y next a → SaysText o p a r
     → Reaches start (scene (outside t i p) y) new r
-said_turn start s t i o p x y held new next a turn.On goes at is answers h = answered start s t i o p x y held new next a goes at is answers h
-said_turn start s t i o p x y held new next a (turn.End end.NotWritten) goes at is answers h = cut_by start s t i o p x y held new next a at is answers h
-said_turn start s t i o p x y held new next a (turn.End end.Quit) goes at is answers h = absurd h
-said_turn start s t i o p x y held new next a (turn.End end.InputEnded) goes at is answers h = absurd h
-said_turn start s t i o p x y held new next a (turn.End end.NotRead) goes at is answers h = absurd h
-said_turn start s t i o p x y held new next a turn.NoMemory goes at is answers h = absurd h
-
--- by the text that was written
-pub line_turn : (start : Scene) (s t : StoreView) (i : SourceView) (o p : SinkView) (x y : Session) (held new text : List ℕ) (next : Line) (r : Turn)
-    → KeepsTalking next → IsAt start (scene (outside s i o) x) held → IsNextLine held new next
-    → (b : Said) × (AnswersLine s t x y next b) × (text ≡ reply_text b) → SaysText o p text r
-    → Reaches start (scene (outside t i p) y) new r
-line_turn start s t i o p x y held new text next r goes at is told h =
-    said_turn start s t i o p x y held new next told.0 r goes at is told.1 (subst (λ (l : List ℕ). SaysText o p l r) told.2 h)
+line_turn start s t i o p x y held new next a turn.On goes at is answers h = answered start s t i o p x y held new next a goes at is answers h
+line_turn start s t i o p x y held new next a (turn.End end.NotWritten) goes at is answers h = cut_by start s t i o p x y held new next a at is answers h
+line_turn start s t i o p x y held new next a (turn.End end.Quit) goes at is answers h = absurd h
+line_turn start s t i o p x y held new next a (turn.End end.InputEnded) goes at is answers h = absurd h
+line_turn start s t i o p x y held new next a (turn.End end.NotRead) goes at is answers h = absurd h
+line_turn start s t i o p x y held new next a turn.NoMemory goes at is answers h = absurd h
 
 -- the last line
 quit_by : (start : Scene) (s : StoreView) (i : SourceView) (o p : SinkView) (x : Session) (held new : List ℕ)
-    → IsAt start (scene (outside s i o) x) held → IsNextLine held new line.Quit → AnswersLine s s x x line.Quit said.Bye
+    → IsAt start (scene (outside s i o) x) held → IsNextLine held new line.Quit → AnswersLine s s x x line.Quit (reply_text said.Bye)
     → WritesAll o p (reply_text said.Bye) written.Whole → ComesTo start (scene (outside s i p) x) (Some end.Quit)
 quit_by start s i o p x held new at is answers h = record {
   read = at.read;
   asked = at.asked ++ line.Quit ∷ [];
   ignored = lines_of new;
-  told = at.told ++ said.Bye ∷ [];
+  told = at.told ++ reply_text said.Bye ∷ [];
   reads = (at.consumed, lines_held at.read new (at.asked ++ line.Quit ∷ []) (is at.read at.asked at.gives));
-  over = over_more start s s i o p x x at.asked at.told line.Quit said.Bye at.goes_on (writes_all_later o p (reply_text said.Bye) written.Whole h) at.over
+  over = over_more start s s i o p x x at.asked at.told line.Quit (reply_text said.Bye) at.goes_on (writes_all_later o p (reply_text said.Bye) written.Whole h)
+      at.over
       answers;
-  written = said_whole start o p at.told said.Bye at.written h;
+  written = said_whole start o p at.told (reply_text said.Bye) at.written h;
   ends = (at.asked, refl);
 }
 
 pub quit_turn : (start : Scene) (s : StoreView) (i : SourceView) (o p : SinkView) (x : Session) (held new : List ℕ) (ended : TalkEnd)
-    → IsAt start (scene (outside s i o) x) held → IsNextLine held new line.Quit → AnswersLine s s x x line.Quit said.Bye
+    → IsAt start (scene (outside s i o) x) held → IsNextLine held new line.Quit → AnswersLine s s x x line.Quit (reply_text said.Bye)
     → SaysBye o p ended → Reaches start (scene (outside s i p) x) new (turn.End ended)
 quit_turn start s i o p x held new end.Quit at is answers h = quit_by start s i o p x held new at is answers h
-quit_turn start s i o p x held new end.NotWritten at is answers h = cut_by start s s i o p x x held new line.Quit said.Bye at is answers h
+quit_turn start s i o p x held new end.NotWritten at is answers h = cut_by start s s i o p x x held new line.Quit (reply_text said.Bye) at is answers h
 quit_turn start s i o p x held new end.InputEnded at is answers h = absurd h
 quit_turn start s i o p x held new end.NotRead at is answers h = absurd h

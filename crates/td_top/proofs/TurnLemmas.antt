@@ -6,7 +6,7 @@ use Rattle.console.specs.Lines.{IsInstall}
 use Rattle.console.specs.declared.line.Line.{Line}
 use Rattle.console.specs.declared.line.Line.TheVariants as line
 use Rattle.td_top.specs.Talk.{is_quit}
-use Rattle.td_top.specs.Turns.{IsNextLine}
+use Rattle.td_top.specs.TalkingSteps.{IsNextLine}
 
 folder_of : (next : Line) → IsInstall next → (dir : List ℕ) × (next ≡ line.Install dir)
 folder_of (line.Install dir) is = (dir, refl)

@@ -8,7 +8,7 @@ use Rattle.std.proofs.lemmas.List.Elements.{All-pop, All-push}
 use Rattle.std.proofs.lemmas.List.Folds.{list_any-append}
 use mathlib.Core.List.{IsPrefix}
 use Rattle.td_base.specs.DoorViews.{DoorView}
-use Rattle.td_base.specs.declared.report.Role.TheVariants as role
+use Rattle.td_base.specs.declared.report.Role.{Role}
 use Rattle.catalogue.specs.declared.holding.Catalogue.{Catalogue}
 use Rattle.connection.specs.DoorWorks.{WorkView}
 use Rattle.connection.specs.declared.door_work.DoorDone.{DoorDone}
@@ -33,27 +33,29 @@ still_as_many xs xs' x ys ys' r y many one other some =
 
 -- ---- works
 
-abbrev pub IsWork : Book → DoorView → WorkView → Type 0
-IsWork pair door w = (w.role ≡ role.Primary) × (w.door ≡ door) × (w.desk.pair ≡ pair)
+abbrev pub IsWork : Role → Book → DoorView → WorkView → Type 0
+IsWork server pair door w = (w.role ≡ server) × (w.door ≡ door) × (w.desk.pair ≡ pair)
 
-works_after : (pair : Book) (doors : List DoorView) (works : List WorkView) (door : DoorView) (w : WorkView) → AreWorks pair doors works
-    → IsWork pair door w → AreWorks pair (doors ++ door ∷ []) (works ++ w ∷ [])
-works_after pair [] [] door w h is = (is, tt)
-works_after pair [] (v ∷ vs) door w h is = absurd h
-works_after pair (d ∷ ds) [] door w h is = absurd h
-works_after pair (d ∷ ds) (v ∷ vs) door w h is = (h.0, works_after pair ds vs door w h.1 is)
+works_after : (server : Role) (pair : Book) (doors : List DoorView) (works : List WorkView) (door : DoorView) (w : WorkView) → AreWorks server pair doors works
+    → IsWork server pair door w → AreWorks server pair (doors ++ door ∷ []) (works ++ w ∷ [])
+works_after server pair [] [] door w h is = (is, tt)
+works_after server pair [] (v ∷ vs) door w h is = absurd h
+works_after server pair (d ∷ ds) [] door w h is = absurd h
+works_after server pair (d ∷ ds) (v ∷ vs) door w h is = (h.0, works_after server pair ds vs door w h.1 is)
 
-pub works_more : {D : Type 0} (seen : D → DoorView) (pair : Book) (doors : List D) (works works' : List WorkView) (door : D) (w : WorkView)
-    → AreWorks pair (map seen doors) works → works' ≡ works ++ w ∷ [] → IsWork pair (seen door) w → AreWorks pair (map seen (doors ++ door ∷ [])) works'
-works_more seen pair doors works works' door w h e is =
-    subst (λ ds. AreWorks pair ds works') (sym (map-append seen doors (door ∷ [])))
-    (subst (λ ws. AreWorks pair (map seen doors ++ seen door ∷ []) ws) (sym e) (works_after pair (map seen doors) works (seen door) w h is))
+pub works_more : {D : Type 0} (seen : D → DoorView) (server : Role) (pair : Book) (doors : List D) (works works' : List WorkView) (door : D) (w : WorkView)
+    → AreWorks server pair (map seen doors) works → works' ≡ works ++ w ∷ [] → IsWork server pair (seen door) w
+    → AreWorks server pair (map seen (doors ++ door ∷ [])) works'
+works_more seen server pair doors works works' door w h e is =
+    subst (λ ds. AreWorks server pair ds works') (sym (map-append seen doors (door ∷ [])))
+    (subst (λ ws. AreWorks server pair (map seen doors ++ seen door ∷ []) ws) (sym e) (works_after server pair (map seen doors) works (seen door) w h is))
 
 -- a work of a desk that was one of a pair's
-pub is_work : (pair : Book) (door : DoorView) (w v : WorkView) (all left : List (DeskView (Catalogue (List ℕ)))) (r : Option (DeskView (Catalogue (List ℕ))))
-    (desk : DeskView (Catalogue (List ℕ))) → w ≡ v → v.role ≡ role.Primary → v.door ≡ door → v.desk ≡ desk → all ≡ left ++ option_to_list r → r ≡ Some desk
-    → All (λ d. d.pair ≡ pair) all → IsWork pair door w
-is_work pair door w v all left r desk e role_is door_is desk_is popped some h =
+pub is_work : (server : Role) (pair : Book) (door : DoorView) (w v : WorkView) (all left : List (DeskView (Catalogue (List ℕ))))
+    (r : Option (DeskView (Catalogue (List ℕ))))
+    (desk : DeskView (Catalogue (List ℕ))) → w ≡ v → v.role ≡ server → v.door ≡ door → v.desk ≡ desk → all ≡ left ++ option_to_list r → r ≡ Some desk
+    → All (λ d. d.pair ≡ pair) all → IsWork server pair door w
+is_work server pair door w v all left r desk e role_is door_is desk_is popped some h =
     let held : IfSome r (λ d. d.pair ≡ pair) = (All-pop (λ d. d.pair ≡ pair) all left r popped h).1 in
     let of_pair : desk.pair ≡ pair = subst (λ o. IfSome o (λ d. d.pair ≡ pair)) some held in
     (ap (λ u. u.role) e ∙ role_is, ap (λ u. u.door) e ∙ door_is, ap (λ u. u.desk.pair) e ∙ (ap (λ d. d.pair) desk_is ∙ of_pair))
@@ -65,8 +67,8 @@ signs_more flag flag' sign works works' w h more same is of =
     subst (λ f. All (λ (v : WorkView). v.stop ≡ f) works') (sym same)
     (subst (λ vs. All (λ (v : WorkView). v.stop ≡ flag) vs) (sym more) (All-push (λ v. v.stop ≡ flag) works w h (is ∙ of)))
 
-pub has_works : (pair : Book) (doors : List DoorView) (works : List WorkView) → AreWorks pair doors works → HasWorks pair works
-has_works pair doors works are = (doors, are)
+pub has_works : (server : Role) (pair : Book) (doors : List DoorView) (works : List WorkView) → AreWorks server pair doors works → HasWorks pair works
+has_works server pair doors works are = (server, doors, are)
 
 -- ---- workers that learn
 

@@ -1,18 +1,30 @@
 -- What a row of folders gives, each checked against the releases of those before it. Where the
 -- store does not tell its files, this is said of some releases.
 use Rattle.std.specs.Prelude.{◌≡◌, ◌≢◌, ℕ, List, [], ◌∷◌, ◌++◌, Option, IfSome, Result, Ok, Err}
-use Rattle.td_base.specs.Views.{File}
+use Rattle.td_base.specs.Views.{File, StoreFailed}
 use Rattle.catalogue.specs.Releases.{ReleaseData}
 use Rattle.release_check.specs.Before.{before_of}
 use Rattle.release_check.specs.Folder.{FolderGives}
-use Rattle.release_check.specs.declared.check_fault.CheckFault.{CheckFault}
+use Rattle.installer.specs.FaultText.{fault_text}
+use Rattle.installer.specs.Installing.{GivesFault}
+use Rattle.installer.specs.declared.install_fault.InstallFault.{InstallFault}
+use Rattle.installer.specs.declared.install_fault.InstallFault.TheVariants as install
 use Rattle.release_check.specs.declared.check_fault.CheckFault.TheVariants as fault
+use Rattle.td_top.specs.Outside.{LeavesStreams, Outside}
+use Rattle.td_top.specs.Printing.{Printed, refused_line}
+use Rattle.td_top.specs.declared.status.Status.{Status}
+use Rattle.td_top.specs.declared.status.Status.TheVariants as status
 
--- a folder that comes after these releases
+-- a fault of the folder's files: neither did memory run out nor a read fail
+abbrev pub IsOfFiles : InstallFault → Type 0
+IsOfFiles install.NoMemory = ⊥
+IsOfFiles (install.Check f) = (f ≢ fault.NoMemory) × (f ≢ fault.ReadFault)
+
+-- a folder that comes after these releases gives one more, or it is refused
 abbrev pub GivesAfter : Option (List File) → List ReleaseData → List ℕ
-    → Result ReleaseData CheckFault → Type 0
-GivesAfter files H dir result =
-    IfSome files (λ fs. FolderGives fs dir (before_of H) result)
+    → Result ReleaseData InstallFault → Type 0
+GivesAfter files H dir (Ok r) = IfSome files (λ fs. FolderGives fs dir (before_of H) (Ok r))
+GivesAfter files H dir (Err e) = IfSome files (λ fs. GivesFault fs dir H e)
 
 -- the folders give these releases, one each
 pub data FoldersGive (files : Option (List File)) : List (List ℕ) → List ReleaseData → Type 0 where
@@ -31,11 +43,23 @@ pub record FoldersBegin (files : Option (List File)) (dirs : List (List ℕ)) (H
 
 -- the folders before one give these releases, and that one has a fault
 pub record StopsAtFault (files : Option (List File)) (dirs : List (List ℕ)) (H : List ReleaseData)
-    (f : CheckFault) : Type 0 where
+    (f : InstallFault) : Type 0 where
   pub first : List (List ℕ)
   pub dir : List ℕ
   pub rest : List (List ℕ)
   pub dirs_are : dirs ≡ first ++ dir ∷ rest
   pub give : FoldersGive files first H
   pub gives : GivesAfter files H dir (Err f)
-  pub of_files : (f ≢ fault.NoMemory) × (f ≢ fault.ReadFault)
+  pub of_files : IsOfFiles f
+
+-- how a run that is to serve the releases of folders ends before it serves any
+pub data ServesNothing (dirs : List (List ℕ)) (before after : Outside) : Status → Type 0 where
+  -- one folder is refused; the input is left alone
+  refused : (H : List ReleaseData) (e : InstallFault) (end : Status)
+      → StopsAtFault before.store.files dirs H e
+      → Printed status.Refused (refused_line (fault_text e)) before.output after.output end
+      → after.input ≡ before.input → ServesNothing dirs before after end
+  -- a file was not read
+  unread : StoreFailed before.store after.store → LeavesStreams before after
+      → ServesNothing dirs before after status.NotRead
+  out_of_memory : LeavesStreams before after → ServesNothing dirs before after status.NoMemory

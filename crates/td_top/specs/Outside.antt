@@ -1,6 +1,6 @@
 -- What a run sees of the outside at one moment: the store of files, the input and the output, and
 -- with these the network and the spawner.
-use Rattle.std.specs.Prelude.{ℕ, ◌≤◌}
+use Rattle.std.specs.Prelude.{◌≡◌, ℕ, ◌≤◌}
 use Rattle.td_base.specs.Views.{LaterStore, LaterSource, LaterSink, StoreView, SourceView, SinkView}
 use Rattle.td_base.specs.DoorViews.{NetworkView}
 
@@ -20,6 +20,10 @@ pub record Later (before after : Outside) : Type 0 where
   pub input : LaterSource before.input after.input
   pub output : LaterSink before.output after.output
 
+-- nothing was read of the input or written to the output
+abbrev pub LeavesStreams : Outside → Outside → Type 0
+LeavesStreams before after = (after.input ≡ before.input) × (after.output ≡ before.output)
+
 -- these with the network and the spawner, of which the latter tells how often it failed
 pub record World : Type 0 where
   pub outside : Outside
@@ -34,3 +38,7 @@ pub record LaterWorld (before after : World) : Type 0 where
   pub outside : Later before.outside after.outside
   pub network : before.network.faults ≤ after.network.faults
   pub spawner : before.spawner ≤ after.spawner
+
+-- the network and the spawner were left alone
+abbrev pub IsAlone : World → World → Type 0
+IsAlone before after = (after.network ≡ before.network) × (after.spawner ≡ before.spawner)

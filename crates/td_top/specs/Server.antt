@@ -1,58 +1,68 @@
 -- How doors are served beside a talk with an operator, who installs further releases meanwhile.
 use Rattle.std.specs.Prelude.{◌≡◌, ℕ, ◌⊎◌, List, [], ◌∷◌, ◌++◌, length, map, take, All, Bool}
-use Rattle.std.specs.Prelude.{true, false, ◌||◌, ⊤, Option, None, Some}
-use Rattle.td_base.specs.Views.{Rose, RoseBy}
+use Rattle.std.specs.Prelude.{true, false, ◌||◌, ⊤, Option, None, Some, if◌then◌else◌}
+use Rattle.td_base.specs.Views.{Rose}
 use Rattle.td_base.specs.DoorViews.{DoorContent, DoorView, Finished, NetworkContent, NetworkView}
 use Rattle.td_base.specs.Doors.{IsNewDoor, called, new_content, opened_at}
 use Rattle.td_base.specs.declared.door.DoorAnswer.TheVariants as answer
+use Rattle.td_base.specs.declared.report.Role.{Role}
 use Rattle.td_base.specs.declared.report.Role.TheVariants as role
 use Rattle.catalogue.specs.Releases.{ReleaseData}
+use Rattle.console.specs.Lines.{IsInstall}
 use Rattle.connection.specs.DoorWorks.{NoneComes, ServedConns, places_of}
+use Rattle.connection.specs.FaultCounts.{RoseTimes}
 use Rattle.connection.specs.Served.{NeverFall}
-use Rattle.td_top.specs.Outside.{Outside, World}
-use Rattle.td_top.specs.Ends.{status_for}
+use Rattle.connection.specs.declared.door_work.TheConstants.{MOST_FAILURES}
+use Rattle.td_top.specs.Folders.{FoldersGive, ServesNothing}
+use Rattle.td_top.specs.Outside.{IsAlone, LeavesStreams, World}
+use Rattle.td_top.specs.Talk.{InstallsFolder}
 use Rattle.td_top.specs.Talking.{AnswersOperator}
 use Rattle.td_top.specs.declared.status.Status.{Status}
 use Rattle.td_top.specs.declared.status.Status.TheVariants as status
 use Rattle.td_top.specs.declared.talking.TalkEnd.{TalkEnd}
+use Rattle.td_top.specs.declared.talking.TalkEnd.TheVariants as talk
 
 -- ---- doors
 
 -- Of a door that tells its connections: those that it gave were handed back, all of them and in
 -- order, and each was served over the history. Places never fall, also from one connection to the
 -- next.
-pub record ServesInputs (H : List ReleaseData) (before now : DoorContent) : Type 0 where
+pub record ServesInputs (server : Role) (H : List ReleaseData) (before now : DoorContent)
+    : Type 0 where
   pub inputs : List (List ℕ)
   pub finished : List Finished
   pub given : now.given ≡ before.given ++ inputs
   pub coming : before.coming ≡ inputs ++ now.coming
   pub finished_is : now.finished ≡ before.finished ++ finished
-  pub served : ServedConns H role.Primary inputs finished
+  pub served : ServedConns H server inputs finished
   pub rising : NeverFall (places_of finished)
 
-abbrev pub ConnsTold : List ReleaseData → Option DoorContent → Option DoorContent → Type 0
-ConnsTold H (Some before) (Some now) = ServesInputs H before now
-ConnsTold H (Some before) None = ⊥
-ConnsTold H None (Some now) = ⊥
-ConnsTold H None None = ⊤
+abbrev pub ConnsTold : Role → List ReleaseData → Option DoorContent → Option DoorContent → Type 0
+ConnsTold server H (Some before) (Some now) = ServesInputs server H before now
+ConnsTold server H (Some before) None = ⊥
+ConnsTold server H None (Some now) = ⊥
+ConnsTold server H None None = ⊤
 
 -- no connection is still to come, or none waited
 abbrev pub IsDone : DoorView → Type 0
 IsDone door =
     ((door.last ≡ Some answer.Ended) × NoneComes door) ⊎ (door.last ≡ Some answer.Idle)
 
--- a door was served until it was done, or until it had failed sixteen times, by which it is worn
-pub record ServesDoor (H : List ReleaseData) (before now : DoorView) (worn : Bool) : Type 0 where
-  pub told : ConnsTold H before.content now.content
+-- a door was served until it was done, or until it had failed so many times, of all its calls, that
+-- it is worn
+pub record ServesDoor (server : Role) (H : List ReleaseData) (before now : DoorView) (worn : Bool)
+    : Type 0 where
+  pub told : ConnsTold server H before.content now.content
   pub done : worn ≡ false → IsDone now
-  pub failed : worn ≡ true → RoseBy 16 before.faults now.faults
+  pub failed : worn ≡ true → RoseTimes MOST_FAILURES before.faults now.faults
 
 -- each door, in order; whether one of them is worn
-pub data ServesDoors (H : List ReleaseData) : List DoorView → List DoorView → Bool → Type 0 where
-  no_door : ServesDoors H [] [] false
+pub data ServesDoors (server : Role) (H : List ReleaseData)
+    : List DoorView → List DoorView → Bool → Type 0 where
+  no_door : ServesDoors server H [] [] false
   one_more : (before now : DoorView) (bs ns : List DoorView) (one others : Bool)
-      → ServesDoor H before now one → ServesDoors H bs ns others
-      → ServesDoors H (before ∷ bs) (now ∷ ns) (one || others)
+      → ServesDoor server H before now one → ServesDoors server H bs ns others
+      → ServesDoors server H (before ∷ bs) (now ∷ ns) (one || others)
 
 -- ---- the network
 
@@ -82,36 +92,46 @@ pub record OpensDoors (before now : NetworkView) (address : List ℕ) (number : 
 
 -- ---- the end of a run
 
--- nothing was read of the input or written to the output
-abbrev pub LeavesStreams : Outside → Outside → Type 0
-LeavesStreams before after = (after.input ≡ before.input) × (after.output ≡ before.output)
-
--- The doors that the network gave were served over the history of the run, which begins with an
--- opening and grows by the releases that the operator installed.
-pub record ServesWorld (address : List ℕ) (workers : ℕ) (opening : List ReleaseData)
-    (before after : World) (doors : List DoorView) (ended : TalkEnd) (worn : Bool) : Type 0 where
-  pub history : List ReleaseData
-  pub operator : AnswersOperator opening history before.outside after.outside ended
-  pub given : List DoorView
-  pub opened : OpensDoors before.network after.network address workers given
-  pub served : ServesDoors history given doors worn
+-- the status by how a talk beside workers ended, and whether a door of them is worn
+abbrev pub status_for : TalkEnd → Bool → Status
+status_for talk.Quit worn = if worn then status.NoNetwork else status.Done
+status_for talk.InputEnded worn = if worn then status.NoNetwork else status.Done
+status_for talk.NotRead worn = status.NotRead
+status_for talk.NotWritten worn = status.NotWritten
 
 -- how serving doors ends, after an opening
-pub data OpenedEnds (address : List ℕ) (workers : ℕ) (opening : List ReleaseData)
+pub data OpenedEnds (server : Role) (address : List ℕ) (workers : ℕ) (opening : List ReleaseData)
     (before after : World) : List DoorView → Status → Type 0 where
-  -- with the end of the talk, once the workers were done
-  served : (doors : List DoorView) (ended : TalkEnd) (worn : Bool)
-      → ServesWorld address workers opening before after doors ended worn
-      → OpenedEnds address workers opening before after doors (status_for ended worn)
+  -- with the end of the talk, once the workers were done: the doors that the network gave were
+  -- served over the history of the run, which begins with the opening and grows by the releases
+  -- that the operator installed
+  served : (history : List ReleaseData) (given doors : List DoorView) (ended : TalkEnd)
+      (worn : Bool)
+      → AnswersOperator IsInstall (InstallsFolder before.outside.store.files) opening history
+      before.outside after.outside ended
+      → OpensDoors before.network after.network address workers given
+      → ServesDoors server history given doors worn
+      → OpenedEnds server address workers opening before after doors (status_for ended worn)
   -- before anything was read or written, because the network failed
   no_network : LeavesStreams before.outside after.outside
       → CalledTold before.network.content after.network.content
       → Rose before.network.faults after.network.faults
-      → OpenedEnds address workers opening before after [] status.NoNetwork
+      → OpenedEnds server address workers opening before after [] status.NoNetwork
   -- before anything was read or written, because a worker was not started
   not_started : (given : List DoorView) → LeavesStreams before.outside after.outside
       → OpensDoors before.network after.network address workers given
       → Rose before.spawner after.spawner
-      → OpenedEnds address workers opening before after [] status.NotStarted
+      → OpenedEnds server address workers opening before after [] status.NotStarted
   -- at any time, because memory ran out
-  out_of_memory : OpenedEnds address workers opening before after [] status.NoMemory
+  out_of_memory : OpenedEnds server address workers opening before after [] status.NoMemory
+
+-- how `serve` ends
+pub data Serves (address : List ℕ) (workers : ℕ) (dirs : List (List ℕ)) (before after : World)
+    : List DoorView → Status → Type 0 where
+  -- over the doors of an address, once the folders have given their releases
+  opened : (opening : List ReleaseData) (doors : List DoorView) (end : Status)
+      → FoldersGive before.outside.store.files dirs opening
+      → OpenedEnds role.Primary address workers opening before after doors end
+      → Serves address workers dirs before after doors end
+  nothing : (end : Status) → ServesNothing dirs before.outside after.outside end
+      → IsAlone before after → Serves address workers dirs before after [] end

@@ -2,22 +2,20 @@
 use Rattle.std.specs.Prelude.{◌≡◌, ℕ, List, [], ◌∷◌, ◌++◌, flat_map, ⊤, Option, None, Some}
 use Rattle.std.specs.Io.KnownBytes.{Consumes, IsAtEnd}
 use Rattle.std.specs.List.{AllByRecursion}
-use Rattle.td_base.specs.Views.{LaterStore, RoseBy, SinkView, SourceFailed, SourceView}
-use Rattle.td_base.specs.Views.{StoreView}
+use Rattle.td_base.specs.Views.{LaterStore, RoseBy, SinkView, SourceFailed, SourceView, StoreView}
 use Rattle.td_base.specs.Transfer.{WritesAll}
 use Rattle.td_base.specs.declared.transfer.Written.TheVariants as written
 use Rattle.catalogue.specs.Releases.{ReleaseData}
-use Rattle.console.specs.Lines.{lines_of}
+use Rattle.console.specs.Lines.{IsInstall, lines_of}
 use Rattle.console.specs.Replies.{reply_text}
 use Rattle.console.specs.Steps.{GivesLines}
 use Rattle.console.specs.declared.line.Line.{Line}
 use Rattle.console.specs.declared.line.Line.TheVariants as line
-use Rattle.console.specs.declared.said.Said.{Said}
 use Rattle.console.specs.declared.said.Said.TheVariants as said
 use Rattle.catalogue.specs.Holdings.{history_of}
 use Rattle.td_top.specs.Outside.{Later, Outside}
 use Rattle.td_top.specs.Sessions.{BeginsWhole, LaterSession, StandsAt}
-use Rattle.td_top.specs.Talk.{KeepsTalking, Talk, Talks, talk_begun, last_token}
+use Rattle.td_top.specs.Talk.{InstallsFolder, KeepsTalking, Talk, Talks, talk_begun, last_token}
 use Rattle.td_top.specs.declared.session.Session.{Session}
 use Rattle.td_top.specs.declared.talking.TalkEnd.{TalkEnd}
 use Rattle.td_top.specs.declared.talking.TalkEnd.TheVariants as end
@@ -36,15 +34,17 @@ pub record LaterScene (before now : Scene) : Type 0 where
   pub session : LaterSession before.session now.session
 
 -- all that is said: that the server is ready, and what each line gets said
-abbrev pub talk_text : List ReleaseData → List Said → List ℕ
-talk_text opening told = reply_text (said.Ready (last_token opening)) ++ flat_map reply_text told
+abbrev pub talk_text : List ReleaseData → List (List ℕ) → List ℕ
+talk_text opening told =
+    reply_text (said.Ready (last_token opening)) ++ flat_map (λ (text : List ℕ). text) told
 
 -- a talk over a scene, by the lines that were asked and what was said of each
-pub record TalksOver (before now : Scene) (asked : List Line) (told : List Said) : Type 0 where
+pub record TalksOver (before now : Scene) (asked : List Line) (told : List (List ℕ))
+    : Type 0 where
   pub later : LaterScene before now
   pub talks : (whole : List ReleaseData) → BeginsWhole now.session whole
       → (t : Talk) × StandsAt before.outside.store now.outside.store now.session t
-      × Talks before.outside.store.files whole
+      × Talks IsInstall (InstallsFolder before.outside.store.files) whole
       (talk_begun (history_of before.session.installer.list)) asked told t
 
 -- the first of the lines in the bytes that were read
@@ -65,16 +65,17 @@ EndsBy before now asked ignored end.NotWritten = ⊤
 
 -- a failed write cut what was said last, and all before it was written: no line after it got
 -- anything said
-pub data IsCut (opening : List ReleaseData) (old new : SinkView) : List Said → Type 0 where
+pub data IsCut (opening : List ReleaseData) (old new : SinkView) : List (List ℕ) → Type 0 where
   at_ready : WritesAll old new (reply_text (said.Ready (last_token opening))) written.Cut
       → IsCut opening old new []
-  at_reply : (first : List Said) (last : Said) (middle : SinkView)
+  at_reply : (first : List (List ℕ)) (last : List ℕ) (middle : SinkView)
       → WritesAll old middle (talk_text opening first) written.Whole
-      → WritesAll middle new (reply_text last) written.Cut
+      → WritesAll middle new last written.Cut
       → IsCut opening old new (first ++ last ∷ [])
 
 -- all that is said was written, unless the talk ended by a failed write, which cut the last of it
-abbrev pub WritesTalk : TalkEnd → List ReleaseData → SinkView → SinkView → List Said → Type 0
+abbrev pub WritesTalk : TalkEnd → List ReleaseData → SinkView → SinkView → List (List ℕ)
+    → Type 0
 WritesTalk end.Quit opening old new told = WritesAll old new (talk_text opening told) written.Whole
 WritesTalk end.InputEnded opening old new told =
     WritesAll old new (talk_text opening told) written.Whole
@@ -87,7 +88,7 @@ pub record Talked (before now : Scene) (ended : TalkEnd) : Type 0 where
   pub read : List ℕ
   pub asked : List Line
   pub ignored : List Line
-  pub told : List Said
+  pub told : List (List ℕ)
   pub reads : ReadsLines before.outside.input now.outside.input read asked ignored
   pub over : TalksOver before now asked told
   pub written : WritesTalk ended (history_of before.session.installer.list)
@@ -103,7 +104,7 @@ ComesTo before now None = LaterScene before now
 pub record IsAt (before now : Scene) (held : List ℕ) : Type 0 where
   pub read : List ℕ
   pub asked : List Line
-  pub told : List Said
+  pub told : List (List ℕ)
   pub consumed : Consumes before.outside.input.left now.outside.input.left read
   pub gives : GivesLines read asked held
   pub goes_on : AllByRecursion KeepsTalking asked
@@ -114,15 +115,16 @@ pub record IsAt (before now : Scene) (held : List ℕ) : Type 0 where
 -- An operator's lines were answered, while the history of the run grew from its opening: the lines
 -- stand in the bytes that were read, in order and up to an end, and what they got said was written.
 -- The store failed at least so often since the server was ready as lines were told.
-pub record AnswersOperator (opening whole : List ReleaseData) (before now : Outside)
-    (ended : TalkEnd) : Type 0 where
+pub record AnswersOperator (does : Line → Type 0)
+    (handles : Talk → Line → List ℕ → Talk → Type 0) (opening whole : List ReleaseData)
+    (before now : Outside) (ended : TalkEnd) : Type 0 where
   pub read : List ℕ
   pub asked : List Line
   pub ignored : List Line
-  pub told : List Said
+  pub told : List (List ℕ)
   pub last : Talk
   pub reads : ReadsLines before.input now.input read asked ignored
-  pub talks : Talks before.store.files whole (talk_begun opening) asked told last
+  pub talks : Talks does handles whole (talk_begun opening) asked told last
   pub published : last.published ≡ whole
   pub ready : StoreView
   pub since : LaterStore before.store ready

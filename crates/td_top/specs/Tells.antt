@@ -3,27 +3,38 @@ use Rattle.std.specs.Prelude.{◌≡◌, ℕ, List, Option, None, Some, ◌⊎�
 use Rattle.td_base.specs.Views.{LaterSink, LaterSource, SinkView, SourceView, StoreView}
 use Rattle.td_base.specs.declared.report.End.{End}
 use Rattle.catalogue.specs.Releases.{ReleaseData}
-use Rattle.release_check.specs.FaultText.{fault_text as folder_text}
-use Rattle.release_check.specs.declared.check_fault.CheckFault.{CheckFault}
 use Rattle.release_check.specs.declared.check_fault.CheckFault.TheVariants as fault
+use Rattle.installer.specs.FaultText.{fault_text as install_text}
 use Rattle.installer.specs.declared.install_fault.InstallFault.{InstallFault}
 use Rattle.installer.specs.declared.install_fault.InstallFault.TheVariants as install
 use Rattle.zone_meaning.specs.Faults.{zone_fault}
 use Rattle.zone_meaning.specs.FaultText.{fault_text as zone_text}
 use Rattle.zone_meaning.specs.State.{zone_state}
 use Rattle.zone_meaning.specs.declared.zone_fault.ZoneFault.{ZoneFault}
-use Rattle.td_top.specs.Ends.{Ends, Printed, end_status}
-use Rattle.td_top.specs.Grammar.{Asked}
-use Rattle.td_top.specs.Lines.{refused_line, state_line}
+use Rattle.td_top.specs.Answering.{ServesStreams, end_status}
+use Rattle.td_top.specs.Checking.{Checks}
 use Rattle.td_top.specs.Outside.{Outside, Later, outside}
-use Rattle.td_top.specs.Served.{ServesStreams}
+use Rattle.td_top.specs.Printing.{Printed, refused_line, usage_line}
+use Rattle.td_top.specs.StateLine.{state_line}
 use Rattle.td_top.specs.declared.status.Status.{Status}
 use Rattle.td_top.specs.declared.status.Status.TheVariants as status
 
--- a run ended, and nothing else was done to the outside than calls do
-pub record EndsLater (asked : Option Asked) (before after : Outside) (end : Status) : Type 0 where
-  pub ends : Ends asked before after end
+-- a run ended so, and nothing else was done to the outside than calls do
+pub record EndsLater (ends_so : Outside → Outside → Status → Type 0) (before after : Outside)
+    (end : Status) : Type 0 where
+  pub ends : ends_so before after end
   pub later : Later before after
+
+-- how a run ends whose words are no command; the input is left alone
+abbrev pub ShowsUsage : Outside → Outside → Status → Type 0
+ShowsUsage before after end =
+    Printed status.Usage usage_line before.output after.output end × (after.input ≡ before.input)
+
+-- how `check` ends; the input is left alone
+abbrev pub ChecksFolders : List (List ℕ) → Outside → Outside → Status → Type 0
+ChecksFolders dirs before after end =
+    Checks dirs before.store after.store before.output after.output end
+    × (after.input ≡ before.input)
 
 -- the input and the output were served, and nothing else was done to them than calls do; the store
 -- has no part in it
@@ -56,16 +67,11 @@ Tells called text old new end = Printed called text old new end ⊎ IsLeft old n
 abbrev pub TellsRefused : List ℕ → SinkView → SinkView → Status → Type 0
 TellsRefused why old new end = Tells status.Refused (refused_line why) old new end
 
--- the fault of a folder ends a run
-abbrev pub RefusesFolder : CheckFault → SinkView → SinkView → Status → Type 0
-RefusesFolder fault.NoMemory old new end = IsLeft old new end status.NoMemory
-RefusesFolder fault.ReadFault old new end = IsLeft old new end status.NotRead
-RefusesFolder f old new end = TellsRefused (folder_text f) old new end
-
 -- a folder that was not installed ends a run
 abbrev pub RefusesInstall : InstallFault → SinkView → SinkView → Status → Type 0
 RefusesInstall install.NoMemory old new end = IsLeft old new end status.NoMemory
-RefusesInstall (install.Check f) old new end = RefusesFolder f old new end
+RefusesInstall (install.Check fault.ReadFault) old new end = IsLeft old new end status.NotRead
+RefusesInstall f old new end = TellsRefused (install_text f) old new end
 
 -- the state of a zone file ends a run, or the file's fault does
 abbrev pub ShowsBy : List ℕ → ℤ → Option ZoneFault → SinkView → SinkView → Status → Type 0

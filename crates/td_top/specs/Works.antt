@@ -4,42 +4,45 @@ use Rattle.std.specs.List.{list_any}
 use mathlib.Core.List.{IsPrefix}
 use Rattle.td_base.specs.Views.{Rose}
 use Rattle.td_base.specs.DoorViews.{DoorView}
-use Rattle.td_base.specs.declared.report.Role.TheVariants as role
+use Rattle.td_base.specs.declared.report.Role.{Role}
 use Rattle.catalogue.specs.Releases.{ReleaseData}
 use Rattle.catalogue.specs.declared.holding.Catalogue.{Catalogue}
+use Rattle.console.specs.Lines.{IsInstall}
 use Rattle.connection.specs.DoorWorks.{WorkView}
 use Rattle.connection.specs.declared.door_work.DoorDone.{DoorDone}
 use Rattle.logbook.specs.Pages.{Book}
-use Rattle.td_top.specs.Outside.{Outside}
-use Rattle.td_top.specs.Server.{LeavesStreams, ServesDoors}
-use Rattle.td_top.specs.Ends.{status_for}
+use Rattle.td_top.specs.Outside.{LeavesStreams, Outside}
+use Rattle.td_top.specs.Server.{ServesDoors, status_for}
+use Rattle.td_top.specs.Talk.{InstallsFolder}
 use Rattle.td_top.specs.Talking.{AnswersOperator}
 use Rattle.td_top.specs.declared.status.Status.{Status}
 use Rattle.td_top.specs.declared.status.Status.TheVariants as status
 use Rattle.td_top.specs.declared.talking.TalkEnd.{TalkEnd}
 
--- the works serve these doors, in order, by desks of a pair
-abbrev pub AreWorks : Book → List DoorView → List WorkView → Type 0
-AreWorks pair [] [] = ⊤
-AreWorks pair [] (w ∷ ws) = ⊥
-AreWorks pair (door ∷ doors) [] = ⊥
-AreWorks pair (door ∷ doors) (w ∷ ws) =
-    ((w.role ≡ role.Primary) × (w.door ≡ door) × (w.desk.pair ≡ pair)) × AreWorks pair doors ws
+-- the works of such a server serve these doors, in order, by desks of a pair
+abbrev pub AreWorks : Role → Book → List DoorView → List WorkView → Type 0
+AreWorks server pair [] [] = ⊤
+AreWorks server pair [] (w ∷ ws) = ⊥
+AreWorks server pair (door ∷ doors) [] = ⊥
+AreWorks server pair (door ∷ doors) (w ∷ ws) =
+    ((w.role ≡ server) × (w.door ≡ door) × (w.desk.pair ≡ pair)) × AreWorks server pair doors ws
 
 -- the works serve some doors
 abbrev pub HasWorks : Book → List WorkView → Type 0
-HasWorks pair works = (doors : List DoorView) × AreWorks pair doors works
+HasWorks pair works =
+    (server : Role) × (doors : List DoorView) × AreWorks server pair doors works
 
 -- what came of serving doors beside a talk, after an opening
-pub data WorksEnd (opening : List ReleaseData) (given : List DoorView) (before after : Outside)
-    (refusals refusals' : ℕ) : List DoorView → Status → Type 0 where
+pub data WorksEnd (server : Role) (opening : List ReleaseData) (given : List DoorView)
+    (before after : Outside) (refusals refusals' : ℕ) : List DoorView → Status → Type 0 where
   served : (history : List ReleaseData) (doors : List DoorView) (ended : TalkEnd) (worn : Bool)
-      → AnswersOperator opening history before after ended
-      → ServesDoors history given doors worn
-      → WorksEnd opening given before after refusals refusals' doors (status_for ended worn)
+      → AnswersOperator IsInstall (InstallsFolder before.store.files) opening history before after
+      ended
+      → ServesDoors server history given doors worn
+      → WorksEnd server opening given before after refusals refusals' doors (status_for ended worn)
   not_started : LeavesStreams before after → Rose refusals refusals'
-      → WorksEnd opening given before after refusals refusals' [] status.NotStarted
-  out_of_memory : WorksEnd opening given before after refusals refusals' [] status.NoMemory
+      → WorksEnd server opening given before after refusals refusals' [] status.NotStarted
+  out_of_memory : WorksEnd server opening given before after refusals refusals' [] status.NoMemory
 
 -- the doors of workers that learnt all of a list that was published, and whether one is worn
 pub record Learnt {D C : Type 0} (list : List (Catalogue (List ℕ))) (dones : List (DoorDone D C))

@@ -1,19 +1,18 @@
-ghost use Rattle.std.specs.Prelude.{◌≡◌, ◌<◌, length, true, IfOk, Some};
+ghost use Rattle.std.specs.Prelude.{◌≡◌, ◌<◌, length, true, IfOk};
 ghost use Rattle.catalogue.specs.Holdings.{history_of};
-ghost use Rattle.td_top.specs.Grammar.{answer};
+ghost use Rattle.td_top.specs.Answering.{Answers};
 ghost use Rattle.td_top.specs.Outside.{outside};
-ghost use Rattle.td_top.specs.Tells.{EndsLater, ServesLast};
+ghost use Rattle.td_top.specs.Tells.{EndsLater, ServesLast, ServesLater};
 
 use crate::opening::{Opened, open_all};
 use crate::refusing::refuse_install;
-use crate::serving::serve;
 use crate::session::Session;
 use crate::status::{Status, status_of};
 use catalogue::Catalogue;
 use publication::{Desk, Ended};
 use std::alloc::Global;
 use std::sync::Wait;
-use td_base::{Bytes, NoMemory, Sink, Source, Store};
+use td_base::{Bytes, End, Joined, NoMemory, Role, Sink, Source, Store};
 use zone_meaning::Zone;
 
 /// Installs the releases of folders, and serves the input and the output, as one connection, over
@@ -27,7 +26,7 @@ pub fn answer<R: Wait, S: Store, C: Source, K: Sink>(
     output: &mut K,
 ) -> Status
     requires { 0 < length folders.now }
-    ensures { EndsLater (Some (answer folders.now))
+    ensures { EndsLater (Answers folders.now)
         (outside (S.seen store.old) (C.seen input.old) (K.seen output.old))
         (outside (S.seen store.new) (C.seen input.new) (K.seen output.new)) result }
 {
@@ -81,4 +80,20 @@ fn end_history<R: Wait>(
             Err(NoMemory)
         }
     }
+}
+
+/// Serves the input and the output, as one connection, over a desk that has seen all.
+fn serve<C: Source, K: Sink>(
+    alloc: Global,
+    desk: &mut Desk<Catalogue<Zone>>,
+    input: &mut C,
+    output: &mut K,
+) -> End
+    requires { desk.old.ended ≡ true }
+    ensures { ServesLater (history_of desk.old.seen)
+        (C.seen input.old) (C.seen input.new) (K.seen output.old) (K.seen output.new) result }
+{
+    let mut conn = Joined::new(input, output);
+    let report = connection::serve(alloc, &Role::Primary, desk, &mut conn);
+    report.end
 }

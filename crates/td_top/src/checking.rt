@@ -1,12 +1,12 @@
-ghost use Rattle.std.specs.Prelude.{List, Some, IfOk, IfSome};
+ghost use Rattle.std.specs.Prelude.{List, IfOk, IfSome};
 ghost use Rattle.td_base.specs.Views.{SourceView};
 ghost use Rattle.catalogue.specs.Releases.{ReleaseData};
 ghost use Rattle.installer.specs.Installing.{Installs};
 ghost use Rattle.zone_meaning.specs.ZoneHistories.{HasZoneHistory};
-ghost use Rattle.td_top.specs.Grammar.{check};
+ghost use Rattle.td_top.specs.Tells.{ChecksFolders};
 ghost use Rattle.td_top.specs.Outside.{outside};
-ghost use Rattle.td_top.specs.Steps.{ChecksNext, AddsRelease, HasLine, Stands, TellsRelease};
-ghost use Rattle.td_top.specs.Steps.{grown};
+ghost use Rattle.td_top.specs.CheckingSteps.{ChecksNext, AddsRelease, HasLine, Stands, TellsRelease};
+ghost use Rattle.td_top.specs.CheckingSteps.{grown};
 ghost use Rattle.td_top.specs.Tells.{EndsLater};
 
 use crate::refusing::refuse_install;
@@ -26,7 +26,7 @@ pub fn check_folders<S: Store, K: Sink>(
     output: &mut K,
 ) -> Status
     // The input, whatever it is, is left alone.
-    ensures { (input : SourceView) → EndsLater (Some (check folders.now))
+    ensures { (input : SourceView) → EndsLater (ChecksFolders folders.now)
         (outside (S.seen store.old) input (K.seen output.old))
         (outside (S.seen store.new) input (K.seen output.new)) result }
 {

@@ -7,7 +7,7 @@ ghost use Rattle.td_top.specs.Grammar.{command_of, over_folders, are_folders, at
 ghost use Rattle.td_top.specs.Grammar.{answer, check, if_meant, meant_moment};
 ghost use Rattle.td_top.specs.Grammar.{is_address, is_address_byte, most_workers, serve_of};
 ghost use Rattle.td_top.specs.Grammar.{workers_in};
-ghost use Rattle.td_top.specs.Commands.{plain_command, IsMeantCommand};
+ghost use Rattle.td_top.specs.Command.{plain_command, IsMeantCommand};
 
 use td_base::{Bytes, is_path_word, read_decimal};
 use td_civil::{HI, LO, Moment, moment_of};
@@ -111,12 +111,7 @@ fn are_folders(words: &[Bytes]) -> bool
 fn are_path_words(words: &[Bytes]) -> bool
     ensures { result ≡ list_all is_path_word words.now }
 {
-    for word in words {
-        if !is_path_word(word.as_slice()) {
-            return false;
-        }
-    }
-    true
+    words.iter().all(|word| is_path_word(word.as_slice()))
 }
 
 /// `at FILE MOMENT`
@@ -190,12 +185,7 @@ fn is_address(word: &[u8]) -> bool
 fn are_address_bytes(word: &[u8]) -> bool
     ensures { result ≡ list_all is_address_byte word.now }
 {
-    for byte in word {
-        if !is_address_byte(*byte) {
-            return false;
-        }
-    }
-    true
+    word.iter().all(|byte| is_address_byte(*byte))
 }
 
 /// Whether a byte may stand in a network address.

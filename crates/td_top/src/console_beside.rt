@@ -1,5 +1,5 @@
 ghost use Rattle.std.specs.Prelude.{◌≡◌};
-ghost use Rattle.td_top.specs.Consoles.{Halted, Ran, console_view, lent};
+ghost use Rattle.td_top.specs.ConsoleBeside.{Halted, Ran, console_view, lent};
 ghost use Rattle.td_top.specs.Outside.{outside};
 
 use crate::session::Session;

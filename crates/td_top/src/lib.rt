@@ -1,6 +1,6 @@
 //! The top call of the program: what its words, the files of its store and its input make it write,
-//! and with which status it ends. [`run`] is the call. What words call for is `CallsFor` of
-//! `specs/Ends.antt`, and how a run ends `RunEnds` of `specs/RunEnds.antt`.
+//! and with which status it ends. [`run`] is the call. How a run ends, command by command, is
+//! `RunEnds` of `specs/Running.antt`.
 #![tactic(auto)]
 
 // A run: its words, and how it ends.
@@ -20,11 +20,12 @@ mod state_line;
 // One connection over the standard streams.
 mod answering;
 mod opening;
-mod serving;
+mod publishing;
 mod session;
 
 // The talk with an operator.
 mod operator;
+mod replies;
 mod talking;
 
 // The doors of an address, with that talk beside them.

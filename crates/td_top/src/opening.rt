@@ -1,5 +1,5 @@
 ghost use Rattle.std.specs.Prelude.{◌≡◌, ◌<◌, ◌≤◌, length, IfOk};
-ghost use Rattle.td_top.specs.Installed.{HasDesks, InstallsAll, InstallsRest, published_in};
+ghost use Rattle.td_top.specs.Opening.{HasDesks, InstallsAll, InstallsRest, published_in};
 
 use crate::session::Session;
 use catalogue::Catalogue;

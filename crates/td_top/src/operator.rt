@@ -1,69 +1,40 @@
-ghost use Rattle.std.specs.Prelude.{◌≡◌, length, OnOk, OnErr};
+ghost use Rattle.std.specs.Prelude.{◌≡◌, ◌+◌, ◌⊎◌, length};
 ghost use Rattle.catalogue.specs.Histories.{meta};
+ghost use Rattle.console.specs.Replies.{IsBoundedReply, reply_text};
 ghost use Rattle.console.specs.declared.said.Said.TheVariants as said;
-ghost use Rattle.installer.specs.Installing.{GrowsBy, Installs};
 ghost use Rattle.catalogue.specs.Holdings.{history_of};
 ghost use Rattle.zone_meaning.specs.ZoneHistories.{ForEachZoneHistory, HasZoneHistory};
 ghost use Rattle.td_base.specs.Views.{StoreView};
-ghost use Rattle.td_top.specs.Sessions.{AnswersLine, LaterSession, SaysRefused};
-ghost use Rattle.td_top.specs.Sessions.{SaysWhy, refused_by};
+ghost use Rattle.td_top.specs.Replies.{reply_bytes};
+ghost use Rattle.td_top.specs.Sessions.{AnswersLine};
 ghost use Rattle.td_top.specs.Talk.{last_token};
 
-use crate::refusing::fault_text;
+use crate::replies::Reply;
 use crate::session::Session;
 use catalogue::Catalogue;
 use console::{Line, Said};
-use installer::{InstallFault, Installer};
-use release_check::CheckFault;
+use installer::Installer;
 use std::alloc::Global;
 use std::sync::Wait;
 use td_base::{Bytes, NoMemory, Store, Token};
 use zone_meaning::Zone;
 
-impl Session {
-    /// Installs the release of a folder, and lets the desk learn of it.
-    pub fn install<R: Wait, S: Store>(
-        &mut self,
-        rt: &R,
-        alloc: Global,
-        dir: &[u8],
-        store: &mut S,
-    ) -> Result<(), InstallFault>
-        ensures found { Installs (S.seen store.old) (S.seen store.new) dir.now
-            (history_of self.old.installer.list) (λ u. history_of self.new.installer.list) result }
-        ensures grown { OnOk result (GrowsBy (history_of self.old.installer.list)
-            (history_of self.new.installer.list)) }
-        ensures refused { OnErr result (self.new.installer.list ≡ self.old.installer.list) }
-        ensures later { LaterSession self.old self.new }
-    {
-        let receipt = self.installer.install(rt, alloc, dir, store)?;
-        self.desk.learn(receipt);
-        Ok(())
-    }
-
-    /// Gives up what is published. It may wait for desks that are entering.
-    pub fn close<R: Wait>(self, rt: &R) {
-        let Session { installer, desk: _ } = self;
-        installer.close(rt);
-    }
-}
-
-/// Does what a line asks for, and gives what is said of it.
+/// Does what a line asks for, and gives the reply to it.
 pub fn answer_line<R: Wait, S: Store>(
     rt: &R,
     alloc: Global,
     session: &mut Session,
     store: &mut S,
     line: &Line,
-) -> Said
+) -> Reply
     ensures { AnswersLine (S.seen store.old) (S.seen store.new) session.old session.new line.now
-        result }
+        (reply_bytes result) }
 {
     match line {
         Line::Install(dir) => install(rt, alloc, session, store, dir),
         Line::Status => show(session),
-        Line::Quit => Said::Bye,
-        Line::Sync | Line::Strange => Said::Unknown,
+        Line::Quit => Reply::brief(&Said::Bye),
+        Line::Sync | Line::Strange => Reply::brief(&Said::Unknown),
     }
 }
 
@@ -74,13 +45,13 @@ fn install<R: Wait, S: Store>(
     session: &mut Session,
     store: &mut S,
     dir: &Bytes,
-) -> Said
+) -> Reply
     ensures { AnswersLine (S.seen store.old) (S.seen store.new) session.old session.new
-        (Line.Install dir.now) result }
+        (Line.Install dir.now) (reply_bytes result) }
 {
     match session.install(rt, alloc, dir.as_slice(), store) {
-        Ok(()) => Said::Installed(newest(&session.installer)),
-        Err(fault) => refusal(alloc, &fault),
+        Ok(()) => Reply::brief(&Said::Installed(newest(&session.installer))),
+        Err(fault) => Reply::refusal(alloc, &fault),
     }
 }
 
@@ -93,13 +64,16 @@ pub fn newest(installer: &Installer) -> Token
 }
 
 /// Shows the release that the desk holds after one enter.
-fn show(session: &mut Session) -> Said
-    ensures { (store : StoreView) → AnswersLine store store session.old session.new Line.Status
-        result }
+fn show(session: &mut Session) -> Reply
+    ensures answers { (store : StoreView) → AnswersLine store store session.old session.new
+        Line.Status (reply_bytes result) }
+    // What is shown is what was found by an enter of this call.
+    ensures enters { (session.new.desk.enters ≡ session.old.desk.enters + 1)
+        ⊎ (reply_bytes result ≡ reply_text said.NoMemory) }
 {
     match session.desk.enter() {
-        Ok(()) => serving(session.desk.value()),
-        Err(NoMemory) => Said::NoMemory,
+        Ok(()) => Reply::brief(&serving(session.desk.value())),
+        Err(NoMemory) => Reply::brief(&Said::NoMemory),
     }
 }
 
@@ -107,38 +81,9 @@ fn show(session: &mut Session) -> Said
 /// last release has.
 fn serving(catalogue: &Catalogue<Zone>) -> Said
     requires { HasZoneHistory catalogue.now }
-    ensures { ForEachZoneHistory catalogue.now
+    ensures said { ForEachZoneHistory catalogue.now
         (λ H. result ≡ said.Serving (last_token H) (length (meta H))) }
+    ensures brief { IsBoundedReply result }
 {
     Said::Serving(catalogue.token(catalogue.count()), catalogue.len() as u32)
-}
-
-/// What is said of a folder that was not installed.
-fn refusal(alloc: Global, fault: &InstallFault) -> Said
-    ensures { SaysRefused fault.now result }
-{
-    match fault {
-        InstallFault::NoMemory => Said::NoMemory,
-        InstallFault::Check(fault) => why(alloc, fault),
-    }
-}
-
-/// What is said of a folder that is refused.
-fn why(alloc: Global, fault: &CheckFault) -> Said
-    ensures { SaysWhy fault.now result }
-{
-    match fault {
-        CheckFault::NoMemory => Said::NoMemory,
-        _ => refused(fault_text(alloc, fault)),
-    }
-}
-
-/// What is said of a folder that is refused by this text.
-fn refused(text: Result<Bytes, NoMemory>) -> Said
-    ensures { result ≡ refused_by text }
-{
-    match text {
-        Ok(text) => Said::Refused(text),
-        Err(NoMemory) => Said::NoMemory,
-    }
 }

@@ -1,5 +1,5 @@
 ghost use Rattle.std.specs.Prelude.{◌≡◌, []};
-ghost use Rattle.td_top.specs.Ends.{number_of};
+ghost use Rattle.td_top.specs.Running.{number_of};
 
 use crate::status::Status;
 use std::alloc::Global;

@@ -1,6 +1,6 @@
 ghost use Rattle.std.specs.Prelude.{◌≡◌, IfOk, IfSome};
-ghost use Rattle.td_top.specs.Ends.{Printed};
-ghost use Rattle.td_top.specs.Lines.{refused_line};
+ghost use Rattle.td_top.specs.Printing.{Printed};
+ghost use Rattle.td_top.specs.Printing.{refused_line};
 ghost use Rattle.td_top.specs.Tells.{CanPrint, TellsRefused};
 
 use crate::status::Status;

@@ -1,6 +1,6 @@
 ghost use Rattle.std.specs.Prelude.{◌≡◌, IfOk};
-ghost use Rattle.release_check.specs.FaultText.{fault_text};
-ghost use Rattle.td_top.specs.Tells.{TellsRefused, RefusesFolder, RefusesInstall};
+ghost use Rattle.installer.specs.FaultText.{fault_text};
+ghost use Rattle.td_top.specs.Tells.{TellsRefused, RefusesInstall};
 
 use crate::printing::refuse;
 use crate::status::Status;
@@ -15,23 +15,13 @@ pub fn refuse_install<K: Sink>(alloc: Global, fault: &InstallFault, output: &mut
 {
     match fault {
         InstallFault::NoMemory => Status::NoMemory,
-        InstallFault::Check(fault) => refuse_folder(alloc, fault, output),
-    }
-}
-
-/// Ends a run for the fault of its folder.
-fn refuse_folder<K: Sink>(alloc: Global, fault: &CheckFault, output: &mut K) -> Status
-    ensures { RefusesFolder fault.now (K.seen output.old) (K.seen output.new) result }
-{
-    match fault {
-        CheckFault::NoMemory => Status::NoMemory,
-        CheckFault::ReadFault => Status::NotRead,
+        InstallFault::Check(CheckFault::ReadFault) => Status::NotRead,
         _ => tell_fault(alloc, fault, output),
     }
 }
 
-/// Prints the fault of a folder.
-fn tell_fault<K: Sink>(alloc: Global, fault: &CheckFault, output: &mut K) -> Status
+/// Prints why a folder was not installed.
+fn tell_fault<K: Sink>(alloc: Global, fault: &InstallFault, output: &mut K) -> Status
     ensures { TellsRefused (fault_text fault.now) (K.seen output.old) (K.seen output.new) result }
 {
     match fault_text(alloc, fault) {
@@ -40,8 +30,8 @@ fn tell_fault<K: Sink>(alloc: Global, fault: &CheckFault, output: &mut K) -> Sta
     }
 }
 
-/// The text of the fault of a folder.
-pub fn fault_text(alloc: Global, fault: &CheckFault) -> Result<Bytes, NoMemory>
+/// The text of why a folder was not installed.
+pub fn fault_text(alloc: Global, fault: &InstallFault) -> Result<Bytes, NoMemory>
     ensures { IfOk result (λ text. text ≡ fault_text fault.now) }
 {
     let mut text = Bytes::new(alloc);

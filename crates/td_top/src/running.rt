@@ -1,9 +1,10 @@
-ghost use Rattle.std.specs.Prelude.{◌≡◌, None, map};
+ghost use Rattle.std.specs.Prelude.{◌≡◌, map};
 ghost use Rattle.td_base.specs.Views.{SourceView, StoreView};
 ghost use Rattle.td_top.specs.Grammar.{command_of};
 ghost use Rattle.td_top.specs.Outside.{outside, LaterWorld, world};
-ghost use Rattle.td_top.specs.RunEnds.{RunEnds, RunEndsLater};
-ghost use Rattle.td_top.specs.Ends.{number_of};
+ghost use Rattle.td_top.specs.Running.{RunEnds, RunEndsLater};
+ghost use Rattle.td_top.specs.Tells.{ShowsUsage};
+ghost use Rattle.td_top.specs.Running.{number_of};
 ghost use Rattle.td_top.specs.Tells.{EndsLater};
 ghost use Rattle.td_top.specs.declared.status.Status.{Status};
 
@@ -123,10 +124,10 @@ where
 }
 
 /// Ends a run whose words are no command.
-#[tactic(auto, unfolding(crate::specs::Lines::usage_line))]
+#[tactic(auto, unfolding(crate::specs::Printing::usage_line))]
 fn usage<K: Sink>(output: &mut K) -> Status
     // The store and the input, whatever they are, are left alone.
-    ensures { (store : StoreView) (input : SourceView) → EndsLater None
+    ensures { (store : StoreView) (input : SourceView) → EndsLater ShowsUsage
         (outside store input (K.seen output.old)) (outside store input (K.seen output.new)) result }
 {
     print(output, Status::Usage, USAGE)

@@ -2,10 +2,10 @@ ghost use Rattle.std.specs.Prelude.{◌≡◌, ◌<◌, ◌≤◌, [], length, m
 ghost use mathlib.Core.List.{IsPrefix};
 ghost use Rattle.catalogue.specs.Holdings.{history_of};
 ghost use Rattle.td_top.specs.Grammar.{serve};
-ghost use Rattle.td_top.specs.Installed.{HasDesks};
+ghost use Rattle.td_top.specs.Opening.{HasDesks};
 ghost use Rattle.td_top.specs.Outside.{outside, world};
-ghost use Rattle.td_top.specs.RunEnds.{RunEndsLater};
-ghost use Rattle.td_top.specs.Serving.{Concludes, ServesBeside, ServesOpened};
+ghost use Rattle.td_top.specs.Running.{RunEndsLater};
+ghost use Rattle.td_top.specs.ServerSteps.{Concludes, ServesBeside, ServesOpened};
 ghost use Rattle.td_top.specs.Works.{HasWorks, Learnt};
 
 use crate::console_beside::Console;
@@ -23,7 +23,7 @@ use publication::{Desk, Ended};
 use std::alloc::Global;
 use std::sync::Wait;
 use std::thread::Threads;
-use td_base::{Bytes, Door, Made, Network, NoMemory, Sink, Source, Spawner, Store};
+use td_base::{Bytes, Door, Made, Network, NoMemory, Role, Sink, Source, Spawner, Store};
 use zone_meaning::Zone;
 
 /// Installs the releases of folders, and serves the doors of an address, each by a worker of its
@@ -98,7 +98,7 @@ where
 {
     let Opened { session, desks } = opened;
     match net.doors(alloc, address, workers) {
-        Made::Given(doors) => match works_for(alloc, doors, desks) {
+        Made::Given(doors) => match works_for(alloc, &Role::Primary, doors, desks) {
             Ok((works, flag)) => {
                 serve_beside(
                     rt, alloc, session, works, flag, store, input, output, spawner,

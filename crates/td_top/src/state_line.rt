@@ -3,9 +3,9 @@ ghost use Rattle.td_base.specs.Views.{SourceView};
 ghost use Rattle.td_civil.specs.Bounds.{HasMeaning};
 ghost use Rattle.zone_meaning.specs.Faults.{zone_fault};
 ghost use Rattle.zone_meaning.specs.State.{zone_state};
-ghost use Rattle.td_top.specs.Grammar.{at};
-ghost use Rattle.td_top.specs.Lines.{state_line};
+ghost use Rattle.td_top.specs.StateLine.{state_line};
 ghost use Rattle.td_top.specs.Outside.{outside};
+ghost use Rattle.td_top.specs.StateLine.{ShowsState};
 ghost use Rattle.td_top.specs.Tells.{EndsLater, TellsRefused, Shows};
 
 use crate::printing::{print, refuse, refuse_shown};
@@ -29,7 +29,7 @@ pub fn state_at<S: Store, K: Sink>(
 ) -> Status
     requires { HasMeaning moment.seconds }
     // The input, whatever it is, is left alone.
-    ensures { (input : SourceView) → EndsLater (Some (at file.now moment.seconds))
+    ensures { (input : SourceView) → EndsLater (ShowsState file.now moment.seconds)
         (outside (S.seen store.old) input (K.seen output.old))
         (outside (S.seen store.new) input (K.seen output.new)) result }
 {

@@ -3,15 +3,14 @@ ghost use Rattle.td_base.specs.Views.{LaterSource};
 ghost use Rattle.td_top.specs.Outside.{outside};
 ghost use Rattle.td_top.specs.Talk.{is_quit};
 ghost use Rattle.td_top.specs.Talking.{ComesTo, scene};
-ghost use Rattle.td_top.specs.Turns.{FeedsTalk, IsSaidRefusal, SaysBye, SaysText, TakesLine};
-ghost use Rattle.td_top.specs.Turns.{TalksOn, TellsAnswer, Turns, reply_bytes};
+ghost use Rattle.td_top.specs.TalkingSteps.{FeedsTalk, SaysBye, SaysText, TakesLine, TalksOn, Turns};
 
 use crate::operator::{answer_line, newest};
 use crate::session::Session;
-use console::{Line, Lines, Said, ShortLine, reply, short};
+use console::{Line, Lines, Said, short};
 use std::alloc::Global;
 use std::sync::Wait;
-use td_base::{Bytes, NoMemory, ReadStep, Sink, Source, Store, Written, write_whole};
+use td_base::{NoMemory, ReadStep, Sink, Source, Store, Written, write_whole};
 
 /// How many bytes are asked of the input at a time.
 const PIECE: usize = 4_096;
@@ -49,25 +48,6 @@ pub enum Taken {
     Unread,
     /// No line is held whole.
     None,
-}
-
-/// A reply as it is written.
-#[derive(Debug, Drop)]
-pub enum Reply {
-    Short(ShortLine),
-    Long(Bytes),
-}
-
-impl Reply {
-    /// The bytes to write.
-    fn as_slice(&self) -> &[u8]
-        ensures { result.now ≡ reply_bytes self.now }
-    {
-        match self {
-            Reply::Short(line) => line.as_slice(),
-            Reply::Long(line) => line.as_slice(),
-        }
-    }
 }
 
 /// Tells that the server is ready, and answers line by line until the operator quits, the input
@@ -139,8 +119,8 @@ fn take_turn<R: Wait, S: Store, C: Source, K: Sink>(
             if is_quit(&line) {
                 return Turn::End(quit(output));
             }
-            let said = answer_line(rt, alloc, session, store, &line);
-            say(output, reply_for(alloc, &said).as_slice())
+            let reply = answer_line(rt, alloc, session, store, &line);
+            say(output, reply.as_slice())
         }
     }
 }
@@ -182,28 +162,6 @@ fn feed<C: Source>(lines: &mut Lines, input: &mut C) -> Turn
         },
         ReadStep::End => Turn::End(TalkEnd::InputEnded),
         ReadStep::Failed => Turn::End(TalkEnd::NotRead),
-    }
-}
-
-/// The reply for what is said. A refusal takes memory; where there is none, that is said.
-fn reply_for(alloc: Global, said: &Said) -> Reply
-    ensures { TellsAnswer said.now (reply_bytes result) }
-{
-    match said {
-        Said::Refused(_) => refusal_for(alloc, said),
-        _ => Reply::Short(short(said)),
-    }
-}
-
-/// The reply for a refusal.
-fn refusal_for(alloc: Global, said: &Said) -> Reply
-    requires { IsSaidRefusal said.now }
-    ensures { TellsAnswer said.now (reply_bytes result) }
-{
-    let mut line = Bytes::new(alloc);
-    match reply(&mut line, said) {
-        Ok(()) => Reply::Long(line),
-        Err(NoMemory) => Reply::Short(short(&Said::NoMemory)),
     }
 }
 

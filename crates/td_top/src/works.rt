@@ -1,5 +1,6 @@
 ghost use Rattle.std.specs.Prelude.{◌≡◌, length, map, All, IfOk, false, ◌||◌};
-ghost use Rattle.connection.specs.DoorWorks.{NoneGiven};
+ghost use Rattle.connection.specs.DoorWorks.{NoneOut};
+ghost use Rattle.json_forms.specs.PlainTexts.{IsPlainRole};
 ghost use Rattle.logbook.specs.Pages.{Book};
 ghost use Rattle.td_top.specs.Works.{AreWorks, Learnt};
 
@@ -8,19 +9,22 @@ use connection::{DoorDone, DoorWork};
 use desk_pool::StopFlag;
 use publication::{Desk, Ended};
 use std::alloc::Global;
-use td_base::{Door, NoMemory, Role};
+use td_base::{Bytes, Door, NoMemory, Role};
 use zone_meaning::Zone;
 
-/// The works that serve doors, each by a desk of its own and with a sign of the flag.
+/// The works of such a server that serve doors, each by a desk of its own and with a sign of the
+/// flag.
 pub fn works_for<D: Door + Drop>(
     alloc: Global,
+    role: &Role,
     doors: Vec<D>,
     desks: Vec<Desk<Catalogue<Zone>>>,
 ) -> Result<(Vec<DoorWork<D>>, StopFlag), NoMemory>
+    requires role { IsPlainRole role.now }
     requires many { length doors.items ≡ length desks.items }
-    requires new { All (λ d. NoneGiven (D.seen d)) doors.items }
+    requires new { All (λ d. NoneOut (D.seen d)) doors.items }
     ensures works { IfOk result (λ r. (pair : Book) → All (λ d. d.pair ≡ pair) desks.items
-        → AreWorks pair (map D.seen doors.items) r.0.items) }
+        → AreWorks role.now pair (map D.seen doors.items) r.0.items) }
     ensures flag { IfOk result (λ r. r.1.raised ≡ false) }
     ensures signs { IfOk result (λ r. All (λ w. w.stop ≡ r.1) r.0.items) }
 {
@@ -30,9 +34,22 @@ pub fn works_for<D: Door + Drop>(
     for door in doors {
         let desk = left.pop().unwrap();
         let sign = flag.share()?;
-        works.push(DoorWork::new(alloc, Role::Primary, door, desk, sign))?;
+        let own = again(alloc, role)?;
+        works.push(DoorWork::new(alloc, own, door, desk, sign))?;
     }
     Ok((works, flag))
+}
+
+/// What a server is, once more.
+fn again(alloc: Global, role: &Role) -> Result<Role, NoMemory>
+    ensures { IfOk result (λ own. own ≡ role.now) }
+{
+    match role {
+        Role::Primary => Ok(Role::Primary),
+        Role::Secondary(address) => {
+            Ok(Role::Secondary(Bytes::from_slice(alloc, address.as_slice())?))
+        }
+    }
 }
 
 /// Lets the desks of workers learn all that was published, and gives their doors, and whether one

@@ -1,5 +1,5 @@
 use Rattle.std.specs.Prelude.{take}
-use Rattle.td_top.specs.Steps.{IsCheckedTo}
+use Rattle.td_top.specs.CheckingSteps.{IsCheckedTo}
 use Rattle.td_top.proofs.checking.check_folders.Given as goal
 
 abbrev pub invariant-loop-folder : goal.invariant-loop-folder

@@ -1,5 +1,5 @@
 use Rattle.std.proofs.Common.{refl}
-use Rattle.td_top.specs.Steps.{grown}
+use Rattle.td_top.specs.CheckingSteps.{grown}
 use Rattle.td_top.proofs.Checked.{comes_refused, comes_told, some_history}
 use Rattle.td_top.proofs.Installing.{gives}
 use Rattle.td_top.proofs.checking.check_next.Goals as goal

@@ -1,7 +1,7 @@
 use Rattle.std.proofs.Common.{take}
 use Rattle.td_base.specs.Views.{LaterStore}
 use Rattle.catalogue.specs.Holdings.{history_of}
-use Rattle.td_top.specs.Installed.{Extends}
+use Rattle.td_top.specs.Opening.{Extends}
 use Rattle.td_top.specs.Sessions.{LaterSession}
 use Rattle.td_top.proofs.opening.install_rest.Given as goal
 

@@ -1,16 +1,17 @@
-use Rattle.std.proofs.Common.{refl}
+use Rattle.std.proofs.Common.{refl, ap, ◌∙◌}
 use Rattle.catalogue.specs.Holdings.{history_of}
+use Rattle.console.specs.Replies.{reply_text}
 use Rattle.td_base.proofs.lemmas.Beginnings.{prefix_self}
 use Rattle.td_top.proofs.LineLemmas.{is_shown}
 use Rattle.td_top.proofs.operator.show.Goals as goal
 
-pub returns-in-Ok : goal.returns-in-Ok
-returns-in-Ok c = λ store.
-    is_shown store c.args.session.now _ c.serving.result
+pub returns-in-Ok-clause-answers : goal.returns-in-Ok-clause-answers
+returns-in-Ok-clause-answers c = λ store.
+    is_shown store c.args.session.now _ _
     (record {
       installer = refl;
       desk = c.enter.ensures.pair;
       published = prefix_self c.args.session.now.installer.list;
       seen = c.enter.ensures.seen;
     })
-    refl (c.serving.ensures (history_of c.enter.new.self.seen) c.value.ensures.stands)
+    refl (c.brief.ensures ∙ ap reply_text (c.serving.ensures.said (history_of c.enter.new.self.seen) c.value.ensures.stands))

@@ -1,4 +1,6 @@
-use Rattle.std.proofs.Common.{rules}
+use Rattle.std.proofs.Common.{rules, sym}
+use Rattle.td_top.specs.Tells.{ShowsUsage}
+use Rattle.td_top.specs.Running.{answered, checked, no_command, shown}
 use Rattle.td_top.proofs.RunLemmas.{ran_alone, runs_as}
 use Rattle.td_top.proofs.running.do_words.Goals as goal
 
@@ -18,20 +20,23 @@ answer-requires g c = rw c.in-Some-Answer.field-0-is at c.in-Some-Answer.ensures
 
 pub returns-in-Some-Answer : goal.returns-in-Some-Answer
 returns-in-Some-Answer g c =
-    ran_alone g.N.Door.Door.seen _ _ _ _ _ _ _ _ _ c.closed.ensures.status c.closed.ensures.doors
-    (rw c.in-Some-Answer.field-0-is at c.in-Some-Answer.ensures.spelled) c.answer.ensures
+    let is = sym (rw c.in-Some-Answer.field-0-is at c.in-Some-Answer.ensures.spelled) in
+    ran_alone g.N.Door.Door.seen _ _ _ _ _ _ _ _ _ c.closed.ensures.status c.closed.ensures.doors c.answer.ensures (λ ends alone. answered _ _ is ends alone)
 
 pub returns-in-Some-Check : goal.returns-in-Some-Check
 returns-in-Some-Check g c =
+    let is = sym (rw c.in-Some-Check.field-0-is at c.in-Some-Check.ensures.spelled) in
     ran_alone g.N.Door.Door.seen _ _ _ _ _ _ _ _ _ c.closed-in-Some-Check.ensures.status c.closed-in-Some-Check.ensures.doors
-    (rw c.in-Some-Check.field-0-is at c.in-Some-Check.ensures.spelled) (c.check_folders.ensures (g.C.Source.seen c.args.input.now))
+    (c.check_folders.ensures (g.C.Source.seen c.args.input.now)) (λ ends alone. checked _ _ is ends.0 ends.1 alone)
 
 pub returns-in-Some-At : goal.returns-in-Some-At
 returns-in-Some-At g c =
+    let is = sym (rw c.in-Some-At.field-0-is at c.in-Some-At.ensures.spelled) in
     ran_alone g.N.Door.Door.seen _ _ _ _ _ _ _ _ _ c.closed-in-Some-At.ensures.status c.closed-in-Some-At.ensures.doors
-    (rw c.in-Some-At.field-0-is at c.in-Some-At.ensures.spelled) (c.state_at.ensures (g.C.Source.seen c.args.input.now))
+    (c.state_at.ensures (g.C.Source.seen c.args.input.now)) (λ ends alone. shown _ _ _ is ends alone)
 
 pub returns-in-None : goal.returns-in-None
 returns-in-None g c =
-    ran_alone g.N.Door.Door.seen _ _ _ _ _ _ _ _ _ c.closed-in-None.ensures.status c.closed-in-None.ensures.doors
-    c.in-None.ensures.spelled (c.usage.ensures (g.S.Store.seen c.args.store.now) (g.C.Source.seen c.args.input.now))
+    ran_alone g.N.Door.Door.seen ShowsUsage _ _ _ _ _ _ _ _ c.closed-in-None.ensures.status c.closed-in-None.ensures.doors
+    (c.usage.ensures (g.S.Store.seen c.args.store.now) (g.C.Source.seen c.args.input.now))
+    (λ ends alone. no_command _ (sym c.in-None.ensures.spelled) ends.0 ends.1 alone)

@@ -1,7 +1,7 @@
-use Rattle.std.proofs.Common.{None}
+use Rattle.std.proofs.Common.{refl}
 use Rattle.td_base.proofs.lemmas.LaterLemmas.{store_refl}
-use Rattle.td_top.specs.Ends.{usage}
-use Rattle.td_top.specs.Lines.{usage_line}
+use Rattle.td_top.specs.Printing.{usage_line}
+use Rattle.td_top.specs.Tells.{ShowsUsage}
 use Rattle.td_top.specs.declared.status.Status.TheVariants as status
 use Rattle.td_top.proofs.Endings.{ends_printed}
 use Rattle.td_top.proofs.running.usage.Goals as goal
@@ -9,4 +9,4 @@ use Rattle.td_top.proofs.running.usage.Goals as goal
 pub returns : goal.returns
 unfolding usage_line
 returns g c = λ store input.
-    ends_printed None store store input _ _ status.Usage usage_line _ usage (store_refl store) c.print.ensures
+    ends_printed ShowsUsage store store input _ _ status.Usage usage_line _ (store_refl store) (c.print.ensures, refl) c.print.ensures

@@ -1,7 +1,7 @@
 use Rattle.std.proofs.Common.{rules, ap, sym, subst, ◌≡◌, Some}
-use Rattle.td_top.specs.Serving.{Concludes}
+use Rattle.td_top.specs.ServerSteps.{Concludes}
 use Rattle.td_top.specs.Works.{HasWorks}
-use Rattle.td_top.specs.Consoles.{console_view, lent}
+use Rattle.td_top.specs.ConsoleBeside.{console_view, lent}
 use Rattle.td_top.specs.Outside.{outside}
 use Rattle.td_top.proofs.BesideLemmas.{beside_done, beside_left, beside_starved, beside_unstarted, pairs_now}
 use Rattle.td_top.proofs.ServerLemmas.{came}

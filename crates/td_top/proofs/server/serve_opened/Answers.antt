@@ -2,11 +2,11 @@ use Rattle.std.proofs.Common.{refl, rules}
 use Rattle.td_top.specs.Server.{no_network, out_of_memory}
 use Rattle.td_top.proofs.RunLemmas.{given_up, served_beside}
 use Rattle.td_top.proofs.WorkLemmas.{has_works}
-use Rattle.td_top.proofs.ServerLemmas.{called_told, none_given, opens_doors}
+use Rattle.td_top.proofs.ServerLemmas.{called_told, none_out, opens_doors}
 use Rattle.td_top.proofs.server.serve_opened.Goals as goal
 
 pub works_for-requires-clause-new : goal.works_for-requires-clause-new
-works_for-requires-clause-new g c = none_given g.N.Door.Door.seen c.in-Given.doors.items c.in-Given.ensures.opens.fits.1
+works_for-requires-clause-new g c = none_out g.N.Door.Door.seen c.in-Given.doors.items c.in-Given.ensures.opens.fits.1
 
 pub returns-in-Ok : goal.returns-in-Ok
 returns-in-Ok g c =
@@ -32,6 +32,6 @@ returns-in-NoMemory g c =
 
 pub serve_beside-requires-clause-works : goal.serve_beside-requires-clause-works
 serve_beside-requires-clause-works g c =
-    let has = has_works c.args.opened.session.installer.pair _ c.in-Ok.works.items
+    let has = has_works _ c.args.opened.session.installer.pair _ c.in-Ok.works.items
     (c.in-Ok.ensures.works c.args.opened.session.installer.pair c.requires.pairs) in
     search (has, rules)

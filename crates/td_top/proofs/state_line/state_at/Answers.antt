@@ -1,7 +1,6 @@
-use Rattle.std.proofs.Common.{Some, refl}
+use Rattle.std.proofs.Common.{refl}
 use Rattle.td_base.proofs.lemmas.LaterLemmas.{looks_later}
-use Rattle.td_top.specs.Grammar.{at}
-use Rattle.td_top.proofs.Endings.{ends_shown, ends_absent, ends_unread, ends_empty}
+use Rattle.td_top.proofs.Endings.{ends_absent, ends_shown, ends_starved, ends_unshown}
 use Rattle.td_top.proofs.state_line.state_at.Goals as goal
 
 pub returns-in-Found : goal.returns-in-Found
@@ -14,9 +13,9 @@ returns-in-Absent g c = λ input.
 
 pub returns-in-Failed : goal.returns-in-Failed
 returns-in-Failed g c = λ input.
-    ends_unread (Some (at c.args.file.now c.args.moment.seconds)) _ _ input _ _ _ tt (c.in-Failed.ensures.look.failed refl)
-    (looks_later _ _ _ _ _ c.in-Failed.ensures.look) refl refl
+    ends_unshown c.args.file.now c.args.moment.seconds _ _ input _ _ (c.in-Failed.ensures.look.failed refl)
+    (looks_later _ _ _ _ _ c.in-Failed.ensures.look) refl
 
 pub returns-in-NoMemory : goal.returns-in-NoMemory
 returns-in-NoMemory g c = λ input.
-    ends_empty (Some (at c.args.file.now c.args.moment.seconds)) _ _ input _ _ _ tt (looks_later _ _ _ _ _ c.in-NoMemory.ensures.look) refl refl
+    ends_starved c.args.file.now c.args.moment.seconds _ _ input _ _ (looks_later _ _ _ _ _ c.in-NoMemory.ensures.look) refl

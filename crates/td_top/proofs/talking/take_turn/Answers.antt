@@ -1,8 +1,7 @@
 use Rattle.std.proofs.Common.{refl, sym, ◌∙◌}
 use Rattle.console.specs.declared.line.Line.TheVariants as line
-use Rattle.console.specs.declared.said.Said.TheVariants as said
 use Rattle.td_base.proofs.lemmas.LaterLemmas.{store_refl}
-use Rattle.td_top.proofs.LineLemmas.{as_written, is_quit, session_refl, starved}
+use Rattle.td_top.proofs.LineLemmas.{is_quit, said_as, session_refl, starved}
 use Rattle.td_top.proofs.TalkLemmas.{line_turn, quit_turn, read_turn}
 use Rattle.td_top.proofs.TurnLemmas.{is_last}
 use Rattle.td_top.proofs.talking.take_turn.Goals as goal
@@ -14,12 +13,10 @@ returns-in-None g c = λ start at.
 
 pub returns-in-Unread : goal.returns-in-Unread
 returns-in-Unread g c = λ start at.
-    line_turn start _ _ _ _ _ _ _ c.args.lines.now c.take_line.new.lines c.as_slice.result.now (line.Install c.in-Unread.ensures.0) c.say.result refl at
-    c.in-Unread.ensures.1 (
-      said.NoMemory,
-      starved _ _ c.args.session.now c.args.session.now (line.Install c.in-Unread.ensures.0) (store_refl _) (session_refl c.args.session.now) refl tt,
-      c.as_slice.ensures.value ∙ c.short.ensures,
-    )
+    line_turn start _ _ _ _ _ _ _ c.args.lines.now c.take_line.new.lines (line.Install c.in-Unread.ensures.0) c.as_slice.result.now c.say.result refl at
+    c.in-Unread.ensures.1
+    (said_as _ _ _ _ _ _ _ (c.as_slice.ensures.value ∙ c.short.ensures)
+    (starved _ _ c.args.session.now c.args.session.now (line.Install c.in-Unread.ensures.0) (store_refl _) (session_refl c.args.session.now) refl tt))
     c.say.ensures
 
 pub returns-then-is_quit : goal.returns-then-is_quit
@@ -30,10 +27,8 @@ returns-then-is_quit g c = λ start at.
 
 pub returns-else-is_quit : goal.returns-else-is_quit
 returns-else-is_quit g c = λ start at.
-    line_turn start _ _ _ _ _ _ _ c.args.lines.now c.take_line.new.lines c.as_slice-in-Line.result.now c.in-Line.line c.say-in-Line.result
+    line_turn start _ _ _ _ _ _ _ c.args.lines.now c.take_line.new.lines c.in-Line.line c.as_slice-in-Line.result.now c.say-in-Line.result
     (sym c.is_quit.ensures ∙ c.if-is_quit.false) at
     c.in-Line.ensures
-    (as_written _ _ c.args.session.now c.answer_line-said.new.session c.in-Line.line c.answer_line-said.result _
-    (rw c.as_slice-in-Line.ensures c.reply_for.ensures)
-    c.answer_line-said.ensures)
+    (said_as _ _ _ _ _ _ _ c.as_slice-in-Line.ensures c.answer_line-reply.ensures)
     c.say-in-Line.ensures

@@ -1,5 +1,5 @@
 use Rattle.std.proofs.Common.{◌≡◌, ◌++◌, length, map, All, false}
-use Rattle.connection.specs.DoorWorks.{NoneGiven}
+use Rattle.connection.specs.DoorWorks.{NoneOut}
 use Rattle.logbook.specs.Pages.{Book}
 use Rattle.td_top.specs.Works.{AreWorks}
 use Rattle.td_top.proofs.works.works_for.Given as goal
@@ -8,9 +8,9 @@ abbrev pub invariant-loop-door : goal.invariant-loop-door
 invariant-loop-door g l = record {
   whole : l.yielded ++ l.door-iterator.rest.items ≡ l.fn.doors.items;
   many : length l.door-iterator.rest.items ≡ length l.left.items;
-  new : All (λ d. NoneGiven (g.D.Door.seen d)) l.door-iterator.rest.items;
+  new : All (λ d. NoneOut (g.D.Door.seen d)) l.door-iterator.rest.items;
   desks : (pair : Book) → All (λ d. d.pair ≡ pair) l.fn.desks.items → All (λ d. d.pair ≡ pair) l.left.items;
-  works : (pair : Book) → All (λ d. d.pair ≡ pair) l.fn.desks.items → AreWorks pair (map g.D.Door.seen l.yielded) l.works.items;
+  works : (pair : Book) → All (λ d. d.pair ≡ pair) l.fn.desks.items → AreWorks l.fn.role pair (map g.D.Door.seen l.yielded) l.works.items;
   down : l.flag.raised ≡ false;
   signs : All (λ w. w.stop ≡ l.flag) l.works.items;
 }

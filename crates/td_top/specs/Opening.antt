@@ -1,21 +1,18 @@
 -- What installing a row of folders comes to.
-use Rattle.std.specs.Prelude.{◌≡◌, ⊤, ℕ, List, ◌++◌, length, All, Option, Result, Ok, Err, IsErrOf}
+use Rattle.std.specs.Prelude.{◌≡◌, ℕ, List, ◌++◌, length, All, Option, Result, Ok, Err, IsErrOf}
 use Rattle.td_base.specs.Views.{StoreFailed, File, LaterStore, StoreView}
 use Rattle.catalogue.specs.Releases.{ReleaseData}
 use Rattle.catalogue.specs.declared.holding.Catalogue.{Catalogue}
 use Rattle.catalogue.specs.Holdings.{history_of}
 use Rattle.installer.specs.declared.install_fault.InstallFault.{InstallFault}
 use Rattle.installer.specs.declared.install_fault.InstallFault.TheVariants as install
-use Rattle.release_check.specs.Found.{Blames}
 use Rattle.release_check.specs.declared.check_fault.CheckFault.TheVariants as fault
-use Rattle.td_top.specs.Folders.{FoldersGive, StopsAtFault}
+use Rattle.td_top.specs.Folders.{FoldersGive, IsOfFiles, StopsAtFault}
 use Rattle.td_top.specs.declared.opening.Opened.{Opened}
 
 -- the folders were not all installed: one of them has this fault, unless memory or a read failed
 abbrev pub Refused : Option (List File) → List (List ℕ) → InstallFault → Type 0
-Refused files dirs install.NoMemory = ⊤
-Refused files dirs (install.Check f) =
-    Blames f ((H : List ReleaseData) × StopsAtFault files dirs H f)
+Refused files dirs e = IsOfFiles e → (H : List ReleaseData) × StopsAtFault files dirs H e
 
 -- folders that come after others were installed, and their history is now this one
 abbrev pub Extends : Option (List File) → List (List ℕ) → List ReleaseData → List ReleaseData

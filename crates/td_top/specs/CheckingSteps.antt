@@ -1,18 +1,18 @@
 -- What checking one more folder comes to, after a history for which a catalogue stands.
-use Rattle.std.specs.Prelude.{◌≡◌, ◌≢◌, ℕ, List, [], ◌∷◌, ◌++◌, Option, None, Some, Result, Ok, Err}
+use Rattle.std.specs.Prelude.{◌≡◌, ℕ, List, [], ◌∷◌, ◌++◌, Option, None, Some, Result, Ok, Err}
 use Rattle.td_base.specs.Views.{StoreFailed, File, LaterStore, LaterSink, SinkView, StoreView}
 use Rattle.td_base.specs.Transfer.{Prints, WritesAll}
 use Rattle.td_base.specs.declared.transfer.Written.TheVariants as written
 use Rattle.catalogue.specs.Holdings.{StandsFor, release_held}
 use Rattle.catalogue.specs.Releases.{ReleaseData}
 use Rattle.catalogue.specs.declared.holding.Catalogue.{Catalogue}
-use Rattle.release_check.specs.FaultText.{fault_text as folder_text}
-use Rattle.release_check.specs.declared.check_fault.CheckFault.{CheckFault}
-use Rattle.release_check.specs.declared.check_fault.CheckFault.TheVariants as fault
+use Rattle.installer.specs.FaultText.{fault_text}
+use Rattle.installer.specs.declared.install_fault.InstallFault.{InstallFault}
 use Rattle.zone_meaning.specs.Sound.{IsSound}
 use Rattle.zone_meaning.specs.ZoneHistories.{ForEachZoneHistory}
-use Rattle.td_top.specs.Folders.{FoldersGive, GivesAfter}
-use Rattle.td_top.specs.Lines.{ok_line, ok_lines, refused_line}
+use Rattle.td_top.specs.Folders.{FoldersGive, GivesAfter, IsOfFiles}
+use Rattle.td_top.specs.Checking.{ok_line, ok_lines}
+use Rattle.td_top.specs.Printing.{refused_line}
 use Rattle.td_top.specs.declared.status.Status.{Status}
 use Rattle.td_top.specs.declared.status.Status.TheVariants as status
 
@@ -54,10 +54,10 @@ pub record PrintsRelease (files : Option (List File)) (H : List ReleaseData) (di
 -- the folder is refused, and the line that says so was printed, or cut by a failed write
 pub record PrintsRefusal (files : Option (List File)) (H : List ReleaseData) (dir : List ℕ)
     (old new : SinkView) : Type 0 where
-  pub why : CheckFault
-  pub of_files : (why ≢ fault.NoMemory) × (why ≢ fault.ReadFault)
+  pub why : InstallFault
+  pub of_files : IsOfFiles why
   pub gives : GivesAfter files H dir (Err why)
-  pub line : Prints old new (refused_line (folder_text why))
+  pub line : Prints old new (refused_line (fault_text why))
 
 -- the folder gave a release, and a failed write cut its line
 pub record CutsRelease (files : Option (List File)) (H : List ReleaseData) (dir : List ℕ)
@@ -69,14 +69,11 @@ pub record CutsRelease (files : Option (List File)) (H : List ReleaseData) (dir 
 -- the status with which a run ends at a folder
 abbrev pub EndsAt : List ReleaseData → List ℕ → StoreView → StoreView → SinkView → SinkView
     → Status → Type 0
-EndsAt H dir s t old new status.Done = ⊥
-EndsAt H dir s t old new status.Usage = ⊥
 EndsAt H dir s t old new status.Refused = PrintsRefusal s.files H dir old new
 EndsAt H dir s t old new status.NotRead = StoreFailed s t × (new ≡ old)
 EndsAt H dir s t old new status.NotWritten = CutsRelease s.files H dir old new
-EndsAt H dir s t old new status.NotStarted = ⊥
-EndsAt H dir s t old new status.NoNetwork = ⊥
 EndsAt H dir s t old new status.NoMemory = new ≡ old
+EndsAt H dir s t old new end = ⊥
 
 abbrev pub FolderComes : List ReleaseData → List ℕ → StoreView → StoreView → SinkView → SinkView
     → Result (Catalogue (List ℕ)) Status → Type 0

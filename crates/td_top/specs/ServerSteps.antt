@@ -3,13 +3,14 @@ use Rattle.std.specs.Prelude.{◌≡◌, ℕ, ◌≤◌, List, [], ◌⊎◌}
 use Rattle.std.specs.List.{list_any}
 use mathlib.Core.List.{IsPrefix}
 use Rattle.td_base.specs.DoorViews.{DoorView}
+use Rattle.td_base.specs.declared.report.Role.{Role}
+use Rattle.td_base.specs.declared.report.Role.TheVariants as role
 use Rattle.catalogue.specs.Releases.{ReleaseData}
 use Rattle.connection.specs.DoorWorks.{WorkView}
 use Rattle.connection.specs.declared.door_work.DoorDone.{DoorDone}
 use Rattle.catalogue.specs.Holdings.{history_of}
 use Rattle.td_top.specs.Outside.{Later, Outside, LaterWorld, World}
-use Rattle.td_top.specs.Server.{OpenedEnds}
-use Rattle.td_top.specs.Ends.{status_for}
+use Rattle.td_top.specs.Server.{OpenedEnds, status_for}
 use Rattle.td_top.specs.Works.{AreWorks, Learnt, WorksEnd}
 use Rattle.td_top.specs.declared.session.Session.{Session}
 use Rattle.td_top.specs.declared.status.Status.{Status}
@@ -34,11 +35,13 @@ pub record ServesBeside (session : Session) (works : List WorkView) (before afte
     (refusals refusals' : ℕ) (doors : List DoorView) (is : Status) : Type 0 where
   pub later : Later before after
   pub starting : refusals ≤ refusals'
-  pub ends : (given : List DoorView) → AreWorks session.installer.pair given works
-      → WorksEnd (history_of session.installer.list) given before after refusals refusals' doors is
+  pub ends : (server : Role) (given : List DoorView)
+      → AreWorks server session.installer.pair given works
+      → WorksEnd server (history_of session.installer.list) given before after refusals refusals'
+      doors is
 
 -- the doors of an address were served, after an opening
 pub record ServesOpened (address : List ℕ) (workers : ℕ) (opening : List ReleaseData)
     (before after : World) (doors : List DoorView) (is : Status) : Type 0 where
   pub later : LaterWorld before after
-  pub ends : OpenedEnds address workers opening before after doors is
+  pub ends : OpenedEnds role.Primary address workers opening before after doors is

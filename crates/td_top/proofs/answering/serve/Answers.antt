@@ -1,6 +1,6 @@
 use Rattle.std.proofs.Common.{rules}
 use Rattle.td_top.proofs.Desks.{served_over, all_latest}
-use Rattle.td_top.proofs.serving.serve.Goals as goal
+use Rattle.td_top.proofs.answering.serve.Goals as goal
 
 pub returns : goal.returns
 returns g c =
@@ -11,9 +11,9 @@ returns g c =
         read = h.read;
         written = h.written;
         places = c.serve-report.result.places;
-        consumed = search (h.exchanges.consumed, rules);
-        appended = search (h.exchanges.taken, rules);
-        served = search (served_over c.serve-report.new.desk c.args.desk.now.seen _ _ _ c.serve-report.result e.0 h, rules);
+        consumed = search (h.traffic.consumed, rules);
+        appended = search (h.traffic.taken, rules);
+        served = search (served_over c.serve-report.new.desk c.args.desk.now.seen _ _ _ c.serve-report.result.places c.serve-report.result.end e.0 h, rules);
         latest = all_latest c.args.desk.now.seen c.serve-report.result.places e.2;
       };
       input = search rules;

@@ -1,5 +1,5 @@
 -- One turn of a talk with an operator, by its parts.
-use Rattle.std.specs.Prelude.{◌≡◌, ℕ, List, [], ◌∷◌, ◌++◌, ◌⊎◌, ⊤, Option, None, Some}
+use Rattle.std.specs.Prelude.{◌≡◌, ℕ, List, [], ◌∷◌, ◌++◌, ⊤, Option, None, Some}
 use Rattle.std.specs.Io.KnownBytes.{Consumes, IsAtEnd}
 use Rattle.td_base.specs.Views.{SourceFailed, SinkView, SourceView}
 use Rattle.td_base.specs.Transfer.{WritesAll}
@@ -9,11 +9,8 @@ use Rattle.console.specs.Replies.{reply_text}
 use Rattle.console.specs.Steps.{GivesLines}
 use Rattle.console.specs.declared.line.Line.{Line}
 use Rattle.console.specs.declared.line.Line.TheVariants as line
-use Rattle.console.specs.declared.said.Said.{Said}
 use Rattle.console.specs.declared.said.Said.TheVariants as said
 use Rattle.td_top.specs.Talking.{ComesTo, IsAt, Scene}
-use Rattle.td_top.specs.declared.talking.Reply.{Reply}
-use Rattle.td_top.specs.declared.talking.Reply.TheVariants as reply
 use Rattle.td_top.specs.declared.talking.TalkEnd.{TalkEnd}
 use Rattle.td_top.specs.declared.talking.TalkEnd.TheVariants as end
 use Rattle.td_top.specs.declared.talking.Turn.{Turn}
@@ -55,26 +52,6 @@ FeedsTalk before now held new (turn.End end.NotRead) =
 FeedsTalk before now held new (turn.End end.Quit) = ⊥
 FeedsTalk before now held new (turn.End end.NotWritten) = ⊥
 FeedsTalk before now held new turn.NoMemory = ⊤
-
--- a reply as it is written
-abbrev pub reply_bytes : Reply → List ℕ
-reply_bytes (reply.Short text) = text
-reply_bytes (reply.Long text) = text
-
-abbrev pub IsSaidRefusal : Said → Type 0
-IsSaidRefusal (said.Refused fault) = ⊤
-IsSaidRefusal (said.Ready token) = ⊥
-IsSaidRefusal (said.Installed token) = ⊥
-IsSaidRefusal (said.Unchanged token) = ⊥
-IsSaidRefusal said.NoMemory = ⊥
-IsSaidRefusal (said.Serving token zones) = ⊥
-IsSaidRefusal said.Bye = ⊥
-IsSaidRefusal said.Unknown = ⊥
-
--- the text of an answer, or, of a refusal, that there is no memory for it
-abbrev pub TellsAnswer : Said → List ℕ → Type 0
-TellsAnswer answer text =
-    (text ≡ reply_text answer) ⊎ (IsSaidRefusal answer × (text ≡ reply_text said.NoMemory))
 
 -- a text was written, or a failed write cut it, which ends the talk
 abbrev pub SaysText : SinkView → SinkView → List ℕ → Turn → Type 0

@@ -1,0 +1,20 @@
+-- What is written in reply to a line.
+use Rattle.std.specs.Prelude.{◌≡◌, ◌≢◌, ℕ, List, ◌⊎◌}
+use Rattle.console.specs.Replies.{reply_text}
+use Rattle.console.specs.declared.said.Said.TheVariants as said
+use Rattle.installer.specs.FaultText.{fault_text}
+use Rattle.installer.specs.declared.install_fault.InstallFault.{InstallFault}
+use Rattle.installer.specs.declared.install_fault.InstallFault.TheVariants as install
+use Rattle.td_top.specs.declared.replies.Reply.{Reply}
+use Rattle.td_top.specs.declared.replies.Reply.TheVariants as reply
+
+-- a reply as it is written
+abbrev pub reply_bytes : Reply → List ℕ
+reply_bytes (reply.Short text) = text
+reply_bytes (reply.Long text) = text
+
+-- what is said of a folder that was not installed: why, or, where there is no memory for that, this
+abbrev pub SaysRefused : InstallFault → List ℕ → Type 0
+SaysRefused e text =
+    (text ≡ reply_text said.NoMemory)
+    ⊎ ((e ≢ install.NoMemory) × (text ≡ reply_text (said.Refused (fault_text e))))

@@ -1,0 +1,38 @@
+ghost use Rattle.std.specs.Prelude.{◌≡◌, OnOk, OnErr};
+ghost use Rattle.catalogue.specs.Holdings.{history_of};
+ghost use Rattle.installer.specs.Installing.{GrowsBy, Installs};
+ghost use Rattle.td_top.specs.Sessions.{LaterSession};
+
+use crate::session::Session;
+use installer::InstallFault;
+use std::alloc::Global;
+use std::sync::Wait;
+use td_base::Store;
+
+impl Session {
+    /// Installs the release of a folder, and lets the desk learn of it.
+    pub fn install<R: Wait, S: Store>(
+        &mut self,
+        rt: &R,
+        alloc: Global,
+        dir: &[u8],
+        store: &mut S,
+    ) -> Result<(), InstallFault>
+        ensures found { Installs (S.seen store.old) (S.seen store.new) dir.now
+            (history_of self.old.installer.list) (λ u. history_of self.new.installer.list) result }
+        ensures grown { OnOk result (GrowsBy (history_of self.old.installer.list)
+            (history_of self.new.installer.list)) }
+        ensures refused { OnErr result (self.new.installer.list ≡ self.old.installer.list) }
+        ensures later { LaterSession self.old self.new }
+    {
+        let receipt = self.installer.install(rt, alloc, dir, store)?;
+        self.desk.learn(receipt);
+        Ok(())
+    }
+
+    /// Gives up what is published. It may wait for desks that are entering.
+    pub fn close<R: Wait>(self, rt: &R) {
+        let Session { installer, desk: _ } = self;
+        installer.close(rt);
+    }
+}

@@ -1,0 +1,62 @@
+ghost use Rattle.std.specs.Prelude.{◌≡◌, IfOk};
+ghost use Rattle.console.specs.Replies.{IsBoundedReply, reply_text};
+ghost use Rattle.console.specs.declared.said.Said.TheVariants as said;
+ghost use Rattle.installer.specs.FaultText.{fault_text};
+ghost use Rattle.td_top.specs.Replies.{SaysRefused, reply_bytes};
+
+use crate::refusing::fault_text;
+use console::{Said, ShortLine, reply, short};
+use installer::InstallFault;
+use std::alloc::Global;
+use td_base::{Bytes, NoMemory};
+
+/// A reply as it is written.
+#[derive(Debug, Drop)]
+pub enum Reply {
+    Short(ShortLine),
+    Long(Bytes),
+}
+
+impl Reply {
+    /// The reply for what is said, other than a refusal. It takes no memory.
+    pub fn brief(said: &Said) -> Reply
+        requires { IsBoundedReply said.now }
+        ensures { reply_bytes result ≡ reply_text said.now }
+    {
+        Reply::Short(short(said))
+    }
+
+    /// The reply for a folder that was not installed. It takes memory; where there is none, that is
+    /// said.
+    pub fn refusal(alloc: Global, fault: &InstallFault) -> Reply
+        ensures { SaysRefused fault.now (reply_bytes result) }
+    {
+        match fault {
+            InstallFault::NoMemory => Reply::brief(&Said::NoMemory),
+            _ => match refused(alloc, fault) {
+                Ok(line) => Reply::Long(line),
+                Err(NoMemory) => Reply::brief(&Said::NoMemory),
+            },
+        }
+    }
+
+    /// The bytes to write.
+    pub fn as_slice(&self) -> &[u8]
+        ensures { result.now ≡ reply_bytes self.now }
+    {
+        match self {
+            Reply::Short(line) => line.as_slice(),
+            Reply::Long(line) => line.as_slice(),
+        }
+    }
+}
+
+/// The line that says why a folder was not installed.
+fn refused(alloc: Global, fault: &InstallFault) -> Result<Bytes, NoMemory>
+    ensures { IfOk result (λ line. line ≡ reply_text (said.Refused (fault_text fault.now))) }
+{
+    let text = fault_text(alloc, fault)?;
+    let mut line = Bytes::new(alloc);
+    reply(&mut line, &Said::Refused(text))?;
+    Ok(line)
+}
