@@ -1,5 +1,5 @@
 //! What a mirror holds.
-use case_lines::{Answer, CaseFault};
+use case_lines::Answer;
 use release_manifest::{Manifest, ManifestZone};
 use std::alloc::Global;
 use sync_core::Mirror;
@@ -7,10 +7,10 @@ use td_base::{Ask, Bytes, FileRead, MemoryStore, NoMemory, Store};
 use td_civil::{HI, LO, Moment, utc_text};
 
 /// `held`: the release that is held, as lines: stamp, publisher and version, and of each zone its
-/// identifier, its aliases, the name of its file and its bytes.
+/// identifier, its aliases, the name of its file and its bytes; or that files are pending.
 pub fn held(alloc: Global, mirror: &Mirror) -> Answer {
     match mirror.ask(alloc)? {
-        Ask::Get(_) => Err(CaseFault::Strange),
+        Ask::Get(_) => Ok(Vec::from_slice(alloc, b"pending")?),
         Ask::List(_) => {
             let (manifest, store) = mirror.manifest(alloc)?;
             Ok(manifest_text(alloc, &manifest, store)?.into_vec())

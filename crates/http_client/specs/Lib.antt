@@ -1,0 +1,5 @@
+pub mod FaultText
+pub mod Fields
+pub mod Replies
+pub mod Requests
+pub mod SentHeads

@@ -1,0 +1,27 @@
+-- What the head of a request says.
+use Rattle.std.specs.Prelude.{◌≡◌, ℕ, List, [], ◌∷◌, map, Bool, ◌&&◌, nat_le, codes}
+use Rattle.std.specs.List.{list_all}
+use Rattle.httparse.specs.Grammar.{RequestHead, ReadsRequest}
+use Rattle.httparse.specs.Spans.{name_and_value}
+use Rattle.td_base.specs.declared.report.Ask.{Ask}
+use Rattle.http_client.specs.Requests.{accepted, request_text, target_of}
+
+-- visible bytes of ASCII, as those of a host and a port are
+abbrev pub is_visible : ℕ → Bool
+is_visible b = nat_le 33 b && nat_le b 126
+
+abbrev pub is_visible_text : List ℕ → Bool
+is_visible_text text = list_all is_visible text
+
+-- the fields, by name and value
+abbrev pub fields_sent : List ℕ → Ask → List (List ℕ × List ℕ)
+fields_sent host a =
+    (codes "Host", host) ∷ (codes "Accept", accepted a) ∷ (codes "Connection", codes "close") ∷ []
+
+-- the request is this head and nothing after it: a GET of the target, with these fields
+pub record IsSentHead (host : List ℕ) (a : Ask) (h : RequestHead) : Type 0 where
+  pub reads : ReadsRequest (request_text host a) h []
+  pub method : h.method ≡ codes "GET"
+  pub target : h.target ≡ target_of a
+  pub minor : h.minor ≡ 0
+  pub fields : map name_and_value h.fields ≡ fields_sent host a

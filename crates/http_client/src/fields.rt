@@ -1,0 +1,43 @@
+ghost use Rattle.std.specs.Prelude.{◌≡◌, length, map, All, option_copied};
+ghost use Rattle.std.specs.Str.{str_eq_ignore_ascii_case};
+ghost use Rattle.httparse.specs.Spans.{IsHeaderWithin, header_bytes};
+ghost use Rattle.http_client.specs.Fields.{first_of};
+ghost use Rattle.http_client.specs.Replies.{values_of};
+
+use httparse::spans::HeaderSpan;
+
+/// Whether the field has this name, whatever the case of its letters.
+fn is_named(buf: &[u8], field: HeaderSpan, name: &[u8]) -> bool
+    requires { IsHeaderWithin (length buf.now) field }
+    ensures { result ≡ str_eq_ignore_ascii_case (header_bytes buf.now field).0 name.now }
+{
+    field.name.of(buf).eq_ignore_ascii_case(name)
+}
+
+/// How many fields have this name.
+pub fn count_named(buf: &[u8], fields: &[HeaderSpan], name: &[u8]) -> usize
+    requires { All (IsHeaderWithin (length buf.now)) fields.now }
+    ensures { result ≡ length (values_of name.now (map (header_bytes buf.now) fields.now)) }
+{
+    let mut count = 0;
+    for field in fields {
+        if is_named(buf, *field, name) {
+            count += 1;
+        }
+    }
+    count
+}
+
+/// The value of the first field with this name, if there is one.
+pub fn first_named<'a>(buf: &'a [u8], fields: &[HeaderSpan], name: &[u8]) -> Option<&'a [u8]>
+    requires { All (IsHeaderWithin (length buf.now)) fields.now }
+    ensures { option_copied result
+        ≡ first_of (values_of name.now (map (header_bytes buf.now) fields.now)) }
+{
+    for field in fields {
+        if is_named(buf, *field, name) {
+            return Some(field.value.of(buf));
+        }
+    }
+    None
+}

@@ -1,0 +1,20 @@
+//! Laws, each the contract of a function that does nothing.
+ghost use Rattle.std.specs.Prelude.{◌≡◌, ℕ, List, Result, IsTrue};
+ghost use Rattle.httparse.specs.Grammar.{RequestHead};
+ghost use Rattle.td_base.specs.declared.report.Ask.{Ask};
+ghost use Rattle.http_client.specs.Replies.{IsReading};
+ghost use Rattle.http_client.specs.SentHeads.{IsSentHead, is_visible_text};
+ghost use Rattle.http_client.specs.declared.reply.BadReply.{BadReply};
+ghost use Rattle.http_client.specs.declared.reply.Reply.{Reply};
+
+/// Bytes are one thing alone.
+pub fn one_reading()
+    ensures { (bytes : List ℕ) (r s : Result Reply BadReply)
+        → IsReading bytes r → IsReading bytes s → r ≡ s }
+{}
+
+/// A request at a host of visible bytes is a head, and nothing follows it.
+pub fn requests_are_heads()
+    ensures { (host : List ℕ) (a : Ask) → IsTrue (is_visible_text host)
+        → (h : RequestHead) × IsSentHead host a h }
+{}

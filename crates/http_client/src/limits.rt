@@ -1,0 +1,2 @@
+/// How many fields the head of a reply may have.
+pub const MOST_FIELDS: usize = 64;
