@@ -1,12 +1,12 @@
 #!/usr/bin/env python3
-"""Runs a test of a crate once for each of its allocations, and makes that one fail.
+"""Runs a program of cases once for each of its allocations, and makes that one fail.
 
-    bench/each_allocation.py CRATE TEST [--most N]
+    grep -E '^(#|let|file|joins)' crates/release_cases/stdin | bench/each_allocation.py release_cases [--most N]
 
-TEST is the full name of a test, as `tests::a_release_joins_or_does_not`, that holds where memory
-runs out. It must pass in each run. The test is the one that `rt test` built last in the crate, and
-a small library, loaded in front of it, answers its Nth request for memory with none. It needs a C
-compiler as `cc`, is run by hand, and is no part of the gate.
+The table is read from standard input. A run must print what a run in which nothing fails prints, or
+end for want of memory, with status 1 and the beginning of it. The program is the one that `rt run`
+built last in the crate, and a small library, loaded in front of it, answers its Nth request for
+memory with none. It needs a C compiler as `cc`, is run by hand, and is no part of the gate.
 """
 
 import argparse
@@ -53,47 +53,57 @@ def build(folder):
     return library
 
 
-def run(program, test, library, call):
+def run(program, table, library, call):
     """The status of a run in which this call fails, its output, and whether it came to that call."""
     reads, writes = os.pipe()
     names = {"LD_PRELOAD": library, "FAILING_CALL": str(call), "FAILING_TOLD": str(writes)}
     child = subprocess.run(
-        [program, test],
+        [program],
         env=names,
         pass_fds=[writes],
-        stdin=subprocess.DEVNULL,
+        input=table,
         stdout=subprocess.PIPE,
-        stderr=subprocess.STDOUT,
+        stderr=subprocess.DEVNULL,
         timeout=60,
     )
     os.close(writes)
     came = os.read(reads, 1) != b""
     os.close(reads)
-    return child.returncode, child.stdout.decode(errors="replace"), came
+    return child.returncode, child.stdout, came
+
+
+def is_right(status, output, whole):
+    """Whether a run printed all of it, or ended for want of memory before that."""
+    if status == 0:
+        return output == whole
+    return status == 1 and whole.startswith(output)
 
 
 def main():
     parser = argparse.ArgumentParser(description=__doc__.splitlines()[0])
     parser.add_argument("crate")
-    parser.add_argument("test")
     parser.add_argument("--most", type=int, default=100_000, help="so many runs at most")
     words = parser.parse_args()
-    program = os.path.join(ROOT, "crates", words.crate, "out", f"{words.crate}_tests")
+    program = os.path.join(ROOT, "crates", words.crate, "out", words.crate)
     if not os.path.exists(program):
-        sys.exit(f"{program} is not there: run rt test in the crate")
-    wrong = 0
+        sys.exit(f"{program} is not there: run rt run in the crate")
+    table = sys.stdin.buffer.read()
+    wrong = ended = 0
     with tempfile.TemporaryDirectory() as folder:
         library = build(folder)
+        _, whole, _ = run(program, table, library, 0)
+        print(whole.decode(errors="replace"), end="")
         for call in range(1, words.most + 1):
-            status, output, came = run(program, words.test, library, call)
+            status, output, came = run(program, table, library, call)
             if not came:
-                print(f"{words.test}: {call - 1} allocations failed in turn, {wrong} runs were wrong")
+                print(f"{call - 1} allocations failed in turn, {ended} runs ended early, {wrong} were wrong")
                 break
-            if status != 0:
+            ended += status != 0
+            if not is_right(status, output, whole):
                 wrong += 1
-                print(f"allocation {call}: status {status}: {output.strip()}")
+                print(f"allocation {call}: status {status}: {output.decode(errors='replace').strip()}")
         else:
-            print(f"{words.test}: stopped after {words.most} runs, {wrong} of them wrong")
+            print(f"stopped after {words.most} runs, {wrong} of them wrong")
     sys.exit(1 if wrong else 0)
 
 

@@ -41,6 +41,3 @@ pub use limits::{MOST_NAMES, MOST_RELEASES, MOST_ZONES};
 pub use release::{Content, LeapStep, Leaps, Release};
 pub use value::ReleaseMark;
 pub use zone_data::ZoneData;
-
-#[cfg(test)]
-mod tests;

@@ -24,6 +24,3 @@ pub use line::Line;
 pub use lines::Lines;
 pub use replies::{reply, short};
 pub use said::{Said, ShortLine};
-
-#[cfg(test)]
-mod tests;

@@ -23,8 +23,3 @@ pub use beside::Beside;
 pub use flag::{StopFlag, StopSign};
 pub use pool::run_beside;
 pub use pool_end::PoolEnd;
-
-#[cfg(test)]
-mod pool_tests;
-#[cfg(test)]
-mod tests;

@@ -24,6 +24,3 @@ pub use answer::{Answer, Kind};
 pub use closing::fixed;
 pub use making::make_reply;
 pub use writing::write;
-
-#[cfg(test)]
-mod tests;

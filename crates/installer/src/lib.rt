@@ -20,6 +20,3 @@ mod send_sync;
 pub use growing::{first_in, next_in};
 pub use install_fault::InstallFault;
 pub use installing::Installer;
-
-#[cfg(test)]
-mod tests;

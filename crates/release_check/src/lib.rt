@@ -28,6 +28,3 @@ mod send_sync;
 pub use check_fault::{CheckFault, LeapFileFault, Limited};
 pub use checking::{check, examine};
 pub use laws::{fitting_release, held_before, one_folder};
-
-#[cfg(test)]
-mod tests;

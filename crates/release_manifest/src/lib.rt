@@ -20,6 +20,3 @@ pub use laws::{one_meaning, one_reading};
 pub use manifest_fault::{ManifestFault, Path};
 pub use manifest_type::{MOST_BYTES, Manifest, ManifestLeaps, ManifestZone};
 pub use reading::read;
-
-#[cfg(test)]
-mod tests;

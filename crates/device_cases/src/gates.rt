@@ -1,0 +1,74 @@
+//! Two doors of which each waits for the other.
+use crate::small::small;
+use case_lines::{Answer, CaseFault, Row};
+use devices::{GateDoor, gate_pair};
+use std::alloc::Global;
+use std::thread::{Threads, join};
+use td_base::{Accepted, Conn, Door, End, Places, ReadStep, Report, WriteStep};
+
+/// `gates TURNS`: how the connections of two doors ended and what each took, where two threads serve
+/// them and a read waits for at most so many turns.
+pub fn beside<R: Threads>(rt: &R, alloc: Global, row: &Row) -> Answer {
+    let (left, right) = gate_pair(alloc, small(row, 0)?)?;
+    let (left, right) = join(rt, move || serve(left), move || serve(right));
+    told(alloc, &left, &right)
+}
+
+/// `gates-alone TURNS`: the same where one thread serves them one after the other.
+pub fn alone(alloc: Global, row: &Row) -> Answer {
+    let (left, right) = gate_pair(alloc, small(row, 0)?)?;
+    let left = serve(left);
+    let right = serve(right);
+    told(alloc, &left, &right)
+}
+
+/// Answers the requests of the door's connection, each by two bytes, and hands it back.
+fn serve(mut door: GateDoor) -> GateDoor {
+    if let Accepted::Given(mut conn) = door.accept() {
+        let end = answer_each(&mut conn);
+        let places = Places::new();
+        let report = Report {
+            end,
+            places,
+            computed: 0,
+        };
+        door.finish(conn, report);
+    }
+    door
+}
+
+/// Reads to the end, and writes two bytes after each empty line.
+fn answer_each<C: Conn>(conn: &mut C) -> End {
+    let mut room = [0; 100];
+    for _ in 0..10 {
+        match conn.read(&mut room) {
+            ReadStep::Got(count) => {
+                if room[..count].ends_with(b"\r\n\r\n") && conn.write(b"ok") != WriteStep::Took(2) {
+                    return End::WriteFault;
+                }
+            }
+            ReadStep::End => return End::Closed,
+            ReadStep::Failed => return End::ReadFault,
+        }
+    }
+    End::NoMemory
+}
+
+fn told(alloc: Global, left: &GateDoor, right: &GateDoor) -> Answer {
+    let mut out = Vec::new(alloc);
+    put_served(alloc, left, &mut out)?;
+    out.push(b'|')?;
+    put_served(alloc, right, &mut out)?;
+    Ok(out)
+}
+
+/// Appends how the connection of a door ended, and what it took.
+fn put_served(alloc: Global, door: &GateDoor, out: &mut Vec<u8>) -> Result<(), CaseFault> {
+    let Some((conn, report)) = door.served() else {
+        return Err(CaseFault::Strange);
+    };
+    let end = report.end;
+    out.extend_from_slice(format!(in alloc; "{end:?} ")?.as_bytes())?;
+    out.extend_from_slice(conn.taken())?;
+    Ok(())
+}

@@ -1,0 +1,57 @@
+//! Addresses at which a network does not listen.
+use crate::fault::refused;
+use case_lines::{Answer, CaseFault, Row};
+use devices::{RealDoor, RealNetwork};
+use std::alloc::Global;
+use std::io::ErrorKind;
+use std::net::{Net, TcpListener, TcpStream};
+use std::time::Clock;
+use td_base::{Made, Network};
+
+/// `listen ADDRESS`: why a network did not listen before it was asked to, and why not at this
+/// address. `taken` stands for the address of a door that is open.
+pub fn listen<R>(rt: &R, alloc: Global, row: &Row) -> Answer
+where
+    R: Net<Listener = TcpListener, Stream = TcpStream> + Clock + Copy,
+{
+    let address = row.word(0)?;
+    if address != b"taken".as_slice() {
+        return told(rt, alloc, address);
+    }
+    let door = open(rt, alloc)?;
+    let taken = door.local_addr().map_err(refused)?;
+    let taken = format!(in alloc; "{taken}")?;
+    told(rt, alloc, taken.as_str().as_bytes())
+}
+
+fn told<R>(rt: &R, alloc: Global, address: &[u8]) -> Answer
+where
+    R: Net<Listener = TcpListener, Stream = TcpStream> + Clock + Copy,
+{
+    let mut network = RealNetwork::new(rt);
+    let before = failure(&network);
+    match network.doors(alloc, address, 1) {
+        Made::Given(_doors) => Ok(Vec::from_slice(alloc, b"listens")?),
+        Made::NoMemory => Err(CaseFault::NoMemory),
+        Made::Failed => {
+            let after = failure(&network);
+            Ok(format!(in alloc; "{before:?} {after:?}")?.into_bytes())
+        }
+    }
+}
+
+fn failure<R>(network: &RealNetwork<R>) -> Option<ErrorKind> {
+    network.failure().map(|failure| failure.kind)
+}
+
+/// A door at a free port.
+pub fn open<R>(rt: &R, alloc: Global) -> Result<RealDoor<R>, CaseFault>
+where
+    R: Net<Listener = TcpListener, Stream = TcpStream> + Clock + Copy,
+{
+    match RealNetwork::new(rt).doors(alloc, b"127.0.0.1:0", 1) {
+        Made::Given(mut doors) => doors.pop().ok_or(CaseFault::Strange),
+        Made::Failed => Err(CaseFault::Strange),
+        Made::NoMemory => Err(CaseFault::NoMemory),
+    }
+}

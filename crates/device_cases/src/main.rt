@@ -1,0 +1,75 @@
+//! Tries what `devices` offers over the cases of a table on standard input, and tells of each whose
+//! answer is not the expected one. The table explains its own lines.
+#![tactic(auto)]
+
+// Streams and files.
+mod files;
+mod streams;
+
+// Threads, and the small numbers of their rows.
+mod gates;
+mod small;
+mod squares;
+
+// A TCP listener, a door at it, and clients.
+mod fault;
+mod listens;
+mod talk;
+mod talks;
+
+use case_lines::{Answer, CaseFault, Row, Table};
+use std::alloc::Global;
+use std::io;
+use std::net::{Net, TcpListener, TcpStream};
+use std::rt::Files;
+use std::sync::Wait;
+use std::thread::Threads;
+use std::time::Clock;
+
+fn main(rt: HostRuntime) -> io::Result<()> {
+    let alloc = rt.alloc();
+    let mut table = Table::new(alloc);
+    for line in rt.lines(alloc) {
+        let line = line?;
+        if let Some(row) = table.row(line.as_str())? {
+            if let Some(told) = table.judge(&row, answer(&rt, alloc, &row))? {
+                println!(rt; "{told}")?;
+            }
+        }
+    }
+    let tally = table.tally();
+    println!(rt; "{tally}")
+}
+
+/// What is answered to a row.
+fn answer<R>(rt: &R, alloc: Global, row: &Row) -> Answer
+where
+    R: Net<Listener = TcpListener, Stream = TcpStream>
+        + Clock
+        + Files
+        + Threads
+        + Wait
+        + Copy
+        + Send
+        + 'static,
+{
+    match row.kind() {
+        "file" => files::file(rt, alloc, row),
+        "talk" => talks::talk(rt, alloc, row),
+        "listen" => listens::listen(rt, alloc, row),
+        "squares" => squares::squares(rt, alloc, row),
+        "gates" => gates::beside(rt, alloc, row),
+        _ => alone(alloc, row),
+    }
+}
+
+/// What is answered to a row that needs nothing of the system.
+fn alone(alloc: Global, row: &Row) -> Answer {
+    match row.kind() {
+        "reads" => streams::reads(alloc, row),
+        "broken" => streams::broken(alloc),
+        "writes" => streams::writes(alloc, row),
+        "gates-alone" => gates::alone(alloc, row),
+        _ => Err(CaseFault::Strange),
+    }
+}

@@ -1,0 +1,99 @@
+//! Folders one after another, each judged against those before it.
+ghost use Rattle.catalogue.specs.Releases.{release_data};
+ghost use Rattle.zone_meaning.specs.Sound.{IsSound};
+ghost use Rattle.zone_meaning.specs.ZoneHistories.{zone_bytes};
+ghost use Rattle.release_check.specs.Before.{Follows, before_held};
+
+use case_lines::{Answer, CaseFault, Row};
+use catalogue::{Catalogue, Release};
+use release_check::{CheckFault, check};
+use std::alloc::Global;
+use td_base::{Bytes, MemoryStore, NoMemory, put_decimal};
+use zone_meaning::Zone;
+
+/// `history DIR ..`: of each folder in turn how many zones it has, or its fault.
+pub fn told(alloc: Global, row: &Row, store: &mut MemoryStore) -> Answer {
+    let mut told = Bytes::new(alloc);
+    let mut last = None;
+    for dir in row.words() {
+        last = step(alloc, dir.as_slice(), store, last, &mut told)?;
+    }
+    Ok(told.into_vec())
+}
+
+/// `again DIR COUNT`: what is told of a folder once it has been the next release so often.
+pub fn again(alloc: Global, row: &Row, store: &mut MemoryStore) -> Answer {
+    let dir = row.word(0)?;
+    let mut last = None;
+    for _ in 0..row.number(1)? {
+        let mut ignored = Bytes::new(alloc);
+        last = step(alloc, dir, store, last, &mut ignored)?;
+    }
+    let mut told = Bytes::new(alloc);
+    let _last = step(alloc, dir, store, last, &mut told)?;
+    Ok(told.into_vec())
+}
+
+/// The catalogue of a history of folders, with a comma between two, none of which is refused.
+pub fn catalogue_of(
+    alloc: Global,
+    dirs: &[u8],
+    store: &mut MemoryStore,
+) -> Result<Catalogue<Zone>, CaseFault> {
+    let mut told = Bytes::new(alloc);
+    let mut last = None;
+    for dir in dirs.split(|byte| *byte == b',') {
+        last = step(alloc, dir, store, last, &mut told)?;
+    }
+    last.ok_or(CaseFault::Strange)
+}
+
+/// Judges a folder after a catalogue, and tells how many zones it has or its fault, which is also
+/// shown where that is another text.
+fn step(
+    alloc: Global,
+    dir: &[u8],
+    store: &mut MemoryStore,
+    last: Option<Catalogue<Zone>>,
+    told: &mut Bytes,
+) -> Result<Option<Catalogue<Zone>>, NoMemory> {
+    match check(alloc, dir, store, last.as_ref()) {
+        Ok(release) => {
+            told.append(b"ok ")?;
+            put_decimal(told, release.zones.len() as u64)?;
+            told.append(b";")?;
+            Ok(Some(grown(alloc, last, release)?))
+        }
+        Err(fault) => {
+            put_fault(alloc, told, &fault)?;
+            Ok(last)
+        }
+    }
+}
+
+fn put_fault(alloc: Global, told: &mut Bytes, fault: &CheckFault) -> Result<(), NoMemory> {
+    let mut printed = Bytes::new(alloc);
+    fault.put(alloc, &mut printed)?;
+    told.append(printed.as_slice())?;
+    let shown = fault.to_string(alloc)?;
+    if shown.as_bytes() != printed.as_slice() {
+        told.append(b", ")?;
+        told.append(shown.as_bytes())?;
+    }
+    told.append(b";")
+}
+
+/// The catalogue with one release more.
+fn grown(
+    alloc: Global,
+    last: Option<Catalogue<Zone>>,
+    release: Release<Zone>,
+) -> Result<Catalogue<Zone>, NoMemory>
+    requires sound { IsSound (release_data zone_bytes release) }
+    requires follows { Follows (before_held last) (release_data zone_bytes release) }
+{
+    match last {
+        None => Catalogue::first(alloc, release),
+        Some(last) => last.next(alloc, release),
+    }
+}

@@ -1,0 +1,150 @@
+//! Folders that are installed, for desks.
+ghost use Rattle.std.specs.Prelude.{◌≡◌};
+
+use case_lines::{Answer, CaseFault, Row};
+use catalogue::Catalogue;
+use installer::{InstallFault, Installer};
+use publication::Desk;
+use std::alloc::Global;
+use std::sync::Wait;
+use td_base::{Bytes, MemoryStore, NoMemory};
+use zone_meaning::Zone;
+
+/// `open DIR`: the fault of a first folder as it is shown, or nothing.
+pub fn open<R: Wait>(rt: &R, alloc: Global, row: &Row, store: &mut MemoryStore) -> Answer {
+    match Installer::open(rt, alloc, row.word(0)?, store, 1) {
+        Ok((installer, desks)) => {
+            drop(desks);
+            installer.close(rt);
+            Ok(Vec::new(alloc))
+        }
+        Err(fault) => crate::text(alloc, &fault),
+    }
+}
+
+/// The places of two desks after each step, and the text of the last answer.
+#[derive(Debug, Drop)]
+struct Steps {
+    opened: (u32, u32),
+    // Before any enter.
+    told: (u32, u32),
+    grown: (u32, u32),
+    refused: (u32, u32),
+    fault: Bytes,
+}
+
+/// `install DIR DIR DIR`: the places at which two desks answer once the first folder was published,
+/// the first desk was told of the second, both entered, the third was refused, and both learnt the
+/// end; and the fault of the third.
+pub fn install<R: Wait>(rt: &R, alloc: Global, row: &Row, store: &mut MemoryStore) -> Answer {
+    let (steps, ended) = match run(rt, alloc, row, store) {
+        Ok(run) => run,
+        Err(InstallFault::NoMemory) => return Err(CaseFault::NoMemory),
+        Err(InstallFault::Check(_fault)) => return crate::strange(),
+    };
+    let (opened, told) = (steps.opened, steps.told);
+    let (grown, refused) = (steps.grown, steps.refused);
+    let places = format!(in alloc; "{opened:?} {told:?} {grown:?} {refused:?} {ended:?} ")?;
+    let mut out = places.into_bytes();
+    out.extend_from_slice(steps.fault.as_slice())?;
+    Ok(out)
+}
+
+/// The steps, and the places at the end.
+fn run<R: Wait>(
+    rt: &R,
+    alloc: Global,
+    row: &Row,
+    store: &mut MemoryStore,
+) -> Result<(Steps, (u32, u32)), InstallFault> {
+    let (first, more) = (word(row, 0), (word(row, 1), word(row, 2)));
+    let (installer, desks) = Installer::open(rt, alloc, first, store, 2)?;
+    let (mut installer, mut desks) = (installer, desks);
+    let mut two = desks.pop().unwrap();
+    let mut one = desks.pop().unwrap();
+    let steps = match grow(rt, alloc, more, store, &mut installer, &mut one, &mut two) {
+        Ok(steps) => steps,
+        Err(fault) => {
+            installer.close(rt);
+            return Err(fault);
+        }
+    };
+    let places = ended(rt, installer, &mut one, &mut two)?;
+    Ok((steps, places))
+}
+
+/// The folder at this place, or the store's own top where the row has none.
+fn word(row: &Row, at: usize) -> &[u8] {
+    row.word(at).unwrap_or(&[])
+}
+
+/// Installs a release, of which the first desk is told, and then one that is refused.
+fn grow<R: Wait>(
+    rt: &R,
+    alloc: Global,
+    dirs: (&[u8], &[u8]),
+    store: &mut MemoryStore,
+    installer: &mut Installer,
+    one: &mut Desk<Catalogue<Zone>>,
+    two: &mut Desk<Catalogue<Zone>>,
+) -> Result<Steps, InstallFault>
+    requires { one.old.pair ≡ installer.old.pair }
+    ensures installer { installer.new.pair ≡ installer.old.pair }
+    ensures one { one.new.pair ≡ one.old.pair }
+    ensures two { two.new.pair ≡ two.old.pair }
+{
+    let opened = (entered(one), entered(two));
+    let receipt = installer.install(rt, alloc, dirs.0, store)?;
+    one.learn(receipt);
+    let told = (one.value().count(), two.value().count());
+    let grown = (entered(one), entered(two));
+    let fault = text_of(alloc, installer.install(rt, alloc, dirs.1, store))?;
+    let refused = (entered(one), entered(two));
+    Ok(Steps {
+        opened,
+        told,
+        grown,
+        refused,
+        fault,
+    })
+}
+
+/// The text of a fault as it is printed, or no text.
+fn text_of<T: Drop>(alloc: Global, answer: Result<T, InstallFault>) -> Result<Bytes, NoMemory> {
+    let mut text = Bytes::new(alloc);
+    if let Err(fault) = answer {
+        fault.put(alloc, &mut text)?;
+    }
+    Ok(text)
+}
+
+/// The place at which a desk answers after an enter, 0 where that was refused.
+pub fn entered(desk: &mut Desk<Catalogue<Zone>>) -> u32
+    ensures { desk.new.pair ≡ desk.old.pair }
+{
+    if desk.enter().is_err() {
+        return 0;
+    }
+    desk.value().count()
+}
+
+/// The places of two desks that learn the end.
+fn ended<R: Wait>(
+    rt: &R,
+    installer: Installer,
+    one: &mut Desk<Catalogue<Zone>>,
+    two: &mut Desk<Catalogue<Zone>>,
+) -> Result<(u32, u32), NoMemory>
+    requires { (one.old.pair ≡ installer.pair) × (two.old.pair ≡ installer.pair) }
+{
+    let mut ended = installer.end(rt)?;
+    let (mine, theirs) = (ended.receipt(), ended.receipt());
+    let (Ok(mine), Ok(theirs)) = (mine, theirs) else {
+        ended.close(rt);
+        return Err(NoMemory);
+    };
+    one.learn(mine);
+    two.learn(theirs);
+    ended.close(rt);
+    Ok((one.value().count(), two.value().count()))
+}

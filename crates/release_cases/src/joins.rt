@@ -1,0 +1,116 @@
+//! Whether a folder joins a history whole or not at all.
+use crate::installs::entered;
+use case_lines::{Answer, CaseFault, Row};
+use catalogue::Catalogue;
+use installer::{InstallFault, Installer};
+use publication::Desk;
+use std::alloc::{AllocError, Global};
+use std::sync::Wait;
+use td_base::MemoryStore;
+use zone_meaning::Zone;
+
+/// What a history has come to: its releases, the zones and names of the last one, and the place at
+/// which a desk answers after an enter.
+#[derive(Clone, Copy, Debug)]
+struct Stand {
+    releases: u32,
+    zones: usize,
+    names: usize,
+    entered: u32,
+}
+
+/// What becomes of a folder: whether it joined the history, and what that comes to. Nothing where
+/// it is refused for another cause than memory.
+type Joining = Option<(bool, Stand)>;
+
+/// `joins DIR DIR STAND`: what the history of the first folder comes to once the second has joined
+/// it: releases, zones, names and the place of a desk, with a comma between two. Where a first try
+/// fails for want of memory a second is made, and if the history does not stand as STAND says
+/// between them, what it comes to then is told first. `bench/each_allocation.py` fails each
+/// allocation of such a row in turn.
+pub fn joins<R: Wait>(rt: &R, alloc: Global, row: &Row, store: &mut MemoryStore) -> Answer {
+    let dirs = (row.word(0)?, row.word(1)?);
+    let (first, second) = match installed(rt, alloc, dirs, store) {
+        Ok(both) => both,
+        Err(InstallFault::NoMemory) => return Err(CaseFault::NoMemory),
+        Err(InstallFault::Check(_fault)) => return crate::strange(),
+    };
+    let mut out = Vec::new(alloc);
+    put_between(alloc, &mut out, first, row.word(2)?)?;
+    if let Some((true, stand)) = second {
+        out.extend_from_slice(text_of(alloc, &stand)?.as_bytes())?;
+    }
+    Ok(out)
+}
+
+/// Tells the stand after a try that failed, where it is not this one.
+fn put_between(
+    alloc: Global,
+    out: &mut Vec<u8>,
+    first: Joining,
+    stand: &[u8],
+) -> Result<(), AllocError> {
+    if let Some((false, now)) = first {
+        let text = text_of(alloc, &now)?;
+        if text.as_bytes() != stand {
+            out.extend_from_slice(text.as_bytes())?;
+            out.push(b' ')?;
+        }
+    }
+    Ok(())
+}
+
+fn text_of(alloc: Global, stand: &Stand) -> Result<String, AllocError> {
+    let (releases, zones) = (stand.releases, stand.zones);
+    let (names, entered) = (stand.names, stand.entered);
+    format!(in alloc; "{releases},{zones},{names},{entered}")
+}
+
+/// Installs the second folder after the first, and once more where there was no memory for it.
+fn installed<R: Wait>(
+    rt: &R,
+    alloc: Global,
+    dirs: (&[u8], &[u8]),
+    store: &mut MemoryStore,
+) -> Result<(Joining, Joining), InstallFault> {
+    let (installer, desks) = Installer::open(rt, alloc, dirs.0, store, 1)?;
+    let (mut installer, mut desks) = (installer, desks);
+    let mut desk = desks.pop().unwrap();
+    let first = joined(rt, alloc, dirs.1, store, &mut installer, &mut desk);
+    let second = match first {
+        Some((false, _)) => joined(rt, alloc, dirs.1, store, &mut installer, &mut desk),
+        _ => first,
+    };
+    installer.close(rt);
+    Ok((first, second))
+}
+
+/// Installs a folder.
+fn joined<R: Wait>(
+    rt: &R,
+    alloc: Global,
+    dir: &[u8],
+    store: &mut MemoryStore,
+    installer: &mut Installer,
+    desk: &mut Desk<Catalogue<Zone>>,
+) -> Joining {
+    let joined = match installer.install(rt, alloc, dir, store) {
+        Ok(receipt) => {
+            drop(receipt);
+            true
+        }
+        Err(InstallFault::NoMemory) => false,
+        Err(InstallFault::Check(_fault)) => return None,
+    };
+    Some((joined, stand_of(installer, desk)))
+}
+
+fn stand_of(installer: &Installer, desk: &mut Desk<Catalogue<Zone>>) -> Stand {
+    let last = installer.last();
+    Stand {
+        releases: last.count(),
+        zones: last.len(),
+        names: last.name_count(),
+        entered: entered(desk),
+    }
+}

@@ -1,0 +1,46 @@
+//! The flag that stops workers.
+use case_lines::{Answer, shown};
+use desk_pool::{StopFlag, StopSign};
+use std::alloc::Global;
+use std::thread::{Threads, join};
+use td_base::NoMemory;
+
+/// `flag`: what a sign shows before the flag is raised, what it shows twice after that, and what a
+/// second sign shows then.
+pub fn signs(alloc: Global) -> Answer {
+    let looks = looks(alloc)?;
+    shown(alloc, &looks)
+}
+
+fn looks(alloc: Global) -> Result<(bool, bool, bool, bool), NoMemory> {
+    let mut flag = StopFlag::new(alloc)?;
+    let mut first = flag.share()?;
+    let before = first.is_raised();
+    let mut second = flag.share()?;
+    flag.raise();
+    let (once, twice) = (first.is_raised(), first.is_raised());
+    Ok((before, once, twice, second.is_raised()))
+}
+
+/// `flag-beside`: whether no look of many, while another thread raises the flag, tells that it is
+/// down after one told that it was raised; and what is shown after that.
+pub fn beside<R: Threads>(rt: &R, alloc: Global) -> Answer {
+    let mut flag = StopFlag::new(alloc)?;
+    let mut sign = flag.share()?;
+    let ((), steady) = join(rt, || flag.raise(), || is_steady(&mut sign));
+    let raised = sign.is_raised();
+    shown(alloc, &(steady, raised))
+}
+
+/// Whether no look of many tells that the flag is down after one told that it was raised.
+fn is_steady(sign: &mut StopSign) -> bool {
+    let mut seen = false;
+    for _ in 0..1_000 {
+        let raised = sign.is_raised();
+        if seen && !raised {
+            return false;
+        }
+        seen = raised;
+    }
+    true
+}

@@ -1,0 +1,71 @@
+//! Tries what `connection` and `desk_pool` offer over the cases of a table on standard input, and
+//! tells of each whose answer is not the expected one. The table explains its own lines.
+#![tactic(auto)]
+
+// One connection over a desk.
+mod desks;
+mod streams;
+
+// A worker at a door.
+mod doors;
+mod listed_door;
+
+// The flag that stops workers, and works beside one thing of the caller's.
+mod counted;
+mod flags;
+mod late_spawner;
+mod pools;
+
+use case_lines::{Answer, CaseFault, Row, Table};
+use std::alloc::Global;
+use std::io;
+use std::sync::Wait;
+use std::thread::Threads;
+
+fn main(rt: HostRuntime) -> io::Result<()> {
+    let alloc = rt.alloc();
+    let mut table = Table::new(alloc);
+    for line in rt.lines(alloc) {
+        let line = line?;
+        if let Some(row) = table.row(line.as_str())? {
+            if let Some(told) = table.judge(&row, answer(&rt, alloc, &row))? {
+                println!(rt; "{told}")?;
+            }
+        }
+    }
+    let tally = table.tally();
+    println!(rt; "{tally}")
+}
+
+/// What is answered to a row.
+fn answer<R>(rt: &R, alloc: Global, row: &Row) -> Answer
+where
+    R: Threads + Wait + Copy + Send + Sync + 'static,
+{
+    match row.kind() {
+        "works" => pools::works(rt, alloc, row),
+        "flag-beside" => flags::beside(rt, alloc),
+        "flag" => flags::signs(alloc),
+        _ => waiting(rt, alloc, row),
+    }
+}
+
+/// What is answered to a row that makes no threads.
+fn waiting<R: Wait>(rt: &R, alloc: Global, row: &Row) -> Answer {
+    match row.kind() {
+        "stream" => streams::stream(rt, alloc, row),
+        "once" => streams::once(rt, alloc, row),
+        "failing" => streams::failing(rt, alloc, row),
+        "refused" => streams::refused(rt, alloc, row),
+        "door" => doors::door(rt, alloc, row),
+        "laws" => laws(alloc),
+        _ => Err(CaseFault::Strange),
+    }
+}
+
+/// The laws, which do nothing.
+fn laws(alloc: Global) -> Answer {
+    connection::nothing_needed();
+    connection::one_closing();
+    Ok(Vec::from_slice(alloc, b"called")?)
+}

@@ -1,0 +1,111 @@
+//! One connection that is served over a desk.
+use crate::desks::one_desk;
+use case_lines::{Answer, Row};
+use catalogue::Catalogue;
+use connection::serve;
+use publication::Desk;
+use std::alloc::{AllocError, Global};
+use std::sync::Wait;
+use td_base::{
+    Bytes, FaultyConn, Items, MemoryConn, MemorySink, MemorySource, NoMemory, Report, Role,
+};
+use zone_meaning::Zone;
+
+/// `stream TEXT`: what comes of a connection of this input, of which the first read gives each
+/// number of bytes from 1 to 199: what is written to it, and its report.
+pub fn stream<R: Wait>(rt: &R, alloc: Global, row: &Row) -> Answer {
+    let input = row.word(0)?;
+    let (publisher, desk) = one_desk(rt, alloc)?;
+    let mut desk = desk;
+    let told = in_each_cut(alloc, &mut desk, input);
+    publisher.close(rt);
+    told
+}
+
+/// `once CUT TEXT`: the same where the first read gives so many bytes.
+pub fn once<R: Wait>(rt: &R, alloc: Global, row: &Row) -> Answer {
+    let (cut, input) = (row.number(0)?, row.word(1)?);
+    let (publisher, desk) = one_desk(rt, alloc)?;
+    let mut desk = desk;
+    let told = served(alloc, &mut desk, input, cut as usize);
+    publisher.close(rt);
+    told
+}
+
+/// `refused TEXT`: the same after the publisher is gone, where each enter is refused.
+pub fn refused<R: Wait>(rt: &R, alloc: Global, row: &Row) -> Answer {
+    let input = row.word(0)?;
+    let (publisher, desk) = one_desk(rt, alloc)?;
+    let mut desk = desk;
+    publisher.close(rt);
+    served(alloc, &mut desk, input, 1)
+}
+
+/// `failing READ WRITE CUT TEXT`: the same over a connection of which this read and this write
+/// fail, from 1.
+pub fn failing<R: Wait>(rt: &R, alloc: Global, row: &Row) -> Answer {
+    let calls = (row.number(0)?, row.number(1)?);
+    let (cut, input) = (row.number(2)?, row.word(3)?);
+    let (publisher, desk) = one_desk(rt, alloc)?;
+    let mut desk = desk;
+    let told = served_failing(alloc, &mut desk, input, cut as usize, calls);
+    publisher.close(rt);
+    told
+}
+
+fn in_each_cut(alloc: Global, desk: &mut Desk<Catalogue<Zone>>, input: &[u8]) -> Answer {
+    let told = served(alloc, desk, input, 1)?;
+    for cut in 2..200 {
+        let other = served(alloc, desk, input, cut)?;
+        if other.as_slice() != told.as_slice() {
+            return differs(alloc, cut);
+        }
+    }
+    Ok(told)
+}
+
+fn differs(alloc: Global, cut: usize) -> Answer {
+    Ok(format!(in alloc; "another answer where the first read gives {cut}")?.into_bytes())
+}
+
+fn served(alloc: Global, desk: &mut Desk<Catalogue<Zone>>, input: &[u8], cut: usize) -> Answer {
+    let mut conn = conn_of(alloc, input, cut)?;
+    let report = serve(alloc, &Role::Primary, desk, &mut conn);
+    Ok(told(alloc, conn.sink.taken(), &report)?)
+}
+
+fn served_failing(
+    alloc: Global,
+    desk: &mut Desk<Catalogue<Zone>>,
+    input: &[u8],
+    cut: usize,
+    calls: (u64, u64),
+) -> Answer {
+    let inner = conn_of(alloc, input, cut)?;
+    let mut conn = FaultyConn::new(inner, one(alloc, calls.0)?, one(alloc, calls.1)?);
+    let report = serve(alloc, &Role::Primary, desk, &mut conn);
+    Ok(told(alloc, conn.inner().sink.taken(), &report)?)
+}
+
+fn conn_of(alloc: Global, input: &[u8], cut: usize) -> Result<MemoryConn, NoMemory> {
+    let mut sizes = Items::new(alloc);
+    sizes.push(cut)?;
+    let source = MemorySource::in_pieces(Bytes::from_slice(alloc, input)?, sizes);
+    Ok(MemoryConn::new(source, MemorySink::new(alloc, 300_000)?))
+}
+
+fn one(alloc: Global, number: u64) -> Result<Items<u64>, NoMemory> {
+    let mut numbers = Items::new(alloc);
+    numbers.push(number)?;
+    Ok(numbers)
+}
+
+/// What was written, a bar, how the connection ended, how many of its requests have a place, and
+/// how many answers were computed.
+fn told(alloc: Global, taken: &[u8], report: &Report) -> Result<Vec<u8>, AllocError> {
+    let mut out = Vec::from_slice(alloc, taken)?;
+    let (end, computed) = (report.end, report.computed);
+    let places = report.places.as_slice().len();
+    out.extend_from_slice(format!(in alloc; "|{end:?} {places} {computed}")?.as_bytes())?;
+    Ok(out)
+}
