@@ -360,6 +360,22 @@ class Faked(Room):
         self.assertEqual((tree_of(self.dir), self.state()), (held, state))
         self.assert_tidy()
 
+    def begin_anew(self):
+        """Nothing is there, as before the first run."""
+        shutil.rmtree(self.home)
+        self.home.mkdir()
+
+    def settles(self, token, zones, first=None):
+        """A run, and one more where it got the first release, end at this token with these zones; then nothing is there."""
+        self.fetch()
+        if self.state()["token"] == "at 1":
+            if first is not None:
+                self.holds(first)
+            self.fetch()
+        self.assertEqual(self.state()["token"], token)
+        self.holds(zones)
+        self.begin_anew()
+
     def state(self):
         path = Path(os.path.realpath(self.dir)).parent / "state.json"
         return json.loads(path.read_text()) if path.is_file() else None
@@ -368,8 +384,7 @@ class Faked(Room):
         """Each lie is refused, without a tree and beside one, and then all is well again."""
         for what, lie in lies.items():
             with self.subTest(what):
-                shutil.rmtree(self.home)
-                self.home.mkdir()
+                self.begin_anew()
                 self.fake.releases = [FIRST]
                 if first:
                     self.refused_with({target.rstrip("?"): lie}, part)
@@ -495,8 +510,7 @@ class Fetching(Faked):
                 self.assertEqual(self.fetch()[1][1:], ["/zones/Test/Deep/Zone"] * 2)
             self.holds(SECOND)
             self.fake.stale = {}
-            shutil.rmtree(self.home)
-            self.home.mkdir()
+            self.begin_anew()
             self.fake.releases.pop()
             self.fetch()
             self.fake.releases.append(SECOND)
@@ -513,8 +527,7 @@ class Fetching(Faked):
             wanted = ["/zones?changedsince=at 1", *["/zones/Test/Deep/Zone"] * 2, "/zones?changedsince=at 2"]
             self.assertEqual(asked, wanted)
             self.holds(SECOND)
-            shutil.rmtree(self.home)
-            self.home.mkdir()
+            self.begin_anew()
 
     def test_a_release_that_comes_meanwhile(self):
         for form in ('"{}.t"', '"{}-x"', ""):
@@ -527,22 +540,14 @@ class Fetching(Faked):
                             self.fake.releases.append(SECOND)
 
                     self.fake.before_get = install
-                    self.fetch()
-                    if self.state()["token"] == "at 1":
-                        self.holds(FIRST)
-                        self.fetch()
-                    self.assertEqual(self.state()["token"], "at 2")
-                    self.holds(SECOND)
-                    shutil.rmtree(self.home)
-                    self.home.mkdir()
+                    self.settles("at 2", SECOND, first=FIRST)
 
     def test_a_release_that_comes_and_goes(self):
         """The file of a release that was taken back is not kept for that of the release before and after it."""
         for form, between in ((form, between) for form in ('"{}.t"', '"{}-x"', "") for between in (True, False)):
             with self.subTest(form=form, between=between):
                 self.fake.form, self.fake.releases, self.fake.between = form, [FIRST], between
-                shutil.rmtree(self.home)
-                self.home.mkdir()
+                self.begin_anew()
 
                 def install(tzid):
                     if tzid == "Test/Deep/Zone" and len(self.fake.releases) == 1:
@@ -551,13 +556,7 @@ class Fetching(Faked):
                         self.fake.releases.append(FIRST)
 
                 self.fake.before_get = install
-                self.fetch()
-                if self.state()["token"] == "at 1":
-                    self.fetch()
-                self.assertEqual(self.state()["token"], "at 3")
-                self.holds(FIRST)
-                shutil.rmtree(self.home)
-                self.home.mkdir()
+                self.settles("at 3", FIRST)
 
     def test_a_server_that_never_rests(self):
         count = iter(range(1000))
@@ -591,8 +590,7 @@ class Fetching(Faked):
             self.lied(lies, ZONES + "?", part)
         lies = {"a zone below one that is held": listed(["Plain/A"])}
         self.lied(lies, ZONES + "?", "lies below another zone", first=False)
-        shutil.rmtree(self.home)
-        self.home.mkdir()
+        self.begin_anew()
         self.refused_with({ZONES: listed()}, "a list without zones")
 
     def test_bad_names(self):
