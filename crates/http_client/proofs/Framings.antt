@@ -3,13 +3,14 @@ use Rattle.std.proofs.Common.{◌≡◌, ℕ, ◌≤◌, ◌<◌, List, [], ◌�
 use Rattle.std.proofs.Common.{◌≢◌, cond, codes}
 use Rattle.std.proofs.lemmas.Bool.{eq-eqb, ne_eqb}
 use Rattle.http_client.specs.Fields.{first_of}
-use Rattle.http_client.specs.Replies.{Unread, ToTheEnd, framing, sized, sized_by, values_of}
+use Rattle.td_base.specs.Texts.{field_values}
+use Rattle.http_client.specs.Replies.{Unread, ToTheEnd, framing, sized, sized_by}
 
 abbrev codings : List (List ℕ × List ℕ) → List (List ℕ)
-codings pairs = values_of (codes "transfer-encoding") pairs
+codings pairs = field_values (codes "transfer-encoding") pairs
 
 abbrev lengths : List (List ℕ × List ℕ) → List (List ℕ)
-lengths pairs = values_of (codes "content-length") pairs
+lengths pairs = field_values (codes "content-length") pairs
 
 pub coded : (pairs : List (List ℕ × List ℕ)) (n : ℕ) → n ≡ length (codings pairs) → n ≢ 0 → framing pairs ≡ Unread
 unfolding framing

@@ -40,7 +40,9 @@ module _ (bytes : List ℕ) (room : List HeaderSpan) (spans : ResponseSpans) (fe
       let at = head.1 in
       let whole : reply_unless place (reply spans body) ≡ reply_of h body =
       ap (λ p. reply_unless p (reply spans body)) (is ∙ same_place h at (length body))
-      ∙ ap (λ code. reply_unless (fault_place (framing (map name_and_value h.fields)) (length (print_response h)) (length body)) (record { status = code; body = body }))
+      ∙ ap
+      (λ code. reply_unless (fault_place (framing (map name_and_value h.fields)) (length (print_response h)) (length body))
+      (record { status = code; body = body }))
       at.code in
       headed h (drop spans.len bytes) (at.reads, has_few h at) (whole ∙ ap (reply_of h) rest)
 

@@ -1,24 +1,17 @@
 -- What bytes are as a reply of HTTP/1.x (RFC 9112, sections 4 to 6): a status with a body, or none
 -- from a place on.
-use Rattle.std.specs.Prelude.{◌≡◌, ℕ, ◌≤◌, ◌==◌, ◌&&◌, not, List, [], ◌∷◌, length, map, Bool, cond}
+use Rattle.std.specs.Prelude.{◌≡◌, ℕ, ◌≤◌, ◌==◌, ◌&&◌, not, List, [], ◌∷◌, length, map, Bool}
 use Rattle.std.specs.Prelude.{if◌then◌else◌, codes, Option, None, Some, Result, Ok, Err}
 use Rattle.std.specs.Char.{is_ascii_digit}
 use Rattle.std.specs.List.{list_all}
-use Rattle.std.specs.Str.{str_eq_ignore_ascii_case}
 use Rattle.std.specs.Str.Parse.{digits_value}
 use Rattle.httparse.specs.Grammar.{ReadsResponse, ResponseHead, print_response, status_code}
 use Rattle.httparse.specs.Spans.{name_and_value}
+use Rattle.td_base.specs.Texts.{field_values}
 use Rattle.http_client.specs.declared.limits.TheConstants.{MOST_FIELDS}
 use Rattle.http_client.specs.declared.reply.BadReply.{BadReply}
 use Rattle.http_client.specs.declared.reply.BadReply.TheVariants as bad
 use Rattle.http_client.specs.declared.reply.Reply.{Reply}
-
--- the values of the fields with this name, whatever the case of its letters
-abbrev pub values_of : List ℕ → List (List ℕ × List ℕ) → List (List ℕ)
-values_of name [] = []
-values_of name (pair ∷ pairs) =
-    cond (str_eq_ignore_ascii_case pair.0 name) (pair.1 ∷ values_of name pairs)
-    (values_of name pairs)
 
 -- how a head tells where the body ends: in no way that is read, with the bytes, or by its length
 pub data Framing : Type 0 where
@@ -42,8 +35,8 @@ sized_by (value ∷ other ∷ values) = Unread
 -- and no Transfer-Encoding is read
 unfoldable pub framing : List (List ℕ × List ℕ) → Framing
 framing pairs =
-    if length (values_of (codes "transfer-encoding") pairs) == 0
-    then sized_by (values_of (codes "content-length") pairs) else Unread
+    if length (field_values (codes "transfer-encoding") pairs) == 0
+    then sized_by (field_values (codes "content-length") pairs) else Unread
 
 -- from where on a head of so many bytes with a body of so many is no reply: from the start, where
 -- the head does not tell the body's end, and from the body on, where that has another length

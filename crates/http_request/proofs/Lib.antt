@@ -3,7 +3,6 @@ pub mod EndLemmas
 pub mod HeldLemmas
 pub mod JoinLemmas
 pub mod LookLemmas
-pub mod MemberLemmas
 pub mod ScanLemmas
 pub mod lemmas
 pub mod TakingLemmas

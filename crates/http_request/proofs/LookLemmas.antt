@@ -7,11 +7,10 @@ use Rattle.httparse.specs.Grammar.{RequestHead, print_request}
 use Rattle.http_request.specs.Ends.{feeds, fits, window, is_full}
 use Rattle.http_request.specs.Judging.{refusal_of, asked_by}
 use Rattle.http_request.specs.Steps.{HeadOf, Whole, Malformed, TooLarge, NotYet, Taken, Refused, Waiting, verdict, IsStep, IsTaken}
-use Rattle.http_request.specs.Scans.{IsScanned, Searches, head_end}
+use Rattle.http_request.specs.Scans.{IsScanned, head_end}
 use Rattle.http_request.specs.Readings.{ReadsHead, FindsStep, IsServed}
 use Rattle.http_request.specs.declared.scan.Scan.{Scan}
 use Rattle.http_request.specs.declared.limits.TheConstants.{MOST_HEAD_BYTES, MOST_FEEDS}
-use Rattle.http_request.specs.declared.scan.Search.TheVariants as search
 use Rattle.http_request.specs.declared.step.Step.{Step}
 use Rattle.http_request.specs.declared.step.Step.TheVariants as step
 use Rattle.http_request.proofs.EndLemmas.{feeds-take}
@@ -41,7 +40,8 @@ pub waits_more : (bytes : List ℕ) (scan : Scan) → IsScanned bytes scan → s
 waits_more bytes scan s e f =
     record { found = NotYet; finds = (no_end bytes (scan_open bytes scan s e), full_is bytes scan s e ∙ f); is = refl }
 
-pub past_is_full : (n m x y : ℕ) → n ≤ m → x ≤ y → (nat_le n MOST_HEAD_BYTES && nat_le x MOST_FEEDS) ≡ false → (nat_le MOST_HEAD_BYTES m || nat_le MOST_FEEDS y) ≡ true
+pub past_is_full : (n m x y : ℕ) → n ≤ m → x ≤ y
+    → (nat_le n MOST_HEAD_BYTES && nat_le x MOST_FEEDS) ≡ false → (nat_le MOST_HEAD_BYTES m || nat_le MOST_FEEDS y) ≡ true
 past_is_full n m x y a b f = grind (arith, nat_tests)
 
 -- a head ends in the bytes: `count` is how many line feeds it has

@@ -8,7 +8,8 @@ use Rattle.httparse.specs.Grammar.{RequestHead, print_request}
 use Rattle.td_base.specs.TargetForm.{has_form}
 use Rattle.td_base.specs.declared.no_memory.NoMemory.{NoMemory}
 use Rattle.http_request.specs.Ends.{feeds}
-use Rattle.http_request.specs.Judging.{refusal, refusal_of, asked_by, pairs_of, is_served, is_well_formed, has_hosts, field_values, is_host, is_zero}
+use Rattle.td_base.specs.Texts.{field_values}
+use Rattle.http_request.specs.Judging.{refusal, refusal_of, asked_by, pairs_of, is_served, is_well_formed, has_hosts, is_host, is_zero}
 use Rattle.http_request.specs.Steps.{Found, Whole, Malformed, TooLarge, NotYet, Finds, Taken, Refused, Waiting, outcome, verdict, IsStep, IsTaken, Steps}
 use Rattle.http_request.specs.Taking.{HasForm, HasStatus, IsRefusal, LeavesFewer, LeavesRoom}
 use Rattle.http_request.specs.declared.head.Head.{Head}
@@ -36,7 +37,8 @@ refusal_none : (method target : List ℕ) (minor : ℕ) (pairs : List (List ℕ 
 unfolding refusal
 refusal_none method target minor pairs e =
     by_tests (is_served method) (has_hosts minor (length (field_values (codes "host") pairs)))
-    (list_all is_host (field_values (codes "host") pairs)) (length (field_values (codes "transfer-encoding") pairs) == 0) (list_all is_zero (field_values (codes "content-length") pairs)) (has_form target) e
+    (list_all is_host (field_values (codes "host") pairs)) (length (field_values (codes "transfer-encoding") pairs) == 0)
+    (list_all is_zero (field_values (codes "content-length") pairs)) (has_form target) e
   where
     by_tests : (m a h b c f : Bool) → cond {A = Option ℕ} (not m) (Some 405) (cond {A = Option ℕ} (not (a && (h && (b && (c && f))))) (Some 400) None) ≡ None
         → f ≡ true

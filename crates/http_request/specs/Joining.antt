@@ -1,6 +1,5 @@
--- What the loops over fields and over the members of a list keep.
-use Rattle.std.specs.Prelude.{ℕ, List, [], ◌∷◌, ◌++◌, ◌==◌, Option, Some, None, codes}
-use Rattle.std.specs.List.{slice_split}
+-- What the loop over fields of one name keeps.
+use Rattle.std.specs.Prelude.{ℕ, List, [], ◌∷◌, ◌++◌, Option, Some, None, codes}
 
 -- one more value at the end of those joined
 abbrev pub joined_value : Option (List ℕ) → List ℕ → List ℕ
@@ -11,8 +10,3 @@ joined_value (Some text) value = text ++ (codes ", " ++ value)
 abbrev pub values_joined_on : Option (List ℕ) → List (List ℕ) → Option (List ℕ)
 values_joined_on all [] = all
 values_joined_on all (v ∷ vs) = values_joined_on (Some (joined_value all v)) vs
-
--- the members of what is left of a comma list
-abbrev pub members_of : Option (List ℕ) → List (List ℕ)
-members_of None = []
-members_of (Some list) = slice_split (λ b. b == 44) list

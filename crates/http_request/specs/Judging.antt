@@ -1,21 +1,15 @@
 -- Whether a request head is served (RFC 9112, sections 2.3, 3.2, 6 and 9.3; RFC 9110, sections
 -- 5.3 and 9.3), and what it asks for.
-use Rattle.std.specs.Prelude.{ℕ, List, [], ◌∷◌, ◌++◌, length, map, cond, Bool, not, ◌&&◌, ◌||◌}
+use Rattle.std.specs.Prelude.{ℕ, List, [], ◌∷◌, ◌++◌, length, map, Bool, not, ◌&&◌, ◌||◌}
 use Rattle.std.specs.Prelude.{◌==◌, if◌then◌else◌, Option, Some, None, codes, flat_map, nat_eq}
 use Rattle.std.specs.Char.{is_ascii_alphanumeric}
-use Rattle.std.specs.List.{list_all, list_any, slice_split}
+use Rattle.std.specs.List.{list_all, list_any}
 use Rattle.std.specs.Str.{bytes_eq, str_eq_ignore_ascii_case}
-use Rattle.httparse.specs.Grammar.{RequestHead, trim_ows}
+use Rattle.httparse.specs.Grammar.{RequestHead}
 use Rattle.httparse.specs.Spans.{name_and_value}
 use Rattle.td_base.specs.TargetForm.{has_form}
+use Rattle.td_base.specs.Texts.{field_values, pieces, trim}
 use Rattle.http_request.specs.declared.head.Head.{Head}
-
--- the values of the fields with this name, whatever the case of its letters
-abbrev pub field_values : List ℕ → List (List ℕ × List ℕ) → List (List ℕ)
-field_values name [] = []
-field_values name (pair ∷ pairs) =
-    cond (str_eq_ignore_ascii_case pair.0 name) (pair.1 ∷ field_values name pairs)
-    (field_values name pairs)
 
 -- several fields with one name, joined to one value
 abbrev pub joined_values : List (List ℕ) → Option (List ℕ)
@@ -50,7 +44,7 @@ is_well_formed minor target pairs =
 -- a member of a comma list, whatever the case of its letters
 abbrev pub has_member : List ℕ → List ℕ → Bool
 has_member member list =
-    list_any (λ m. str_eq_ignore_ascii_case (trim_ows m) member) (slice_split (λ b. b == 44) list)
+    list_any (λ m. str_eq_ignore_ascii_case (trim m) member) (pieces 44 list)
 
 -- HTTP/1.0, or a Connection field with the member `close`
 abbrev pub closes : ℕ → List (List ℕ × List ℕ) → Bool

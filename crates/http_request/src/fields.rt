@@ -2,14 +2,15 @@ ghost use Rattle.std.specs.Prelude.{◌≡◌, ◌==◌, length, map, All, IfOk,
 ghost use Rattle.std.specs.List.{list_all, list_any};
 ghost use Rattle.std.specs.Str.{str_eq_ignore_ascii_case};
 ghost use Rattle.httparse.specs.Spans.{IsHeaderWithin, header_bytes};
+ghost use Rattle.td_base.specs.Texts.{field_values};
 ghost use Rattle.http_request.specs.Joining.{joined_value};
-ghost use Rattle.http_request.specs.Judging.{field_values, has_member, is_host, is_host_byte};
-ghost use Rattle.http_request.specs.Judging.{is_zero, joined_values};
+ghost use Rattle.http_request.specs.Judging.{has_member, is_host, is_host_byte, is_zero};
+ghost use Rattle.http_request.specs.Judging.{joined_values};
 
-use crate::members::is_listed;
 use http::header::CONNECTION;
 use httparse::spans::HeaderSpan;
 use std::alloc::Global;
+use td_base::texts::{cut, is_same, trim};
 use td_base::{Bytes, NoMemory};
 
 /// Whether the field has this name, whatever the case of its letters.
@@ -17,7 +18,7 @@ fn is_named(buf: &[u8], field: HeaderSpan, name: &[u8]) -> bool
     requires { IsHeaderWithin (length buf.now) field }
     ensures { result ≡ str_eq_ignore_ascii_case (header_bytes buf.now field).0 name.now }
 {
-    field.name.of(buf).eq_ignore_ascii_case(name)
+    is_same(field.name.of(buf), name)
 }
 
 /// How many fields have this name.
@@ -123,6 +124,21 @@ fn with_value(alloc: Global, all: Option<Bytes>, value: &[u8]) -> Result<Bytes, 
             Ok(text)
         }
     }
+}
+
+/// Whether the comma list has this member, whatever the case of its letters.
+fn is_listed(list: &[u8], member: &[u8]) -> bool
+    ensures { result ≡ has_member member.now list.now }
+{
+    let mut left = Some(list);
+    'members: while let Some(rest) = left {
+        let (first, after) = cut(rest, b',');
+        if is_same(trim(first), member) {
+            return true;
+        }
+        left = after;
+    }
+    false
 }
 
 /// Whether a Connection field has the member `close`.

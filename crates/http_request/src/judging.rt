@@ -1,15 +1,15 @@
 ghost use Rattle.std.specs.Prelude.{◌≡◌, length, map, All, IfOk};
 ghost use Rattle.httparse.specs.Spans.{IsHeaderWithin, header_bytes};
-ghost use Rattle.td_base.specs.TargetForm.{begins_any_case, has_form};
+ghost use Rattle.td_base.specs.TargetForm.{has_form};
 ghost use Rattle.http_request.specs.Judging.{asked, closes, is_served, is_well_formed, refusal};
 
 use crate::Head;
 use crate::fields::{all_hosts, all_zero, closes_any, count_named, joined};
-use crate::members::is_same;
 use http::header::{ACCEPT, CONTENT_LENGTH, HOST, IF_NONE_MATCH, TRANSFER_ENCODING};
 use http::{Method, StatusCode};
 use httparse::spans::HeaderSpan;
 use std::alloc::Global;
+use td_base::texts::begins;
 use td_base::{Bytes, NoMemory};
 
 /// Whether the target is in origin form or in absolute form.
@@ -18,14 +18,6 @@ fn is_target(target: &[u8]) -> bool
     ensures { result ≡ has_form target.now }
 {
     begins(target, b"/") || begins(target, b"http://") || begins(target, b"https://")
-}
-
-/// Whether the text begins with these bytes, whatever the case of letters.
-fn begins(text: &[u8], prefix: &[u8]) -> bool
-    ensures { result ≡ begins_any_case prefix.now text.now }
-{
-    let len = prefix.len().min(text.len());
-    is_same(&text[..len], prefix)
 }
 
 /// Whether the head may be served.

@@ -20,9 +20,8 @@ mod reading;
 mod scan;
 mod step;
 
-// The fields of a head, and the members of their values.
+// The fields of a head.
 mod fields;
-mod members;
 
 // Laws, and what may cross threads.
 mod laws;

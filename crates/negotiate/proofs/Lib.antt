@@ -1,3 +1,2 @@
 pub mod BestLemmas
 pub mod LargerLemmas
-pub mod LeftLemmas

@@ -28,7 +28,8 @@ thousandths whole rest = 1000 * (whole - digit_zero) + fraction 100 (drop 1 rest
 unfoldable pub quality_value : List ℕ → Option ℕ
 quality_value [] = None
 quality_value (whole ∷ rest) =
-    if ((whole == digit_zero || whole == digit_one) && is_fraction rest) && nat_le (thousandths whole rest) 1000
+    if ((whole == digit_zero || whole == digit_one) && is_fraction rest)
+    && nat_le (thousandths whole rest) 1000
     then Some (thousandths whole rest)
     else None
 

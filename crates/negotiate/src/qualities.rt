@@ -47,7 +47,8 @@ fn quality_for(element: &[u8], range: &[u8]) -> Option<u16>
 /// The quality that the parameters give.
 #[tactic(auto, unfolding(crate::specs::Qualities::quality_in))]
 fn quality_in(parameters: Option<&[u8]>) -> Option<u16>
-    ensures { result ≡ qualities.quality_in (pieces_left semicolon (option_copied parameters.entry)) }
+    ensures { result
+        ≡ qualities.quality_in (pieces_left semicolon (option_copied parameters.entry)) }
 {
     let mut left = parameters;
     'parameters: while let Some(rest) = left {

@@ -1,5 +1,5 @@
 -- The pieces of a text, one by one.
-use Rattle.std.proofs.Common.{◌≡◌, ◌≢◌, ◌<◌, ◌≤◌, ℕ, ◌+◌, ◌-◌, ◌==◌, false, All, List, [], ◌∷◌, ◌++◌, length, take, drop, get_or, Option, Some, None, sym, ap}
+use Rattle.std.proofs.Common.{◌≡◌, ◌≢◌, ◌<◌, ◌≤◌, ℕ, ◌+◌, ◌-◌, ◌==◌, false, All, List, [], ◌∷◌, ◌++◌, length, take, drop, get_or, sym, ap}
 use Rattle.std.proofs.Common.{◌∙◌, subst, take-append-drop}
 use Rattle.std.specs.List.{slice_split}
 use Rattle.std.proofs.lemmas.Bool.{eq-eqb, ne_eqb}
@@ -7,11 +7,6 @@ use Rattle.std.proofs.lemmas.List.{drop_more, take_more, take_rest, take_all}
 use Rattle.std.proofs.lemmas.List.Elements.{All-push}
 use Rattle.std.proofs.lemmas.List.Splits.{slice_split_at, slice_split_none}
 use Rattle.td_base.specs.Texts.{pieces}
-
--- how much of a text is left, for a loop that ends with it
-abbrev pub left_of : Option (List ℕ) → ℕ
-left_of None = 0
-left_of (Some text) = length text + 1
 
 abbrev is_other : ℕ → ℕ → Type 0
 is_other separator b = (b == separator) ≡ false

@@ -96,7 +96,8 @@ full_stays bytes next f =
     (omega (arith, length-append bytes next)) (omega (arith, feeds-append bytes next)) f
 
 -- what ends after a full list is past the limits
-past_limits : (m n x y : ℕ) → m < x → n < y → (nat_le MOST_HEAD_BYTES m || nat_le MOST_FEEDS n) ≡ true → (nat_le x MOST_HEAD_BYTES && nat_le y MOST_FEEDS) ≡ true → ⊥
+past_limits : (m n x y : ℕ) → m < x → n < y → (nat_le MOST_HEAD_BYTES m || nat_le MOST_FEEDS n) ≡ true
+    → (nat_le x MOST_HEAD_BYTES && nat_le y MOST_FEEDS) ≡ true → ⊥
 past_limits m n x y a b f g = grind (arith, nat_tests)
 
 -- no window comes where there is no room for one

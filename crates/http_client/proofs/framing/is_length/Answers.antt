@@ -12,5 +12,6 @@ returns-in_default c =
 pub returns-in-Err : goal.returns-in-Err
 returns-in-Err c =
     let small : c.args.len < 2 ^ 64 = search rules in
-    too_large c.args.digits.now c.in-Ok.text.now c.parse.result c.in-Err.field-0 c.args.len c.requires c.in-Ok.ensures.cases.0 c.parse.ensures.value.0 c.in-Err.is
+    too_large c.args.digits.now c.in-Ok.text.now c.parse.result c.in-Err.field-0 c.args.len c.requires c.in-Ok.ensures.cases.0
+    c.parse.ensures.value.0 c.in-Err.is
     small

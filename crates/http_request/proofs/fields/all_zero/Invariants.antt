@@ -1,7 +1,8 @@
 use Rattle.std.proofs.Common.{◌≡◌, map, drop}
 use Rattle.std.specs.List.{list_all}
 use Rattle.httparse.specs.Spans.{header_bytes}
-use Rattle.http_request.specs.Judging.{field_values, is_zero}
+use Rattle.td_base.specs.Texts.{field_values}
+use Rattle.http_request.specs.Judging.{is_zero}
 use Rattle.http_request.proofs.fields.all_zero.Given as goal
 
 abbrev pub invariant-loop-field : goal.invariant-loop-field

@@ -1,6 +1,7 @@
 use Rattle.std.proofs.Common.{◌≡◌, map, drop}
 use Rattle.httparse.specs.Spans.{header_bytes}
-use Rattle.http_request.specs.Judging.{field_values, joined_values}
+use Rattle.td_base.specs.Texts.{field_values}
+use Rattle.http_request.specs.Judging.{joined_values}
 use Rattle.http_request.specs.Joining.{values_joined_on}
 use Rattle.http_request.proofs.fields.joined.Given as goal
 

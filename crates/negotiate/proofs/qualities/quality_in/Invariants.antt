@@ -1,8 +1,7 @@
 use Rattle.std.proofs.Common.{◌≡◌, option_copied}
 use Rattle.negotiate.specs.Marks.{semicolon}
-use Rattle.td_base.specs.Texts.{pieces_left}
+use Rattle.td_base.specs.Texts.{left_of, pieces_left}
 use Rattle.negotiate.specs.Qualities.{quality_in}
-use Rattle.negotiate.proofs.LeftLemmas.{left_of}
 use Rattle.negotiate.proofs.qualities.quality_in.Given as goal
 
 abbrev pub invariant-parameters : goal.invariant-parameters

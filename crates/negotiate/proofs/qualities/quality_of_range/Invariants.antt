@@ -1,8 +1,7 @@
 use Rattle.std.proofs.Common.{◌≡◌, option_copied}
 use Rattle.negotiate.specs.Marks.{comma}
-use Rattle.td_base.specs.Texts.{pieces_left, pieces}
+use Rattle.td_base.specs.Texts.{left_of, pieces, pieces_left}
 use Rattle.negotiate.specs.Qualities.{larger_quality, largest_for}
-use Rattle.negotiate.proofs.LeftLemmas.{left_of}
 use Rattle.negotiate.proofs.qualities.quality_of_range.Given as goal
 
 abbrev pub invariant-elements : goal.invariant-elements
