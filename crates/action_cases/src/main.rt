@@ -1,6 +1,6 @@
-//! Tries what `target`, `find_pattern`, `negotiate` and `actions` offer over the cases of a table on
-//! standard input, and tells of each whose answer is not the expected one. The table explains its
-//! own lines.
+//! Tries what `target`, `find_pattern`, `negotiate` and `actions` offer over the cases of a table
+//! on standard input, and tells of each whose answer is not the expected one. The table explains
+//! its own lines.
 #![tactic(auto)]
 
 // Targets, patterns, and fields of negotiation.

@@ -18,8 +18,8 @@ pub fn file(alloc: Global, store: &mut MemoryStore, row: &Row) -> case_lines::An
     Ok(Vec::new(alloc))
 }
 
-/// `request DIR METHOD TARGET FIELDS`: what is answered over the release of that folder to a request
-/// with these fields besides Host.
+/// `request DIR METHOD TARGET FIELDS`: what is answered over the release of that folder to a
+/// request with these fields besides Host.
 pub fn request(alloc: Global, store: &mut MemoryStore, row: &Row) -> case_lines::Answer {
     let catalogue = catalogue_of(alloc, store, row.word(0)?)?;
     let text = request_text(alloc, row)?;

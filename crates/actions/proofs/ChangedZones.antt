@@ -47,8 +47,10 @@ map_two [] e = refl
 map_two (x ∷ es) e = ap (λ zs. list_zone x ∷ zs) (map_two es e)
 
 -- one more zone of a list
-pub next_change : (all changed : List EntryData) (places : List ℕ) (k at : ℕ) (e : EntryData) (z : ListZone) → map (slice_get all) places ≡ map Some changed
-    → slice_get places k ≡ Some at → slice_get all at ≡ Some e → z ≡ list_zone e → map list_zone (take k changed) ++ (z ∷ []) ≡ map list_zone (take (k + 1) changed)
+pub next_change : (all changed : List EntryData) (places : List ℕ) (k at : ℕ) (e : EntryData) (z : ListZone)
+    → map (slice_get all) places ≡ map Some changed
+    → slice_get places k ≡ Some at → slice_get all at ≡ Some e → z ≡ list_zone e
+    → map list_zone (take k changed) ++ (z ∷ []) ≡ map list_zone (take (k + 1) changed)
 next_change all changed places k at e z same is there told =
     let found = found_at all places changed k at same is in
     let one : found.item ≡ e = cc (found.there) in
@@ -56,7 +58,8 @@ next_change all changed places k at e z same is there told =
 
 -- each position is one of the catalogue
 pub change_within : (c : Catalogue (List ℕ)) (H : List ReleaseData) (changed : List EntryData) (places : List ℕ) (k at : ℕ)
-    → StandsFor {Z = List ℕ} (λ file. file) IsSound c H → map (slice_get (meta H)) places ≡ map Some changed → slice_get places k ≡ Some at → at < zone_count c
+    → StandsFor {Z = List ℕ} (λ file. file) IsSound c H → map (slice_get (meta H)) places ≡ map Some changed
+    → slice_get places k ≡ Some at → at < zone_count c
 change_within c H changed places k at stands same is =
     let found = found_at (meta H) places changed k at same is in
     let within : at < length (meta H) = slice_get_within (meta H) at found.item found.there in

@@ -102,7 +102,8 @@ unfolding expand_answer
 missing_is H name start end found = rw (sym found) refl
 
 pub data_is : (H : List ReleaseData) (accept field : Option (List ℕ)) (name : List ℕ) (place : ℕ) (e : EntryData) (start end : Param)
-    → Some place ≡ place_named H name → slice_get (meta H) place ≡ Some e → zone_answer name (Some e) accept field start end ≡ get_answer H accept field name start end
+    → Some place ≡ place_named H name → slice_get (meta H) place ≡ Some e
+    → zone_answer name (Some e) accept field start end ≡ get_answer H accept field name start end
 unfolding get_answer
 data_is H accept field name place e start end found there = rw (sym found, there) refl
 

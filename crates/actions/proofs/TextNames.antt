@@ -51,6 +51,7 @@ names_are_texts H name place e history found there =
     let all = names_in H (last_release H) place e history refl there in
     let is : position_from (λ x. is_name_of name x.content) 0 (meta H) ≡ Some (0 + place) = sym found ∙ ap Some (omega arith) in
     record {
-      name = identifier_is_safe name (member_named name (e.content.tzid ∷ e.content.aliases) all (passes (λ x. is_name_of name x.content) 0 place (meta H) e is there));
+      name = identifier_is_safe name
+          (member_named name (e.content.tzid ∷ e.content.aliases) all (passes (λ x. is_name_of name x.content) 0 place (meta H) e is there));
       tzid = identifier_is_safe e.content.tzid ((and_parts (is_identifier e.content.tzid) (list_all is_identifier e.content.aliases) all).0);
     }

@@ -14,8 +14,8 @@ use Rattle.actions.specs.declared.bounds.BoundRule.{BoundRule}
 use Rattle.actions.specs.declared.bounds.BoundRule.TheVariants as rule
 use Rattle.actions.specs.Bounds.{end_if_any, range_between}
 
--- which bounds a format takes, what its content is said to be, the mark of its tags, and its text of
--- a zone between two bounds, under the name that was asked for
+-- which bounds a format takes, what its content is said to be, the mark of its tags, and its text
+-- of a zone between two bounds, under the name that was asked for
 pub record FormData : Type 0 where
   pub bounds : BoundRule
   pub kind : Kind

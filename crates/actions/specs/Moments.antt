@@ -1,5 +1,5 @@
--- The moments that a request bounds a range by (RFC 7808, sections 5.3 and 5.4), each given once, as
--- its text.
+-- The moments that a request bounds a range by (RFC 7808, sections 5.3 and 5.4), each given once,
+-- as its text.
 use Rattle.std.specs.Prelude.{ℤ, Bool, ◌&&◌, int_le, int_lt, Option, None, option_and_then}
 use Rattle.std.specs.Bool.{then_some}
 use Rattle.td_civil.specs.Bounds.{has_meaning}

@@ -116,8 +116,8 @@ fn put_chosen<C: Choice>(
     requires { IsPlainEntry (entry_data (λ z. z) entry.now) }
     ensures { (before token : List ℕ) (zones : List ListZone)
         → IsListBegun before token zones list.old
-        → OnOk result (IsListBegun before token
-        (zones ++ spec.list_zone_if (C.shows choice.now) (entry_data (λ z. z) entry.now)) list.new) }
+        → OnOk result (IsListBegun before token (zones
+        ++ spec.list_zone_if (C.shows choice.now) (entry_data (λ z. z) entry.now)) list.new) }
 {
     if choice.takes(entry) {
         list.zone(&texts_of(entry))?;

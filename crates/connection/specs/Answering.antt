@@ -1,6 +1,6 @@
 -- One request after the other: what a connection has been served so far, and what one step adds.
-use Rattle.std.specs.Prelude.{◌≡◌, ℕ, ◌≤◌, ◌⊎◌, List, [], ◌∷◌, ◌++◌, length, true, false, Result, Ok}
-use Rattle.std.specs.Prelude.{Err, Option, Some, None}
+use Rattle.std.specs.Prelude.{◌≡◌, ℕ, ◌≤◌, ◌⊎◌, List, [], ◌∷◌, ◌++◌, length, true, false, Result}
+use Rattle.std.specs.Prelude.{Ok, Err, Option, Some, None}
 use Rattle.catalogue.specs.Holdings.{history_of}
 use Rattle.catalogue.specs.declared.holding.Catalogue.{Catalogue}
 use Rattle.http_answer.specs.declared.answer.Answer.{Answer}

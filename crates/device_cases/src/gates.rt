@@ -6,8 +6,8 @@ use std::alloc::Global;
 use std::thread::{Threads, join};
 use td_base::{Accepted, Conn, Door, End, Places, ReadStep, Report, WriteStep};
 
-/// `gates TURNS`: how the connections of two doors ended and what each took, where two threads serve
-/// them and a read waits for at most so many turns.
+/// `gates TURNS`: how the connections of two doors ended and what each took, where two threads
+/// serve them and a read waits for at most so many turns.
 pub fn beside<R: Threads>(rt: &R, alloc: Global, row: &Row) -> Answer {
     let (left, right) = gate_pair(alloc, small(row, 0)?)?;
     let (left, right) = join(rt, move || serve(left), move || serve(right));

@@ -2,7 +2,7 @@
 -- none changes its place.
 use Rattle.std.specs.Prelude.{◌≡◌, ◌⊎◌, ℕ, ◌<◌, ◌≤◌, List, length, ◌++◌, take, Option, ⊤}
 use Rattle.std.specs.Prelude.{Bool, false, ◌&&◌, ◌==◌, nat_lt}
-use Rattle.std.specs.Io.KnownBytes.{Appends, Consumes, Keeps, append_known, prepend_known}
+use Rattle.std.specs.Io.KnownBytes.{Consumes, Keeps, append_known, prepend_known}
 use Rattle.stretches.specs.Fronts.{front_length}
 use Rattle.td_base.specs.declared.outside.ReadStep.{ReadStep}
 use Rattle.td_base.specs.declared.outside.ReadStep.TheVariants as read

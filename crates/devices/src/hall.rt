@@ -268,9 +268,9 @@ impl<R: Clock> Hall<R> {
         }
     }
 
-    /// Makes room where an accept found no descriptor, and tells whether there is some now. It finds
-    /// none also where no connection waits, so first the socket is asked for its events anew: only
-    /// where one tells of a connection another gives way to it.
+    /// Makes room where an accept found no descriptor, and tells whether there is some now. It
+    /// finds none also where no connection waits, so first the socket is asked for its events
+    /// anew: only where one tells of a connection another gives way to it.
     fn gives_way(&mut self) -> bool {
         if self.short {
             self.short = false;

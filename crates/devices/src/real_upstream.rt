@@ -9,9 +9,9 @@ use std::net::{Net, TcpStream};
 use std::time::Clock;
 use td_base::{Bytes, Exchanged, Upstream};
 
-/// Another server, at an address as that of [`RealNetwork`](crate::RealNetwork). Each exchange opens
-/// a connection of its own, of which it takes what comes until the peer sends no more or so many
-/// bytes as are wanted came. It tells nothing. Its faults count the exchanges that failed.
+/// Another server, at an address as that of [`RealNetwork`](crate::RealNetwork). Each exchange
+/// opens a connection of its own, of which it takes what comes until the peer sends no more or so
+/// many bytes as are wanted came. It tells nothing. Its faults count the exchanges that failed.
 #[derive(Drop)]
 pub struct RealUpstream<'a, R> {
     rt: &'a R,

@@ -21,7 +21,8 @@ cut_lines-first [] h = absurd (omega arith)
 cut_lines-first (b ∷ bs) h = first_by (is_feed b) b bs (cut_lines-first bs)
 
 -- ---- at a line of a text
-module _ (text left first rest : List ℕ) (more : 0 < length left) (first_is : first ≡ take (line_len left) left) (rest_is : rest ≡ drop (line_len left) left) where
+module _ (text left first rest : List ℕ) (more : 0 < length left)
+    (first_is : first ≡ take (line_len left) left) (rest_is : rest ≡ drop (line_len left) left) where
   cut : cut_lines left ≡ first ∷ cut_lines rest
   cut = cut_lines-first left more ∙ ap (λ l. l ∷ cut_lines (drop (line_len left) left)) (sym first_is) ∙ ap (λ l. first ∷ cut_lines l) (sym rest_is)
 

@@ -56,7 +56,9 @@ got_heard name None h e = absurd (cc)
 got_heard name (Some e) h is =
     let one : file_told e.content.file ≡ h = cc in
     subst (λ f. IsHeardIn (ask.Get name) (format_answer f name e None param.Absent param.Absent) h) (sym tzif_chosen)
-    (subst (IsHeardIn (ask.Get name) (format_answer (Some Rattle.negotiate.specs.declared.choosing.Format.TheVariants.Tzif) name e None param.Absent param.Absent)) one
+    (subst
+    (IsHeardIn (ask.Get name) (format_answer (Some Rattle.negotiate.specs.declared.choosing.Format.TheVariants.Tzif) name e None param.Absent param.Absent))
+    one
     (refl, refl))
 
 file_heard : (H : List ReleaseData) (name : List ℕ) (head : Head) (h : Heard) → head.accept ≡ Some (codes "application/tzif") → head.none_match ≡ None

@@ -15,8 +15,8 @@ use Rattle.sync_core.specs.Steps.{list_settles, settles, sync_step}
 use Rattle.sync_core.specs.declared.heard_type.Heard.{Heard}
 use Rattle.sync_core.specs.declared.heard_type.Heard.TheVariants as heard
 use Rattle.sync_core.specs.declared.heard_type.Settled.TheVariants.{Holds}
-use Rattle.sync_world.specs.Primaries.{HeardIsTold, FindsPlaces, FindsNoOther, IsPlace, Service, changes_at, changes_of, file_told, list_at, list_told, served_for}
-use Rattle.sync_world.specs.Primaries.{told_by}
+use Rattle.sync_world.specs.Primaries.{HeardIsTold, FindsPlaces, FindsNoOther, IsPlace, Service, changes_at, changes_of, file_told, list_at, list_told}
+use Rattle.sync_world.specs.Primaries.{served_for, told_by}
 use Rattle.sync_world.specs.Reaching.{ComesToHold, IsExchange, ToldIsHeard}
 use Rattle.sync_world.specs.Worlds as world
 use Rattle.sync_world.specs.Worlds.{IsAnswer, Leads, Sent, SyncWorld, WorldStep, world_begun}

@@ -1,6 +1,6 @@
 -- What contracts see of the doors through which connections come, and of a network that opens them
--- and that reaches other servers: what it tells, None where it tells nothing, and how often it failed
--- so far.
+-- and that reaches other servers: what it tells, None where it tells nothing, and how often it
+-- failed so far.
 use Rattle.std.specs.Prelude.{ℕ, List, Option}
 use Rattle.td_base.specs.Views.{ConnView}
 use Rattle.td_base.specs.declared.door.DoorAnswer.{DoorAnswer}

@@ -25,8 +25,8 @@ IsAnswered answer (exchanged.Got bytes) = bytes ≡ answer
 IsAnswered answer exchanged.Failed = ⊥
 IsAnswered answer exchanged.NoMemory = ⊤
 
--- another server of which chosen exchanges fail: it tells what the one inside tells, and has its own
--- count of faults
+-- another server of which chosen exchanges fail: it tells what the one inside tells, and has its
+-- own count of faults
 module _ {S : Type 0} where
   abbrev pub faulty_upstream : (S → UpstreamView) → FaultyState S → UpstreamView
   faulty_upstream seen s = record { told = (seen s.inner).told; faults = s.calls.faults }

@@ -31,8 +31,8 @@ is_failed_read (read.Got n) = false
 is_failed_read read.End = false
 is_failed_read read.Failed = true
 
--- one read into the room: a read failed only where the count of faults rose, by one at the most, and
--- one that did not fail leaves it
+-- one read into the room: a read failed only where the count of faults rose, by one at the most,
+-- and one that did not fail leaves it
 pub record Reads (old new : SourceView) (result : ReadStep) (room : List ℕ) : Type 0 where
   pub fits : ReadFits result room
   pub told : ReadTells old.left new.left result room
@@ -55,8 +55,8 @@ abbrev pub is_failed_write : WriteStep → Bool
 is_failed_write (write.Took n) = false
 is_failed_write write.Failed = true
 
--- one write of the piece: a write failed only where the count of faults rose, by one at the most, and
--- one that did not fail leaves it
+-- one write of the piece: a write failed only where the count of faults rose, by one at the most,
+-- and one that did not fail leaves it
 pub record Writes (old new : SinkView) (result : WriteStep) (piece : List ℕ) : Type 0 where
   pub fits : WriteFits result piece
   pub told : WriteTells old.taken new.taken result piece

@@ -1,5 +1,5 @@
--- What one exchange does with another server, and what a call for such a server does to a network. Of
--- content that an object does not tell nothing is said.
+-- What one exchange does with another server, and what a call for such a server does to a network.
+-- Of content that an object does not tell nothing is said.
 use Rattle.std.specs.Prelude.{◌≡◌, ℕ, ◌+◌, ◌≤◌, List, [], ◌∷◌, ◌++◌, length, ⊤, Bool, true, false}
 use Rattle.std.specs.Prelude.{Option, None, Some, IfSome}
 use Rattle.td_base.specs.Views.{Rose}

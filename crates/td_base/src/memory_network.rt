@@ -160,7 +160,8 @@ impl<D: Door + Drop, U: Upstream> MemoryNetwork<D, U> {
 }
 
 impl<D: Door, U: Upstream + Drop> MemoryNetwork<D, U> {
-    /// Adds an upstream that tells its exchanges and was asked nothing yet, after those that it has.
+    /// Adds an upstream that tells its exchanges and was asked nothing yet, after those that it
+    /// has.
     pub fn push_upstream(&mut self, upstream: U) -> Result<(), NoMemory>
         requires { TellsNone (U.seen upstream) }
         ensures ok { OnOk result (self.new ≡ record self.old {

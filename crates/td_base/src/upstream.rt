@@ -14,8 +14,8 @@ pub enum Exchanged {
     NoMemory,
 }
 
-/// An exchange that gave an answer: the request's bytes, how many bytes of the answer were wanted at
-/// the most, and those that came.
+/// An exchange that gave an answer: the request's bytes, how many bytes of the answer were wanted
+/// at the most, and those that came.
 #[derive(Debug, Drop, PartialEq, Eq)]
 pub struct Exchange {
     pub request: Bytes,

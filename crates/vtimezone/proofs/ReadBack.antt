@@ -1,5 +1,6 @@
 -- The text of a calendar is read as its lines.
-use Rattle.std.proofs.Common.{◌≡◌, inl, inr, ℕ, ◌%◌, ◌/◌, ◌==◌, Bool, true, not, refl, ◌∙◌, ℤ, pos, int_lt, unsigned_abs, Option, None, Some, Ok, List, [], ◌∷◌, ◌++◌, codes}
+use Rattle.std.proofs.Common.{◌≡◌, inl, inr, ℕ, ◌%◌, ◌/◌, ◌==◌, Bool, true, not, refl, ◌∙◌, ℤ, pos, int_lt, unsigned_abs, Option, None, Some, Ok, List, []}
+use Rattle.std.proofs.Common.{◌∷◌, ◌++◌, codes}
 use Rattle.std.specs.List.{list_all, flat_map, AllByRecursion}
 use Rattle.std.specs.Option.{IfSome}
 use Rattle.std.proofs.lemmas.Bool.{cond_both, and_from}

@@ -6,13 +6,15 @@ use Rattle.publication.proofs.desk.Desk.learn.Goals as goal
 
 pub returns-then-edition-clause-seen : goal.returns-then-edition-clause-seen
 returns-then-edition-clause-seen g c =
-    rw (← c.self.view_is) (ended_has_all _ _ _ c.are_of_one.ensures.this c.are_of_one.ensures.that c.are_of_one.ensures.seal (sym c.receipt.inside.edition.marked
+    rw (← c.self.view_is) (ended_has_all _ _ _ c.are_of_one.ensures.this c.are_of_one.ensures.that c.are_of_one.ensures.seal
+    (sym c.receipt.inside.edition.marked
     ∙ c.if-edition.true))
 
 pub returns-then-edition-clause-larger : goal.returns-then-edition-clause-larger
 returns-then-edition-clause-larger g c =
     let most : length (values c.self.inside.held.prefix.log) ≤ length (values c.receipt.inside.edition.prefix.log) =
-    prefix_length _ _ (ended_has_all _ _ _ c.are_of_one.ensures.this c.are_of_one.ensures.that c.are_of_one.ensures.seal (sym c.receipt.inside.edition.marked
+    prefix_length _ _ (ended_has_all _ _ _ c.are_of_one.ensures.this c.are_of_one.ensures.that c.are_of_one.ensures.seal
+    (sym c.receipt.inside.edition.marked
     ∙ c.if-edition.true)) in
     rw (← c.self.view_is, ← c.receipt.view_is) (omega (arith, most))
 
