@@ -1,13 +1,14 @@
-//! Tries what `http_client` and `sync_core` offer over the cases of a table on standard input, and
-//! tells of each whose answer is not the expected one. The table explains its own lines.
+//! Tries what `http_client`, `sync_core` and `mirror` offer over the cases of a table on standard
+//! input, and tells of each whose answer is not the expected one. The table explains its own lines.
 #![tactic(auto)]
 
 // Requests that are written, and replies that are read.
 mod wire;
 
-// A mirror that follows another server, and is told what comes.
+// A mirror that follows another server, told what comes or synced.
 mod following;
 mod holding;
+mod syncs;
 
 use case_lines::{Answer, CaseFault, Row, Table};
 use std::alloc::Global;
@@ -38,6 +39,7 @@ fn answer(alloc: Global, mirror: &mut Mirror, row: &Row) -> Answer {
         "reply" => wire::reply(alloc, row),
         "begin" => following::begin(alloc, mirror),
         "told" => following::told(alloc, mirror, row),
+        "sync" => syncs::sync(alloc, mirror, row),
         "held" => holding::held(alloc, mirror),
         "laws" => wire::laws(alloc),
         _ => Err(CaseFault::Strange),

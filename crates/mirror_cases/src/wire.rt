@@ -36,8 +36,9 @@ pub fn reply(alloc: Global, row: &Row) -> Answer {
     }
 }
 
-/// `laws`: the law is called.
+/// `laws`: each is called.
 pub fn laws(alloc: Global) -> Answer {
     http_client::one_reading();
+    mirror::one_meaning();
     Ok(Vec::from_slice(alloc, b"called")?)
 }

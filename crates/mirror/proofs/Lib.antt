@@ -1,0 +1,4 @@
+mod Counts
+mod Meanings
+mod Walks
+pub mod lemmas

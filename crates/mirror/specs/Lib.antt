@@ -1,0 +1,4 @@
+pub mod FaultText
+pub mod Shares
+pub mod Turns
+pub mod Understanding

@@ -1,0 +1,29 @@
+//! A mirror that follows another server of time zones (RFC 7808, section 4.2.2): [`sync`] asks it
+//! until a list of changes comes back empty.
+//!
+//! What the bytes of an answer are to what was asked is `Means` of `specs/Understanding.antt`, and
+//! [`one_meaning`] is the law that this is one thing alone. The exchanges of a sync, and how it
+//! ends, are `Syncs` of `specs/Shares.antt`.
+#![tactic(auto)]
+
+// What an answer is to what was asked.
+mod understanding;
+mod understood_type;
+
+// One exchange, and all of them.
+mod limits;
+mod sync_fault;
+mod syncing;
+mod taken_type;
+mod turns;
+
+// Laws, and what may cross threads.
+mod laws;
+mod send_sync;
+
+pub use laws::one_meaning;
+pub use limits::{MOST_ANSWER, MOST_LISTS};
+pub use sync_fault::SyncFault;
+pub use syncing::sync;
+pub use understanding::understand;
+pub use understood_type::Understood;
