@@ -1,7 +1,7 @@
--- How a history grows by the release of a folder.
-use Rattle.std.proofs.Common.{◌≡◌, ℕ, List, [], ◌∷◌, ◌++◌, Option, None, Some, Ok, IfSome, refl, sym, ap, ◌∙◌, subst}
+-- How a history grows by a release that is given.
+use Rattle.std.proofs.Common.{◌≡◌, ℕ, List, [], ◌∷◌, ◌++◌, Option, None, Some, Result, Ok, Err, IfSome, IsErrOf, refl, sym, ap, ◌∙◌, subst}
 use Rattle.std.proofs.lemmas.List.{map-append}
-use Rattle.td_base.specs.Views.{StoreView}
+use Rattle.td_base.specs.Views.{File, StoreView}
 use Rattle.catalogue.proofs.lemmas.Growing.{last_added}
 use Rattle.catalogue.specs.Holdings.{StandsFor, release_held, history_of}
 use Rattle.catalogue.specs.Releases.{ReleaseData, release_data}
@@ -9,9 +9,13 @@ use Rattle.catalogue.specs.declared.holding.Catalogue.{Catalogue}
 use Rattle.catalogue.specs.declared.release.Release.{Release}
 use Rattle.zone_meaning.specs.Sound.{IsSound}
 use Rattle.zone_meaning.specs.ZoneHistories.{zone_bytes}
-use Rattle.release_check.specs.Before.{ForEachBefore, before_of}
-use Rattle.release_check.specs.Found.{FindsIn, IsReleaseIn}
-use Rattle.installer.specs.Installing.{GrowsBy, Installs}
+use Rattle.release_check.specs.Before.{Before, ForEachBefore, before_of}
+use Rattle.release_check.specs.Found.{FindsIn}
+use Rattle.release_check.specs.declared.check_fault.CheckFault.{CheckFault}
+use Rattle.release_check.specs.declared.check_fault.CheckFault.TheVariants as check
+use Rattle.installer.specs.Installing.{GrowsBy, InstallsBy}
+use Rattle.installer.specs.declared.install_fault.InstallFault.{InstallFault}
+use Rattle.installer.specs.declared.install_fault.InstallFault.TheVariants as fault
 
 abbrev held : Catalogue (List ℕ) → ReleaseData
 held c = release_held zone_bytes c
@@ -33,11 +37,12 @@ stands_held c H r s = subst (λ x. Stands c (H ++ x ∷ [])) (same_last c H r s)
 
 -- ---- an install
 
-pub grew : (old new : StoreView) (dir : List ℕ) (c : Catalogue (List ℕ)) (H : List ReleaseData) (r : Release (List ℕ)) (next : Catalogue (List ℕ))
-    → Stands c H → FindsIn old new (Ok r) (λ files. ForEachBefore (Some c) (λ G. IsReleaseIn dir (before_of G) (Ok r) files))
+pub grew : (gives : List File → Before → Result ReleaseData CheckFault → Type 0) (old new : StoreView) (c : Catalogue (List ℕ)) (H : List ReleaseData)
+    (r : Release (List ℕ)) (next : Catalogue (List ℕ)) → Stands c H
+    → FindsIn {T = Release (List ℕ)} old new (Ok r) (λ files. ForEachBefore (Some c) (λ G. gives files (before_of G) (Ok (release_data zone_bytes r))))
     → Stands next (H ++ release_data zone_bytes r ∷ [])
-    → Installs old new dir H (λ c'. H ++ held c' ∷ []) (Ok next)
-grew old new dir c H r next s f n = record {
+    → InstallsBy gives old new H (λ c'. H ++ held c' ∷ []) (Ok next)
+grew gives old new c H r next s f n = record {
   later = f.later;
   told = some_map old.files (λ files t. (
     release_data zone_bytes r,
@@ -49,14 +54,29 @@ grew old new dir c H r next s f n = record {
 }
 
 -- the same install, seen by another value
-pub seen_as : {A B : Type 0} (old new : StoreView) (dir : List ℕ) (H : List ReleaseData) (f : A → List ReleaseData) (g : B
-    → List ReleaseData) (a : A) (b : B)
-    → Installs old new dir H f (Ok a) → g b ≡ f a → Installs old new dir H g (Ok b)
-seen_as old new dir H f g a b p e = record {
+pub seen_as : {A B : Type 0} (gives : List File → Before → Result ReleaseData CheckFault → Type 0) (old new : StoreView) (H : List ReleaseData)
+    (f : A → List ReleaseData) (g : B → List ReleaseData) (a : A) (b : B)
+    → InstallsBy gives old new H f (Ok a) → g b ≡ f a → InstallsBy gives old new H g (Ok b)
+seen_as gives old new H f g a b p e = record {
   later = p.later;
   told = some_map old.files (λ files t. (t.0, t.1, e ∙ t.2)) p.told;
   failed = λ h. absurd (cc h);
   memory = λ h. cc h;
+}
+
+-- an error of one result as that of another
+err_as : {A B : Type 0} (e x : InstallFault) → IsErrOf {T = A} (Err e) x → IsErrOf {T = B} (Err e) x
+err_as e x h = let same : e ≡ x = cc in ap Err same
+
+-- the same refusal
+pub refused_as : {A B : Type 0} (gives : List File → Before → Result ReleaseData CheckFault → Type 0) (old new : StoreView) (H : List ReleaseData)
+    (f : A → List ReleaseData) (g : B → List ReleaseData) (e : InstallFault)
+    → InstallsBy {A = A} gives old new H f (Err e) → InstallsBy {A = B} gives old new H g (Err e)
+refused_as {A = A} {B = B} gives old new H f g e p = record {
+  later = p.later;
+  told = some_map old.files (λ files t. t) p.told;
+  failed = λ h. p.failed (err_as {A = B} {B = A} e (fault.Check check.ReadFault) h);
+  memory = λ h. p.memory (err_as {A = B} {B = A} e (fault.Check check.NoMemory) h);
 }
 
 -- ---- histories of published catalogues

@@ -1,1 +1,4 @@
+pub mod Given
 pub mod InstallLemmas
+pub mod Stated
+pub mod Whether

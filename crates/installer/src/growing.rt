@@ -2,11 +2,12 @@ ghost use Rattle.std.specs.Prelude.{[], ◌∷◌, ◌++◌, IfOk};
 ghost use Rattle.catalogue.specs.Holdings.{StandsFor, release_held};
 ghost use Rattle.zone_meaning.specs.Sound.{IsSound};
 ghost use Rattle.zone_meaning.specs.ZoneHistories.{ForEachZoneHistory, zone_bytes};
-ghost use Rattle.installer.specs.Installing.{Installs};
+ghost use Rattle.installer.specs.Installing.{Installs, InstallsStated};
 
 use crate::install_fault::InstallFault;
 use catalogue::Catalogue;
-use release_check::check;
+use release_check::{check, examine};
+use release_manifest::Manifest;
 use std::alloc::Global;
 use td_base::Store;
 use zone_meaning::Zone;
@@ -41,6 +42,41 @@ pub fn next_in<S: Store>(
         StandsFor zone_bytes IsSound c (H ++ release_held zone_bytes c ∷ []))) }
 {
     let release = check(alloc, dir, store, Some(last))?;
+    let catalogue = last.next(alloc, release)?;
+    Ok(catalogue)
+}
+
+/// The catalogue of a history that begins with the release of a manifest, whose files stand in the
+/// store's own top.
+pub fn first_stated<S: Store>(
+    alloc: Global,
+    manifest: &Manifest,
+    store: &mut S,
+) -> Result<Catalogue<Zone>, InstallFault>
+    ensures found { InstallsStated (S.seen store.old) (S.seen store.new) manifest.now []
+        (λ c. release_held zone_bytes c ∷ []) result }
+    ensures stands { IfOk result (λ c.
+        StandsFor zone_bytes IsSound c (release_held zone_bytes c ∷ [])) }
+{
+    let release = examine(alloc, manifest, b"", store, None)?;
+    let catalogue = Catalogue::first(alloc, release)?;
+    Ok(catalogue)
+}
+
+/// The catalogue of the history of another one, with the release of a manifest after it.
+pub fn next_stated<S: Store>(
+    alloc: Global,
+    manifest: &Manifest,
+    store: &mut S,
+    last: &Catalogue<Zone>,
+) -> Result<Catalogue<Zone>, InstallFault>
+    ensures found { ForEachZoneHistory last.now (λ H.
+        InstallsStated (S.seen store.old) (S.seen store.new) manifest.now H
+        (λ c. H ++ release_held zone_bytes c ∷ []) result) }
+    ensures stands { IfOk result (λ c. ForEachZoneHistory last.now (λ H.
+        StandsFor zone_bytes IsSound c (H ++ release_held zone_bytes c ∷ []))) }
+{
+    let release = examine(alloc, manifest, b"", store, Some(last))?;
     let catalogue = last.next(alloc, release)?;
     Ok(catalogue)
 }

@@ -1,17 +1,20 @@
-ghost use Rattle.std.specs.Prelude.{◌≡◌, ◌<◌, [], length, All, None, Some, IfOk, IsErr, OnErr};
-ghost use Rattle.std.specs.Prelude.{true, false};
+ghost use Rattle.std.specs.Prelude.{◌≡◌, ◌<◌, [], ◌∷◌, ◌++◌, length, All, None, Some, IfOk, IsErr};
+ghost use Rattle.std.specs.Prelude.{OnErr, OnOk, true, false};
 ghost use Rattle.std.specs.List.{last_or};
 ghost use mathlib.Core.List.{IsPrefix};
-ghost use Rattle.catalogue.specs.Holdings.{StandsFor, history_of};
+ghost use Rattle.catalogue.specs.Holdings.{StandsFor, history_of, release_held};
 ghost use Rattle.publication.specs.Views.{IsNewDesk};
 ghost use Rattle.zone_meaning.specs.Sound.{IsSound};
 ghost use Rattle.zone_meaning.specs.ZoneHistories.{zone_bytes};
-ghost use Rattle.installer.specs.Installing.{GrowsBy, Installs};
+ghost use Rattle.installer.specs.Installing.{GrowsBy, Installs, InstallsStated};
+ghost use Rattle.installer.specs.Serving.{FindsWhether, IsServed};
 
-use crate::growing::{first_in, next_in};
+use crate::growing::{first_in, first_stated, next_in, next_stated};
 use crate::install_fault::InstallFault;
+use crate::serving::is_stated;
 use catalogue::Catalogue;
 use publication::{Desk, Ended, Publisher, Receipt, make};
+use release_manifest::Manifest;
 use std::alloc::Global;
 use std::marker::Model;
 use std::sync::Wait;
@@ -61,6 +64,27 @@ impl Installer {
         Ok((Installer { publisher }, made))
     }
 
+    /// The same of a manifest that is at hand, whose files stand in the store's own top.
+    pub fn open_manifest<R: Wait, S: Store>(
+        rt: &R,
+        alloc: Global,
+        manifest: &Manifest,
+        store: &mut S,
+        desks: u32,
+    ) -> Result<(Installer, Vec<Desk<Catalogue<Zone>>>), InstallFault>
+        requires { 0 < desks }
+        ensures found { InstallsStated (S.seen store.old) (S.seen store.new) manifest.now []
+            (λ p. history_of p.0.list) result }
+        ensures grown { IfOk result (λ p. GrowsBy [] (history_of p.0.list)) }
+        ensures free { IfOk result (λ p. p.0.stuck ≡ false) }
+        ensures number { IfOk result (λ p. length p.1.items ≡ desks) }
+        ensures each { IfOk result (λ p. All (IsNewDesk p.0.pair p.0.list false) p.1.items) }
+    {
+        let catalogue = first_stated(alloc, manifest, store)?;
+        let (publisher, made) = make(rt, alloc, catalogue, desks)?;
+        Ok((Installer { publisher }, made))
+    }
+
     /// Publishes the release of one more folder, where the folder gives one after the history so
     /// far. The next catalogue is made before the publish, which is the last that may be refused,
     /// for want of memory alone. Where the publish is refused at its last step, the installer is
@@ -85,8 +109,67 @@ impl Installer {
     {
         let last = self.publisher.last();
         let catalogue = next_in(alloc, dir, store, last)?;
-        let receipt = self.publisher.publish(rt, catalogue)?;
+        let receipt = self.publish(rt, catalogue)?;
         Ok(receipt)
+    }
+
+    /// The same of a manifest that is at hand, whose files stand in the store's own top.
+    pub fn install_manifest<R: Wait, S: Store>(
+        &mut self,
+        rt: &R,
+        alloc: Global,
+        manifest: &Manifest,
+        store: &mut S,
+    ) -> Result<Receipt<Catalogue<Zone>>, InstallFault>
+        ensures found { InstallsStated (S.seen store.old) (S.seen store.new) manifest.now
+            (history_of self.old.list) (λ r. history_of r.list) result }
+        ensures grown { IfOk result (λ r. GrowsBy (history_of self.old.list) (history_of r.list)) }
+        ensures longer { IfOk result (λ r. IsPrefix self.old.list r.list) }
+        ensures receipt { IfOk result (λ r. (r.pair ≡ self.old.pair) × (r.list ≡ self.new.list)
+            × (r.ended ≡ false)) }
+        ensures refused { OnErr result (self.new.list ≡ self.old.list) }
+        ensures pair { self.new.pair ≡ self.old.pair }
+        ensures free { IfOk result (λ _. self.new.stuck ≡ false) }
+        ensures blocked { self.old.stuck ≡ true → IsErr result }
+    {
+        let last = self.publisher.last();
+        let catalogue = next_stated(alloc, manifest, store, last)?;
+        let receipt = self.publish(rt, catalogue)?;
+        Ok(receipt)
+    }
+
+    /// Publishes a catalogue that stands for the history with one release more.
+    fn publish<R: Wait>(
+        &mut self,
+        rt: &R,
+        next: Catalogue<Zone>,
+    ) -> Result<Receipt<Catalogue<Zone>>, NoMemory>
+        requires { StandsFor zone_bytes IsSound next
+            (history_of self.old.list ++ release_held zone_bytes next ∷ []) }
+        ensures ok { IfOk result (λ r. (r.list ≡ self.old.list ++ next ∷ [])
+            × (r.pair ≡ self.old.pair) × (r.ended ≡ false)) }
+        ensures kept { OnOk result (self.new.list ≡ self.old.list ++ next ∷ []) }
+        ensures refused { OnErr result (self.new.list ≡ self.old.list) }
+        ensures pair { self.new.pair ≡ self.old.pair }
+        ensures free { IfOk result (λ _. self.new.stuck ≡ false) }
+        ensures blocked { self.old.stuck ≡ true → IsErr result }
+    {
+        self.publisher.publish(rt, next)
+    }
+
+    /// Whether the release published last is the one that a manifest and its files state, which
+    /// stand in the store's own top: the same stamp, publisher, version and zones, leap seconds
+    /// aside. No file is judged or read further than one byte beyond what is published.
+    pub fn serves<S: Store>(
+        &self,
+        alloc: Global,
+        manifest: &Manifest,
+        store: &mut S,
+    ) -> Result<bool, InstallFault>
+        ensures { FindsWhether (S.seen store.old) (S.seen store.new)
+            (λ files. IsServed files manifest.now (history_of self.now.list)) result }
+    {
+        is_stated(alloc, manifest, store, self.last())
     }
 
     /// The catalogue published last, which stands for the whole history.

@@ -5,6 +5,11 @@
 //! it after the history so far, and where memory serves; every refusal leaves the history as it
 //! was. What an install says is `Installs` of specs/Installing.antt. [`first_in`] and [`next_in`]
 //! make the catalogues without publishing them.
+//!
+//! [`Installer::open_manifest`], [`Installer::install_manifest`], [`first_stated`] and
+//! [`next_stated`] do the same of a manifest that is at hand, by `InstallsStated`.
+//! [`Installer::serves`] tells whether such a manifest and its files are what was published last,
+//! by `IsServed` of specs/Serving.antt.
 #![tactic(auto)]
 
 // Installs, and why one is refused.
@@ -14,9 +19,15 @@ mod installing;
 // The catalogues that they publish.
 mod growing;
 
-// What may cross threads.
+// Whether a release is published already.
+mod serving;
+mod sorting;
+
+// A law, and what may cross threads.
+mod laws;
 mod send_sync;
 
-pub use growing::{first_in, next_in};
+pub use growing::{first_in, first_stated, next_in, next_stated};
 pub use install_fault::InstallFault;
 pub use installing::Installer;
+pub use laws::given_is_served;

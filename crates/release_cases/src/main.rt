@@ -16,6 +16,7 @@ mod values;
 // Installs.
 mod installs;
 mod joins;
+mod stated;
 
 use case_lines::{Answer, CaseFault, Row, Table};
 use std::alloc::Global;
@@ -47,6 +48,8 @@ fn answer<R: Wait>(rt: &R, alloc: Global, row: &Row, store: &mut MemoryStore) ->
         "install" => installs::install(rt, alloc, row, store),
         "open" => installs::open(rt, alloc, row, store),
         "joins" => joins::joins(rt, alloc, row, store),
+        "stated" => stated::stated(rt, alloc, row, store),
+        "serves" => stated::served(rt, alloc, row, store),
         "manifest" => manifests::read_back(alloc, row),
         "printed" => printed::printed(alloc, row),
         "leap-table" => leap_tables::table(alloc, row),
@@ -74,6 +77,7 @@ fn laws(alloc: Global) -> Answer {
     release_check::one_folder();
     release_check::fitting_release();
     release_check::held_before();
+    installer::given_is_served();
     catalogues::laws();
     Ok(Vec::new(alloc))
 }

@@ -1,0 +1,37 @@
+use Rattle.std.proofs.Common.{[], ◌∷◌, sym, ap, ◌∙◌}
+use Rattle.std.proofs.lemmas.Result.{err_from_is_err_and}
+use Rattle.catalogue.specs.Holdings.{history_of}
+use Rattle.installer.specs.Installing.{ManifestGives}
+use Rattle.installer.proofs.InstallLemmas.{grows, history_more, refused_as, seen_as}
+use Rattle.installer.proofs.installing.Installer.install_manifest.Goals as goal
+
+pub publish-requires : goal.publish-requires
+publish-requires g c =
+    rw (← c.self.view_is) (c.in_ok-catalogue.ensures.stands (history_of c.self.inside.publisher.list) c.last-last.ensures.stands)
+
+pub returns-in_err-catalogue-clause-found : goal.returns-in_err-catalogue-clause-found
+returns-in_err-catalogue-clause-found g c =
+    let p = err_from_is_err_and c.from_residual.result c.from_residual.ensures.1 in
+    rw (p.1, p.2) (rw (← c.self.view_is)
+    (refused_as (ManifestGives c.args.manifest.now) _ _ (history_of c.self.inside.publisher.list) _ _ _
+    (c.in_err-catalogue.ensures.found (history_of c.self.inside.publisher.list) c.last-last.ensures.stands)))
+
+pub returns-clause-found : goal.returns-clause-found
+returns-clause-found g c =
+    let listed = rw (← c.self.view_is) at c.in_ok-receipt.ensures.ok.0 in
+    rw (← c.self.view_is)
+    (seen_as (ManifestGives c.args.manifest.now) _ _ (history_of c.self.inside.publisher.list) _ _ c.in_ok-catalogue.catalogue _
+    (c.in_ok-catalogue.ensures.found (history_of c.self.inside.publisher.list) c.last-last.ensures.stands)
+    (ap history_of listed ∙ history_more c.self.inside.publisher.list c.in_ok-catalogue.catalogue))
+
+pub returns-clause-grown : goal.returns-clause-grown
+returns-clause-grown g c =
+    let listed = rw (← c.self.view_is) at c.in_ok-receipt.ensures.ok.0 in
+    rw (← c.self.view_is)
+    (grows c.in_ok-catalogue.catalogue (history_of c.self.inside.publisher.list) _
+    (c.in_ok-catalogue.ensures.stands (history_of c.self.inside.publisher.list) c.last-last.ensures.stands)
+    (ap history_of listed ∙ history_more c.self.inside.publisher.list c.in_ok-catalogue.catalogue))
+
+pub returns-clause-longer : goal.returns-clause-longer
+returns-clause-longer g c =
+    (c.in_ok-catalogue.catalogue ∷ [], sym c.in_ok-receipt.ensures.ok.0)
