@@ -1,0 +1,14 @@
+mod Values
+mod Replying
+mod Shapes
+mod Hearing
+mod Worlds
+mod Following
+mod Syncing
+mod Stating
+mod Passing
+mod Held
+mod Escapes
+mod Targets
+mod Lines
+mod Requesting

@@ -1,0 +1,16 @@
+//! The law of a secondary over bytes (RFC 7808, section 4.2.2): where the exchanges that a mirror
+//! told are those of a primary, each sync that ended well left the mirror with exactly one release
+//! of that primary, whose contents it serves. No program calls anything here.
+//!
+//! Which exchanges are those of a primary is `IsAnsweredOver` of `specs/Answers.antt`, and the
+//! steps of a world that bring them to the mirror are `Logs` of `specs/Logs.antt`. The law is the
+//! contract of [`mirrors_hold_in_turn`], and [`contents_are_held`] says what is served.
+#![tactic(auto)]
+
+mod laws;
+
+pub use laws::{
+    answers_are_heard_in_bytes, answers_are_understood, contents_are_held, held_releases_pass,
+    histories_go_on, mirrors_follow, mirrors_hold_in_turn, releases_are_held, requests_ask,
+    syncs_are_understood, syncs_hold, walks_hold,
+};
