@@ -37,15 +37,16 @@ use Rattle.td_top.specs.declared.status.Status.TheVariants as status
 use Rattle.td_top.proofs.ZonesShown.{IsOfPrefix, of_prefix}
 
 -- where a text was printed, the output was only written
-printed_later : (called end : Status) (text : List ℕ) (old new : SinkView) → Printed called text old new end → LaterSink old new
+pub printed_later : (called end : Status) (text : List ℕ) (old new : SinkView) → Printed called text old new end → LaterSink old new
 printed_later status.Done status.Done text old new h = writes_all_later old new text written.Whole h
 printed_later status.Done status.NotWritten text old new h = writes_all_later old new text written.Cut h
 printed_later status.Usage status.Usage text old new h = prints_later old new text h
 printed_later status.Refused status.Refused text old new h = prints_later old new text h
+printed_later status.NotSynced status.NotSynced text old new h = prints_later old new text h
 printed_later called end text old new h = absurd h
 
 -- an object that was left alone
-left_sink : (old new : SinkView) → new ≡ old → LaterSink old new
+pub left_sink : (old new : SinkView) → new ≡ old → LaterSink old new
 left_sink old new e = subst (λ (v : SinkView). LaterSink old v) (sym e) (sink_refl old)
 
 -- the input was left alone

@@ -1,3 +1,4 @@
+pub mod Addresses
 pub mod Meant
 pub mod ZonesShown
 pub mod Endings
@@ -5,7 +6,12 @@ pub mod Refusals
 pub mod Checked
 pub mod Installing
 pub mod Desks
+pub mod FolderLines
+pub mod FollowLines
+pub mod GrowthLemmas
 pub mod LineLemmas
+pub mod MirrorHistory
+pub mod MirrorRuns
 pub mod TalkLemmas
 pub mod TurnLemmas
 pub mod ServerLemmas

@@ -1,9 +1,7 @@
 -- What one line of an operator makes of a talk.
-use Rattle.std.proofs.Common.{◌≡◌, ◌≢◌, ℕ, ◌+◌, ◌≤◌, List, [], ◌∷◌, ◌++◌, length, inl, inr}
-use Rattle.std.proofs.Common.{Option, Ok, Err, refl, sym, subst, ap, ◌∙◌, length-append, arith}
+use Rattle.std.proofs.Common.{◌≡◌, ℕ, ◌≤◌, List, [], ◌∷◌, length, Option, None, Some, refl, sym, subst, ap, ◌∙◌, length-append, arith}
 use Rattle.std.proofs.lemmas.List.{length-map}
-use Rattle.td_base.specs.Views.{Rose, RoseBy, File, LaterStore, StoreView}
-use Rattle.td_base.proofs.lemmas.LaterLemmas.{store_refl, store_trans}
+use Rattle.td_base.proofs.lemmas.Beginnings.{prefix_length, prefix_self, prefix_trans}
 use Rattle.catalogue.specs.HeldZones.{held_content}
 use Rattle.catalogue.specs.Histories.{meta}
 use Rattle.catalogue.specs.Holdings.{release_held, zone_count, history_of}
@@ -15,23 +13,14 @@ use Rattle.console.specs.Replies.{reply_text}
 use Rattle.console.specs.declared.line.Line.{Line}
 use Rattle.console.specs.declared.line.Line.TheVariants as line
 use Rattle.console.specs.declared.said.Said.TheVariants as said
-use Rattle.installer.specs.Installing.{GrowsBy, Installs}
-use Rattle.installer.specs.declared.install_fault.InstallFault.{InstallFault}
-use Rattle.installer.specs.declared.install_fault.InstallFault.TheVariants as install
-use Rattle.td_base.proofs.lemmas.Beginnings.{prefix_length, prefix_self, prefix_trans}
-use Rattle.installer.specs.FaultText.{fault_text}
-use Rattle.release_check.specs.declared.check_fault.CheckFault.TheVariants as fault
 use Rattle.zone_meaning.specs.Sound.{IsSound}
 use Rattle.zone_meaning.specs.ZoneHistories.{HasZoneHistory}
-use Rattle.td_top.specs.Folders.{GivesAfter, IsOfFiles}
-use Rattle.td_top.specs.Replies.{SaysRefused}
+use Rattle.td_top.specs.Growth.{GrowthView, Handles, LaterGrowth}
+use Rattle.td_top.specs.Replies.{last_token}
 use Rattle.td_top.specs.Sessions.{AnswersLine, LaterSession, StandsAt}
-use Rattle.console.specs.Lines.{IsInstall}
-use Rattle.td_top.specs.Talk.{GetsAnswer, InstallsFolder, Talk, TakesMemory, handled, installed, with_release}
-use Rattle.td_top.specs.Talk.{last_token, no_memory, quit, refused, status}
-use Rattle.td_top.specs.Talk.{unread}
+use Rattle.td_top.specs.Talk.{GetsAnswer, IsUnknown, Talk, TakesMemory, grown, handled, least_after, no_memory, quit, status, unknown, with_joined}
 use Rattle.td_top.specs.declared.session.Session.{Session}
-use Rattle.td_top.proofs.Installing.{gives, gives_fault, kept_gives}
+use Rattle.td_top.proofs.GrowthLemmas.{growth_refl}
 
 -- ---- sessions
 
@@ -52,151 +41,97 @@ few_zones c h =
     let last = last_of IsSound h.0 (release_held (λ f. f) c) h.1.history h.1.last in
     omega (arith, last.release.fits.zones, length-map c.held (held_content (λ f. f)))
 
--- ---- counts of faults
-
-pub rose_by_later : (n a b c : ℕ) → RoseBy n a b → b ≤ c → RoseBy n a c
-rose_by_later n a b c h k = omega (arith, h, k)
-
-rose_by_more : (n a b c : ℕ) → RoseBy n a b → Rose b c → RoseBy (n + 1) a c
-rose_by_more n a b c h k = omega (arith, h, k)
-
 -- ---- lines
 
--- the talk is where the session is, which published nothing more
-stands_on : (start s t : StoreView) (old new : Session) (talk : Talk) → LaterStore s t → LaterSession old new → new.installer.list ≡ old.installer.list
-    → StandsAt start s old talk → StandsAt start t new talk
-stands_on start s t old new talk store later same stands = record {
-  store = store_trans start s t stands.store store;
-  published = stands.published ∙ ap history_of (sym same);
-  least = omega (arith, stands.least, prefix_length old.desk.seen new.desk.seen later.seen);
-  unread = rose_by_later talk.unread start.faults s.faults t.faults stands.unread store.later;
-}
-
 -- a line that leaves the talk as it is
-pub stays : (s t : StoreView) (old new : Session) (asked : Line) (answer : List ℕ) → LaterStore s t → LaterSession old new
-    → new.installer.list ≡ old.installer.list
-    → ((files : Option (List File)) (whole : List ReleaseData) (talk : Talk) → GetsAnswer IsInstall (InstallsFolder files) whole talk asked answer talk)
-    → AnswersLine s t old new asked answer
-stays s t old new asked answer store later same answers = record {
-  store = store;
+pub stays : (g : GrowthView) (old new : Session) (asked : Line) (answer : List ℕ) → LaterSession old new → new.installer.list ≡ old.installer.list
+    → ((whole : List ReleaseData) (talk : Talk) → talk.growth ≡ g → GetsAnswer whole talk asked answer talk) → AnswersLine g g old new asked answer
+stays g old new asked answer later same answers = record {
+  growth = growth_refl g;
   later = later;
-  answers = λ whole start talk begins stands. (talk, stands_on start s t old new talk store later same stands, answers start.files whole talk);
+  answers = λ whole talk begins stands. (
+    talk,
+    record {
+      published = stands.published ∙ ap history_of (sym same);
+      least = omega (arith, stands.least, prefix_length old.desk.seen new.desk.seen later.seen);
+      growth = stands.growth;
+    },
+    answers whole talk stands.growth,
+  );
 }
 
-pub starved : (s t : StoreView) (old new : Session) (asked : Line) → LaterStore s t → LaterSession old new → new.installer.list ≡ old.installer.list
-    → TakesMemory IsInstall asked → AnswersLine s t old new asked (reply_text said.NoMemory)
-starved s t old new asked store later same takes =
-    stays s t old new asked (reply_text said.NoMemory) store later same (λ files whole talk. no_memory takes refl refl)
+pub starved : (g : GrowthView) (a : Session) (asked : Line) → TakesMemory asked → AnswersLine g g a a asked (reply_text said.NoMemory)
+starved g a asked takes = stays g a a asked (reply_text said.NoMemory) (session_refl a) refl (λ whole talk is. no_memory takes refl refl)
 
-pub is_quit : (s : StoreView) (a : Session) → AnswersLine s s a a line.Quit (reply_text said.Bye)
-is_quit s a = stays s s a a line.Quit (reply_text said.Bye) (store_refl s) (session_refl a) refl (λ files whole talk. quit refl refl refl)
+pub is_quit : (g : GrowthView) (a : Session) → AnswersLine g g a a line.Quit (reply_text said.Bye)
+is_quit g a = stays g a a line.Quit (reply_text said.Bye) (session_refl a) refl (λ whole talk is. quit refl refl refl)
+
+-- a line that is not done
+pub not_done : (g h : GrowthView) (old new : Session) (asked : Line) (answer : List ℕ) → h ≡ g → new ≡ old
+    → IsUnknown g asked → answer ≡ reply_text said.Unknown → AnswersLine g h old new asked answer
+not_done g h old new asked answer same left is_unknown is =
+    subst (λ k. AnswersLine g k old new asked answer) (sym same)
+    (subst (λ s. AnswersLine g g old s asked answer) (sym left)
+    (stays g old old asked answer (session_refl old) refl
+    (λ whole talk at. unknown (subst (λ k. IsUnknown k asked) (sym at) is_unknown) is refl)))
 
 -- a status
-pub is_shown : (s : StoreView) (old new : Session) (answer : List ℕ) → LaterSession old new → new.installer.list ≡ old.installer.list
+pub is_shown : (g : GrowthView) (old new : Session) (answer : List ℕ) → LaterSession old new → new.installer.list ≡ old.installer.list
     → answer ≡ reply_text (said.Serving (last_token (history_of new.desk.seen)) (length (meta (history_of new.desk.seen))))
-    → AnswersLine s s old new line.Status answer
-is_shown s old new answer later same is = record {
-  store = store_refl s;
+    → AnswersLine g g old new line.Status answer
+is_shown g old new answer later same is = record {
+  growth = growth_refl g;
   later = later;
-  answers = λ whole start talk begins stands.
+  answers = λ whole talk begins stands.
       let longer : length old.desk.seen ≤ length new.desk.seen = prefix_length old.desk.seen new.desk.seen later.seen in
       let size = history_length new.desk.seen in (
         record talk { least = length (history_of new.desk.seen) },
         record {
-          store = stands.store;
           published = stands.published ∙ ap history_of (sym same);
           least = omega (arith, size);
-          unread = stands.unread;
+          growth = stands.growth;
         },
         status (history_of new.desk.seen) refl begins.seen (omega (arith, size, longer, stands.least)) is refl,
       );
 }
 
--- a release joined the history
-pub is_installed : {A : Type 0} (s t : StoreView) (old new : Session) (dir : List ℕ) (answer : List ℕ) (history : A → List ReleaseData) (a : A)
-    → Installs s t dir (history_of old.installer.list) history (Ok a) → history a ≡ history_of new.installer.list
-    → GrowsBy (history_of old.installer.list) (history_of new.installer.list)
-    → LaterSession old new → length new.installer.list ≤ length new.desk.seen
-    → answer ≡ reply_text (said.Installed (last_token (history_of new.installer.list)))
-    → AnswersLine s t old new (line.Install dir) answer
-is_installed s t old new dir answer history a installs same grows later knows said_is = record {
-  store = installs.later;
+-- the least place that may be shown was shown
+least_stands : (g : GrowthView) (talk : Talk) (joined : Option ReleaseData) (old new : Session) → StandsAt g old talk → LaterSession old new
+    → history_of new.installer.list ≡ with_joined (history_of old.installer.list) joined → length new.installer.list ≤ length new.desk.seen
+    → least_after talk joined ≤ length new.desk.seen
+least_stands g talk None old new stands later grows knows = omega (arith, stands.least, prefix_length old.desk.seen new.desk.seen later.seen)
+least_stands g talk (Some r) old new stands later grows knows =
+    omega (
+      arith,
+      knows,
+      history_length new.installer.list,
+      ap length grows,
+      ap length stands.published,
+      length-append (history_of old.installer.list) (r ∷ []),
+    )
+
+-- a line that makes the history grow, by a release or by none
+pub is_done : (g h : GrowthView) (old new : Session) (asked : Line) (answer : List ℕ) (joined : Option ReleaseData) → LaterGrowth g h → LaterSession old new
+    → Handles (history_of old.installer.list) g asked answer joined h
+    → history_of new.installer.list ≡ with_joined (history_of old.installer.list) joined → length new.installer.list ≤ length new.desk.seen
+    → AnswersLine g h old new asked answer
+is_done g h old new asked answer joined growth later handles grows knows = record {
+  growth = growth;
   later = later;
-  answers = λ whole start talk begins stands.
-      let H : List ReleaseData = history_of old.installer.list in
-      let now : history_of new.installer.list ≡ talk.published ++ grows.release ∷ [] =
-      grows.now_is ∙ ap (λ (K : List ReleaseData). K ++ grows.release ∷ []) (sym stands.published) in
-      let size = ap length now in (
-        with_release talk grows.release,
-        record {
-          store = store_trans start s t stands.store installs.later;
-          published = sym now;
-          least = omega (arith, knows, history_length new.installer.list, size, length-append talk.published (grows.release ∷ []));
-          unread = rose_by_later talk.unread start.faults s.faults t.faults stands.unread installs.later.later;
-        },
-        handled (installed dir grows.release refl
-            (subst (λ (K : List ReleaseData). GivesAfter start.files K dir (Ok grows.release)) (sym stands.published)
-            (kept_gives start s H dir (Ok grows.release) stands.store (gives s t dir H history a grows.release (same ∙ grows.now_is) installs)))
-            (said_is ∙ ap (λ (K : List ReleaseData). reply_text (said.Installed (last_token K))) now) refl),
-      );
+  answers = λ whole talk begins stands. (
+    grown talk joined h,
+    record {
+      published = ap (λ H. with_joined H joined) stands.published ∙ sym grows;
+      least = least_stands g talk joined old new stands later grows knows;
+      growth = refl;
+    },
+    handled joined h
+        (subst (λ H. Handles H talk.growth asked answer joined h) (sym stands.published)
+        (subst (λ k. Handles (history_of old.installer.list) k asked answer joined h) (sym stands.growth) handles))
+        refl,
+  );
 }
 
--- a folder that is refused
-refused_said : {A : Type 0} (s t : StoreView) (old new : Session) (dir : List ℕ) (e : InstallFault) (history : A → List ReleaseData)
-    → Installs {A = A} s t dir (history_of old.installer.list) history (Err e) → new.installer.list ≡ old.installer.list
-    → LaterSession old new → IsOfFiles e → AnswersLine s t old new (line.Install dir) (reply_text (said.Refused (fault_text e)))
-refused_said s t old new dir e history installs same later of = record {
-  store = installs.later;
-  later = later;
-  answers = λ whole start talk begins stands.
-      let H : List ReleaseData = history_of old.installer.list in (
-        talk,
-        stands_on start s t old new talk installs.later later same stands,
-        handled (refused dir e refl
-            (subst (λ (K : List ReleaseData). GivesAfter start.files K dir (Err e)) (sym stands.published)
-            (kept_gives start s H dir (Err e) stands.store (gives_fault s t dir H history e installs)))
-            of refl refl),
-      );
-}
-
--- a folder that was not read
-unread_said : {A : Type 0} (s t : StoreView) (old new : Session) (dir : List ℕ) (history : A → List ReleaseData)
-    → Installs {A = A} s t dir (history_of old.installer.list) history (Err (install.Check fault.ReadFault)) → new.installer.list ≡ old.installer.list
-    → LaterSession old new → AnswersLine s t old new (line.Install dir) (reply_text (said.Refused (fault_text (install.Check fault.ReadFault))))
-unread_said s t old new dir history installs same later = record {
-  store = installs.later;
-  later = later;
-  answers = λ whole start talk begins stands.
-      let on = stands_on start s t old new talk installs.later later same stands in (
-        record talk { unread = talk.unread + 1 },
-        record {
-          store = on.store;
-          published = on.published;
-          least = on.least;
-          unread = rose_by_more talk.unread start.faults s.faults t.faults stands.unread (installs.failed refl);
-        },
-        handled (unread dir refl refl refl),
-      );
-}
-
-why_said : {A : Type 0} (s t : StoreView) (old new : Session) (dir : List ℕ) (e : InstallFault) (history : A → List ReleaseData)
-    → Installs {A = A} s t dir (history_of old.installer.list) history (Err e) → new.installer.list ≡ old.installer.list
-    → LaterSession old new → e ≢ install.NoMemory → AnswersLine s t old new (line.Install dir) (reply_text (said.Refused (fault_text e)))
-why_said s t old new dir install.NoMemory history installs same later memory = absurd (memory refl)
-why_said s t old new dir (install.Check fault.NoMemory) history installs same later memory = absurd (installs.memory refl)
-why_said s t old new dir (install.Check fault.ReadFault) history installs same later memory = unread_said s t old new dir history installs same later
-why_said s t old new dir (install.Check f) history installs same later memory =
-    refused_said s t old new dir (install.Check f) history installs same later ((λ e. cc), (λ e. cc))
-
-pub said_as : (s t : StoreView) (old new : Session) (asked : Line) (a b : List ℕ) → b ≡ a → AnswersLine s t old new asked a
-    → AnswersLine s t old new asked b
-said_as s t old new asked a b e h = subst (λ (x : List ℕ). AnswersLine s t old new asked x) (sym e) h
-
-pub is_refused : {A : Type 0} (s t : StoreView) (old new : Session) (dir : List ℕ) (e : InstallFault) (answer : List ℕ) (history : A → List ReleaseData)
-    → Installs {A = A} s t dir (history_of old.installer.list) history (Err e) → new.installer.list ≡ old.installer.list
-    → LaterSession old new → SaysRefused e answer → AnswersLine s t old new (line.Install dir) answer
-is_refused s t old new dir e answer history installs same later (inl none) =
-    said_as s t old new (line.Install dir) (reply_text said.NoMemory) answer none (starved s t old new (line.Install dir) installs.later later same tt)
-is_refused s t old new dir e answer history installs same later (inr why) =
-    said_as s t old new (line.Install dir) (reply_text (said.Refused (fault_text e))) answer why.1
-    (why_said s t old new dir e history installs same later why.0)
+pub said_as : (g h : GrowthView) (old new : Session) (asked : Line) (a b : List ℕ) → b ≡ a → AnswersLine g h old new asked a
+    → AnswersLine g h old new asked b
+said_as g h old new asked a b e answers = subst (λ (x : List ℕ). AnswersLine g h old new asked x) (sym e) answers

@@ -26,14 +26,11 @@ use Rattle.catalogue.specs.Holdings.{history_of}
 use Rattle.logbook.specs.Pages.{Book}
 use Rattle.publication.specs.Views.{DeskView}
 use Rattle.td_base.proofs.lemmas.Beginnings.{prefix_self}
-use Rattle.td_base.proofs.lemmas.LaterLemmas.{store_refl}
 use Rattle.td_top.specs.ConsoleBeside.{ConsoleView, Halted, Ran}
-use Rattle.td_top.specs.Outside.{LeavesStreams, Outside}
 use Rattle.td_top.specs.Server.{CalledTold, ConnsTold, IsDone, OpensDoors, OpenedTold}
 use Rattle.td_top.specs.Server.{ServesDoor, ServesDoors, no_door, one_more}
 use Rattle.td_top.specs.ServerSteps.{Concludes, LearntAll}
-use Rattle.console.specs.Lines.{IsInstall}
-use Rattle.td_top.specs.Talk.{InstallsFolder}
+use Rattle.td_top.specs.Setting.{Around}
 use Rattle.td_top.specs.Talking.{AnswersOperator, ComesTo, LaterScene, Scene, Talked}
 use Rattle.td_top.specs.Works.{AreWorks, WorksEnd, not_started, out_of_memory, served}
 use Rattle.td_top.specs.declared.status.Status.{Status}
@@ -45,8 +42,7 @@ use Rattle.catalogue.proofs.lemmas.HistoryLemmas.{history_longer}
 
 -- over the history that was published, of which the console's desk has seen no more
 pub operated : (before now : Scene) (ended : TalkEnd) → IsPrefix now.session.desk.seen now.session.installer.list → Talked before now ended
-    → AnswersOperator IsInstall (InstallsFolder before.outside.store.files) (history_of before.session.installer.list)
-    (history_of now.session.installer.list) before.outside now.outside ended
+    → AnswersOperator (history_of before.session.installer.list) (history_of now.session.installer.list) before.around now.around ended
 operated before now ended seen t =
     let whole : List ReleaseData = history_of now.session.installer.list in
     let talk = t.over.talks whole (record {
@@ -62,9 +58,7 @@ operated before now ended seen t =
       reads = t.reads;
       talks = talk.2;
       published = talk.1.published;
-      ready = before.outside.store;
-      since = store_refl before.outside.store;
-      unread = talk.1.unread;
+      growth = talk.1.growth;
       written = t.written;
       ends = t.ends;
     }
@@ -109,14 +103,14 @@ door_served server list before now desk desk' sign sign' worn seen h = record {
 -- ---- no doors
 
 module _ {D : Type 0} (seen : D → DoorView) where
-  pub without_memory : (server : Role) (opening : List ReleaseData) (given : List DoorView) (before now : Outside) (r r' : ℕ) (doors : List D) (is : Status)
+  pub without_memory : (server : Role) (opening : List ReleaseData) (given : List DoorView) (before now : Around) (r r' : ℕ) (doors : List D) (is : Status)
       → is ≡ status.NoMemory → doors ≡ [] → WorksEnd server opening given before now r r' (map seen doors) is
   without_memory server opening given before now r r' doors is e none =
       subst (λ ds. WorksEnd server opening given before now r r' (map seen ds) is) (sym none)
       (subst (λ s. WorksEnd server opening given before now r r' [] s) (sym e) out_of_memory)
 
-  pub unstarted : (server : Role) (opening : List ReleaseData) (given : List DoorView) (before now : Outside) (r r' : ℕ) (doors : List D) (is : Status)
-      → is ≡ status.NotStarted → doors ≡ [] → LeavesStreams before now → Rose r r' → WorksEnd server opening given before now r r' (map seen doors) is
+  pub unstarted : (server : Role) (opening : List ReleaseData) (given : List DoorView) (before now : Around) (r r' : ℕ) (doors : List D) (is : Status)
+      → is ≡ status.NotStarted → doors ≡ [] → now ≡ before → Rose r r' → WorksEnd server opening given before now r r' (map seen doors) is
   unstarted server opening given before now r r' doors is e none left rose =
       subst (λ ds. WorksEnd server opening given before now r r' (map seen ds) is) (sym none)
       (subst (λ s. WorksEnd server opening given before now r r' [] s) (sym e) (not_started left rose))
@@ -166,24 +160,24 @@ module _ {D C : Type 0} (seen : D → DoorView) where
   pub concluded : (server : Role) (before now : Scene) (ended : TalkEnd) (works : List WorkView) (dones : List (DoorDone D C)) (doors : List D) (is : Status)
       (given : List DoorView) (r r' : ℕ) → AreWorks server before.session.installer.pair given works → DoesEach Does works dones
       → Talked before now ended → LearntAll now.session dones ended doors is
-      → WorksEnd server (history_of before.session.installer.list) given before.outside now.outside r r' (map seen doors) is
+      → WorksEnd server (history_of before.session.installer.list) given before.around now.around r r' (map seen doors) is
   concluded server before now ended works dones doors is given r r' are does talked learnt =
       let list = now.session.installer.list in
       let over : ServesDoors server (history_of list) given (map seen doors) (list_any (λ d. d.worn) dones) =
       subst (λ ds. ServesDoors server (history_of list) given (map seen ds) (list_any (λ d. d.worn) dones)) (sym learnt.workers.doors_are)
       (all_served server list before.session.installer.pair given works dones are learnt.workers.seen does) in
-      subst (λ e. WorksEnd server (history_of before.session.installer.list) given before.outside now.outside r r' (map seen doors) e) (sym learnt.ending)
+      subst (λ e. WorksEnd server (history_of before.session.installer.list) given before.around now.around r r' (map seen doors) e) (sym learnt.ending)
       (served (history_of list) (map seen doors) ended (list_any (λ d. d.worn) dones) (operated before now ended learnt.seen talked) over)
 
   pub comes_concluded : (server : Role) (before now : Scene) (ended : TalkEnd) (works : List WorkView) (dones : List (DoorDone D C)) (doors : List D)
       (is : Status)
       (given : List DoorView) (r r' : ℕ) → AreWorks server before.session.installer.pair given works → DoesEach Does works dones
       → ComesTo before now (Some ended) → Concludes now.session dones ended doors is
-      → WorksEnd server (history_of before.session.installer.list) given before.outside now.outside r r' (map seen doors) is
+      → WorksEnd server (history_of before.session.installer.list) given before.around now.around r r' (map seen doors) is
   comes_concluded server before now ended works dones doors is given r r' are does talked (inl learnt) =
       concluded server before now ended works dones doors is given r r' are does talked learnt
   comes_concluded server before now ended works dones doors is given r r' are does talked (inr none) =
-      without_memory seen server (history_of before.session.installer.list) given before.outside now.outside r r' doors is none.0 none.1
+      without_memory seen server (history_of before.session.installer.list) given before.around now.around r r' doors is none.0 none.1
 
 -- the talk beside the works, and what it was lent
 pub came : (before mid now : ConsoleView) → Ran before mid → Halted mid now → (ComesTo before.scene now.scene now.end) × (now.lent ≡ before.lent)

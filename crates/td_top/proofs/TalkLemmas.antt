@@ -6,12 +6,11 @@ use Rattle.std.specs.List.{AllByRecursion}
 use Rattle.std.proofs.KnownBytes.{Consumes-nil, Consumes-trans}
 use Rattle.std.proofs.lemmas.List.Concat.{flat_map-append}
 use Rattle.td_base.specs.Views.{SourceFailed, LaterSink, LaterSource, SinkView, SourceView}
-use Rattle.td_base.specs.Views.{StoreView}
 use Rattle.td_base.specs.Transfer.{WritesAll}
 use Rattle.td_base.specs.declared.transfer.Written.{Written}
 use Rattle.td_base.specs.declared.transfer.Written.TheVariants as written
 use Rattle.td_base.proofs.lemmas.LaterLemmas.{sink_trans, source_refl, source_then_failed}
-use Rattle.td_base.proofs.lemmas.LaterLemmas.{source_trans, store_refl, store_trans}
+use Rattle.td_base.proofs.lemmas.LaterLemmas.{source_trans}
 use Rattle.td_base.proofs.lemmas.LaterLemmas.{writes_all_later}
 use Rattle.catalogue.specs.Holdings.{history_of}
 use Rattle.catalogue.specs.Releases.{ReleaseData}
@@ -23,9 +22,11 @@ use Rattle.console.specs.declared.line.Line.{Line}
 use Rattle.console.specs.declared.line.Line.TheVariants as line
 use Rattle.console.specs.declared.said.Said.TheVariants as said
 use Rattle.td_base.proofs.lemmas.Beginnings.{prefix_trans}
-use Rattle.td_top.specs.Outside.{outside}
+use Rattle.td_top.specs.Growth.{GrowthView}
+use Rattle.td_top.specs.Replies.{last_token}
 use Rattle.td_top.specs.Sessions.{AnswersLine, BeginsWhole, LaterSession}
-use Rattle.td_top.specs.Talk.{KeepsTalking, talk_begun, last_token, more, none}
+use Rattle.td_top.specs.Setting.{around}
+use Rattle.td_top.specs.Talk.{KeepsTalking, more, none, talk_begun}
 use Rattle.td_top.specs.Talking.{ComesTo, IsAt, LaterScene, Scene, TalksOver, at_ready, at_reply, scene, talk_text}
 use Rattle.td_top.specs.TalkingSteps.{FeedsHeld, FeedsTalk, HasNone, IsNextLine, Reaches, SaysBye}
 use Rattle.td_top.specs.TalkingSteps.{SaysText}
@@ -35,6 +36,7 @@ use Rattle.td_top.specs.declared.session.Session.{Session}
 use Rattle.td_top.specs.declared.talking.TalkEnd.{TalkEnd}
 use Rattle.td_top.specs.declared.talking.TalkEnd.TheVariants as end
 use Rattle.td_top.proofs.Checked.{written_more}
+use Rattle.td_top.proofs.GrowthLemmas.{growth_refl, growth_trans}
 use Rattle.td_top.proofs.LineLemmas.{session_refl, session_trans}
 
 -- ---- histories
@@ -82,25 +84,24 @@ as_text a b one two how e h = subst (λ (t : List ℕ). WritesAll a b t how) e h
 
 -- ---- the beginning
 
-nothing_asked : (s : StoreView) (i : SourceView) (o p : SinkView) (x : Session) → length x.installer.list ≤ length x.desk.seen → LaterSink o p
-    → TalksOver (scene (outside s i o) x) (scene (outside s i p) x) [] []
+nothing_asked : (s : GrowthView) (i : SourceView) (o p : SinkView) (x : Session) → length x.installer.list ≤ length x.desk.seen → LaterSink o p
+    → TalksOver (scene (around s i o) x) (scene (around s i p) x) [] []
 nothing_asked s i o p x knows sink = record {
-  later = record { outside = record { store = store_refl s; input = source_refl i; output = sink }; session = session_refl x };
+  later = record { around = record { growth = growth_refl s; input = source_refl i; output = sink }; session = session_refl x };
   talks = λ whole begins. (
-    talk_begun (history_of x.installer.list),
+    talk_begun (history_of x.installer.list) s,
     record {
-      store = store_refl s;
       published = refl;
       least = omega (arith, history_length x.installer.list, knows);
-      unread = omega arith;
+      growth = refl;
     },
-    none (talk_begun (history_of x.installer.list)),
+    none (talk_begun (history_of x.installer.list) s),
   );
 }
 
-pub starts : (s : StoreView) (i : SourceView) (o p : SinkView) (x : Session) (text : List ℕ) → length x.installer.list ≤ length x.desk.seen
+pub starts : (s : GrowthView) (i : SourceView) (o p : SinkView) (x : Session) (text : List ℕ) → length x.installer.list ≤ length x.desk.seen
     → text ≡ reply_text (said.Ready (last_token (history_of x.installer.list))) → WritesAll o p text written.Whole
-    → GivesLines [] [] [] → IsAt (scene (outside s i o) x) (scene (outside s i p) x) []
+    → GivesLines [] [] [] → IsAt (scene (around s i o) x) (scene (around s i p) x) []
 starts s i o p x text knows is h gives = record {
   read = [];
   asked = [];
@@ -112,9 +113,9 @@ starts s i o p x text knows is h gives = record {
   written = as_text o p text (talk_text (history_of x.installer.list) []) written.Whole (is ∙ first_text (history_of x.installer.list)) h;
 }
 
-pub cut_at_once : (s : StoreView) (i : SourceView) (o p : SinkView) (x : Session) (text : List ℕ) → length x.installer.list ≤ length x.desk.seen
+pub cut_at_once : (s : GrowthView) (i : SourceView) (o p : SinkView) (x : Session) (text : List ℕ) → length x.installer.list ≤ length x.desk.seen
     → text ≡ reply_text (said.Ready (last_token (history_of x.installer.list))) → WritesAll o p text written.Cut
-    → GivesLines [] [] [] → ComesTo (scene (outside s i o) x) (scene (outside s i p) x) (Some end.NotWritten)
+    → GivesLines [] [] [] → ComesTo (scene (around s i o) x) (scene (around s i p) x) (Some end.NotWritten)
 cut_at_once s i o p x text knows is h gives = record {
   read = [];
   asked = [];
@@ -128,29 +129,29 @@ cut_at_once s i o p x text knows is h gives = record {
 
 -- ---- a piece of the input
 
-later_input : (start : Scene) (s : StoreView) (i j : SourceView) (o : SinkView) (x : Session) → LaterScene start (scene (outside s i o) x) → LaterSource i j
-    → LaterScene start (scene (outside s j o) x)
+later_input : (start : Scene) (s : GrowthView) (i j : SourceView) (o : SinkView) (x : Session) → LaterScene start (scene (around s i o) x) → LaterSource i j
+    → LaterScene start (scene (around s j o) x)
 later_input start s i j o x later input = record {
-  outside = record {
-    store = later.outside.store;
-    input = source_trans start.outside.input i j later.outside.input input;
-    output = later.outside.output;
+  around = record {
+    growth = later.around.growth;
+    input = source_trans start.around.input i j later.around.input input;
+    output = later.around.output;
   };
   session = later.session;
 }
 
-over_input : (start : Scene) (s : StoreView) (i j : SourceView) (o : SinkView) (x : Session) (asked : List Line) (told : List (List ℕ)) → LaterSource i j
-    → TalksOver start (scene (outside s i o) x) asked told → TalksOver start (scene (outside s j o) x) asked told
+over_input : (start : Scene) (s : GrowthView) (i j : SourceView) (o : SinkView) (x : Session) (asked : List Line) (told : List (List ℕ)) → LaterSource i j
+    → TalksOver start (scene (around s i o) x) asked told → TalksOver start (scene (around s j o) x) asked told
 over_input start s i j o x asked told input over = record { later = later_input start s i j o x over.later input; talks = over.talks }
 
-fed : (start : Scene) (s : StoreView) (i j : SourceView) (o : SinkView) (x : Session) (held held' new : List ℕ)
-    → IsAt start (scene (outside s i o) x) held → HasNone held held' → LaterSource i j → FeedsHeld i j held' new
-    → IsAt start (scene (outside s j o) x) new
+fed : (start : Scene) (s : GrowthView) (i j : SourceView) (o : SinkView) (x : Session) (held held' new : List ℕ)
+    → IsAt start (scene (around s i o) x) held → HasNone held held' → LaterSource i j → FeedsHeld i j held' new
+    → IsAt start (scene (around s j o) x) new
 fed start s i j o x held held' new at whole input f = record {
   read = at.read ++ f.read;
   asked = at.asked;
   told = at.told;
-  consumed = Consumes-trans start.outside.input.left i.left j.left at.read f.read at.consumed f.consumed;
+  consumed = Consumes-trans start.around.input.left i.left j.left at.read f.read at.consumed f.consumed;
   gives = subst (λ (l : List ℕ). GivesLines (at.read ++ f.read) at.asked l) (sym f.joined)
       (gives_more at.read held' f.read at.asked (whole at.read at.asked at.gives).0);
   goes_on = at.goes_on;
@@ -161,38 +162,38 @@ fed start s i j o x held held' new at whole input f = record {
 consumed_on : (a b c : Option (List ℕ)) (bs : List ℕ) → Consumes a b bs → Consumes b c [] → Consumes a c bs
 consumed_on a b c bs h k = subst (λ (l : List ℕ). Consumes a c l) (append-nil bs) (Consumes-trans a b c bs [] h k)
 
-input_done : (start : Scene) (s : StoreView) (i j : SourceView) (o : SinkView) (x : Session) (held held' : List ℕ)
-    → IsAt start (scene (outside s i o) x) held → HasNone held held' → LaterSource i j → Consumes i.left j.left [] → IsAtEnd j.left
-    → ComesTo start (scene (outside s j o) x) (Some end.InputEnded)
+input_done : (start : Scene) (s : GrowthView) (i j : SourceView) (o : SinkView) (x : Session) (held held' : List ℕ)
+    → IsAt start (scene (around s i o) x) held → HasNone held held' → LaterSource i j → Consumes i.left j.left [] → IsAtEnd j.left
+    → ComesTo start (scene (around s j o) x) (Some end.InputEnded)
 input_done start s i j o x held held' at whole input consumed ended = record {
   read = at.read;
   asked = at.asked;
   ignored = [];
   told = at.told;
-  reads = (consumed_on start.outside.input.left i.left j.left at.read at.consumed consumed, (whole at.read at.asked at.gives).1 ∙ sym (append-nil at.asked));
+  reads = (consumed_on start.around.input.left i.left j.left at.read at.consumed consumed, (whole at.read at.asked at.gives).1 ∙ sym (append-nil at.asked));
   over = over_input start s i j o x at.asked at.told input at.over;
   written = at.written;
   ends = (at.goes_on, refl, ended);
 }
 
-input_failed : (start : Scene) (s : StoreView) (i j : SourceView) (o : SinkView) (x : Session) (held held' : List ℕ)
-    → IsAt start (scene (outside s i o) x) held → HasNone held held' → LaterSource i j → Consumes i.left j.left [] → SourceFailed i j
-    → ComesTo start (scene (outside s j o) x) (Some end.NotRead)
+input_failed : (start : Scene) (s : GrowthView) (i j : SourceView) (o : SinkView) (x : Session) (held held' : List ℕ)
+    → IsAt start (scene (around s i o) x) held → HasNone held held' → LaterSource i j → Consumes i.left j.left [] → SourceFailed i j
+    → ComesTo start (scene (around s j o) x) (Some end.NotRead)
 input_failed start s i j o x held held' at whole input consumed failed = record {
   read = at.read;
   asked = at.asked;
   ignored = [];
   told = at.told;
-  reads = (consumed_on start.outside.input.left i.left j.left at.read at.consumed consumed, (whole at.read at.asked at.gives).1 ∙ sym (append-nil at.asked));
+  reads = (consumed_on start.around.input.left i.left j.left at.read at.consumed consumed, (whole at.read at.asked at.gives).1 ∙ sym (append-nil at.asked));
   over = over_input start s i j o x at.asked at.told input at.over;
   written = at.written;
-  ends = (at.goes_on, refl, source_then_failed start.outside.input i j at.over.later.outside.input failed);
+  ends = (at.goes_on, refl, source_then_failed start.around.input i j at.over.later.around.input failed);
 }
 
 -- a turn that reads
-pub read_turn : (start : Scene) (s : StoreView) (i j : SourceView) (o : SinkView) (x : Session) (held held' new : List ℕ) (r : Turn)
-    → IsAt start (scene (outside s i o) x) held → HasNone held held' → LaterSource i j → FeedsTalk i j held' new r
-    → Reaches start (scene (outside s j o) x) new r
+pub read_turn : (start : Scene) (s : GrowthView) (i j : SourceView) (o : SinkView) (x : Session) (held held' new : List ℕ) (r : Turn)
+    → IsAt start (scene (around s i o) x) held → HasNone held held' → LaterSource i j → FeedsTalk i j held' new r
+    → Reaches start (scene (around s j o) x) new r
 read_turn start s i j o x held held' new turn.On at whole input f = fed start s i j o x held held' new at whole input f
 read_turn start s i j o x held held' new (turn.End end.InputEnded) at whole input f = input_done start s i j o x held held' at whole input f.0 f.1
 read_turn start s i j o x held held' new (turn.End end.NotRead) at whole input f = input_failed start s i j o x held held' at whole input f.0 f.1
@@ -202,31 +203,31 @@ read_turn start s i j o x held held' new turn.NoMemory at whole input f = later_
 
 -- ---- a line
 
-over_more : (start : Scene) (s t : StoreView) (i : SourceView) (o p : SinkView) (x y : Session) (asked : List Line) (told : List (List ℕ)) (next : Line)
+over_more : (start : Scene) (s t : GrowthView) (i : SourceView) (o p : SinkView) (x y : Session) (asked : List Line) (told : List (List ℕ)) (next : Line)
     (a : List ℕ)
-    → AllByRecursion KeepsTalking asked → LaterSink o p → TalksOver start (scene (outside s i o) x) asked told → AnswersLine s t x y next a
-    → TalksOver start (scene (outside t i p) y) (asked ++ next ∷ []) (told ++ a ∷ [])
+    → AllByRecursion KeepsTalking asked → LaterSink o p → TalksOver start (scene (around s i o) x) asked told → AnswersLine s t x y next a
+    → TalksOver start (scene (around t i p) y) (asked ++ next ∷ []) (told ++ a ∷ [])
 over_more start s t i o p x y asked told next a goes sink over answers = record {
   later = record {
-    outside = record {
-      store = store_trans start.outside.store s t over.later.outside.store answers.store;
-      input = over.later.outside.input;
-      output = sink_trans start.outside.output o p over.later.outside.output sink;
+    around = record {
+      growth = growth_trans start.around.growth s t over.later.around.growth answers.growth;
+      input = over.later.around.input;
+      output = sink_trans start.around.output o p over.later.around.output sink;
     };
     session = session_trans start.session x y over.later.session answers.later;
   };
   talks = λ whole begins.
       let before = over.talks whole (begins_before x y whole answers.later begins) in
-      let after = answers.answers whole start.outside.store before.0 begins before.1 in (
+      let after = answers.answers whole before.0 begins before.1 in (
         after.0,
         after.1,
-        more (talk_begun (history_of start.session.installer.list)) before.0 after.0 asked told next a before.2 goes after.2,
+        more (talk_begun (history_of start.session.installer.list) start.around.growth) before.0 after.0 asked told next a before.2 goes after.2,
       );
 }
 
-cut_by : (start : Scene) (s t : StoreView) (i : SourceView) (o p : SinkView) (x y : Session) (held new : List ℕ) (next : Line) (a : List ℕ)
-    → IsAt start (scene (outside s i o) x) held → IsNextLine held new next → AnswersLine s t x y next a → WritesAll o p a written.Cut
-    → ComesTo start (scene (outside t i p) y) (Some end.NotWritten)
+cut_by : (start : Scene) (s t : GrowthView) (i : SourceView) (o p : SinkView) (x y : Session) (held new : List ℕ) (next : Line) (a : List ℕ)
+    → IsAt start (scene (around s i o) x) held → IsNextLine held new next → AnswersLine s t x y next a → WritesAll o p a written.Cut
+    → ComesTo start (scene (around t i p) y) (Some end.NotWritten)
 cut_by start s t i o p x y held new next a at is answers h = record {
   read = at.read;
   asked = at.asked ++ next ∷ [];
@@ -239,16 +240,16 @@ cut_by start s t i o p x y held new next a at is answers h = record {
 }
 
 said_whole : (start : Scene) (o p : SinkView) (told : List (List ℕ)) (a : List ℕ)
-    → WritesAll start.outside.output o (talk_text (history_of start.session.installer.list) told) written.Whole → WritesAll o p a written.Whole
-    → WritesAll start.outside.output p (talk_text (history_of start.session.installer.list) (told ++ a ∷ [])) written.Whole
+    → WritesAll start.around.output o (talk_text (history_of start.session.installer.list) told) written.Whole → WritesAll o p a written.Whole
+    → WritesAll start.around.output p (talk_text (history_of start.session.installer.list) (told ++ a ∷ [])) written.Whole
 said_whole start o p told a g h =
-    as_text start.outside.output p (talk_text (history_of start.session.installer.list) told ++ a)
+    as_text start.around.output p (talk_text (history_of start.session.installer.list) told ++ a)
     (talk_text (history_of start.session.installer.list) (told ++ a ∷ [])) written.Whole (text_more (history_of start.session.installer.list) told a)
-    (written_more start.outside.output o p (talk_text (history_of start.session.installer.list) told) a g h)
+    (written_more start.around.output o p (talk_text (history_of start.session.installer.list) told) a g h)
 
-answered : (start : Scene) (s t : StoreView) (i : SourceView) (o p : SinkView) (x y : Session) (held new : List ℕ) (next : Line) (a : List ℕ)
-    → KeepsTalking next → IsAt start (scene (outside s i o) x) held → IsNextLine held new next → AnswersLine s t x y next a
-    → WritesAll o p a written.Whole → IsAt start (scene (outside t i p) y) new
+answered : (start : Scene) (s t : GrowthView) (i : SourceView) (o p : SinkView) (x y : Session) (held new : List ℕ) (next : Line) (a : List ℕ)
+    → KeepsTalking next → IsAt start (scene (around s i o) x) held → IsNextLine held new next → AnswersLine s t x y next a
+    → WritesAll o p a written.Whole → IsAt start (scene (around t i p) y) new
 answered start s t i o p x y held new next a goes at is answers h = record {
   read = at.read;
   asked = at.asked ++ next ∷ [];
@@ -260,9 +261,9 @@ answered start s t i o p x y held new next a goes at is answers h = record {
   written = said_whole start o p at.told a at.written h;
 }
 
-pub line_turn : (start : Scene) (s t : StoreView) (i : SourceView) (o p : SinkView) (x y : Session) (held new : List ℕ) (next : Line) (a : List ℕ) (r : Turn)
-    → KeepsTalking next → IsAt start (scene (outside s i o) x) held → IsNextLine held new next → AnswersLine s t x y next a → SaysText o p a r
-    → Reaches start (scene (outside t i p) y) new r
+pub line_turn : (start : Scene) (s t : GrowthView) (i : SourceView) (o p : SinkView) (x y : Session) (held new : List ℕ) (next : Line) (a : List ℕ) (r : Turn)
+    → KeepsTalking next → IsAt start (scene (around s i o) x) held → IsNextLine held new next → AnswersLine s t x y next a → SaysText o p a r
+    → Reaches start (scene (around t i p) y) new r
 line_turn start s t i o p x y held new next a turn.On goes at is answers h = answered start s t i o p x y held new next a goes at is answers h
 line_turn start s t i o p x y held new next a (turn.End end.NotWritten) goes at is answers h = cut_by start s t i o p x y held new next a at is answers h
 line_turn start s t i o p x y held new next a (turn.End end.Quit) goes at is answers h = absurd h
@@ -271,9 +272,9 @@ line_turn start s t i o p x y held new next a (turn.End end.NotRead) goes at is 
 line_turn start s t i o p x y held new next a turn.NoMemory goes at is answers h = absurd h
 
 -- the last line
-quit_by : (start : Scene) (s : StoreView) (i : SourceView) (o p : SinkView) (x : Session) (held new : List ℕ)
-    → IsAt start (scene (outside s i o) x) held → IsNextLine held new line.Quit → AnswersLine s s x x line.Quit (reply_text said.Bye)
-    → WritesAll o p (reply_text said.Bye) written.Whole → ComesTo start (scene (outside s i p) x) (Some end.Quit)
+quit_by : (start : Scene) (s : GrowthView) (i : SourceView) (o p : SinkView) (x : Session) (held new : List ℕ)
+    → IsAt start (scene (around s i o) x) held → IsNextLine held new line.Quit → AnswersLine s s x x line.Quit (reply_text said.Bye)
+    → WritesAll o p (reply_text said.Bye) written.Whole → ComesTo start (scene (around s i p) x) (Some end.Quit)
 quit_by start s i o p x held new at is answers h = record {
   read = at.read;
   asked = at.asked ++ line.Quit ∷ [];
@@ -287,9 +288,9 @@ quit_by start s i o p x held new at is answers h = record {
   ends = (at.asked, refl);
 }
 
-pub quit_turn : (start : Scene) (s : StoreView) (i : SourceView) (o p : SinkView) (x : Session) (held new : List ℕ) (ended : TalkEnd)
-    → IsAt start (scene (outside s i o) x) held → IsNextLine held new line.Quit → AnswersLine s s x x line.Quit (reply_text said.Bye)
-    → SaysBye o p ended → Reaches start (scene (outside s i p) x) new (turn.End ended)
+pub quit_turn : (start : Scene) (s : GrowthView) (i : SourceView) (o p : SinkView) (x : Session) (held new : List ℕ) (ended : TalkEnd)
+    → IsAt start (scene (around s i o) x) held → IsNextLine held new line.Quit → AnswersLine s s x x line.Quit (reply_text said.Bye)
+    → SaysBye o p ended → Reaches start (scene (around s i p) x) new (turn.End ended)
 quit_turn start s i o p x held new end.Quit at is answers h = quit_by start s i o p x held new at is answers h
 quit_turn start s i o p x held new end.NotWritten at is answers h = cut_by start s s i o p x x held new line.Quit (reply_text said.Bye) at is answers h
 quit_turn start s i o p x held new end.InputEnded at is answers h = absurd h

@@ -1,7 +1,8 @@
 -- The code's commands as what words ask for.
 use Rattle.std.specs.Prelude.{⊤, ◌<◌, ◌≤◌, length}
+use Rattle.td_base.specs.Names.{IsPlain}
 use Rattle.td_civil.specs.Bounds.{HasMeaning}
-use Rattle.td_top.specs.Grammar.{Asked, answer, check, at, serve, most_workers}
+use Rattle.td_top.specs.Grammar.{Asked, answer, check, at, mirror, most_workers, serve}
 use Rattle.td_top.specs.declared.command.Command.{Command}
 use Rattle.td_top.specs.declared.command.Command.TheVariants as command
 
@@ -11,11 +12,16 @@ plain_command (command.Answer folders) = answer folders.now
 plain_command (command.Check folders) = check folders.now
 plain_command (command.At file moment) = at file.now moment.seconds
 plain_command (command.Serve address workers folders) = serve address.now workers folders.now
+plain_command (command.Mirror address workers upstream) =
+    mirror address.now workers upstream.now
 
--- a command names a folder to serve, its moment has a meaning, and its workers are few
+-- a command names a folder to serve, its moment has a meaning, its workers are few, and the server
+-- that it follows has a plain address
 abbrev pub IsMeantCommand : Command → Type 0
 IsMeantCommand (command.Answer folders) = 0 < length folders.now
 IsMeantCommand (command.Check folders) = ⊤
 IsMeantCommand (command.At file moment) = HasMeaning moment.seconds
 IsMeantCommand (command.Serve address workers folders) =
     (workers ≤ most_workers) × (0 < length folders.now)
+IsMeantCommand (command.Mirror address workers upstream) =
+    (workers ≤ most_workers) × IsPlain upstream.now

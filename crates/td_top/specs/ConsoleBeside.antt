@@ -1,6 +1,6 @@
 -- What the console of a server makes of all that it was lent, beside the workers.
 use Rattle.std.specs.Prelude.{◌≡◌, ℕ, Option}
-use Rattle.td_top.specs.Outside.{Outside}
+use Rattle.td_top.specs.Setting.{Around}
 use Rattle.td_top.specs.Talking.{ComesTo, Scene, scene}
 use Rattle.td_top.specs.declared.session.Session.{Session}
 use Rattle.td_top.specs.declared.talking.TalkEnd.{TalkEnd}
@@ -9,15 +9,15 @@ use Rattle.td_top.specs.declared.talking.TalkEnd.{TalkEnd}
 pub record Lent : Type 0 where
   pub session : ℕ
   pub end : ℕ
-  pub store : ℕ
+  pub growth : ℕ
   pub input : ℕ
   pub output : ℕ
 
 abbrev pub lent : ℕ → ℕ → ℕ → ℕ → ℕ → Lent
-lent session end store input output = record {
+lent session end growth input output = record {
   session = session;
   end = end;
-  store = store;
+  growth = growth;
   input = input;
   output = output;
 }
@@ -29,9 +29,9 @@ pub record ConsoleView : Type 0 where
   pub end : Option TalkEnd
   pub lent : Lent
 
-abbrev pub console_view : Outside → Session → Option TalkEnd → Lent → ConsoleView
-console_view outside session end objects = record {
-  scene = scene outside session;
+abbrev pub console_view : Around → Session → Option TalkEnd → Lent → ConsoleView
+console_view around session end objects = record {
+  scene = scene around session;
   end = end;
   lent = objects;
 }

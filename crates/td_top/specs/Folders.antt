@@ -1,8 +1,11 @@
 -- What a row of folders gives, each checked against the releases of those before it. Where the
 -- store does not tell its files, this is said of some releases.
-use Rattle.std.specs.Prelude.{◌≡◌, ◌≢◌, ℕ, List, [], ◌∷◌, ◌++◌, Option, IfSome, Result, Ok, Err}
-use Rattle.td_base.specs.Views.{File, StoreFailed}
+use Rattle.std.specs.Prelude.{◌≡◌, ◌≢◌, ℕ, List, [], ◌∷◌, ◌++◌, Option, None, Some, IfSome, Result}
+use Rattle.std.specs.Prelude.{Ok, Err}
+use Rattle.td_base.specs.Views.{File, StoreFailed, StoreView}
 use Rattle.catalogue.specs.Releases.{ReleaseData}
+use Rattle.console.specs.Replies.{reply_text}
+use Rattle.console.specs.declared.said.Said.TheVariants as said
 use Rattle.release_check.specs.Before.{before_of}
 use Rattle.release_check.specs.Folder.{FolderGives}
 use Rattle.installer.specs.FaultText.{fault_text}
@@ -12,6 +15,7 @@ use Rattle.installer.specs.declared.install_fault.InstallFault.TheVariants as in
 use Rattle.release_check.specs.declared.check_fault.CheckFault.TheVariants as fault
 use Rattle.td_top.specs.Outside.{LeavesStreams, Outside}
 use Rattle.td_top.specs.Printing.{Printed, refused_line}
+use Rattle.td_top.specs.Replies.{last_token}
 use Rattle.td_top.specs.declared.status.Status.{Status}
 use Rattle.td_top.specs.declared.status.Status.TheVariants as status
 
@@ -25,6 +29,23 @@ abbrev pub GivesAfter : Option (List File) → List ReleaseData → List ℕ
     → Result ReleaseData InstallFault → Type 0
 GivesAfter files H dir (Ok r) = IfSome files (λ fs. FolderGives fs dir (before_of H) (Ok r))
 GivesAfter files H dir (Err e) = IfSome files (λ fs. GivesFault fs dir H e)
+
+-- what `install` gets said of a folder that comes after these releases, and the release that joins
+-- them, if one does
+pub data InstallsFolder (old new : StoreView) (H : List ReleaseData) (dir answer : List ℕ)
+    : Option ReleaseData → Type 0 where
+  installed : (r : ReleaseData) → GivesAfter old.files H dir (Ok r)
+      → answer ≡ reply_text (said.Installed (last_token (H ++ r ∷ [])))
+      → InstallsFolder old new H dir answer (Some r)
+  refused : (e : InstallFault) → GivesAfter old.files H dir (Err e) → IsOfFiles e
+      → answer ≡ reply_text (said.Refused (fault_text e))
+      → InstallsFolder old new H dir answer None
+  -- the store failed
+  unread : StoreFailed old new
+      → answer ≡ reply_text (said.Refused (fault_text (install.Check fault.ReadFault)))
+      → InstallsFolder old new H dir answer None
+  -- memory ran out
+  starved : answer ≡ reply_text said.NoMemory → InstallsFolder old new H dir answer None
 
 -- the folders give these releases, one each
 pub data FoldersGive (files : Option (List File)) : List (List ℕ) → List ReleaseData → Type 0 where

@@ -15,6 +15,7 @@ pub data Asked : Type 0 where
   check : List (List ℕ) → Asked
   at : List ℕ → ℤ → Asked
   serve : List ℕ → ℕ → List (List ℕ) → Asked
+  mirror : List ℕ → ℕ → List ℕ → Asked
 
 -- the most folders that a command takes
 abbrev pub most_folders : ℕ
@@ -71,6 +72,14 @@ serve_of (address ∷ workers ∷ dirs) =
     else None
 serve_of _ = None
 
+-- `mirror ADDRESS WORKERS UPSTREAM`
+abbrev pub mirror_of : List (List ℕ) → Option Asked
+mirror_of (address ∷ workers ∷ upstream ∷ []) =
+    if is_address address && is_address upstream
+    then option_map (λ n. mirror address n upstream) (workers_in workers)
+    else None
+mirror_of _ = None
+
 -- the command that the words spell: its name first, and then what stands after it
 abbrev pub command_of : List (List ℕ) → Option Asked
 command_of [] = None
@@ -78,4 +87,5 @@ command_of (name ∷ words) =
     if bytes_eq name (codes "answer") then over_folders answer words
     else if bytes_eq name (codes "check") then over_folders check words
     else if bytes_eq name (codes "at") then at_of words
-    else if bytes_eq name (codes "serve") then serve_of words else None
+    else if bytes_eq name (codes "serve") then serve_of words
+    else if bytes_eq name (codes "mirror") then mirror_of words else None

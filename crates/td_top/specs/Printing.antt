@@ -21,4 +21,5 @@ Printed status.Done text old new status.Done = WritesAll old new text written.Wh
 Printed status.Done text old new status.NotWritten = WritesAll old new text written.Cut
 Printed status.Usage text old new status.Usage = Prints old new text
 Printed status.Refused text old new status.Refused = Prints old new text
+Printed status.NotSynced text old new status.NotSynced = Prints old new text
 Printed called text old new end = ⊥

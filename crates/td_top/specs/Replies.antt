@@ -1,12 +1,21 @@
 -- What is written in reply to a line.
-use Rattle.std.specs.Prelude.{◌≡◌, ◌≢◌, ℕ, List, ◌⊎◌}
+use Rattle.std.specs.Prelude.{◌≡◌, ◌≢◌, ℕ, List, length, ◌⊎◌}
+use Rattle.catalogue.specs.Histories.{token_of}
+use Rattle.catalogue.specs.Releases.{ReleaseData}
 use Rattle.console.specs.Replies.{reply_text}
 use Rattle.console.specs.declared.said.Said.TheVariants as said
 use Rattle.installer.specs.FaultText.{fault_text}
 use Rattle.installer.specs.declared.install_fault.InstallFault.{InstallFault}
 use Rattle.installer.specs.declared.install_fault.InstallFault.TheVariants as install
+use Rattle.mirror.specs.FaultText.{fault_text as sync_text}
+use Rattle.mirror.specs.declared.sync_fault.SyncFault.{SyncFault}
+use Rattle.mirror.specs.declared.sync_fault.SyncFault.TheVariants as sync
 use Rattle.td_top.specs.declared.replies.Reply.{Reply}
 use Rattle.td_top.specs.declared.replies.Reply.TheVariants as reply
+
+-- the token of the last place
+abbrev pub last_token : List ReleaseData → List ℕ
+last_token H = token_of H (length H)
 
 -- a reply as it is written
 abbrev pub reply_bytes : Reply → List ℕ
@@ -18,3 +27,9 @@ abbrev pub SaysRefused : InstallFault → List ℕ → Type 0
 SaysRefused e text =
     (text ≡ reply_text said.NoMemory)
     ⊎ ((e ≢ install.NoMemory) × (text ≡ reply_text (said.Refused (fault_text e))))
+
+-- what is said of a sync that ended by a fault: why, or, where there is no memory for that, this
+abbrev pub SaysFaulted : SyncFault → List ℕ → Type 0
+SaysFaulted e text =
+    (text ≡ reply_text said.NoMemory)
+    ⊎ ((e ≢ sync.NoMemory) × (text ≡ reply_text (said.Refused (sync_text e))))

@@ -1,21 +1,21 @@
 -- How doors are served beside a talk with an operator, who installs further releases meanwhile.
 use Rattle.std.specs.Prelude.{◌≡◌, ℕ, ◌⊎◌, List, [], ◌∷◌, ◌++◌, length, map, take, All, Bool}
 use Rattle.std.specs.Prelude.{true, false, ◌||◌, ⊤, Option, None, Some, if◌then◌else◌}
-use Rattle.td_base.specs.Views.{Rose}
+use Rattle.td_base.specs.Views.{LaterStore, Rose, StoreView}
 use Rattle.td_base.specs.DoorViews.{DoorContent, DoorView, Finished, NetworkContent, NetworkView}
 use Rattle.td_base.specs.Doors.{IsNewDoor, called, new_content, opened_at}
 use Rattle.td_base.specs.declared.door.DoorAnswer.TheVariants as answer
 use Rattle.td_base.specs.declared.report.Role.{Role}
 use Rattle.td_base.specs.declared.report.Role.TheVariants as role
 use Rattle.catalogue.specs.Releases.{ReleaseData}
-use Rattle.console.specs.Lines.{IsInstall}
 use Rattle.connection.specs.DoorWorks.{NoneComes, ServedConns, places_of}
 use Rattle.connection.specs.FaultCounts.{RoseTimes}
 use Rattle.connection.specs.Served.{NeverFall}
 use Rattle.connection.specs.declared.door_work.TheConstants.{MOST_FAILURES}
 use Rattle.td_top.specs.Folders.{FoldersGive, ServesNothing}
-use Rattle.td_top.specs.Outside.{IsAlone, LeavesStreams, World}
-use Rattle.td_top.specs.Talk.{InstallsFolder}
+use Rattle.td_top.specs.Growth.{folders}
+use Rattle.td_top.specs.Outside.{IsAlone, World}
+use Rattle.td_top.specs.Setting.{Setting, set_in}
 use Rattle.td_top.specs.Talking.{AnswersOperator}
 use Rattle.td_top.specs.declared.status.Status.{Status}
 use Rattle.td_top.specs.declared.status.Status.TheVariants as status
@@ -99,39 +99,42 @@ status_for talk.InputEnded worn = if worn then status.NoNetwork else status.Done
 status_for talk.NotRead worn = status.NotRead
 status_for talk.NotWritten worn = status.NotWritten
 
--- how serving doors ends, after an opening
+-- how serving doors ends, after an opening, with the history of the run, which begins with that
 pub data OpenedEnds (server : Role) (address : List ℕ) (workers : ℕ) (opening : List ReleaseData)
-    (before after : World) : List DoorView → Status → Type 0 where
+    (before after : Setting) : List ReleaseData → List DoorView → Status → Type 0 where
   -- with the end of the talk, once the workers were done: the doors that the network gave were
-  -- served over the history of the run, which begins with the opening and grows by the releases
-  -- that the operator installed
+  -- served over the history of the run, which grows by the releases that came of the operator's
+  -- lines
   served : (history : List ReleaseData) (given doors : List DoorView) (ended : TalkEnd)
       (worn : Bool)
-      → AnswersOperator IsInstall (InstallsFolder before.outside.store.files) opening history
-      before.outside after.outside ended
+      → AnswersOperator opening history before.around after.around ended
       → OpensDoors before.network after.network address workers given
       → ServesDoors server history given doors worn
-      → OpenedEnds server address workers opening before after doors (status_for ended worn)
+      → OpenedEnds server address workers opening before after history doors
+      (status_for ended worn)
   -- before anything was read or written, because the network failed
-  no_network : LeavesStreams before.outside after.outside
+  no_network : after.around ≡ before.around
       → CalledTold before.network.content after.network.content
       → Rose before.network.faults after.network.faults
-      → OpenedEnds server address workers opening before after [] status.NoNetwork
+      → OpenedEnds server address workers opening before after opening [] status.NoNetwork
   -- before anything was read or written, because a worker was not started
-  not_started : (given : List DoorView) → LeavesStreams before.outside after.outside
+  not_started : (given : List DoorView) → after.around ≡ before.around
       → OpensDoors before.network after.network address workers given
       → Rose before.spawner after.spawner
-      → OpenedEnds server address workers opening before after [] status.NotStarted
+      → OpenedEnds server address workers opening before after opening [] status.NotStarted
   -- at any time, because memory ran out
-  out_of_memory : OpenedEnds server address workers opening before after [] status.NoMemory
+  out_of_memory : OpenedEnds server address workers opening before after opening [] status.NoMemory
 
 -- how `serve` ends
 pub data Serves (address : List ℕ) (workers : ℕ) (dirs : List (List ℕ)) (before after : World)
     : List DoorView → Status → Type 0 where
   -- over the doors of an address, once the folders have given their releases
-  opened : (opening : List ReleaseData) (doors : List DoorView) (end : Status)
+  opened : (opening history : List ReleaseData) (ready : StoreView) (doors : List DoorView)
+      (end : Status)
       → FoldersGive before.outside.store.files dirs opening
-      → OpenedEnds role.Primary address workers opening before after doors end
+      → LaterStore before.outside.store ready
+      → OpenedEnds role.Primary address workers opening (set_in (folders ready) before)
+      (set_in (folders after.outside.store) after) history doors end
       → Serves address workers dirs before after doors end
   nothing : (end : Status) → ServesNothing dirs before.outside after.outside end
       → IsAlone before after → Serves address workers dirs before after [] end

@@ -4,13 +4,12 @@ use Rattle.std.specs.List.{list_any}
 use mathlib.Core.List.{IsPrefix}
 use Rattle.td_base.specs.DoorViews.{DoorView}
 use Rattle.td_base.specs.declared.report.Role.{Role}
-use Rattle.td_base.specs.declared.report.Role.TheVariants as role
 use Rattle.catalogue.specs.Releases.{ReleaseData}
 use Rattle.connection.specs.DoorWorks.{WorkView}
 use Rattle.connection.specs.declared.door_work.DoorDone.{DoorDone}
 use Rattle.catalogue.specs.Holdings.{history_of}
-use Rattle.td_top.specs.Outside.{Later, Outside, LaterWorld, World}
 use Rattle.td_top.specs.Server.{OpenedEnds, status_for}
+use Rattle.td_top.specs.Setting.{Around, LaterAround, LaterSetting, Setting}
 use Rattle.td_top.specs.Works.{AreWorks, Learnt, WorksEnd}
 use Rattle.td_top.specs.declared.session.Session.{Session}
 use Rattle.td_top.specs.declared.status.Status.{Status}
@@ -31,17 +30,19 @@ Concludes session dones end doors is =
     LearntAll session dones end doors is ⊎ ((is ≡ status.NoMemory) × (doors ≡ []))
 
 -- doors were served beside a talk over a session
-pub record ServesBeside (session : Session) (works : List WorkView) (before after : Outside)
+pub record ServesBeside (session : Session) (works : List WorkView) (before after : Around)
     (refusals refusals' : ℕ) (doors : List DoorView) (is : Status) : Type 0 where
-  pub later : Later before after
+  pub later : LaterAround before after
   pub starting : refusals ≤ refusals'
   pub ends : (server : Role) (given : List DoorView)
       → AreWorks server session.installer.pair given works
       → WorksEnd server (history_of session.installer.list) given before after refusals refusals'
       doors is
 
--- the doors of an address were served, after an opening
-pub record ServesOpened (address : List ℕ) (workers : ℕ) (opening : List ReleaseData)
-    (before after : World) (doors : List DoorView) (is : Status) : Type 0 where
-  pub later : LaterWorld before after
-  pub ends : OpenedEnds role.Primary address workers opening before after doors is
+-- the doors of an address were served by such a server, after an opening
+pub record ServesOpened (server : Role) (address : List ℕ) (workers : ℕ)
+    (opening : List ReleaseData) (before after : Setting) (doors : List DoorView) (is : Status)
+    : Type 0 where
+  pub later : LaterSetting before after
+  pub history : List ReleaseData
+  pub ends : OpenedEnds server address workers opening before after history doors is

@@ -1,36 +1,37 @@
--- How a talk with an operator goes, over a store, an input and an output.
+-- How a talk with an operator goes, over what the history grows by, an input and an output.
 use Rattle.std.specs.Prelude.{◌≡◌, ℕ, List, [], ◌∷◌, ◌++◌, flat_map, ⊤, Option, None, Some}
 use Rattle.std.specs.Io.KnownBytes.{Consumes, IsAtEnd}
 use Rattle.std.specs.List.{AllByRecursion}
-use Rattle.td_base.specs.Views.{LaterStore, RoseBy, SinkView, SourceFailed, SourceView, StoreView}
+use Rattle.td_base.specs.Views.{SinkView, SourceFailed, SourceView}
 use Rattle.td_base.specs.Transfer.{WritesAll}
 use Rattle.td_base.specs.declared.transfer.Written.TheVariants as written
 use Rattle.catalogue.specs.Releases.{ReleaseData}
-use Rattle.console.specs.Lines.{IsInstall, lines_of}
+use Rattle.console.specs.Lines.{lines_of}
 use Rattle.console.specs.Replies.{reply_text}
 use Rattle.console.specs.Steps.{GivesLines}
 use Rattle.console.specs.declared.line.Line.{Line}
 use Rattle.console.specs.declared.line.Line.TheVariants as line
 use Rattle.console.specs.declared.said.Said.TheVariants as said
 use Rattle.catalogue.specs.Holdings.{history_of}
-use Rattle.td_top.specs.Outside.{Later, Outside}
+use Rattle.td_top.specs.Replies.{last_token}
 use Rattle.td_top.specs.Sessions.{BeginsWhole, LaterSession, StandsAt}
-use Rattle.td_top.specs.Talk.{InstallsFolder, KeepsTalking, Talk, Talks, talk_begun, last_token}
+use Rattle.td_top.specs.Setting.{Around, LaterAround}
+use Rattle.td_top.specs.Talk.{KeepsTalking, Talk, Talks, talk_begun}
 use Rattle.td_top.specs.declared.session.Session.{Session}
 use Rattle.td_top.specs.declared.talking.TalkEnd.{TalkEnd}
 use Rattle.td_top.specs.declared.talking.TalkEnd.TheVariants as end
 
--- what a talk is over: the outside, and what the console publishes with and shows
+-- a talk's moment: what it is over, and what the console publishes with and shows
 pub record Scene : Type 0 where
-  pub outside : Outside
+  pub around : Around
   pub session : Session
 
-abbrev pub scene : Outside → Session → Scene
-scene outside session = record { outside = outside; session = session }
+abbrev pub scene : Around → Session → Scene
+scene around session = record { around = around; session = session }
 
 -- any calls were made
 pub record LaterScene (before now : Scene) : Type 0 where
-  pub outside : Later before.outside now.outside
+  pub around : LaterAround before.around now.around
   pub session : LaterSession before.session now.session
 
 -- all that is said: that the server is ready, and what each line gets said
@@ -43,9 +44,9 @@ pub record TalksOver (before now : Scene) (asked : List Line) (told : List (List
     : Type 0 where
   pub later : LaterScene before now
   pub talks : (whole : List ReleaseData) → BeginsWhole now.session whole
-      → (t : Talk) × StandsAt before.outside.store now.outside.store now.session t
-      × Talks IsInstall (InstallsFolder before.outside.store.files) whole
-      (talk_begun (history_of before.session.installer.list)) asked told t
+      → (t : Talk) × StandsAt now.around.growth now.session t
+      × Talks whole
+      (talk_begun (history_of before.session.installer.list) before.around.growth) asked told t
 
 -- the first of the lines in the bytes that were read
 abbrev pub ReadsLines : SourceView → SourceView → List ℕ → List Line → List Line → Type 0
@@ -54,7 +55,7 @@ ReadsLines before now read asked ignored =
 
 -- why a talk ended: the last line asked for it; the input ended, or a read of it failed, after all
 -- its lines, none of which asked for the end; or a write failed
-abbrev pub EndsBy : Outside → Outside → List Line → List Line → TalkEnd → Type 0
+abbrev pub EndsBy : Around → Around → List Line → List Line → TalkEnd → Type 0
 EndsBy before now asked ignored end.Quit =
     (first : List Line) × (asked ≡ first ++ line.Quit ∷ [])
 EndsBy before now asked ignored end.InputEnded =
@@ -89,11 +90,11 @@ pub record Talked (before now : Scene) (ended : TalkEnd) : Type 0 where
   pub asked : List Line
   pub ignored : List Line
   pub told : List (List ℕ)
-  pub reads : ReadsLines before.outside.input now.outside.input read asked ignored
+  pub reads : ReadsLines before.around.input now.around.input read asked ignored
   pub over : TalksOver before now asked told
   pub written : WritesTalk ended (history_of before.session.installer.list)
-      before.outside.output now.outside.output told
-  pub ends : EndsBy before.outside now.outside asked ignored ended
+      before.around.output now.around.output told
+  pub ends : EndsBy before.around now.around asked ignored ended
 
 -- what a talk came to: an end, or memory ran out, and then nothing is said but what any calls do
 abbrev pub ComesTo : Scene → Scene → Option TalkEnd → Type 0
@@ -105,29 +106,25 @@ pub record IsAt (before now : Scene) (held : List ℕ) : Type 0 where
   pub read : List ℕ
   pub asked : List Line
   pub told : List (List ℕ)
-  pub consumed : Consumes before.outside.input.left now.outside.input.left read
+  pub consumed : Consumes before.around.input.left now.around.input.left read
   pub gives : GivesLines read asked held
   pub goes_on : AllByRecursion KeepsTalking asked
   pub over : TalksOver before now asked told
-  pub written : WritesAll before.outside.output now.outside.output
+  pub written : WritesAll before.around.output now.around.output
       (talk_text (history_of before.session.installer.list) told) written.Whole
 
 -- An operator's lines were answered, while the history of the run grew from its opening: the lines
 -- stand in the bytes that were read, in order and up to an end, and what they got said was written.
--- The store failed at least so often since the server was ready as lines were told.
-pub record AnswersOperator (does : Line → Type 0)
-    (handles : Talk → Line → List ℕ → Talk → Type 0) (opening whole : List ReleaseData)
-    (before now : Outside) (ended : TalkEnd) : Type 0 where
+pub record AnswersOperator (opening whole : List ReleaseData) (before now : Around)
+    (ended : TalkEnd) : Type 0 where
   pub read : List ℕ
   pub asked : List Line
   pub ignored : List Line
   pub told : List (List ℕ)
   pub last : Talk
   pub reads : ReadsLines before.input now.input read asked ignored
-  pub talks : Talks does handles whole (talk_begun opening) asked told last
+  pub talks : Talks whole (talk_begun opening before.growth) asked told last
   pub published : last.published ≡ whole
-  pub ready : StoreView
-  pub since : LaterStore before.store ready
-  pub unread : RoseBy last.unread ready.faults now.store.faults
+  pub growth : last.growth ≡ now.growth
   pub written : WritesTalk ended opening before.output now.output told
   pub ends : EndsBy before now asked ignored ended

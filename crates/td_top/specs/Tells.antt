@@ -7,6 +7,9 @@ use Rattle.release_check.specs.declared.check_fault.CheckFault.TheVariants as fa
 use Rattle.installer.specs.FaultText.{fault_text as install_text}
 use Rattle.installer.specs.declared.install_fault.InstallFault.{InstallFault}
 use Rattle.installer.specs.declared.install_fault.InstallFault.TheVariants as install
+use Rattle.mirror.specs.FaultText.{fault_text as sync_text}
+use Rattle.mirror.specs.declared.sync_fault.SyncFault.{SyncFault}
+use Rattle.mirror.specs.declared.sync_fault.SyncFault.TheVariants as sync
 use Rattle.zone_meaning.specs.Faults.{zone_fault}
 use Rattle.zone_meaning.specs.FaultText.{fault_text as zone_text}
 use Rattle.zone_meaning.specs.State.{zone_state}
@@ -51,9 +54,13 @@ ServesLast H i j old new end =
     ((how : End) × (end ≡ end_status how) × ServesLater H i j old new how)
     ⊎ ((end ≡ status.NoMemory) × ((j ≡ i) × (new ≡ old)))
 
+-- a refusal may end a run with this status
+abbrev pub CanRefuse : Status → Type 0
+CanRefuse called = (called ≡ status.Refused) ⊎ (called ≡ status.NotSynced)
+
 -- a text that may end a run with this status
 abbrev pub CanPrint : Status → Type 0
-CanPrint called = (called ≡ status.Done) ⊎ ((called ≡ status.Usage) ⊎ (called ≡ status.Refused))
+CanPrint called = (called ≡ status.Done) ⊎ ((called ≡ status.Usage) ⊎ CanRefuse called)
 
 -- the output is left alone
 abbrev pub IsLeft : SinkView → SinkView → Status → Status → Type 0
@@ -72,6 +79,11 @@ abbrev pub RefusesInstall : InstallFault → SinkView → SinkView → Status �
 RefusesInstall install.NoMemory old new end = IsLeft old new end status.NoMemory
 RefusesInstall (install.Check fault.ReadFault) old new end = IsLeft old new end status.NotRead
 RefusesInstall f old new end = TellsRefused (install_text f) old new end
+
+-- a first sync that ended by a fault ends a run
+abbrev pub RefusesSync : SyncFault → SinkView → SinkView → Status → Type 0
+RefusesSync sync.NoMemory old new end = IsLeft old new end status.NoMemory
+RefusesSync f old new end = Tells status.NotSynced (refused_line (sync_text f)) old new end
 
 -- the state of a zone file ends a run, or the file's fault does
 abbrev pub ShowsBy : List ℕ → ℤ → Option ZoneFault → SinkView → SinkView → Status → Type 0

@@ -7,13 +7,11 @@ use Rattle.td_base.specs.DoorViews.{DoorView}
 use Rattle.td_base.specs.declared.report.Role.{Role}
 use Rattle.catalogue.specs.Releases.{ReleaseData}
 use Rattle.catalogue.specs.declared.holding.Catalogue.{Catalogue}
-use Rattle.console.specs.Lines.{IsInstall}
 use Rattle.connection.specs.DoorWorks.{WorkView}
 use Rattle.connection.specs.declared.door_work.DoorDone.{DoorDone}
 use Rattle.logbook.specs.Pages.{Book}
-use Rattle.td_top.specs.Outside.{LeavesStreams, Outside}
 use Rattle.td_top.specs.Server.{ServesDoors, status_for}
-use Rattle.td_top.specs.Talk.{InstallsFolder}
+use Rattle.td_top.specs.Setting.{Around}
 use Rattle.td_top.specs.Talking.{AnswersOperator}
 use Rattle.td_top.specs.declared.status.Status.{Status}
 use Rattle.td_top.specs.declared.status.Status.TheVariants as status
@@ -34,13 +32,12 @@ HasWorks pair works =
 
 -- what came of serving doors beside a talk, after an opening
 pub data WorksEnd (server : Role) (opening : List ReleaseData) (given : List DoorView)
-    (before after : Outside) (refusals refusals' : ℕ) : List DoorView → Status → Type 0 where
+    (before after : Around) (refusals refusals' : ℕ) : List DoorView → Status → Type 0 where
   served : (history : List ReleaseData) (doors : List DoorView) (ended : TalkEnd) (worn : Bool)
-      → AnswersOperator IsInstall (InstallsFolder before.store.files) opening history before after
-      ended
+      → AnswersOperator opening history before after ended
       → ServesDoors server history given doors worn
       → WorksEnd server opening given before after refusals refusals' doors (status_for ended worn)
-  not_started : LeavesStreams before after → Rose refusals refusals'
+  not_started : after ≡ before → Rose refusals refusals'
       → WorksEnd server opening given before after refusals refusals' [] status.NotStarted
   out_of_memory : WorksEnd server opening given before after refusals refusals' [] status.NoMemory
 

@@ -5,8 +5,8 @@ ghost use Rattle.installer.specs.Installing.{Installs};
 ghost use Rattle.zone_meaning.specs.ZoneHistories.{HasZoneHistory};
 ghost use Rattle.td_top.specs.Tells.{ChecksFolders};
 ghost use Rattle.td_top.specs.Outside.{outside};
-ghost use Rattle.td_top.specs.CheckingSteps.{ChecksNext, AddsRelease, HasLine, Stands, TellsRelease};
-ghost use Rattle.td_top.specs.CheckingSteps.{grown};
+ghost use Rattle.td_top.specs.CheckingSteps.{ChecksNext, AddsRelease, HasLine, Stands};
+ghost use Rattle.td_top.specs.CheckingSteps.{TellsRelease, grown};
 ghost use Rattle.td_top.specs.Tells.{EndsLater};
 
 use crate::refusing::refuse_install;

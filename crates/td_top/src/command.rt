@@ -5,8 +5,8 @@ ghost use Rattle.td_base.specs.Names.{is_path_word};
 ghost use Rattle.td_civil.specs.Bounds.{HasMeaning};
 ghost use Rattle.td_top.specs.Grammar.{command_of, over_folders, are_folders, at_of};
 ghost use Rattle.td_top.specs.Grammar.{answer, check, if_meant, meant_moment};
-ghost use Rattle.td_top.specs.Grammar.{is_address, is_address_byte, most_workers, serve_of};
-ghost use Rattle.td_top.specs.Grammar.{workers_in};
+ghost use Rattle.td_top.specs.Grammar.{is_address, is_address_byte, mirror_of, most_workers};
+ghost use Rattle.td_top.specs.Grammar.{serve_of, workers_in};
 ghost use Rattle.td_top.specs.Command.{plain_command, IsMeantCommand};
 
 use td_base::{Bytes, is_path_word, read_decimal};
@@ -43,6 +43,12 @@ pub enum Command<'a> {
         workers: u32,
         folders: &'a [Bytes],
     },
+    /// Follow the server at an address, and serve another address by so many workers.
+    Mirror {
+        address: &'a [u8],
+        workers: u32,
+        upstream: &'a [u8],
+    },
 }
 
 /// The command that the words spell, if they are of the grammar.
@@ -69,6 +75,8 @@ fn read_named<'a>(name: &[u8], words: &'a [Bytes]) -> Option<Command<'a>>
         read_at(words)
     } else if name == b"serve".as_slice() {
         read_serve(words)
+    } else if name == b"mirror".as_slice() {
+        read_mirror(words)
     } else {
         None
     }
@@ -167,6 +175,37 @@ fn serve_at<'a>(address: &'a [u8], workers: &[u8], folders: &'a [Bytes]) -> Opti
         address,
         workers,
         folders,
+    })
+}
+
+/// `mirror ADDRESS WORKERS UPSTREAM`
+fn read_mirror(words: &[Bytes]) -> Option<Command<'_>>
+    ensures spelled { option_map plain_command result ≡ mirror_of words.now }
+    ensures meant { IfSome result IsMeantCommand }
+{
+    match words {
+        [address, workers, upstream] => {
+            mirror_at(address.as_slice(), workers.as_slice(), upstream.as_slice())
+        }
+        _ => None,
+    }
+}
+
+/// The command that serves an address of a mirror, if the words may name two addresses and some
+/// workers.
+fn mirror_at<'a>(address: &'a [u8], workers: &[u8], upstream: &'a [u8]) -> Option<Command<'a>>
+    ensures spelled { option_map plain_command result
+        ≡ mirror_of (address.now ∷ workers.now ∷ upstream.now ∷ []) }
+    ensures meant { IfSome result IsMeantCommand }
+{
+    if !is_address(address) || !is_address(upstream) {
+        return None;
+    }
+    let workers = read_workers(workers)?;
+    Some(Command::Mirror {
+        address,
+        workers,
+        upstream,
     })
 }
 

@@ -28,8 +28,14 @@ mod operator;
 mod replies;
 mod talking;
 
+// What a history grows by: folders, or a mirror of another server.
+mod folders;
+mod following;
+mod growth;
+
 // The doors of an address, with that talk beside them.
 mod console_beside;
+mod mirroring;
 mod server;
 mod works;
 

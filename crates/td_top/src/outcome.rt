@@ -1,45 +1,78 @@
-ghost use Rattle.std.specs.Prelude.{◌≡◌, []};
+ghost use Rattle.std.specs.Prelude.{◌≡◌, [], None};
 ghost use Rattle.td_top.specs.Running.{number_of};
 
 use crate::status::Status;
 use std::alloc::Global;
 
-/// How a run ended: the status with which the process ends, and the doors that were served, in the
-/// order in which the network gave them. There are none where no door was served to its end.
+/// How a run ended: the status with which the process ends; the doors that were served, in the
+/// order in which the network gave them, none where no door was served to its end; and the server
+/// that was followed, as it was left, where the network gave one.
 #[derive(Debug, Drop)]
-pub struct Outcome<D> {
+pub struct Outcome<D, U> {
     pub status: u8,
     pub doors: Vec<D>,
+    pub up: Option<U>,
 }
 
 /// The same, with the status by its name.
 #[derive(Debug, Drop)]
-pub struct Ending<D> {
+pub struct Ending<D, U> {
+    pub status: Status,
+    pub doors: Vec<D>,
+    pub up: Option<U>,
+}
+
+/// How serving doors ended.
+#[derive(Debug, Drop)]
+pub struct Served<D> {
     pub status: Status,
     pub doors: Vec<D>,
 }
 
-impl<D> Ending<D> {
+impl<D> Served<D> {
     /// An end without doors.
-    pub fn closed(alloc: Global, status: Status) -> Ending<D>
+    pub fn closed(alloc: Global, status: Status) -> Served<D>
         ensures status { result.status ≡ status }
         ensures doors { result.doors.items ≡ [] }
     {
-        Ending {
+        Served {
             status,
             doors: Vec::new(alloc),
         }
     }
 
+    /// As the end of a run that followed this server, or none.
+    pub fn after<U>(self, up: Option<U>) -> Ending<D, U>
+        ensures status { result.status ≡ self.status }
+        ensures doors { result.doors ≡ self.doors }
+        ensures up { result.up ≡ up }
+    {
+        let Served { status, doors } = self;
+        Ending { status, doors, up }
+    }
+}
+
+impl<D, U> Ending<D, U> {
+    /// An end without doors, of a run that followed no server.
+    pub fn closed(alloc: Global, status: Status) -> Ending<D, U>
+        ensures status { result.status ≡ status }
+        ensures doors { result.doors.items ≡ [] }
+        ensures up { result.up ≡ None }
+    {
+        Served::closed(alloc, status).after(None)
+    }
+
     /// What the caller of the run is given.
-    pub fn outcome(self) -> Outcome<D>
+    pub fn outcome(self) -> Outcome<D, U>
         ensures status { result.status ≡ number_of self.status }
         ensures doors { result.doors ≡ self.doors }
+        ensures up { result.up ≡ self.up }
     {
-        let Ending { status, doors } = self;
+        let Ending { status, doors, up } = self;
         Outcome {
             status: status.number(),
             doors,
+            up,
         }
     }
 }

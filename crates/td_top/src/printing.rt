@@ -1,7 +1,7 @@
 ghost use Rattle.std.specs.Prelude.{◌≡◌, IfOk, IfSome};
 ghost use Rattle.td_top.specs.Printing.{Printed};
 ghost use Rattle.td_top.specs.Printing.{refused_line};
-ghost use Rattle.td_top.specs.Tells.{CanPrint, TellsRefused};
+ghost use Rattle.td_top.specs.Tells.{CanPrint, CanRefuse, Tells};
 
 use crate::status::Status;
 use std::alloc::Global;
@@ -21,23 +21,30 @@ pub fn print<K: Sink>(output: &mut K, status: Status, text: &[u8]) -> Status
     }
 }
 
-/// Refuses something for the reason that a text gives.
-pub fn refuse<K: Sink>(alloc: Global, why: &Bytes, output: &mut K) -> Status
-    ensures { TellsRefused why.now (K.seen output.old) (K.seen output.new) result }
+/// Refuses something, with this status, for the reason that a text gives.
+pub fn refuse<K: Sink>(alloc: Global, status: Status, why: &Bytes, output: &mut K) -> Status
+    requires { CanRefuse status }
+    ensures { Tells status (refused_line why.now) (K.seen output.old) (K.seen output.new) result }
 {
     match refused_line(alloc, why) {
-        Ok(line) => print(output, Status::Refused, line.as_slice()),
+        Ok(line) => print(output, status, line.as_slice()),
         Err(NoMemory) => Status::NoMemory,
     }
 }
 
-/// Refuses something for a reason that can be shown.
-pub fn refuse_shown<D: Display, K: Sink>(alloc: Global, why: &D, output: &mut K) -> Status
+/// Refuses something, with this status, for a reason that can be shown.
+pub fn refuse_shown<D: Display, K: Sink>(
+    alloc: Global,
+    status: Status,
+    why: &D,
+    output: &mut K,
+) -> Status
+    requires { CanRefuse status }
     ensures { IfSome (D.output why.now) (λ text.
-        TellsRefused text (K.seen output.old) (K.seen output.new) result) }
+        Tells status (refused_line text) (K.seen output.old) (K.seen output.new) result) }
 {
     match shown(alloc, why) {
-        Ok(why) => refuse(alloc, &why, output),
+        Ok(why) => refuse(alloc, status, &why, output),
         Err(NoMemory) => Status::NoMemory,
     }
 }
@@ -53,7 +60,7 @@ fn refused_line(alloc: Global, why: &Bytes) -> Result<Bytes, NoMemory>
 }
 
 /// A value as it is shown.
-fn shown<D: Display>(alloc: Global, value: &D) -> Result<Bytes, NoMemory>
+pub fn shown<D: Display>(alloc: Global, value: &D) -> Result<Bytes, NoMemory>
     ensures { IfOk result (λ text. IfSome (D.output value.now) (λ shown. text ≡ shown)) }
 {
     let text = value.to_string(alloc)?;

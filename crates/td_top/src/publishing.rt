@@ -1,10 +1,11 @@
 ghost use Rattle.std.specs.Prelude.{◌≡◌, OnOk, OnErr};
 ghost use Rattle.catalogue.specs.Holdings.{history_of};
-ghost use Rattle.installer.specs.Installing.{GrowsBy, Installs};
+ghost use Rattle.installer.specs.Installing.{GrowsBy, Installs, InstallsStated};
 ghost use Rattle.td_top.specs.Sessions.{LaterSession};
 
 use crate::session::Session;
 use installer::InstallFault;
+use release_manifest::Manifest;
 use std::alloc::Global;
 use std::sync::Wait;
 use td_base::Store;
@@ -26,6 +27,26 @@ impl Session {
         ensures later { LaterSession self.old self.new }
     {
         let receipt = self.installer.install(rt, alloc, dir, store)?;
+        self.desk.learn(receipt);
+        Ok(())
+    }
+
+    /// Installs the release of a manifest and its files, and lets the desk learn of it.
+    pub fn install_stated<R: Wait, S: Store>(
+        &mut self,
+        rt: &R,
+        alloc: Global,
+        manifest: &Manifest,
+        store: &mut S,
+    ) -> Result<(), InstallFault>
+        ensures found { InstallsStated (S.seen store.old) (S.seen store.new) manifest.now
+            (history_of self.old.installer.list) (λ u. history_of self.new.installer.list) result }
+        ensures grown { OnOk result (GrowsBy (history_of self.old.installer.list)
+            (history_of self.new.installer.list)) }
+        ensures refused { OnErr result (self.new.installer.list ≡ self.old.installer.list) }
+        ensures later { LaterSession self.old self.new }
+    {
+        let receipt = self.installer.install_manifest(rt, alloc, manifest, store)?;
         self.desk.learn(receipt);
         Ok(())
     }

@@ -25,7 +25,7 @@ fn tell_fault<K: Sink>(alloc: Global, fault: &InstallFault, output: &mut K) -> S
     ensures { TellsRefused (fault_text fault.now) (K.seen output.old) (K.seen output.new) result }
 {
     match fault_text(alloc, fault) {
-        Ok(text) => refuse(alloc, &text, output),
+        Ok(text) => refuse(alloc, Status::Refused, &text, output),
         Err(NoMemory) => Status::NoMemory,
     }
 }

@@ -2,11 +2,14 @@ ghost use Rattle.std.specs.Prelude.{◌≡◌, IfOk};
 ghost use Rattle.console.specs.Replies.{IsBoundedReply, reply_text};
 ghost use Rattle.console.specs.declared.said.Said.TheVariants as said;
 ghost use Rattle.installer.specs.FaultText.{fault_text};
-ghost use Rattle.td_top.specs.Replies.{SaysRefused, reply_bytes};
+ghost use Rattle.mirror.specs.FaultText.{fault_text as sync_text};
+ghost use Rattle.td_top.specs.Replies.{SaysFaulted, SaysRefused, reply_bytes};
 
+use crate::printing::shown;
 use crate::refusing::fault_text;
 use console::{Said, ShortLine, reply, short};
 use installer::InstallFault;
+use mirror::SyncFault;
 use std::alloc::Global;
 use td_base::{Bytes, NoMemory};
 
@@ -40,6 +43,20 @@ impl Reply {
         }
     }
 
+    /// The reply for a sync that ended by a fault. It takes memory; where there is none, that is
+    /// said.
+    pub fn sync_refusal(alloc: Global, fault: &SyncFault) -> Reply
+        ensures { SaysFaulted fault.now (reply_bytes result) }
+    {
+        match fault {
+            SyncFault::NoMemory => Reply::brief(&Said::NoMemory),
+            _ => match faulted(alloc, fault) {
+                Ok(line) => Reply::Long(line),
+                Err(NoMemory) => Reply::brief(&Said::NoMemory),
+            },
+        }
+    }
+
     /// The bytes to write.
     pub fn as_slice(&self) -> &[u8]
         ensures { result.now ≡ reply_bytes self.now }
@@ -55,8 +72,21 @@ impl Reply {
 fn refused(alloc: Global, fault: &InstallFault) -> Result<Bytes, NoMemory>
     ensures { IfOk result (λ line. line ≡ reply_text (said.Refused (fault_text fault.now))) }
 {
-    let text = fault_text(alloc, fault)?;
+    refused_line(alloc, fault_text(alloc, fault)?)
+}
+
+/// The line that says why a sync ended.
+fn faulted(alloc: Global, fault: &SyncFault) -> Result<Bytes, NoMemory>
+    ensures { IfOk result (λ line. line ≡ reply_text (said.Refused (sync_text fault.now))) }
+{
+    refused_line(alloc, shown(alloc, fault)?)
+}
+
+/// The line that refuses for this reason.
+fn refused_line(alloc: Global, why: Bytes) -> Result<Bytes, NoMemory>
+    ensures { IfOk result (λ line. line ≡ reply_text (said.Refused why)) }
+{
     let mut line = Bytes::new(alloc);
-    reply(&mut line, &Said::Refused(text))?;
+    reply(&mut line, &Said::Refused(why))?;
     Ok(line)
 }

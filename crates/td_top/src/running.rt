@@ -1,4 +1,5 @@
 ghost use Rattle.std.specs.Prelude.{◌≡◌, map};
+ghost use Rattle.std.specs.Option.{option_map};
 ghost use Rattle.td_base.specs.Views.{SourceView, StoreView};
 ghost use Rattle.td_top.specs.Grammar.{command_of};
 ghost use Rattle.td_top.specs.Outside.{outside, LaterWorld, world};
@@ -11,6 +12,7 @@ ghost use Rattle.td_top.specs.declared.status.Status.{Status};
 use crate::answering::answer;
 use crate::checking::check_folders;
 use crate::command::{Command, read_words};
+use crate::mirroring::mirror_server;
 use crate::outcome::{Ending, Outcome};
 use crate::printing::print;
 use crate::server::serve_doors;
@@ -26,13 +28,14 @@ const USAGE: &[u8] = b"usage: tzdistd answer|serve|mirror|check|at|load\n";
 
 /// Does what the words of a command line ask for, over a store of files, an input and an output,
 /// and, to serve connections, over a network and a spawner of workers. It gives the status with
-/// which the process ends, and the doors that were served.
+/// which the process ends, the doors that were served, and the server that was followed.
 ///
 /// `answer DIR..` installs the releases of folders, in their order, and serves the input and the
 /// output, as one connection, over the last. `serve ADDRESS WORKERS DIR..` serves the connections
-/// of an address by so many workers, while an operator talks over the input and the output. `check
-/// DIR..` checks folders as one history, with a line for each. `at FILE MOMENT` prints the state of
-/// a zone file at a moment.
+/// of an address by so many workers, while an operator talks over the input and the output. `mirror
+/// ADDRESS WORKERS UPSTREAM` does so over what another server has, with which it syncs first and
+/// whenever the operator asks for that. `check DIR..` checks folders as one history, with a line
+/// for each. `at FILE MOMENT` prints the state of a zone file at a moment.
 pub fn run<R, S, C, K, N, W>(
     rt: &R,
     alloc: Global,
@@ -42,7 +45,7 @@ pub fn run<R, S, C, K, N, W>(
     output: &mut K,
     net: &mut N,
     spawner: &mut W,
-) -> Outcome<N::Door>
+) -> Outcome<N::Door, N::Up>
 where
     R: Threads + Wait + Copy + Send + 'static,
     S: Store,
@@ -60,7 +63,7 @@ where
         (N.seen net.old) (W.faults spawner.old))
         (world (outside (S.seen store.new) (C.seen input.new) (K.seen output.new))
         (N.seen net.new) (W.faults spawner.new))
-        (map N.Door.seen result.doors.items) status }
+        (map N.Door.seen result.doors.items) (option_map N.Up.seen result.up) status }
 
     // No file changed, the input was only read, the output only written, and no count of faults
     // fell.
@@ -83,7 +86,7 @@ fn do_words<R, S, C, K, N, W>(
     output: &mut K,
     net: &mut N,
     spawner: &mut W,
-) -> Ending<N::Door>
+) -> Ending<N::Door, N::Up>
 where
     R: Threads + Wait + Copy + Send + 'static,
     S: Store,
@@ -98,7 +101,7 @@ where
         (N.seen net.old) (W.faults spawner.old))
         (world (outside (S.seen store.new) (C.seen input.new) (K.seen output.new))
         (N.seen net.new) (W.faults spawner.new))
-        (map N.Door.seen result.doors.items) result.status }
+        (map N.Door.seen result.doors.items) (option_map N.Up.seen result.up) result.status }
 {
     match read_words(words) {
         Some(
@@ -109,6 +112,15 @@ where
             },
         ) => serve_doors(
             rt, alloc, address, workers, folders, store, input, output, net, spawner,
+        ),
+        Some(
+            Command::Mirror {
+                address,
+                workers,
+                upstream,
+            },
+        ) => mirror_server(
+            rt, alloc, address, workers, upstream, input, output, net, spawner,
         ),
         Some(Command::Answer { folders }) => {
             Ending::closed(alloc, answer(rt, alloc, folders, store, input, output))

@@ -1,16 +1,20 @@
 ghost use Rattle.std.specs.Prelude.{◌≡◌, ◌<◌, ◌≤◌, [], length, map, All, IfOk, OnOk, Some, false};
+ghost use Rattle.std.specs.Option.{option_map};
 ghost use mathlib.Core.List.{IsPrefix};
 ghost use Rattle.catalogue.specs.Holdings.{history_of};
+ghost use Rattle.json_forms.specs.PlainTexts.{IsPlainRole};
 ghost use Rattle.td_top.specs.Grammar.{serve};
 ghost use Rattle.td_top.specs.Opening.{HasDesks};
 ghost use Rattle.td_top.specs.Outside.{outside, world};
+ghost use Rattle.td_top.specs.Setting.{around, setting};
 ghost use Rattle.td_top.specs.Running.{RunEndsLater};
 ghost use Rattle.td_top.specs.ServerSteps.{Concludes, ServesBeside, ServesOpened};
 ghost use Rattle.td_top.specs.Works.{HasWorks, Learnt};
 
 use crate::console_beside::Console;
+use crate::growth::Growth;
 use crate::opening::{Opened, open_all};
-use crate::outcome::Ending;
+use crate::outcome::{Ending, Served};
 use crate::refusing::refuse_install;
 use crate::session::Session;
 use crate::status::{Status, status_for};
@@ -39,7 +43,7 @@ pub fn serve_doors<R, S, C, K, N, W>(
     output: &mut K,
     net: &mut N,
     spawner: &mut W,
-) -> Ending<N::Door>
+) -> Ending<N::Door, N::Up>
 where
     R: Threads + Wait + Copy + Send + 'static,
     S: Store,
@@ -56,52 +60,66 @@ where
         (N.seen net.old) (W.faults spawner.old))
         (world (outside (S.seen store.new) (C.seen input.new) (K.seen output.new))
         (N.seen net.new) (W.faults spawner.new))
-        (map N.Door.seen result.doors.items) result.status }
+        (map N.Door.seen result.doors.items) (option_map N.Up.seen result.up) result.status }
 {
     match open_all(rt, alloc, folders, store, workers) {
         Ok(opened) => serve_opened(
-            rt, alloc, address, workers, opened, store, input, output, net, spawner,
-        ),
+            rt,
+            alloc,
+            &Role::Primary,
+            address,
+            workers,
+            opened,
+            store,
+            input,
+            output,
+            net,
+            spawner,
+        )
+        .after(None),
         Err(fault) => Ending::closed(alloc, refuse_install(alloc, &fault, output)),
     }
 }
 
-/// Serves the doors of an address, once the folders have given their releases.
-fn serve_opened<R, S, C, K, N, W>(
+/// Serves the doors of an address as such a server, once a first history is published, while an
+/// operator talks over the input and the output.
+pub fn serve_opened<R, G, C, K, N, W>(
     rt: &R,
     alloc: Global,
+    role: &Role,
     address: &[u8],
     workers: u32,
     opened: Opened,
-    store: &mut S,
+    growth: &mut G,
     input: &mut C,
     output: &mut K,
     net: &mut N,
     spawner: &mut W,
-) -> Ending<N::Door>
+) -> Served<N::Door>
 where
     R: Threads + Wait + Copy + Send + 'static,
-    S: Store,
+    G: Growth,
     C: Source,
     K: Sink,
     N: Network,
     N::Door: Send + Drop + 'static,
     <N::Door as Door>::Conn: Send + 'static,
     W: Spawner,
-    requires { HasDesks workers opened }
-    ensures { ServesOpened address.now workers (history_of opened.session.installer.list)
-        (world (outside (S.seen store.old) (C.seen input.old) (K.seen output.old))
+    requires role { IsPlainRole role.now }
+    requires desks { HasDesks workers opened }
+    ensures { ServesOpened role.now address.now workers (history_of opened.session.installer.list)
+        (setting (around (G.seen growth.old) (C.seen input.old) (K.seen output.old))
         (N.seen net.old) (W.faults spawner.old))
-        (world (outside (S.seen store.new) (C.seen input.new) (K.seen output.new))
+        (setting (around (G.seen growth.new) (C.seen input.new) (K.seen output.new))
         (N.seen net.new) (W.faults spawner.new))
         (map N.Door.seen result.doors.items) result.status }
 {
     let Opened { session, desks } = opened;
     match net.doors(alloc, address, workers) {
-        Made::Given(doors) => match works_for(alloc, &Role::Primary, doors, desks) {
+        Made::Given(doors) => match works_for(alloc, role, doors, desks) {
             Ok((works, flag)) => {
                 serve_beside(
-                    rt, alloc, session, works, flag, store, input, output, spawner,
+                    rt, alloc, session, works, flag, growth, input, output, spawner,
                 )
             }
             Err(NoMemory) => give_up(rt, alloc, session, Status::NoMemory),
@@ -112,20 +130,20 @@ where
 }
 
 /// Serves doors by their works, beside a talk with the operator.
-fn serve_beside<R, S, C, K, D, W>(
+fn serve_beside<R, G, C, K, D, W>(
     rt: &R,
     alloc: Global,
     session: Session,
     works: Vec<DoorWork<D>>,
     flag: StopFlag,
-    store: &mut S,
+    growth: &mut G,
     input: &mut C,
     output: &mut K,
     spawner: &mut W,
-) -> Ending<D>
+) -> Served<D>
 where
     R: Threads + Wait + Copy + Send + 'static,
-    S: Store,
+    G: Growth,
     C: Source,
     K: Sink,
     D: Door + Send + Drop + 'static,
@@ -134,8 +152,8 @@ where
     requires flag { flag.raised ≡ false }
     requires works { HasWorks session.installer.pair works.items }
     ensures { ServesBeside session works.items
-        (outside (S.seen store.old) (C.seen input.old) (K.seen output.old))
-        (outside (S.seen store.new) (C.seen input.new) (K.seen output.new))
+        (around (G.seen growth.old) (C.seen input.old) (K.seen output.old))
+        (around (G.seen growth.new) (C.seen input.new) (K.seen output.new))
         (W.faults spawner.old) (W.faults spawner.new)
         (map D.seen result.doors.items) result.status }
 {
@@ -147,7 +165,7 @@ where
         &mut session,
         &mut flag,
         &mut end,
-        store,
+        growth,
         input,
         output,
     );
@@ -170,7 +188,7 @@ fn conclude<R: Wait, D: Door + Drop>(
     session: Session,
     end: TalkEnd,
     dones: Vec<DoorDone<D>>,
-) -> Ending<D>
+) -> Served<D>
     requires { All (λ d. d.desk.pair ≡ session.installer.pair) dones.items }
     ensures { Concludes session dones.items end result.doors.items result.status }
 {
@@ -179,16 +197,16 @@ fn conclude<R: Wait, D: Door + Drop>(
         mut desk,
     } = session;
     let Ok(mut ended) = installer.end(rt) else {
-        return Ending::closed(alloc, Status::NoMemory);
+        return Served::closed(alloc, Status::NoMemory);
     };
     let learnt = learn_last(alloc, &mut ended, &mut desk, dones);
     ended.close(rt);
     match learnt {
-        Ok((doors, worn)) => Ending {
+        Ok((doors, worn)) => Served {
             status: status_for(end, worn),
             doors,
         },
-        Err(NoMemory) => Ending::closed(alloc, Status::NoMemory),
+        Err(NoMemory) => Served::closed(alloc, Status::NoMemory),
     }
 }
 
@@ -209,10 +227,10 @@ fn learn_last<D: Door + Drop>(
 }
 
 /// Gives up what is published, and ends without doors.
-fn give_up<R: Wait, D>(rt: &R, alloc: Global, session: Session, status: Status) -> Ending<D>
+fn give_up<R: Wait, D>(rt: &R, alloc: Global, session: Session, status: Status) -> Served<D>
     ensures status { result.status ≡ status }
     ensures doors { result.doors.items ≡ [] }
 {
     session.close(rt);
-    Ending::closed(alloc, status)
+    Served::closed(alloc, status)
 }

@@ -49,7 +49,7 @@ fn show<K: Sink>(alloc: Global, bytes: Bytes, moment: Moment, output: &mut K) ->
     match line_at(alloc, bytes, moment) {
         Ok(line) => print(output, Status::Done, line.as_slice()),
         Err(ZoneFault::NoMemory) => Status::NoMemory,
-        Err(fault) => refuse_shown(alloc, &fault, output),
+        Err(fault) => refuse_shown(alloc, Status::Refused, &fault, output),
     }
 }
 
@@ -92,7 +92,7 @@ fn refuse_absent<K: Sink>(alloc: Global, file: &[u8], output: &mut K) -> Status
         (K.seen output.old) (K.seen output.new) result }
 {
     match absent_text(alloc, file) {
-        Ok(text) => refuse(alloc, &text, output),
+        Ok(text) => refuse(alloc, Status::Refused, &text, output),
         Err(NoMemory) => Status::NoMemory,
     }
 }

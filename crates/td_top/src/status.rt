@@ -13,7 +13,8 @@ pub enum Status {
     Done,
     /// 1: the words are not of the grammar.
     Usage,
-    /// 2: a folder or a zone file was refused, or a zone file is absent.
+    /// 2: a folder, a zone file or the first release of a mirror was refused, or a zone file is
+    /// absent.
     Refused,
     /// 3: a read of the store or of the input failed.
     NotRead,
@@ -23,6 +24,8 @@ pub enum Status {
     NotStarted,
     /// 6: the network failed, or a door of it sixteen times.
     NoNetwork,
+    /// 7: the first sync of a mirror ended by a fault.
+    NotSynced,
     /// 70: memory ran out.
     NoMemory,
 }
@@ -40,6 +43,7 @@ impl Status {
             Status::NotWritten => 4,
             Status::NotStarted => 5,
             Status::NoNetwork => 6,
+            Status::NotSynced => 7,
             Status::NoMemory => 70,
         }
     }

@@ -1,16 +1,18 @@
 ghost use Rattle.std.specs.Prelude.{◌≡◌};
 ghost use Rattle.td_base.specs.Views.{LaterSource};
-ghost use Rattle.td_top.specs.Outside.{outside};
+ghost use Rattle.td_top.specs.Setting.{around};
 ghost use Rattle.td_top.specs.Talk.{is_quit};
 ghost use Rattle.td_top.specs.Talking.{ComesTo, scene};
-ghost use Rattle.td_top.specs.TalkingSteps.{FeedsTalk, SaysBye, SaysText, TakesLine, TalksOn, Turns};
+ghost use Rattle.td_top.specs.TalkingSteps.{FeedsTalk, SaysBye, SaysText, TakesLine, TalksOn};
+ghost use Rattle.td_top.specs.TalkingSteps.{Turns};
 
+use crate::growth::Growth;
 use crate::operator::{answer_line, newest};
 use crate::session::Session;
 use console::{Line, Lines, Said, short};
 use std::alloc::Global;
 use std::sync::Wait;
-use td_base::{NoMemory, ReadStep, Sink, Source, Store, Written, write_whole};
+use td_base::{NoMemory, ReadStep, Sink, Source, Written, write_whole};
 
 /// How many bytes are asked of the input at a time.
 const PIECE: usize = 4_096;
@@ -52,43 +54,43 @@ pub enum Taken {
 
 /// Tells that the server is ready, and answers line by line until the operator quits, the input
 /// ends, or a read or a write fails. It gives no end where memory ran out.
-pub fn talk<R: Wait, S: Store, C: Source, K: Sink>(
+pub fn talk<R: Wait, G: Growth, C: Source, K: Sink>(
     rt: &R,
     alloc: Global,
     session: &mut Session,
-    store: &mut S,
+    growth: &mut G,
     input: &mut C,
     output: &mut K,
 ) -> Option<TalkEnd>
     ensures { ComesTo
-        (scene (outside (S.seen store.old) (C.seen input.old) (K.seen output.old)) session.old)
-        (scene (outside (S.seen store.new) (C.seen input.new) (K.seen output.new)) session.new)
+        (scene (around (G.seen growth.old) (C.seen input.old) (K.seen output.old)) session.old)
+        (scene (around (G.seen growth.new) (C.seen input.new) (K.seen output.new)) session.new)
         result }
 {
     let ready = short(&Said::Ready(newest(&session.installer)));
     match write_whole(output, ready.as_slice()) {
-        Written::Whole => answer_lines(rt, alloc, session, store, input, output),
+        Written::Whole => answer_lines(rt, alloc, session, growth, input, output),
         Written::Cut => Some(TalkEnd::NotWritten),
     }
 }
 
 /// Answers line by line up to the end of the talk.
-fn answer_lines<R: Wait, S: Store, C: Source, K: Sink>(
+fn answer_lines<R: Wait, G: Growth, C: Source, K: Sink>(
     rt: &R,
     alloc: Global,
     session: &mut Session,
-    store: &mut S,
+    growth: &mut G,
     input: &mut C,
     output: &mut K,
 ) -> Option<TalkEnd>
     ensures { TalksOn
-        (scene (outside (S.seen store.old) (C.seen input.old) (K.seen output.old)) session.old)
-        (scene (outside (S.seen store.new) (C.seen input.new) (K.seen output.new)) session.new)
+        (scene (around (G.seen growth.old) (C.seen input.old) (K.seen output.old)) session.old)
+        (scene (around (G.seen growth.new) (C.seen input.new) (K.seen output.new)) session.new)
         result }
 {
     let mut lines = Lines::new(alloc);
     for _ in rt.forever() {
-        match take_turn(rt, alloc, session, store, input, output, &mut lines) {
+        match take_turn(rt, alloc, session, growth, input, output, &mut lines) {
             Turn::On => {}
             Turn::End(end) => return Some(end),
             Turn::NoMemory => return None,
@@ -98,18 +100,18 @@ fn answer_lines<R: Wait, S: Store, C: Source, K: Sink>(
 }
 
 /// Answers the next line, or reads a piece of the input where none is held whole.
-fn take_turn<R: Wait, S: Store, C: Source, K: Sink>(
+fn take_turn<R: Wait, G: Growth, C: Source, K: Sink>(
     rt: &R,
     alloc: Global,
     session: &mut Session,
-    store: &mut S,
+    growth: &mut G,
     input: &mut C,
     output: &mut K,
     lines: &mut Lines,
 ) -> Turn
     ensures { Turns
-        (scene (outside (S.seen store.old) (C.seen input.old) (K.seen output.old)) session.old)
-        (scene (outside (S.seen store.new) (C.seen input.new) (K.seen output.new)) session.new)
+        (scene (around (G.seen growth.old) (C.seen input.old) (K.seen output.old)) session.old)
+        (scene (around (G.seen growth.new) (C.seen input.new) (K.seen output.new)) session.new)
         lines.old lines.new result }
 {
     match take_line(lines) {
@@ -119,7 +121,7 @@ fn take_turn<R: Wait, S: Store, C: Source, K: Sink>(
             if is_quit(&line) {
                 return Turn::End(quit(output));
             }
-            let reply = answer_line(rt, alloc, session, store, &line);
+            let reply = answer_line(rt, alloc, session, growth, &line);
             say(output, reply.as_slice())
         }
     }

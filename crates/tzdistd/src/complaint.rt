@@ -17,6 +17,9 @@ const NOT_STARTED: u8 = 5;
 /// The status where the network failed.
 const NO_NETWORK: u8 = 6;
 
+/// The status where the first sync of a mirror ended by a fault.
+const NOT_SYNCED: u8 = 7;
+
 /// The last failure of each object, if it failed.
 #[derive(Clone, Copy, Debug)]
 pub struct Failures<'a> {
@@ -27,6 +30,8 @@ pub struct Failures<'a> {
     pub network: Option<&'a ListenFailure>,
     /// Of accepting at one of the doors.
     pub door: Option<ErrorKind>,
+    /// Of an exchange with the server that is followed.
+    pub upstream: Option<ErrorKind>,
 }
 
 impl Failures<'_> {
@@ -37,6 +42,7 @@ impl Failures<'_> {
         output: None,
         network: None,
         door: None,
+        upstream: None,
     };
 }
 
@@ -51,6 +57,7 @@ pub enum Complaint<'a> {
     Worker,
     Address(&'a str, ErrorKind),
     Door(ErrorKind),
+    Upstream(ErrorKind),
 }
 
 impl<'a> Complaint<'a> {
@@ -64,6 +71,7 @@ impl<'a> Complaint<'a> {
             WRITE_FAULT => Some(Complaint::Output(failures.output?)),
             NOT_STARTED => Some(Complaint::Worker),
             NO_NETWORK => of_network(failures),
+            NOT_SYNCED => Some(Complaint::Upstream(failures.upstream?)),
             _ => None,
         }
     }
@@ -112,6 +120,7 @@ impl Display for Complaint<'_> {
             Complaint::Worker => f.write_str("cannot start a worker"),
             Complaint::Address(address, kind) => write!(f, "cannot listen at {address}: {kind}"),
             Complaint::Door(kind) => write!(f, "cannot accept connections: {kind}"),
+            Complaint::Upstream(kind) => write!(f, "cannot ask the other server: {kind}"),
         }
     }
 }

@@ -11,7 +11,9 @@ mod complaint;
 mod words;
 
 use complaint::{Failures, complain};
-use devices::{RealDoor, RealNetwork, RealSink, RealSource, RealSpawner, RealStore, drain};
+use devices::{
+    RealDoor, RealNetwork, RealSink, RealSource, RealSpawner, RealStore, RealUpstream, drain,
+};
 use std::io::ErrorKind;
 use std::process::ExitCode;
 
@@ -48,6 +50,7 @@ fn main(rt: HostRuntime) -> ExitCode {
         output: output.failure(),
         network: net.failure(),
         door: door_failure(&outcome.doors),
+        upstream: upstream_failure(&outcome.up),
     };
     complain(&rt, outcome.status, failures);
     exit_code(outcome.status)
@@ -61,6 +64,14 @@ fn door_failure(doors: &[RealDoor<HostRuntime>]) -> Option<ErrorKind> {
         }
     }
     None
+}
+
+/// Why an exchange with the server that was followed failed last, if one did.
+fn upstream_failure(up: &Option<RealUpstream<'_, HostRuntime>>) -> Option<ErrorKind> {
+    match up {
+        Some(upstream) => upstream.failure(),
+        None => None,
+    }
 }
 
 /// The program ends with the status itself.

@@ -70,6 +70,7 @@ fn says_what_failed(rt: HostRuntime) -> Result<(), Fail> {
         output: Some(ErrorKind::BrokenPipe),
         network: Some(&taken),
         door: Some(ErrorKind::ConnectionAborted),
+        upstream: Some(ErrorKind::ConnectionRefused),
     };
     let unread = Failures { input: None, ..all };
     let closed = Failures { door: None, ..all };
@@ -91,6 +92,8 @@ fn says_what_failed(rt: HostRuntime) -> Result<(), Fail> {
         (6, closed, "cannot listen at 127.0.0.1:80: address in use"),
         (6, unnamed, "cannot listen at an address: permission denied"),
         (6, Failures::NONE, ""),
+        (7, all, "cannot ask the other server: connection refused"),
+        (7, Failures::NONE, ""),
         (70, Failures::NONE, "out of memory"),
     ];
     for (status, failures, want) in rows {

@@ -6,8 +6,8 @@ use Rattle.td_top.proofs.LineLemmas.{is_shown}
 use Rattle.td_top.proofs.operator.show.Goals as goal
 
 pub returns-in-Ok-clause-answers : goal.returns-in-Ok-clause-answers
-returns-in-Ok-clause-answers c = λ store.
-    is_shown store c.args.session.now _ _
+returns-in-Ok-clause-answers c = λ growth.
+    is_shown growth c.args.session.now _ _
     (record {
       installer = refl;
       desk = c.enter.ensures.pair;

@@ -13,7 +13,7 @@ serve_doors-requires-clause-workers g c =
     let meant = rw c.in-Some-Serve.field-0-is at c.in-Some-Serve.ensures.meant in search (meant.0, rules)
 
 pub returns-in-Some-Serve : goal.returns-in-Some-Serve
-returns-in-Some-Serve g c = runs_as _ _ _ _ _ _ (rw c.in-Some-Serve.field-0-is at c.in-Some-Serve.ensures.spelled) c.serve_doors.ensures
+returns-in-Some-Serve g c = runs_as _ _ _ _ _ _ _ (rw c.in-Some-Serve.field-0-is at c.in-Some-Serve.ensures.spelled) c.serve_doors.ensures
 
 pub answer-requires : goal.answer-requires
 answer-requires g c = rw c.in-Some-Answer.field-0-is at c.in-Some-Answer.ensures.meant
@@ -21,22 +21,38 @@ answer-requires g c = rw c.in-Some-Answer.field-0-is at c.in-Some-Answer.ensures
 pub returns-in-Some-Answer : goal.returns-in-Some-Answer
 returns-in-Some-Answer g c =
     let is = sym (rw c.in-Some-Answer.field-0-is at c.in-Some-Answer.ensures.spelled) in
-    ran_alone g.N.Door.Door.seen _ _ _ _ _ _ _ _ _ c.closed.ensures.status c.closed.ensures.doors c.answer.ensures (λ ends alone. answered _ _ is ends alone)
+    ran_alone g.N.Door.Door.seen g.N.Up.Upstream.seen _ _ _ _ _ _ _ _ _ _ c.closed.ensures.status c.closed.ensures.doors c.closed.ensures.up
+    c.answer.ensures (λ ends alone. answered _ _ is ends alone)
 
 pub returns-in-Some-Check : goal.returns-in-Some-Check
 returns-in-Some-Check g c =
     let is = sym (rw c.in-Some-Check.field-0-is at c.in-Some-Check.ensures.spelled) in
-    ran_alone g.N.Door.Door.seen _ _ _ _ _ _ _ _ _ c.closed-in-Some-Check.ensures.status c.closed-in-Some-Check.ensures.doors
+    ran_alone g.N.Door.Door.seen g.N.Up.Upstream.seen _ _ _ _ _ _ _ _ _ _ c.closed-in-Some-Check.ensures.status c.closed-in-Some-Check.ensures.doors
+    c.closed-in-Some-Check.ensures.up
     (c.check_folders.ensures (g.C.Source.seen c.args.input.now)) (λ ends alone. checked _ _ is ends.0 ends.1 alone)
 
 pub returns-in-Some-At : goal.returns-in-Some-At
 returns-in-Some-At g c =
     let is = sym (rw c.in-Some-At.field-0-is at c.in-Some-At.ensures.spelled) in
-    ran_alone g.N.Door.Door.seen _ _ _ _ _ _ _ _ _ c.closed-in-Some-At.ensures.status c.closed-in-Some-At.ensures.doors
+    ran_alone g.N.Door.Door.seen g.N.Up.Upstream.seen _ _ _ _ _ _ _ _ _ _ c.closed-in-Some-At.ensures.status c.closed-in-Some-At.ensures.doors
+    c.closed-in-Some-At.ensures.up
     (c.state_at.ensures (g.C.Source.seen c.args.input.now)) (λ ends alone. shown _ _ _ is ends alone)
 
 pub returns-in-None : goal.returns-in-None
 returns-in-None g c =
-    ran_alone g.N.Door.Door.seen ShowsUsage _ _ _ _ _ _ _ _ c.closed-in-None.ensures.status c.closed-in-None.ensures.doors
+    ran_alone g.N.Door.Door.seen g.N.Up.Upstream.seen ShowsUsage _ _ _ _ _ _ _ _ _ c.closed-in-None.ensures.status c.closed-in-None.ensures.doors
+    c.closed-in-None.ensures.up
     (c.usage.ensures (g.S.Store.seen c.args.store.now) (g.C.Source.seen c.args.input.now))
     (λ ends alone. no_command _ (sym c.in-None.ensures.spelled) ends.0 ends.1 alone)
+
+pub mirror_server-requires-clause-workers : goal.mirror_server-requires-clause-workers
+mirror_server-requires-clause-workers g c =
+    let meant = rw c.in-Some-Mirror.field-0-is at c.in-Some-Mirror.ensures.meant in search (meant.0, rules)
+
+pub mirror_server-requires-clause-plain : goal.mirror_server-requires-clause-plain
+mirror_server-requires-clause-plain g c =
+    let meant = rw c.in-Some-Mirror.field-0-is at c.in-Some-Mirror.ensures.meant in search (meant.1, rules)
+
+pub returns-in-Some-Mirror : goal.returns-in-Some-Mirror
+returns-in-Some-Mirror g c =
+    runs_as _ _ _ _ _ _ _ (rw c.in-Some-Mirror.field-0-is at c.in-Some-Mirror.ensures.spelled) (c.mirror_server.ensures (g.S.Store.seen c.args.store.now))

@@ -2,7 +2,7 @@ use Rattle.std.proofs.Common.{rules, ap, sym, subst, ◌≡◌, Some}
 use Rattle.td_top.specs.ServerSteps.{Concludes}
 use Rattle.td_top.specs.Works.{HasWorks}
 use Rattle.td_top.specs.ConsoleBeside.{console_view, lent}
-use Rattle.td_top.specs.Outside.{outside}
+use Rattle.td_top.specs.Setting.{around}
 use Rattle.td_top.proofs.BesideLemmas.{beside_done, beside_left, beside_starved, beside_unstarted, pairs_now}
 use Rattle.td_top.proofs.ServerLemmas.{came}
 use Rattle.td_top.proofs.server.serve_beside.Goals as goal
@@ -26,7 +26,7 @@ returns-in-Some g c =
     search (c.conclude.ensures, ap (λ l. l.session) names, rules) in
     let done = beside_done g.D.Door.seen _ _ _ c.in-Some.end c.args.works.items c.in-All.dones.items _ _ _ _ told.1 told.2 ended
     c.run_beside-pool.ensures.later c.in-All.ensures.results concluded in
-    search (done, ap (λ l. l.store) names, ap (λ l. l.input) names, ap (λ l. l.output) names, ap (λ l. l.session) names, rules)
+    search (done, ap (λ l. l.growth) names, ap (λ l. l.input) names, ap (λ l. l.output) names, ap (λ l. l.session) names, rules)
 
 pub returns-in-All : goal.returns-in-All
 returns-in-All g c =
@@ -34,19 +34,19 @@ returns-in-All g c =
     let names = (came _ _ _ told.1 told.2).1 in
     let starved = beside_starved g.D.Door.seen _ _ _ c.args.works.items _ _ _ _ told.1 told.2 c.run_beside-pool.ensures.later c.give_up.ensures.status
     c.give_up.ensures.doors in
-    search (starved, ap (λ l. l.store) names, ap (λ l. l.input) names, ap (λ l. l.output) names, ap (λ l. l.session) names, rules)
+    search (starved, ap (λ l. l.growth) names, ap (λ l. l.input) names, ap (λ l. l.output) names, ap (λ l. l.session) names, rules)
 
 pub returns-in-NotStarted : goal.returns-in-NotStarted
 returns-in-NotStarted g c =
     let halted = c.in-NotStarted.ensures.beside in
     let unstarted = beside_unstarted g.D.Door.seen _ _ c.args.works.items _ _ _ _ halted c.in-NotStarted.ensures.refusal c.run_beside-pool.ensures.later
     c.give_up-in-NotStarted.ensures.status c.give_up-in-NotStarted.ensures.doors in
-    search (unstarted, ap (λ v. v.lent.store) halted, ap (λ v. v.lent.input) halted, ap (λ v. v.lent.output) halted, ap (λ v. v.lent.session) halted, rules)
+    search (unstarted, ap (λ v. v.lent.growth) halted, ap (λ v. v.lent.input) halted, ap (λ v. v.lent.output) halted, ap (λ v. v.lent.session) halted, rules)
 
 pub returns : goal.returns
 returns g c =
-    let same = ap (λ b. console_view (outside (g.S.Store.seen b.store.now) (g.C.Source.seen b.input.now) (g.K.Sink.seen b.output.now)) b.session.now b.end.now
-    (lent b.session.ghost_name b.end.ghost_name b.store.ghost_name b.input.ghost_name b.output.ghost_name)) c.in-NoMemory.ensures.beside in
+    let same = ap (λ b. console_view (around (g.G.Growth.seen b.growth.now) (g.C.Source.seen b.input.now) (g.K.Sink.seen b.output.now)) b.session.now b.end.now
+    (lent b.session.ghost_name b.end.ghost_name b.growth.ghost_name b.input.ghost_name b.output.ghost_name)) c.in-NoMemory.ensures.beside in
     let left = beside_left g.D.Door.seen _ _ c.args.works.items _ _ _ _ same c.run_beside-pool.ensures.later c.give_up-in-NoMemory.ensures.status
     c.give_up-in-NoMemory.ensures.doors in
-    search (left, ap (λ v. v.lent.store) same, ap (λ v. v.lent.input) same, ap (λ v. v.lent.output) same, ap (λ v. v.lent.session) same, rules)
+    search (left, ap (λ v. v.lent.growth) same, ap (λ v. v.lent.input) same, ap (λ v. v.lent.output) same, ap (λ v. v.lent.session) same, rules)

@@ -1,7 +1,6 @@
 use Rattle.std.proofs.Common.{refl, sym, ◌∙◌}
 use Rattle.console.specs.declared.line.Line.TheVariants as line
-use Rattle.td_base.proofs.lemmas.LaterLemmas.{store_refl}
-use Rattle.td_top.proofs.LineLemmas.{is_quit, said_as, session_refl, starved}
+use Rattle.td_top.proofs.LineLemmas.{is_quit, said_as, starved}
 use Rattle.td_top.proofs.TalkLemmas.{line_turn, quit_turn, read_turn}
 use Rattle.td_top.proofs.TurnLemmas.{is_last}
 use Rattle.td_top.proofs.talking.take_turn.Goals as goal
@@ -16,7 +15,7 @@ returns-in-Unread g c = λ start at.
     line_turn start _ _ _ _ _ _ _ c.args.lines.now c.take_line.new.lines (line.Install c.in-Unread.ensures.0) c.as_slice.result.now c.say.result refl at
     c.in-Unread.ensures.1
     (said_as _ _ _ _ _ _ _ (c.as_slice.ensures.value ∙ c.short.ensures)
-    (starved _ _ c.args.session.now c.args.session.now (line.Install c.in-Unread.ensures.0) (store_refl _) (session_refl c.args.session.now) refl tt))
+    (starved _ c.args.session.now (line.Install c.in-Unread.ensures.0) tt))
     c.say.ensures
 
 pub returns-then-is_quit : goal.returns-then-is_quit

@@ -18,7 +18,8 @@ loop-door-preserved g c =
       works = λ pair h.
           works_more g.D.Door.seen c.args.role.now pair before.yielded before.works.items c.push.new.self.items c.in-Some.door c.new-in-loop-door.result
           (before.invariant.works pair h) c.in_ok-push.ensures.items
-          (is_work c.args.role.now pair (g.D.Door.seen c.in-Some.door) c.new-in-loop-door.result _ before.left.items c.pop.new.self.items c.pop.result c.unwrap-desk.result
+          (is_work c.args.role.now pair (g.D.Door.seen c.in-Some.door) c.new-in-loop-door.result _ before.left.items c.pop.new.self.items
+          c.pop.result c.unwrap-desk.result
           c.new-in-loop-door.ensures c.in_ok-own.ensures refl refl c.pop.ensures.items c.unwrap-desk.ensures (before.invariant.desks pair h));
       down = ap (λ f. f.raised) c.share.ensures.flag ∙ before.invariant.down;
       signs = signs_more before.flag c.share.new.self c.in_ok-sign.sign before.works.items c.push.new.self.items c.new-in-loop-door.result

@@ -2,8 +2,8 @@ use Rattle.std.proofs.Common.{ap, refl, ◌∙◌}
 use Rattle.console.specs.Replies.{reply_text}
 use Rattle.console.specs.declared.said.Said.TheVariants as said
 use Rattle.catalogue.specs.Holdings.{history_of}
-use Rattle.td_top.proofs.LineLemmas.{is_installed, is_refused}
-use Rattle.td_top.proofs.operator.install.Goals as goal
+use Rattle.td_top.proofs.FolderLines.{is_installed, is_refused}
+use Rattle.td_top.proofs.folders.install.Goals as goal
 
 pub returns-in-Ok : goal.returns-in-Ok
 returns-in-Ok g c =
@@ -15,4 +15,4 @@ pub returns-in-Err : goal.returns-in-Err
 returns-in-Err g c =
     is_refused _ _ c.args.session.now c.install.new.self c.args.dir.now c.in-Err.fault _
     (λ u. history_of c.install.new.self.installer.list) (rw c.as_slice.ensures at c.in-Err.ensures.found) c.in-Err.ensures.refused
-    c.install.ensures.later c.refusal.ensures
+    c.install.ensures.later c.install.new.self.knows c.refusal.ensures

@@ -1,0 +1,32 @@
+-- What publishing what a mirror states comes to.
+use Rattle.std.specs.Prelude.{◌≡◌, ◌≢◌, ℕ, List, [], ◌∷◌, Option, Result, Ok, Err}
+use Rattle.catalogue.specs.Holdings.{history_of}
+use Rattle.catalogue.specs.Releases.{ReleaseData}
+use Rattle.catalogue.specs.declared.holding.Catalogue.{Catalogue}
+use Rattle.installer.specs.declared.install_fault.InstallFault.{InstallFault}
+use Rattle.installer.specs.declared.install_fault.InstallFault.TheVariants as install
+use Rattle.release_check.specs.declared.check_fault.CheckFault.TheVariants as fault
+use Rattle.sync_core.specs.Mirrors.{MirrorState}
+use Rattle.td_top.specs.Folders.{IsOfFiles}
+use Rattle.td_top.specs.Following.{SaysStated, StatesAfter}
+use Rattle.td_top.specs.Sessions.{LaterSession}
+use Rattle.td_top.specs.Talk.{with_joined}
+use Rattle.td_top.specs.declared.session.Session.{Session}
+
+-- what the mirror states was published as a first release, or it was not
+abbrev pub OpensStated : MirrorState → Result (List (Catalogue (List ℕ))) InstallFault → Type 0
+OpensStated s (Ok list) =
+    (r : ReleaseData) × StatesAfter [] s (Ok r) × (history_of list ≡ r ∷ [])
+OpensStated s (Err e) =
+    (e ≢ install.Check fault.ReadFault) × (e ≢ install.Check fault.NoMemory)
+    × (IsOfFiles e → StatesAfter [] s (Err e))
+
+-- what the mirror states was published after what was published before, or it was not, and this is
+-- what is said of it
+pub record PublishesStated (s : MirrorState) (before now : Session) (answer : List ℕ)
+    : Type 0 where
+  pub later : LaterSession before now
+  pub joined : Option ReleaseData
+  pub says : SaysStated s (history_of before.installer.list) answer joined
+  pub grown : history_of now.installer.list
+      ≡ with_joined (history_of before.installer.list) joined

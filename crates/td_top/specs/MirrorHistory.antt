@@ -1,0 +1,62 @@
+-- What the syncs of a mirror publish, and what the primary had of it.
+use Rattle.std.specs.Prelude.{◌≡◌, ◌≤◌, ℕ, List, [], ◌∷◌, ◌++◌, length, take, Ok}
+use Rattle.td_base.specs.Upstreams.{TellsMore, UpstreamView}
+use Rattle.td_base.specs.declared.upstream.Exchange.{Exchange}
+use Rattle.catalogue.specs.Histories.{IsHistory}
+use Rattle.catalogue.specs.Lookups.{zones_of}
+use Rattle.catalogue.specs.Releases.{ReleaseData}
+use Rattle.http_client.specs.Requests.{request_text}
+use Rattle.mirror.specs.Understanding.{Means}
+use Rattle.mirror_world.specs.Answers.{IsAnsweredOver}
+use Rattle.mirror_world.specs.Logs.{Logs}
+use Rattle.mirror_world.specs.Runs.{LastIsOver, Share, SyncsInTurn, all_taken}
+use Rattle.sync_core.specs.Mirrors.{MirrorState, empty_mirror}
+use Rattle.sync_world.specs.Hearing.{action_service}
+use Rattle.sync_world.specs.Primaries.{IsPlace}
+use Rattle.sync_world.specs.Worlds.{SyncWorld, WorldStep, world_begun}
+use Rattle.td_top.specs.Following.{StatesAfter}
+use Rattle.zone_meaning.specs.Sound.{IsSound}
+
+-- all exchanges of some syncs, in order
+abbrev pub all_exchanges : List Share → List Exchange
+all_exchanges [] = []
+all_exchanges (share ∷ shares) = (share.taken ++ share.untaken) ++ all_exchanges shares
+
+-- some syncs, and the releases that were published by them, by what is so of the releases before,
+-- of the sync that published one, and of that
+pub data Publish (is_so : List ReleaseData → Share → ReleaseData → Type 0)
+    : List Share → List ReleaseData → Type 0 where
+  none : Publish is_so [] []
+  kept : (shares : List Share) (share : Share) (H : List ReleaseData)
+      → Publish is_so shares H → Publish is_so (shares ++ share ∷ []) H
+  joined : (shares : List Share) (share : Share) (H : List ReleaseData) (r : ReleaseData)
+      → Publish is_so shares H → is_so H share r
+      → Publish is_so (shares ++ share ∷ []) (H ++ r ∷ [])
+
+-- a release is what the mirror stated at the end of a sync that ended well
+abbrev pub IsStated : List ReleaseData → Share → ReleaseData → Type 0
+IsStated H share r = (share.result ≡ Ok tt) × StatesAfter H share.after (Ok r)
+
+-- it has the zones, and so their tags, of the release of a primary with this history that answered
+-- the last exchange of the sync, which is the empty list of changes
+pub record IsOfPrimary (G : List ReleaseData) (share : Share) (r : ReleaseData) : Type 0 where
+  pub place : ℕ
+  pub is_place : IsPlace G place
+  pub answered : LastIsOver IsAnsweredOver action_service (take place G) share.taken
+  pub contents : r.contents ≡ zones_of (take place G)
+
+-- The told exchanges are those of some syncs, one after another from a mirror that holds nothing,
+-- which published the history. In every world of a primary whose answers are those that were taken,
+-- each release of the history is one of the primary's.
+pub record FollowsPrimary (host : List ℕ) (first last : UpstreamView)
+    (history : List ReleaseData) : Type 0 where
+  pub shares : List Share
+  pub after : MirrorState
+  pub syncs : SyncsInTurn (request_text host) Means empty_mirror shares after
+  pub told : TellsMore first.told last.told (all_exchanges shares)
+  pub publish : Publish IsStated shares history
+  pub holds : (H : List ReleaseData) (steps : List WorldStep) (v : SyncWorld)
+      → IsHistory IsSound H → 1 ≤ length H
+      → Logs IsSound IsAnsweredOver Means (world_begun H) steps (all_taken shares) v
+      → Publish (λ before share r. IsStated before share r × IsOfPrimary v.history share r) shares
+      history

@@ -1,0 +1,193 @@
+ghost use Rattle.std.specs.Prelude.{◌≡◌, ◌≤◌, [], map, Some, IfOk};
+ghost use Rattle.std.specs.Option.{option_map};
+ghost use Rattle.td_base.specs.Names.{IsPlain};
+ghost use Rattle.td_base.specs.Views.{StoreView};
+ghost use Rattle.td_top.specs.Grammar.{mirror};
+ghost use Rattle.td_top.specs.Growth.{following};
+ghost use Rattle.td_top.specs.MirroringSteps.{FollowsOn, ServesStated};
+ghost use Rattle.td_top.specs.Outside.{outside, world};
+ghost use Rattle.td_top.specs.Running.{RunEndsLater};
+ghost use Rattle.td_top.specs.Setting.{around, setting};
+ghost use Rattle.td_top.specs.Tells.{RefusesSync};
+
+use crate::following::{Follow, open_stated};
+use crate::outcome::{Ending, Served};
+use crate::printing::refuse_shown;
+use crate::refusing::refuse_install;
+use crate::server::serve_opened;
+use crate::status::Status;
+use mirror::{SyncFault, sync};
+use mirror_world::{histories_go_on, mirrors_hold_in_turn, releases_are_held};
+use std::alloc::Global;
+use std::sync::Wait;
+use std::thread::Threads;
+use sync_core::Mirror;
+use td_base::{Bytes, Door, Made, Network, NoMemory, Role, Sink, Source, Spawner, Upstream};
+
+/// Syncs with the server at an address, publishes what the mirror states, and serves the doors of
+/// another address, each by a worker of its own, while an operator talks over the input and the
+/// output and lets the mirror sync again. The server's requests name it as they were given it.
+pub fn mirror_server<R, C, K, N, W>(
+    rt: &R,
+    alloc: Global,
+    address: &[u8],
+    workers: u32,
+    upstream: &[u8],
+    input: &mut C,
+    output: &mut K,
+    net: &mut N,
+    spawner: &mut W,
+) -> Ending<N::Door, N::Up>
+where
+    R: Threads + Wait + Copy + Send + 'static,
+    C: Source,
+    K: Sink,
+    N: Network,
+    N::Door: Send + Drop + 'static,
+    <N::Door as Door>::Conn: Send + 'static,
+    W: Spawner,
+    requires workers { workers ≤ 64 }
+    requires plain { IsPlain upstream.now }
+    // The store, whatever it is, is left alone.
+    ensures { (store : StoreView) → RunEndsLater
+        (Some (mirror address.now workers upstream.now))
+        (world (outside store (C.seen input.old) (K.seen output.old))
+        (N.seen net.old) (W.faults spawner.old))
+        (world (outside store (C.seen input.new) (K.seen output.new))
+        (N.seen net.new) (W.faults spawner.new))
+        (map N.Door.seen result.doors.items) (option_map N.Up.seen result.up) result.status }
+{
+    mirrors_hold_in_turn();
+    histories_go_on();
+    releases_are_held();
+    match net.upstream(alloc, upstream) {
+        Made::Given(server) => {
+            let mut follow = Follow {
+                mirror: Mirror::empty(alloc),
+                host: upstream,
+                upstream: server,
+            };
+            let served = follow_on(
+                rt,
+                alloc,
+                address,
+                workers,
+                &mut follow,
+                input,
+                output,
+                net,
+                spawner,
+            );
+            let Follow {
+                mirror: _,
+                host: _,
+                upstream: server,
+            } = follow;
+            served.after(Some(server))
+        }
+        Made::Failed => Ending::closed(alloc, Status::NoNetwork),
+        Made::NoMemory => Ending::closed(alloc, Status::NoMemory),
+    }
+}
+
+/// Syncs for the first time, and serves what the mirror states.
+fn follow_on<R, U, C, K, N, W>(
+    rt: &R,
+    alloc: Global,
+    address: &[u8],
+    workers: u32,
+    follow: &mut Follow<'_, U>,
+    input: &mut C,
+    output: &mut K,
+    net: &mut N,
+    spawner: &mut W,
+) -> Served<N::Door>
+where
+    R: Threads + Wait + Copy + Send + 'static,
+    U: Upstream,
+    C: Source,
+    K: Sink,
+    N: Network,
+    N::Door: Send + Drop + 'static,
+    <N::Door as Door>::Conn: Send + 'static,
+    W: Spawner,
+    requires workers { workers ≤ 64 }
+    requires plain { IsPlain follow.old.host.now }
+    ensures { FollowsOn follow.old.host.now address.now workers follow.old.mirror
+        (U.seen follow.old.upstream)
+        (setting (around (following follow.old.host.now follow.old.mirror
+        (U.seen follow.old.upstream)) (C.seen input.old) (K.seen output.old))
+        (N.seen net.old) (W.faults spawner.old))
+        (setting (around (following follow.new.host.now follow.new.mirror
+        (U.seen follow.new.upstream)) (C.seen input.new) (K.seen output.new))
+        (N.seen net.new) (W.faults spawner.new))
+        (map N.Door.seen result.doors.items) result.status }
+{
+    match sync(alloc, &mut follow.mirror, follow.host, &mut follow.upstream) {
+        Ok(()) => serve_stated(
+            rt, alloc, address, workers, follow, input, output, net, spawner,
+        ),
+        Err(fault) => Served::closed(alloc, refuse_sync(alloc, &fault, output)),
+    }
+}
+
+/// Serves what a settled mirror states.
+fn serve_stated<R, U, C, K, N, W>(
+    rt: &R,
+    alloc: Global,
+    address: &[u8],
+    workers: u32,
+    follow: &mut Follow<'_, U>,
+    input: &mut C,
+    output: &mut K,
+    net: &mut N,
+    spawner: &mut W,
+) -> Served<N::Door>
+where
+    R: Threads + Wait + Copy + Send + 'static,
+    U: Upstream,
+    C: Source,
+    K: Sink,
+    N: Network,
+    N::Door: Send + Drop + 'static,
+    <N::Door as Door>::Conn: Send + 'static,
+    W: Spawner,
+    requires workers { workers ≤ 64 }
+    requires plain { IsPlain follow.old.host.now }
+    requires settled { follow.old.mirror.pending ≡ [] }
+    ensures { ServesStated follow.old.host.now address.now workers follow.old.mirror
+        (setting (around (following follow.old.host.now follow.old.mirror
+        (U.seen follow.old.upstream)) (C.seen input.old) (K.seen output.old))
+        (N.seen net.old) (W.faults spawner.old))
+        (setting (around (following follow.new.host.now follow.new.mirror
+        (U.seen follow.new.upstream)) (C.seen input.new) (K.seen output.new))
+        (N.seen net.new) (W.faults spawner.new))
+        (map N.Door.seen result.doors.items) result.status }
+{
+    let Ok(role) = secondary(alloc, follow.host) else {
+        return Served::closed(alloc, Status::NoMemory);
+    };
+    match open_stated(rt, alloc, &follow.mirror, workers) {
+        Ok(opened) => serve_opened(
+            rt, alloc, &role, address, workers, opened, follow, input, output, net, spawner,
+        ),
+        Err(fault) => Served::closed(alloc, refuse_install(alloc, &fault, output)),
+    }
+}
+
+/// A server that follows the one at this address.
+fn secondary(alloc: Global, address: &[u8]) -> Result<Role, NoMemory>
+    ensures { IfOk result (λ role. role ≡ Role.Secondary address.now) }
+{
+    Ok(Role::Secondary(Bytes::from_slice(alloc, address)?))
+}
+
+/// Ends a run for a first sync that ended by a fault.
+fn refuse_sync<K: Sink>(alloc: Global, fault: &SyncFault, output: &mut K) -> Status
+    ensures { RefusesSync fault.now (K.seen output.old) (K.seen output.new) result }
+{
+    match fault {
+        SyncFault::NoMemory => Status::NoMemory,
+        _ => refuse_shown(alloc, Status::NotSynced, fault, output),
+    }
+}
