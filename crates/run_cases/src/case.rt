@@ -1,4 +1,5 @@
 use crate::ending::Ending;
+use crate::exchanges::are_met;
 use crate::outside::{File, ROOM, Sizes, calls, piece_sizes, source_of};
 use crate::plan::NetworkPlan;
 use crate::stage::Stage;
@@ -71,6 +72,29 @@ impl Case {
             && ending.asked == wanted.asked
             && ending.begun == wanted.begun
             && ending.doors == wanted.doors
+            && ending.reached == wanted.reached
+            && self.meets_exchanges(trial, ending)
+    }
+
+    /// Whether the exchanges of a run are those that it is to make.
+    fn meets_exchanges(&self, trial: Trial, ending: &Ending) -> bool {
+        match (&self.ending.exchanges, &ending.exchanges) {
+            (Some(wanted), Some(told)) => {
+                are_met(wanted.as_slice(), told.as_slice(), self.wanted_end(trial))
+            }
+            (None, None) => true,
+            _ => false,
+        }
+    }
+
+    /// The place in the output of the last exchange of a run. A line that is read is answered, so
+    /// where not all of the input is read something is written after each exchange.
+    fn wanted_end(&self, trial: Trial) -> usize {
+        let end = self.wanted_output(trial).len();
+        match trial {
+            Trial::Plain | Trial::Cut(_) | Trial::Unwritten(_) => end,
+            Trial::Unread(_) | Trial::Ended(_) => end.saturating_sub(1),
+        }
     }
 
     /// The status of a run. Status 4 stands in the place of 0 where a write failed, and 3 where a

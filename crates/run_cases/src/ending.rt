@@ -1,9 +1,10 @@
+use crate::exchanges::Exchanged;
 use case_lines::{CaseFault, Texts, cut, number, numbers, written};
 use std::alloc::{AllocError, Global};
 use td_base::End;
 
 /// How a run ends.
-#[derive(Drop, PartialEq)]
+#[derive(Drop)]
 pub struct Ending {
     pub status: u8,
     pub output: Vec<u8>,
@@ -11,8 +12,12 @@ pub struct Ending {
     pub asked: Vec<Asked>,
     /// How often the spawner was to begin a work.
     pub begun: u64,
+    /// The addresses at which it was asked for an upstream.
+    pub reached: Vec<Vec<u8>>,
     /// The doors that were handed back.
     pub doors: Vec<DoorEnd>,
+    /// The exchanges of the upstream that was handed back.
+    pub exchanges: Option<Vec<Exchanged>>,
 }
 
 /// A call for so many doors at an address.
@@ -47,7 +52,9 @@ impl Ending {
             output: Vec::new(alloc),
             asked: Vec::new(alloc),
             begun: 0,
+            reached: Vec::new(alloc),
             doors: Vec::new(alloc),
+            exchanges: None,
         }
     }
 
@@ -79,6 +86,12 @@ impl Ending {
                 }
                 None => return Err(CaseFault::Strange),
             },
+            "reaches" => self.reached.push(texts.meaning(rest)?)?,
+            "up" => self.exchanges = Some(Vec::new(alloc)),
+            "exchange" => match &mut self.exchanges {
+                Some(all) => all.push(Exchanged::read(texts, rest, self.output.len())?)?,
+                None => return Err(CaseFault::Strange),
+            },
             _ => return Ok(false),
         }
         Ok(true)
@@ -100,7 +113,23 @@ impl Ending {
         for door in &self.doors {
             door.tell(alloc, &mut text)?;
         }
+        self.tell_upstream(alloc, &mut text)?;
         Ok(text)
+    }
+
+    fn tell_upstream(&self, alloc: Global, text: &mut String) -> Result<(), AllocError> {
+        for address in &self.reached {
+            let address = written(alloc, address.as_slice())?;
+            text.push_str(format!(in alloc; ", reaches {address}")?.as_str())?;
+        }
+        let Some(exchanges) = &self.exchanges else {
+            return Ok(());
+        };
+        text.push_str(", up")?;
+        for exchange in exchanges {
+            exchange.tell(alloc, text)?;
+        }
+        Ok(())
     }
 }
 

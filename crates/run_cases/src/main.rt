@@ -8,6 +8,7 @@ mod script;
 // A case, what its runs differ in, and how they are to end.
 mod case;
 mod ending;
+mod exchanges;
 mod trial;
 
 // The objects in memory over which it runs.

@@ -2,12 +2,14 @@
 ghost use Rattle.std.specs.Prelude.{◌≡◌, IfOk, []};
 ghost use Rattle.run_cases.specs.Doors.{IsNew, IsUnasked};
 ghost use Rattle.td_base.specs.MemoryDoors.{IsFresh};
+ghost use Rattle.td_base.specs.MemoryNetworks.{TellsNone};
+ghost use Rattle.td_base.specs.MemoryUpstreams.{faulty_upstream, memory_upstream};
 
-use crate::plan::{ConnPlan, DoorPlan, StepPlan};
+use crate::plan::{ConnPlan, DoorPlan, NetworkPlan, StepPlan, UpstreamPlan};
 use std::alloc::Global;
 use td_base::{
-    Bytes, FaultyConn, FaultyDoor, Items, MemoryConn, MemoryDoor, MemoryNetwork, MemorySink,
-    MemorySource, MemoryStore, MemoryUpstream, NoMemory,
+    Bytes, Faulty, FaultyConn, FaultyDoor, Items, MemoryConn, MemoryDoor, MemoryNetwork,
+    MemorySink, MemorySource, MemoryStore, MemoryUpstream, NoMemory,
 };
 
 /// A file of the store.
@@ -54,20 +56,40 @@ pub fn source_of(
     Ok(MemorySource::in_pieces(bytes, sizes))
 }
 
-/// A network of the doors.
+/// A door of which chosen calls fail.
+pub type CaseDoor = FaultyDoor<MemoryDoor>;
+
+/// Another server of which chosen exchanges fail.
+pub type CaseUpstream = Faulty<MemoryUpstream>;
+
+/// A network of doors and other servers.
 pub fn network_of(
     alloc: Global,
-    plans: &[DoorPlan],
+    plan: &NetworkPlan,
     sizes: Sizes,
-) -> Result<MemoryNetwork<FaultyDoor<MemoryDoor>, MemoryUpstream>, NoMemory> {
+) -> Result<MemoryNetwork<CaseDoor, CaseUpstream>, NoMemory> {
     let mut network = MemoryNetwork::new(alloc);
-    for plan in plans {
-        network.push(door_of(alloc, plan, sizes)?)?;
+    for door in plan.doors.as_slice() {
+        network.push(door_of(alloc, door, sizes)?)?;
+    }
+    for upstream in plan.upstreams.as_slice() {
+        network.push_upstream(upstream_of(alloc, upstream)?)?;
     }
     Ok(network)
 }
 
-fn door_of(alloc: Global, plan: &DoorPlan, sizes: Sizes) -> Result<FaultyDoor<MemoryDoor>, NoMemory>
+fn upstream_of(alloc: Global, plan: &UpstreamPlan) -> Result<CaseUpstream, NoMemory>
+    ensures { IfOk result (λ upstream. TellsNone
+        (faulty_upstream memory_upstream upstream)) }
+{
+    let mut upstream = MemoryUpstream::new(alloc);
+    for answer in plan.answers.as_slice() {
+        upstream.push(Bytes::from_slice(alloc, answer.as_slice())?)?;
+    }
+    Ok(Faulty::new(upstream, calls(alloc, &plan.failing)?))
+}
+
+fn door_of(alloc: Global, plan: &DoorPlan, sizes: Sizes) -> Result<CaseDoor, NoMemory>
     ensures { IfOk result IsNew }
 {
     let mut door = MemoryDoor::new(alloc, plan.steps.len())?;

@@ -5,7 +5,16 @@ use std::alloc::Global;
 #[derive(Drop)]
 pub struct NetworkPlan {
     pub doors: Vec<DoorPlan>,
-    /// The numbers of the calls that fail, from 1.
+    pub upstreams: Vec<UpstreamPlan>,
+    /// The numbers of the calls that fail, from 1, of both kinds counted together.
+    pub failing: Vec<u64>,
+}
+
+/// What another server answers, one answer an exchange.
+#[derive(Drop)]
+pub struct UpstreamPlan {
+    pub answers: Vec<Vec<u8>>,
+    /// The numbers of the exchanges that fail, from 1, without taking an answer.
     pub failing: Vec<u64>,
 }
 
@@ -35,10 +44,11 @@ pub struct ConnPlan {
 }
 
 impl NetworkPlan {
-    /// A network without doors, of which no call fails.
+    /// A network without doors and upstreams, of which no call fails.
     pub fn new(alloc: Global) -> NetworkPlan {
         NetworkPlan {
             doors: Vec::new(alloc),
+            upstreams: Vec::new(alloc),
             failing: Vec::new(alloc),
         }
     }
@@ -56,11 +66,30 @@ impl NetworkPlan {
                 steps: Vec::new(alloc),
                 failing: Vec::new(alloc),
             })?,
+            "upstream" => self.upstreams.push(UpstreamPlan {
+                answers: Vec::new(alloc),
+                failing: Vec::new(alloc),
+            })?,
+            "answer" | "fail-exchange" => match self.upstreams.last_mut() {
+                Some(upstream) => upstream.add(word, rest, text)?,
+                None => return Err(CaseFault::Strange),
+            },
             "fail-network" => self.failing.push(number(rest.as_bytes())?)?,
             _ => match self.doors.last_mut() {
                 Some(door) => door.add(alloc, word, rest, text)?,
                 None => return Err(CaseFault::Strange),
             },
+        }
+        Ok(())
+    }
+}
+
+impl UpstreamPlan {
+    fn add(&mut self, word: &str, rest: &str, text: Vec<u8>) -> Result<(), CaseFault> {
+        match word {
+            "answer" => self.answers.push(text)?,
+            "fail-exchange" => self.failing.push(number(rest.as_bytes())?)?,
+            _ => return Err(CaseFault::Strange),
         }
         Ok(())
     }

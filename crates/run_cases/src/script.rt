@@ -100,6 +100,9 @@ impl Script {
             "words" => push_words(self.alloc, case, rest)?,
             "input" => case.input.extend_from_slice(text.as_slice())?,
             "door"
+            | "upstream"
+            | "answer"
+            | "fail-exchange"
             | "fail-network"
             | "conn"
             | "idle"

@@ -1,22 +1,20 @@
 //! The objects in memory over which a case runs.
 use crate::case::Case;
 use crate::ending::{ConnEnd, DoorEnd, Ending};
-use crate::outside::{File, calls, network_of, store_of};
+use crate::exchanges::Exchanged;
+use crate::outside::{CaseDoor, CaseUpstream, File, calls, network_of, store_of};
 use crate::trial::Trial;
 use crate::watched::{WatchedNetwork, WatchedSpawner};
 use std::alloc::Global;
 use std::sync::Wait;
 use std::thread::Threads;
 use td_base::{
-    Bytes, Door, Faulty, FaultyDoor, MemoryDoor, MemoryNetwork, MemorySink, MemorySource,
-    MemorySpawner, MemoryStore, MemoryUpstream, Network, NoMemory, Sink, Source, Spawner, Store,
+    Bytes, Door, Faulty, MemoryDoor, MemoryNetwork, MemorySink, MemorySource, MemorySpawner,
+    MemoryStore, Network, NoMemory, Sink, Source, Spawner, Store,
 };
 use td_top::Outcome;
 
-/// What a network in memory gives connections through.
-type CaseDoor = FaultyDoor<MemoryDoor>;
-
-type CaseNetwork = WatchedNetwork<Faulty<MemoryNetwork<CaseDoor, MemoryUpstream>>>;
+type CaseNetwork = WatchedNetwork<Faulty<MemoryNetwork<CaseDoor, CaseUpstream>>>;
 
 /// The objects of a run.
 #[derive(Drop)]
@@ -56,7 +54,7 @@ impl Stage {
         rt: &R,
         alloc: Global,
         words: &[Bytes],
-    ) -> Outcome<CaseDoor> {
+    ) -> Outcome<CaseDoor, CaseUpstream> {
         top_call(
             rt,
             alloc,
@@ -70,15 +68,23 @@ impl Stage {
     }
 
     /// How the run ended.
-    pub fn end(self, alloc: Global, outcome: Outcome<CaseDoor>) -> Result<Ending, NoMemory> {
+    pub fn end(
+        self,
+        alloc: Global,
+        outcome: Outcome<CaseDoor, CaseUpstream>,
+    ) -> Result<Ending, NoMemory> {
         let output = Vec::from_slice(alloc, self.output.inner().taken())?;
         let doors = ends_of(alloc, outcome.doors.as_slice())?;
+        let exchanges = exchanges_of(alloc, &outcome.up)?;
+        let calls = self.network.into_calls();
         Ok(Ending {
             status: outcome.status,
             output,
             begun: self.spawner.begun(),
-            asked: self.network.into_asked(),
+            asked: calls.asked,
+            reached: calls.reached,
             doors,
+            exchanges,
         })
     }
 }
@@ -90,7 +96,7 @@ fn store(alloc: Global, case: &Case, files: &[File]) -> Result<Faulty<MemoryStor
 
 fn network(alloc: Global, case: &Case) -> Result<CaseNetwork, NoMemory> {
     let failing = calls(alloc, &case.network.failing)?;
-    let network = network_of(alloc, case.network.doors.as_slice(), case.sizes)?;
+    let network = network_of(alloc, &case.network, case.sizes)?;
     Ok(WatchedNetwork::new(alloc, Faulty::new(network, failing)))
 }
 
@@ -123,6 +129,29 @@ fn door_end(alloc: Global, door: &MemoryDoor) -> Result<DoorEnd, NoMemory> {
     })
 }
 
+/// The exchanges that the upstream tells, where one was handed back.
+fn exchanges_of(
+    alloc: Global,
+    up: &Option<CaseUpstream>,
+) -> Result<Option<Vec<Exchanged>>, NoMemory> {
+    match up {
+        Some(upstream) => Ok(Some(told_by(alloc, upstream)?)),
+        None => Ok(None),
+    }
+}
+
+fn told_by(alloc: Global, upstream: &CaseUpstream) -> Result<Vec<Exchanged>, NoMemory> {
+    let mut told = Vec::new(alloc);
+    for exchange in upstream.inner().told() {
+        told.push(Exchanged {
+            request: Vec::from_slice(alloc, exchange.request.as_slice())?,
+            most: exchange.most,
+            after: 0,
+        })?;
+    }
+    Ok(told)
+}
+
 /// The top call. What it promises is not needed here, and is much at objects that tell all.
 fn top_call<R, S, C, K, N, W>(
     rt: &R,
@@ -133,7 +162,7 @@ fn top_call<R, S, C, K, N, W>(
     output: &mut K,
     net: &mut N,
     spawner: &mut W,
-) -> Outcome<N::Door>
+) -> Outcome<N::Door, N::Up>
 where
     R: Threads + Wait + Copy + Send + 'static,
     S: Store,

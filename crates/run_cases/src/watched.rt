@@ -3,26 +3,38 @@ use crate::ending::Asked;
 use std::alloc::Global;
 use td_base::{Begin, Made, Network, Spawner};
 
+/// What a network was asked for, call by call.
+#[derive(Drop)]
+pub struct Calls {
+    /// The calls for doors.
+    pub asked: Vec<Asked>,
+    /// The addresses of the calls for an upstream.
+    pub reached: Vec<Vec<u8>>,
+}
+
 /// A network, and what it was asked for.
 #[derive(Drop)]
 pub struct WatchedNetwork<N> {
     inner: N,
-    asked: Vec<Asked>,
+    calls: Calls,
 }
 
 impl<N> WatchedNetwork<N> {
     pub fn new(alloc: Global, inner: N) -> WatchedNetwork<N> {
         WatchedNetwork {
             inner,
-            asked: Vec::new(alloc),
+            calls: Calls {
+                asked: Vec::new(alloc),
+                reached: Vec::new(alloc),
+            },
         }
     }
 }
 
 impl<N: Drop> WatchedNetwork<N> {
-    /// What it was asked for, call by call.
-    pub fn into_asked(self) -> Vec<Asked> {
-        self.asked
+    /// What it was asked for.
+    pub fn into_calls(self) -> Calls {
+        self.calls
     }
 }
 
@@ -34,22 +46,31 @@ impl<N: Network> Network for WatchedNetwork<N> {
     ghost seen = { λ w. N.seen w.inner };
 
     fn doors(&mut self, alloc: Global, address: &[u8], number: u32) -> Made<Vec<N::Door>> {
-        keep(alloc, &mut self.asked, address, number);
+        self.calls.keep_asked(alloc, address, number);
         self.inner.doors(alloc, address, number)
     }
 
     fn upstream(&mut self, alloc: Global, address: &[u8]) -> Made<N::Up> {
+        self.calls.keep_reached(alloc, address);
         self.inner.upstream(alloc, address)
     }
 }
 
-/// Keeps a call. Without memory for it the call is lost, and the run differs.
-fn keep(alloc: Global, calls: &mut Vec<Asked>, address: &[u8], doors: u32) {
-    if let Ok(address) = Vec::from_slice(alloc, address) {
-        let _ = calls.push(Asked {
-            address,
-            doors: u64::from(doors),
-        });
+/// Without memory for a call it is lost, and the run differs.
+impl Calls {
+    fn keep_asked(&mut self, alloc: Global, address: &[u8], doors: u32) {
+        if let Ok(address) = Vec::from_slice(alloc, address) {
+            let _ = self.asked.push(Asked {
+                address,
+                doors: u64::from(doors),
+            });
+        }
+    }
+
+    fn keep_reached(&mut self, alloc: Global, address: &[u8]) {
+        if let Ok(address) = Vec::from_slice(alloc, address) {
+            let _ = self.reached.push(address);
+        }
     }
 }
 

@@ -1,0 +1,5 @@
+use Rattle.std.specs.Prelude.{◌≡◌, []}
+use Rattle.run_cases.proofs.outside.upstream_of.Given as goal
+
+abbrev pub invariant-loop-answer : goal.invariant-loop-answer
+invariant-loop-answer l = l.upstream.told ≡ []
