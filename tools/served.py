@@ -1,4 +1,5 @@
-"""A running `tzdistd serve` with its console, and connections to it, for tests and measurements.
+"""A running `tzdistd serve` or `tzdistd mirror` with its console, and connections to it, for tests and
+measurements.
 
 Every wait has a bound; what is started ends with its `with` block. Python's standard library alone.
 """
@@ -37,10 +38,13 @@ class Served:
     """A server over folders at a free port, which has said that it is ready. It is started by the
     words `by`, which end by running those that come after them."""
 
+    command = "serve"
+
     def __init__(self, folders, workers=2, program=PROGRAM, at=DATA, host=HOST, by=()):
         for again in (True, True, False):
             self.port = free_port(host)
-            words = [*by, program, "serve", address_of(self.port, host), str(workers), *folders]
+            self.address = address_of(self.port, host)
+            words = [*by, program, self.command, self.address, str(workers), *folders]
             self._start(words, at)
             try:
                 first = self.line(timeout=30)
@@ -140,6 +144,15 @@ class Served:
 
     def __exit__(self, *_):
         self.close()
+
+
+class Mirror(Served):
+    """A mirror of the server at an address, which has said that it is ready."""
+
+    command = "mirror"
+
+    def __init__(self, upstream, **more):
+        super().__init__([upstream], **more)
 
 
 class Reply:

@@ -11,17 +11,16 @@ import json
 import os
 import signal
 import socket
-import subprocess
 import sys
 import tempfile
 import threading
 import time
-import traceback
 from concurrent.futures import ThreadPoolExecutor
 
 sys.dont_write_bytecode = True
 
-from served import DATA, HOST, PROGRAM, Client, Failure, Reply, Served, address_of, free_port, request, slim_zone
+from checks import LONG, SLACK, TZIF, USAGE, ZONES, holds, ran, release, run_checks, same, token_of
+from served import DATA, HOST, Client, Failure, Reply, Served, address_of, free_port, request
 
 FIRST, SECOND = "1-e2b2cb478d218163", "2-d7dd2fc2e202fff3"
 TAG = "b9b07a4d02b54496f4440279edbde39c"
@@ -30,60 +29,15 @@ UTC_ENTRY = (
     '"publisher":"Test","tzid":"Etc/UTC","version":"2025a"}'
 )
 LIST = f'{{"synctoken":"{FIRST}","timezones":[{UTC_ENTRY}]}}'.encode()
-USAGE = b"usage: tzdistd answer|serve|mirror|check|at|load\n"
-ZONES = "/tzdist/zones"
 UTC = "/tzdist/zones/Etc%2FUTC"
-TZIF = "Accept: application/tzif"
 NOWHERE = "refused 8 Absent nowhere/manifest.json"
 BACK = "refused 3 StampBack 2025-03-22T00:00:00Z 2025-01-20T00:00:00Z"
 
 # For how long a connection may rest between requests, and give or take nothing inside one; after what
 # time a request must be whole; for how long peers are still sent what is owed to them at the end.
 IDLE, PROGRESS, HEAD, OWED = 60, 10, 30, 2
-# What a busy machine may add to a time, and how long anything else may take. No check measures speed.
-SLACK, LONG = 40, 60
+# After how many seconds all is given up.
 WHOLE = 420
-
-
-def same(what, seen, wanted):
-    """Fails where what was seen is not what is wanted."""
-    if seen != wanted:
-        raise Failure(f"{what}: {seen!r} and not {wanted!r}")
-
-
-def holds(what, fact):
-    """Fails where something does not hold."""
-    if not fact:
-        raise Failure(what)
-
-
-def token_of(reply):
-    return json.loads(reply.body)["synctoken"]
-
-
-def ran(program, *words, timeout=20):
-    """Status, output and standard error of a run without input, which is to end by itself."""
-    try:
-        done = subprocess.run(
-            [program, *words], cwd=DATA, stdin=subprocess.DEVNULL, capture_output=True, timeout=timeout
-        )
-    except subprocess.TimeoutExpired:
-        raise Failure(f"{' '.join(words)[:80]}: still running after {timeout} seconds") from None
-    return done.returncode, done.stdout, done.stderr
-
-
-def release(at, version, zones):
-    """A release of slim zones, by name and hours, in a new folder."""
-    os.mkdir(at)
-    listed = []
-    for number, (tzid, hours) in enumerate(zones.items()):
-        with open(os.path.join(at, f"z{number}"), "wb") as file:
-            file.write(slim_zone(hours))
-        listed.append({"tzid": tzid, "file": f"z{number}"})
-    manifest = {"publisher": "Test", "version": version, "stamp": "2025-06-01T00:00:00Z", "zones": listed}
-    with open(os.path.join(at, "manifest.json"), "w") as file:
-        json.dump(manifest, file)
-    return at
 
 
 def replies(program):
@@ -744,40 +698,8 @@ CHECKS = [
 ]
 
 
-def fault_of(check, program):
-    """None, or what failed."""
-    try:
-        check(program)
-    except Failure as fault:
-        return str(fault)
-    except Exception:
-        return traceback.format_exc().rstrip()
-    return None
-
-
 def main():
-    program = os.path.abspath(sys.argv[1]) if len(sys.argv) > 1 else PROGRAM
-    if not os.path.exists(program):
-        sys.exit(f"{program} is not built: README says how")
-
-    def stopped(*_):
-        # what was started ends with its standard input
-        print(f"serve: stopped after {WHOLE} seconds", flush=True)
-        os._exit(1)
-
-    signal.signal(signal.SIGALRM, stopped)
-    signal.alarm(WHOLE)
-    with ThreadPoolExecutor(3) as pool:
-        faults = list(pool.map(lambda check: fault_of(check, program), CHECKS))
-    # the checks are one another's load, so what failed beside others is tried once more by itself
-    faults = [fault and fault_of(check, program) for check, fault in zip(CHECKS, faults)]
-    failed = 0
-    for check, fault in zip(CHECKS, faults):
-        if fault is not None:
-            failed += 1
-            print(f"serve: {check.__name__} failed: {fault}")
-    print(f"serve: {len(CHECKS)} checks, {f'{failed} failed' if failed else 'all well'}")
-    return 1 if failed else 0
+    return run_checks("serve", CHECKS, WHOLE, 3)
 
 
 if __name__ == "__main__":
