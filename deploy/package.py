@@ -26,13 +26,16 @@ sys.path.insert(0, os.path.join(os.path.dirname(HERE), "tools"))
 
 from served import HOST, PROGRAM, ROOT, free_port
 
-# The units, each a file of this folder. Scripts of the package have their names where @UNITS@ stands.
-UNITS = ["tzdistd.service"]
+# The units, each a file of this folder; those of a mirror are not enabled, since a machine need not have one.
+# Scripts of the package have their names where @UNITS@ and @ENABLED@ stand.
+ENABLED = ["tzdistd.service"]
+UNITS = [*ENABLED, "tzdistd-mirror.service", "tzdistd-sync.service", "tzdistd-sync.timer"]
 
 # Each file, the folder that it goes to, its mode, and its name there, if that is another.
 FILES = [
     *(("deploy/" + unit, "lib/systemd/system", 0o644) for unit in UNITS),
     ("deploy/tzdistd-serve", "usr/lib/tzdistd", 0o755),
+    ("deploy/tzdistd-mirror", "usr/lib/tzdistd", 0o755),
     ("deploy/tzdistd-console", "usr/lib/tzdistd", 0o755),
     ("tools/pack_zoneinfo.py", "usr/lib/tzdistd", 0o755),
     ("tools/fetch_zoneinfo.py", "usr/lib/tzdistd", 0o755),
@@ -42,6 +45,7 @@ FILES = [
     ("docs/FORMATS.md", "usr/share/doc/tzdistd", 0o644),
     ("deploy/debian/copyright", "usr/share/doc/tzdistd", 0o644),
     ("deploy/debian/default", "etc/default", 0o644, "tzdistd"),
+    ("deploy/debian/mirror-default", "etc/default", 0o644, "tzdistd-mirror"),
 ]
 PACKED = [("deploy/tzdistd.8", "usr/share/man/man8")]
 DATA = "var/lib/tzdistd/releases"
@@ -64,7 +68,9 @@ Description: time zone data distribution server (RFC 7808)
  whole, and answers requests of HTTP with JSON documents, TZif files and
  iCalendar components. Releases are installed while it serves.
  .
- The package has a unit of systemd, a console for the operator, a page and a
+ A mirror serves what another server has, and asks it for what changed.
+ .
+ The package has units of systemd, a console for the operator, a page and a
  site of nginx, a tool that makes a release of a system's zone files, and one
  that keeps the zones of a device as a server has them.
 """
@@ -134,9 +140,11 @@ def control(stage, words):
     at = os.path.join(stage, "DEBIAN")
     write(os.path.join(at, "control"), CONTROL.format(**words, size=size).encode())
     write(os.path.join(at, "md5sums"), sums.encode())
-    write(os.path.join(at, "conffiles"), b"/etc/default/tzdistd\n")
+    write(os.path.join(at, "conffiles"), b"/etc/default/tzdistd\n/etc/default/tzdistd-mirror\n")
     for script in SCRIPTS:
-        text = read("deploy/debian/" + script).decode().replace("@UNITS@", " ".join(UNITS))
+        text = read("deploy/debian/" + script).decode()
+        for word, units in (("@UNITS@", UNITS), ("@ENABLED@", ENABLED)):
+            text = text.replace(word, " ".join(units))
         write(os.path.join(at, script), text.encode(), 0o755)
 
 
@@ -212,7 +220,7 @@ def in_root(root, *words):
 
 def served(root):
     """What the console says of a server that the package's user starts in the root, as the unit would."""
-    values = dict(re.findall("^Environment=([A-Z]+)=(.*)$", read("deploy/" + UNITS[0]).decode(), re.M))
+    values = dict(re.findall("^Environment=([A-Z]+)=(.*)$", read("deploy/" + ENABLED[0]).decode(), re.M))
     os.mkdir(os.path.join(root, "run/tzdistd"))
     in_root(root, "chown", "tzdistd:tzdistd", "/run/tzdistd")
     values["ADDRESS"] = f"{HOST}:{free_port()}"
@@ -242,7 +250,7 @@ def tried(path, root):
     shutil.copytree(os.path.join(ROOT, "crates/tzdistd/data/a"), release)
     print("checked there:", in_root(root, "tzdistd", "check", f"/{DATA}/a"))
     print("its console:", served(root))
-    print("enabled:", os.readlink(os.path.join(root, "etc/systemd/system/multi-user.target.wants", UNITS[0])))
+    print("enabled:", os.readlink(os.path.join(root, "etc/systemd/system/multi-user.target.wants", ENABLED[0])))
     in_root(root, "dpkg", "-i", "/tmp/tzdistd.deb")
     in_root(root, "dpkg", "--remove", "tzdistd")
     in_root(root, "dpkg", "--purge", "tzdistd")

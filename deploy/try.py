@@ -8,6 +8,7 @@ openssl and Python's standard library; it is run by hand, and everything that it
 it. systemd itself is not tried, and the page is only fetched: try_page.py looks at it.
 """
 
+import contextlib
 import gzip
 import http.client
 import json
@@ -152,8 +153,8 @@ class Deployed:
             "RELEASES": self.releases,
             "TZDISTD": program,
         }
-        self.server = subprocess.Popen([os.path.join(HERE, "tzdistd-serve")], env=self.environment, stdin=subprocess.DEVNULL)
-        self.nginx, self.relay = None, Relay(self.port)
+        self.server = started("tzdistd-serve", self.environment)
+        self.nginx, self.mirror, self.relay = None, None, Relay(self.port)
 
     def add(self, data, name):
         """A folder of the data as a release."""
@@ -173,12 +174,25 @@ class Deployed:
             file.truncate()
         return folder
 
+    def start_mirror(self):
+        """A mirror of the server, by the script of its unit."""
+        at = os.path.join(self.room, "mirror")
+        os.makedirs(at)
+        self.following = {
+            **self.environment,
+            "RUNTIME_DIRECTORY": at,
+            "ADDRESS": f"{HOST}:{free_port()}",
+            "UPSTREAM": f"{HOST}:{self.port}",
+        }
+        self.mirror = started("tzdistd-mirror", self.following)
+
     def console(self, *line):
-        """Status and output of a line at the console."""
-        done = subprocess.run(
-            [os.path.join(HERE, "tzdistd-console"), *line], env=self.environment, capture_output=True, text=True, timeout=90
-        )
-        return done.returncode, done.stdout + done.stderr
+        """Status and output of a line at the server's console."""
+        return said(self.environment, *line)
+
+    def sync(self):
+        """The same of what the timer asks of the mirror."""
+        return said(self.following, "sync")
 
     def start_nginx(self):
         at = self.room
@@ -221,20 +235,36 @@ class Deployed:
         return front
 
     def close(self):
-        for child, how in ((self.nginx, signal.SIGTERM), (self.server, signal.SIGKILL)):
+        for child, how in ((self.nginx, signal.SIGTERM), (self.mirror, signal.SIGKILL), (self.server, signal.SIGKILL)):
             if child is not None and child.poll() is None:
                 child.send_signal(how)
                 child.wait(20)
 
 
-def ready(deployed):
-    replies = os.path.join(deployed.room, "run/replies")
+def started(script, environment):
+    return subprocess.Popen([os.path.join(HERE, script)], env=environment, stdin=subprocess.DEVNULL)
+
+
+def said(environment, *line):
+    """Status and output of a line at a console."""
+    words = [os.path.join(HERE, "tzdistd-console"), *line]
+    done = subprocess.run(words, env=environment, capture_output=True, text=True, timeout=90)
+    return done.returncode, done.stdout + done.stderr
+
+
+def first_reply(environment):
+    """The first line at a console."""
+    replies = os.path.join(environment["RUNTIME_DIRECTORY"], "replies")
     for _ in range(100):
         if os.path.exists(replies) and os.path.getsize(replies):
             break
         time.sleep(0.1)
     with open(replies) as file:
-        same("the first reply", file.read(), f"ready {FIRST}\n")
+        return file.read()
+
+
+def ready(deployed):
+    same("the first reply", first_reply(deployed.environment), f"ready {FIRST}\n")
 
 
 def console(deployed):
@@ -364,9 +394,29 @@ def device(deployed):
     same("then", fetch_zoneinfo.fetch(url, tree).rpartition(", ")[2], "nothing changed")
 
 
+def mirror(deployed):
+    """A mirror is started, and asked to sync as by its timer; a refusal is told by the status."""
+    nothing = {name: value for name, value in deployed.environment.items() if name != "UPSTREAM"}
+    same("a mirror of nothing", started("tzdistd-mirror", nothing).wait(20), 1)
+    deployed.start_mirror()
+    token = first_reply(deployed.following).removeprefix("ready ")
+    same("its first token", token[:2], "1-")
+    same("a sync", deployed.sync(), (0, f"unchanged {token}"))
+    same("an install at the server", deployed.console("install", deployed.add_moved("2025e", 3))[0], 0)
+    status, line = deployed.sync()
+    same("a sync after it", (status, line[:12]), (0, "installed 2-"))
+    host, port = deployed.following["ADDRESS"].split(":")
+    with contextlib.closing(http.client.HTTPConnection(host, int(port), timeout=20)) as near:
+        same("the file at the mirror", ask(near, "/tzdist/zones/Test%2FMoved", Accept="application/tzif")[1], slim_zone(3))
+    same("an install at the mirror", said(deployed.following, "install", "x"), (1, "unknown\n"))
+
+
 def end(deployed):
     same("quit", deployed.console("quit"), (0, "bye\n"))
     same("the status at the end", deployed.server.wait(20), 0)
+    same("a sync without the server", deployed.sync(), (1, "refused 1 UpstreamFault\n"))
+    same("quit at the mirror", said(deployed.following, "quit"), (0, "bye\n"))
+    same("its status at the end", deployed.mirror.wait(20), 0)
     with deployed.connect() as front:
         time.sleep(2.5)
         same("the list without the server", ask(front, "/tzdist/zones")[0].status, 200)
@@ -381,7 +431,7 @@ def main():
     with tempfile.TemporaryDirectory() as room:
         deployed = Deployed(room, program)
         try:
-            for part in (ready, console, Deployed.start_nginx, proxy, cache, load, device, end):
+            for part in (ready, console, Deployed.start_nginx, proxy, cache, load, device, mirror, end):
                 print(part.__name__.replace("_", " "), flush=True)
                 part(deployed)
         except Failure as fault:
