@@ -31,7 +31,7 @@ import time
 sys.dont_write_bytecode = True
 sys.path.insert(0, os.path.join(os.path.dirname(os.path.dirname(os.path.abspath(__file__))), "tools"))
 
-from serve import processor, processor_seconds, status_of
+from serve import parts_of, processor, processor_seconds, status_of
 from served import PROGRAM, Failure, Mirror, Served, slim_zone
 
 PARTS = ["first", "nothing", "one", "all"]
@@ -139,11 +139,7 @@ def main():
     parser.add_argument("--rounds", type=int, default=9, help="of the parts first and all")
     parser.add_argument("--syncs", type=int, default=500, help="of the part nothing; of the part one a fifth")
     words = parser.parse_args()
-    parts = words.only.split(",")
-    if unknown := [part for part in parts if part not in PARTS]:
-        sys.exit(f"no such part: {', '.join(unknown)}")
-    if not os.path.exists(words.program):
-        sys.exit(f"{words.program} is not built: README says how")
+    parts = parts_of(words, PARTS)
     words.program = os.path.abspath(words.program)
     try:
         with tempfile.TemporaryDirectory() as room:

@@ -740,6 +740,16 @@ def processor():
         return "unknown processor"
 
 
+def parts_of(words, known):
+    """The parts that are asked for. The script ends where one is none, or where the program is not built."""
+    parts = words.only.split(",")
+    if unknown := [part for part in parts if part not in known]:
+        sys.exit(f"no such part: {', '.join(unknown)}")
+    if not os.path.exists(words.program):
+        sys.exit(f"{words.program} is not built: README says how")
+    return parts
+
+
 def main():
     parser = argparse.ArgumentParser(description=__doc__.split("\n")[0])
     parser.add_argument("folder", metavar="RELEASE_DIR")
@@ -755,11 +765,7 @@ def main():
     parser.add_argument("--no-nginx", action="store_true")
     parser.add_argument("--no-wrk", action="store_true")
     words = parser.parse_args()
-    parts = words.only.split(",")
-    if unknown := [part for part in parts if part not in PARTS]:
-        sys.exit(f"no such part: {', '.join(unknown)}")
-    if not os.path.exists(words.program):
-        sys.exit(f"{words.program} is not built: README says how")
+    parts = parts_of(words, PARTS)
     try:
         bench = Bench(words)
         client = "wrk" if bench.wrk else "processes of this script"
