@@ -15,13 +15,8 @@ import json
 import os
 import resource
 import shutil
-import signal
-import socket
-import ssl
-import subprocess
 import sys
 import tempfile
-import threading
 import time
 from concurrent.futures import ThreadPoolExecutor
 
@@ -30,131 +25,24 @@ HERE = os.path.dirname(os.path.abspath(__file__))
 sys.path.insert(0, os.path.join(os.path.dirname(HERE), "tools"))
 
 import fetch_zoneinfo
-from served import DATA, HOST, PROGRAM, Failure, free_port, slim_zone
+from proxied import Proxy, Relay, Service, ask, edited, needed, one_server, same, started, text_of
+from served import DATA, HOST, PROGRAM, Failure, slim_zone
 
-NAME = "tz.example.org"
 CLIENTS = 1000
 FIRST, SECOND = "1-e2b2cb478d218163", "2-d7dd2fc2e202fff3"
 UTC = "/tzdist/zones/Etc%2FUTC"
-WHOLE = """
-daemon off;
-worker_processes 2;
-pid {at}/pid;
-events {{ worker_connections 2048; }}
-http {{
-    access_log off;
-    client_body_temp_path {at}/t1;
-    proxy_temp_path {at}/t2;
-    fastcgi_temp_path {at}/t3;
-    uwsgi_temp_path {at}/t4;
-    scgi_temp_path {at}/t5;
-    keepalive_requests 100000;
-    include {at}/site;
-}}
-"""
-
-
-def same(what, seen, wanted):
-    if seen != wanted:
-        raise Failure(f"{what}: {seen!r} and not {wanted!r}")
-    print(f"  {what}: as it should be", flush=True)
-
-
-def ask(connection, target, method="GET", **fields):
-    """The reply and its body."""
-    fields = {name.replace("_", "-"): value for name, value in fields.items()}
-    connection.request(method, target, headers=fields)
-    reply = connection.getresponse()
-    return reply, reply.read()
-
-
-class Front(http.client.HTTPSConnection):
-    """A connection to the proxy, by its name."""
-
-    def __init__(self, port, context):
-        super().__init__(NAME, port, timeout=20, context=context)
-
-    def connect(self):
-        plain = socket.create_connection((HOST, self.port), self.timeout)
-        self.sock = self._context.wrap_socket(plain, server_hostname=NAME)
-
-    def __enter__(self):
-        return self
-
-    def __exit__(self, *_):
-        self.close()
-
-
-class Relay:
-    """Passes connections on to a server, and keeps the head of each request that passes."""
-
-    def __init__(self, port):
-        self.to, self.heads, self.replied = port, [], b""
-        self.listener = socket.create_server((HOST, 0))
-        self.port = self.listener.getsockname()[1]
-        threading.Thread(target=self._accept, daemon=True).start()
-
-    def _accept(self):
-        while True:
-            near = self.listener.accept()[0]
-            try:
-                far = socket.create_connection((HOST, self.to))
-            except OSError:
-                near.close()
-                continue
-            for words in ((near, far, self._asked), (far, near, self._answered)):
-                threading.Thread(target=self._pass, args=words, daemon=True).start()
-
-    def _pass(self, here, there, told):
-        held = b""
-        try:
-            while piece := here.recv(1 << 16):
-                held = told(held + piece)
-                there.sendall(piece)
-        except OSError:
-            pass
-        for end in (here, there):
-            try:
-                end.shutdown(socket.SHUT_RDWR)
-            except OSError:
-                pass
-
-    def _asked(self, held):
-        *heads, rest = held.split(b"\r\n\r\n")
-        self.heads += [head.decode("latin-1") for head in heads]
-        return rest
-
-    def _answered(self, held):
-        self.replied += held
-        return b""
-
-    def clear(self):
-        self.heads, self.replied = [], b""
-
-    def not_modified(self):
-        """How many replies said that what is kept still counts."""
-        return self.replied.count(b"HTTP/1.1 304 ")
 
 
 class Deployed:
     """The server, started by the script of its unit, with nginx in front of it."""
 
     def __init__(self, room, program):
-        self.room, self.port, self.front = room, free_port(), free_port()
+        self.room, self.program = room, program
         self.releases = os.path.join(room, "releases")
         os.chmod(room, 0o755)
-        os.makedirs(os.path.join(room, "run"))
         self.add("a", "2025a")
-        self.environment = {
-            **os.environ,
-            "RUNTIME_DIRECTORY": os.path.join(room, "run"),
-            "ADDRESS": f"{HOST}:{self.port}",
-            "WORKERS": "2",
-            "RELEASES": self.releases,
-            "TZDISTD": program,
-        }
-        self.server = started("tzdistd-serve", self.environment)
-        self.nginx, self.mirror, self.relay = None, None, Relay(self.port)
+        self.server = Service("tzdistd-serve", os.path.join(room, "run"), program, RELEASES=self.releases)
+        self.nginx, self.mirror, self.relay = None, None, Relay(self.server.port)
 
     def add(self, data, name):
         """A folder of the data as a release."""
@@ -177,102 +65,31 @@ class Deployed:
     def start_mirror(self):
         """A mirror of the server, by the script of its unit."""
         at = os.path.join(self.room, "mirror")
-        os.makedirs(at)
-        self.following = {
-            **self.environment,
-            "RUNTIME_DIRECTORY": at,
-            "ADDRESS": f"{HOST}:{free_port()}",
-            "UPSTREAM": f"{HOST}:{self.port}",
-        }
-        self.mirror = started("tzdistd-mirror", self.following)
-
-    def console(self, *line):
-        """Status and output of a line at the server's console."""
-        return said(self.environment, *line)
-
-    def sync(self):
-        """The same of what the timer asks of the mirror."""
-        return said(self.following, "sync")
+        self.mirror = Service("tzdistd-mirror", at, self.program, UPSTREAM=self.server.address)
 
     def start_nginx(self):
-        at = self.room
-        subprocess.run(
-            ["openssl", "req", "-x509", "-newkey", "rsa:2048", "-nodes", "-days", "2", "-subj", f"/CN={NAME}",
-             "-addext", f"subjectAltName=DNS:{NAME},IP:{HOST}", "-keyout", f"{at}/key.pem", "-out", f"{at}/fullchain.pem"],
-            check=True, capture_output=True, timeout=60,
-        )
-        with open(os.path.join(HERE, "nginx-tzdistd.conf")) as file:
-            site = file.read()
-        for old, new in [
-            (f"server {HOST}:8008;", f"server {HOST}:{self.relay.port};"),
-            ("/var/cache/tzdistd ", f"{at}/cache "),
-            ("/usr/share/tzdistd/page;", f"{HERE}/page;"),
-            ("listen 443 ", f"listen {HOST}:{self.front} "),
-            ("    listen [::]:443 ssl http2;\n", ""),
-            ("/etc/ssl/tzdistd/", f"{at}/"),
-        ]:
-            if site.count(old) < 1:
-                raise Failure(f"the site has no {old!r}")
-            site = site.replace(old, new)
-        for name, text in (("site", site), ("conf", WHOLE.format(at=at))):
-            with open(f"{at}/{name}", "w") as file:
-                file.write(text)
-        words = ["nginx", "-p", at, "-c", f"{at}/conf", "-e", f"{at}/errors"]
-        subprocess.run([*words, "-t"], check=True, timeout=30)
-        self.nginx = subprocess.Popen(words, stdin=subprocess.DEVNULL)
-        self.context = ssl.create_default_context(cafile=f"{at}/fullchain.pem")
-        for _ in range(100):
-            try:
-                self.connect().close()
-                return
-            except OSError:
-                time.sleep(0.1)
-        raise Failure("nginx does not listen")
+        site = edited(text_of("nginx-tzdistd.conf"), one_server(self.relay.port))
+        self.nginx = Proxy(os.path.join(self.room, "nginx"), site)
 
     def connect(self):
-        front = Front(self.front, self.context)
-        front.connect()
-        return front
+        return self.nginx.connect()
 
     def close(self):
-        for child, how in ((self.nginx, signal.SIGTERM), (self.mirror, signal.SIGKILL), (self.server, signal.SIGKILL)):
-            if child is not None and child.poll() is None:
-                child.send_signal(how)
-                child.wait(20)
-
-
-def started(script, environment):
-    return subprocess.Popen([os.path.join(HERE, script)], env=environment, stdin=subprocess.DEVNULL)
-
-
-def said(environment, *line):
-    """Status and output of a line at a console."""
-    words = [os.path.join(HERE, "tzdistd-console"), *line]
-    done = subprocess.run(words, env=environment, capture_output=True, text=True, timeout=90)
-    return done.returncode, done.stdout + done.stderr
-
-
-def first_reply(environment):
-    """The first line at a console."""
-    replies = os.path.join(environment["RUNTIME_DIRECTORY"], "replies")
-    for _ in range(100):
-        if os.path.exists(replies) and os.path.getsize(replies):
-            break
-        time.sleep(0.1)
-    with open(replies) as file:
-        return file.read()
+        for one in (self.nginx, self.mirror, self.server):
+            if one is not None:
+                one.close()
 
 
 def ready(deployed):
-    same("the first reply", first_reply(deployed.environment), f"ready {FIRST}\n")
+    same("the first reply", deployed.server.first_reply(), f"ready {FIRST}\n")
 
 
 def console(deployed):
-    same("status", deployed.console("status"), (0, f"serving {FIRST} 1\n"))
-    same("an unknown line", deployed.console("hello"), (1, "unknown\n"))
+    same("status", deployed.server.say("status"), (0, f"serving {FIRST} 1\n"))
+    same("an unknown line", deployed.server.say("hello"), (1, "unknown\n"))
     nowhere = os.path.join(deployed.releases, "nowhere")
     said = f"refused 8 Absent {nowhere}/manifest.json\n"
-    same("a refused install", deployed.console("install", nowhere), (1, said))
+    same("a refused install", deployed.server.say("install", nowhere), (1, said))
 
 
 def proxy(deployed):
@@ -356,7 +173,7 @@ def load(deployed):
     print(f"  a new client beside 100 idle ones: {(time.monotonic() - begin) * 1e3:.0f} ms")
     same("the idle ones again", {ask(one, "/tzdist/zones")[0].status for one in idle}, {200})
     added = deployed.add("b", "2025b")
-    same("an install", deployed.console("install", added), (0, f"installed {SECOND}\n"))
+    same("an install", deployed.server.say("install", added), (0, f"installed {SECOND}\n"))
     same("the release past the cache", token(front, Cache_Control="no-cache"), SECOND)
     time.sleep(2.5)
     same("the release", token(front), SECOND)
@@ -370,22 +187,22 @@ def token(front, **fields):
 
 def device(deployed):
     """A device has each release whole, also where the cache has older files than the list."""
-    os.environ["SSL_CERT_FILE"] = f"{deployed.room}/fullchain.pem"
-    url, tree = f"https://{HOST}:{deployed.front}", os.path.join(deployed.room, "zoneinfo")
+    os.environ["SSL_CERT_FILE"] = deployed.nginx.certificate
+    url, tree = deployed.nginx.url, os.path.join(deployed.room, "zoneinfo")
 
     def moved():
         with open(os.path.join(tree, "Test/Moved"), "rb") as file:
             return file.read()
 
     folders = [deployed.add_moved(f"2025{letter}", hours) for letter, hours in (("c", 1), ("d", 2))]
-    held = deployed.console("install", folders[0])[1].split()[1]
+    held = deployed.server.say("install", folders[0])[1].split()[1]
     time.sleep(2.5)
     fetch_zoneinfo.fetch(url, tree)
     same("a device's file", moved(), slim_zone(1))
     relay, target = deployed.relay, "/tzdist/zones/Test%2FMoved"
     with deployed.connect() as front:
         ask(front, target, Accept="application/tzif", Cache_Control="no-cache")
-        deployed.console("install", folders[1])
+        deployed.server.say("install", folders[1])
         ask(front, f"/tzdist/zones?changedsince={held}", Cache_Control="no-cache")
     relay.clear()
     line = fetch_zoneinfo.fetch(url, tree)
@@ -396,27 +213,26 @@ def device(deployed):
 
 def mirror(deployed):
     """A mirror is started, and asked to sync as by its timer; a refusal is told by the status."""
-    nothing = {name: value for name, value in deployed.environment.items() if name != "UPSTREAM"}
+    nothing = {name: value for name, value in deployed.server.environment.items() if name != "UPSTREAM"}
     same("a mirror of nothing", started("tzdistd-mirror", nothing).wait(20), 1)
     deployed.start_mirror()
-    token = first_reply(deployed.following).removeprefix("ready ")
+    token = deployed.mirror.first_reply().removeprefix("ready ")
     same("its first token", token[:2], "1-")
-    same("a sync", deployed.sync(), (0, f"unchanged {token}"))
-    same("an install at the server", deployed.console("install", deployed.add_moved("2025e", 3))[0], 0)
-    status, line = deployed.sync()
+    same("a sync", deployed.mirror.say("sync"), (0, f"unchanged {token}"))
+    same("an install at the server", deployed.server.say("install", deployed.add_moved("2025e", 3))[0], 0)
+    status, line = deployed.mirror.say("sync")
     same("a sync after it", (status, line[:12]), (0, "installed 2-"))
-    host, port = deployed.following["ADDRESS"].split(":")
-    with contextlib.closing(http.client.HTTPConnection(host, int(port), timeout=20)) as near:
+    with contextlib.closing(http.client.HTTPConnection(HOST, deployed.mirror.port, timeout=20)) as near:
         same("the file at the mirror", ask(near, "/tzdist/zones/Test%2FMoved", Accept="application/tzif")[1], slim_zone(3))
-    same("an install at the mirror", said(deployed.following, "install", "x"), (1, "unknown\n"))
+    same("an install at the mirror", deployed.mirror.say("install", "x"), (1, "unknown\n"))
 
 
 def end(deployed):
-    same("quit", deployed.console("quit"), (0, "bye\n"))
-    same("the status at the end", deployed.server.wait(20), 0)
-    same("a sync without the server", deployed.sync(), (1, "refused 1 UpstreamFault\n"))
-    same("quit at the mirror", said(deployed.following, "quit"), (0, "bye\n"))
-    same("its status at the end", deployed.mirror.wait(20), 0)
+    same("quit", deployed.server.say("quit"), (0, "bye\n"))
+    same("the status at the end", deployed.server.child.wait(20), 0)
+    same("a sync without the server", deployed.mirror.say("sync"), (1, "refused 1 UpstreamFault\n"))
+    same("quit at the mirror", deployed.mirror.say("quit"), (0, "bye\n"))
+    same("its status at the end", deployed.mirror.child.wait(20), 0)
     with deployed.connect() as front:
         time.sleep(2.5)
         same("the list without the server", ask(front, "/tzdist/zones")[0].status, 200)
@@ -424,9 +240,7 @@ def end(deployed):
 
 def main():
     program = os.path.abspath(sys.argv[1]) if len(sys.argv) > 1 else PROGRAM
-    for tool in ("nginx", "openssl"):
-        if shutil.which(tool) is None:
-            sys.exit(f"{tool} is not installed")
+    needed("nginx", "openssl")
     resource.setrlimit(resource.RLIMIT_NOFILE, (resource.getrlimit(resource.RLIMIT_NOFILE)[1],) * 2)
     with tempfile.TemporaryDirectory() as room:
         deployed = Deployed(room, program)

@@ -14,7 +14,6 @@ import base64
 import importlib
 import json
 import os
-import shutil
 import subprocess
 import sys
 import tempfile
@@ -25,10 +24,10 @@ HERE = os.path.dirname(os.path.abspath(__file__))
 ROOT = os.path.dirname(HERE)
 sys.path[:0] = [HERE, os.path.join(ROOT, "tools")]
 
-from served import HOST, PROGRAM, Failure
+from proxied import needed, same
+from served import PROGRAM, Failure
 
 deploy = importlib.import_module("try")
-same = deploy.same
 
 PATIENCE = 60
 KEYS = {"Tab": 9, "Enter": 13, "ArrowDown": 40}
@@ -236,9 +235,7 @@ def main():
     parser.add_argument("program", nargs="?", default=PROGRAM)
     parser.add_argument("--pictures", metavar="FOLDER", help="where to draw the page")
     options = parser.parse_args()
-    for tool in ("chromium", "nginx", "openssl"):
-        if shutil.which(tool) is None:
-            sys.exit(f"{tool} is not installed")
+    needed("chromium", "nginx", "openssl")
     with tempfile.TemporaryDirectory() as room:
         deployed, browser = deploy.Deployed(room, os.path.abspath(options.program)), None
         try:
@@ -247,9 +244,9 @@ def main():
             pack = os.path.join(ROOT, "tools/pack_zoneinfo.py")
             words = [sys.executable, pack, "/usr/share/zoneinfo", release, "--stamp", "2025-06-01T00:00:00Z"]
             subprocess.run(words, check=True)
-            same("the system's zones", deployed.console("install", release)[0], 0)
+            same("the system's zones", deployed.server.say("install", release)[0], 0)
             deployed.start_nginx()
-            url = f"https://{HOST}:{deployed.front}"
+            url = deployed.nginx.url
             browser = Browser(room)
             loaded(browser, url)
             by_keys(browser)

@@ -1,0 +1,258 @@
+"""Services by the scripts of this folder, nginx with its site in front of them, and clients of that, for trials and
+measurements.
+
+All stands on high ports of one machine and in a temporary folder, and is ended by `close`. It needs nginx and openssl.
+"""
+
+import contextlib
+import http.client
+import os
+import shutil
+import signal
+import socket
+import ssl
+import subprocess
+import sys
+import threading
+import time
+
+HERE = os.path.dirname(os.path.abspath(__file__))
+sys.path.insert(0, os.path.join(os.path.dirname(HERE), "tools"))
+
+from served import HOST, Failure, free_port
+
+NAME = "tz.example.org"
+CONF = """
+daemon off;
+worker_processes {workers};
+pid {at}/pid;
+events {{ worker_connections 4096; }}
+http {{
+    access_log off;
+    client_body_temp_path {at}/t1;
+    proxy_temp_path {at}/t2;
+    fastcgi_temp_path {at}/t3;
+    uwsgi_temp_path {at}/t4;
+    scgi_temp_path {at}/t5;
+    keepalive_requests 100000;
+    include {at}/site;
+}}
+"""
+
+
+def needed(*tools):
+    """Ends the script where one of these is not installed."""
+    for tool in tools:
+        if shutil.which(tool) is None:
+            sys.exit(f"{tool} is not installed")
+
+
+def same(what, seen, wanted):
+    if seen != wanted:
+        raise Failure(f"{what}: {seen!r} and not {wanted!r}")
+    print(f"  {what}: as it should be", flush=True)
+
+
+def text_of(name):
+    """A file of this folder."""
+    with open(os.path.join(HERE, name)) as file:
+        return file.read()
+
+
+def edited(text, edits):
+    """A text with each old part replaced by the new one beside it."""
+    for old, new in edits:
+        if old not in text:
+            raise Failure(f"there is no {old!r}")
+        text = text.replace(old, new)
+    return text
+
+
+class Service:
+    """A server or a mirror at a free port, started by the script of its unit, with its console in a folder."""
+
+    def __init__(self, script, at, program, **values):
+        os.makedirs(at)
+        self.script, self.at, self.port = script, at, free_port()
+        self.address = f"{HOST}:{self.port}"
+        names = {"RUNTIME_DIRECTORY": at, "ADDRESS": self.address, "WORKERS": "2", "TZDISTD": program}
+        self.environment = {**os.environ, **names, **values}
+        self.start()
+
+    def start(self):
+        with contextlib.suppress(FileNotFoundError):
+            os.unlink(os.path.join(self.at, "replies"))
+        self.child = started(self.script, self.environment)
+
+    def first_reply(self):
+        """The first line at its console."""
+        replies = os.path.join(self.at, "replies")
+        for _ in range(100):
+            if os.path.exists(replies) and os.path.getsize(replies):
+                break
+            time.sleep(0.1)
+        with open(replies) as file:
+            return file.read()
+
+    def say(self, *line):
+        """Status and output of a line at its console."""
+        words = [os.path.join(HERE, "tzdistd-console"), *line]
+        done = subprocess.run(words, env=self.environment, capture_output=True, text=True, timeout=90)
+        return done.returncode, done.stdout + done.stderr
+
+    def close(self):
+        if self.child.poll() is None:
+            self.child.kill()
+            self.child.wait(20)
+
+
+def started(script, environment):
+    return subprocess.Popen([os.path.join(HERE, script)], env=environment, stdin=subprocess.DEVNULL)
+
+
+def one_server(port):
+    """What to edit in the site for a server at a port of this machine."""
+    return [(f"server {HOST}:8008;", f"server {HOST}:{port};")]
+
+
+def two_mirrors(site, ports):
+    """The site with two mirrors at ports of this machine in the place of one server."""
+    begin, end = site.index("# Which group"), site.index("# Answers are kept")
+    edits = [(f"server 192.0.2.{number}:8008", f"server {HOST}:{port}") for number, port in enumerate(ports, 1)]
+    return site[:begin] + edited(text_of("nginx-mirrors.conf"), edits) + "\n" + site[end:]
+
+
+class Proxy:
+    """nginx with a site, which is the one of this folder or made of it, and a certificate of its own."""
+
+    def __init__(self, at, site, workers=2):
+        self.at, self.port = at, free_port()
+        os.makedirs(at, exist_ok=True)
+        os.chmod(at, 0o755)
+        subprocess.run(
+            ["openssl", "req", "-x509", "-newkey", "rsa:2048", "-nodes", "-days", "2", "-subj", f"/CN={NAME}",
+             "-addext", f"subjectAltName=DNS:{NAME},IP:{HOST}", "-keyout", f"{at}/key.pem", "-out", self.certificate],
+            check=True, capture_output=True, timeout=60,
+        )
+        site = edited(site, [
+            ("/var/cache/tzdistd ", f"{at}/cache "),
+            ("/usr/share/tzdistd/page;", f"{HERE}/page;"),
+            ("listen 443 ", f"listen {HOST}:{self.port} "),
+            ("    listen [::]:443 ssl http2;\n", ""),
+            ("/etc/ssl/tzdistd/", f"{at}/"),
+        ])
+        for name, text in (("site", site), ("conf", CONF.format(at=at, workers=workers))):
+            with open(f"{at}/{name}", "w") as file:
+                file.write(text)
+        words = ["nginx", "-p", at, "-c", f"{at}/conf", "-e", f"{at}/errors"]
+        tried = subprocess.run([*words, "-t"], capture_output=True, text=True, timeout=30)
+        if tried.returncode != 0:
+            raise Failure(f"nginx refuses the site: {tried.stderr}")
+        self.child = subprocess.Popen(words, stdin=subprocess.DEVNULL)
+        self.context = ssl.create_default_context(cafile=self.certificate)
+        self._listens()
+
+    @property
+    def certificate(self):
+        return f"{self.at}/fullchain.pem"
+
+    @property
+    def url(self):
+        return f"https://{HOST}:{self.port}"
+
+    def _listens(self):
+        for _ in range(100):
+            try:
+                self.connect().close()
+                return
+            except OSError:
+                time.sleep(0.1)
+        self.close()
+        raise Failure("nginx does not listen")
+
+    def connect(self, source=None):
+        """A client's connection, from an address of the loopback if one is given."""
+        client = Client(self.port, self.context, source)
+        client.connect()
+        return client
+
+    def close(self):
+        if self.child.poll() is None:
+            self.child.send_signal(signal.SIGTERM)
+            self.child.wait(20)
+
+
+class Client(http.client.HTTPSConnection):
+    """A connection to the proxy, by its name."""
+
+    def __init__(self, port, context, source=None):
+        super().__init__(NAME, port, timeout=20, context=context, source_address=source and (source, 0))
+
+    def connect(self):
+        plain = socket.create_connection((HOST, self.port), self.timeout, self.source_address)
+        self.sock = self._context.wrap_socket(plain, server_hostname=NAME)
+
+    def __enter__(self):
+        return self
+
+    def __exit__(self, *_):
+        self.close()
+
+
+def ask(connection, target, method="GET", **fields):
+    """The reply and its body."""
+    fields = {name.replace("_", "-"): value for name, value in fields.items()}
+    connection.request(method, target, headers=fields)
+    reply = connection.getresponse()
+    return reply, reply.read()
+
+
+class Relay:
+    """Passes connections on to a server, and keeps the head of each request that passes."""
+
+    def __init__(self, port):
+        self.to, self.heads, self.replied = port, [], b""
+        self.listener = socket.create_server((HOST, 0), backlog=1024)
+        self.port = self.listener.getsockname()[1]
+        threading.Thread(target=self._accept, daemon=True).start()
+
+    def _accept(self):
+        while True:
+            near = self.listener.accept()[0]
+            try:
+                far = socket.create_connection((HOST, self.to))
+            except OSError:
+                near.close()
+                continue
+            for words in ((near, far, self._asked), (far, near, self._answered)):
+                threading.Thread(target=self._pass, args=words, daemon=True).start()
+
+    def _pass(self, here, there, told):
+        held = b""
+        try:
+            while piece := here.recv(1 << 16):
+                held = told(held + piece)
+                there.sendall(piece)
+        except OSError:
+            pass
+        for end in (here, there):
+            try:
+                end.shutdown(socket.SHUT_RDWR)
+            except OSError:
+                pass
+
+    def _asked(self, held):
+        *heads, rest = held.split(b"\r\n\r\n")
+        self.heads += [head.decode("latin-1") for head in heads]
+        return rest
+
+    def _answered(self, held):
+        self.replied += held
+        return b""
+
+    def clear(self):
+        self.heads, self.replied = [], b""
+
+    def not_modified(self):
+        """How many replies said that what is kept still counts."""
+        return self.replied.count(b"HTTP/1.1 304 ")
