@@ -4,14 +4,15 @@
     deploy/package.py [PROGRAM] [--to FOLDER] [--version V] [--maintainer "NAME <ADDRESS>"] [--try ROOT]
 
 It prints the path of the package. With --try, as root, the package is installed in a folder that
-debootstrap made, looked at, removed and purged there; what it leaves behind is told, and only data
-may be. It needs dpkg-dev and binutils. Where lintian is installed, the package must have no error
-of its.
+debootstrap made with the packages python3, man-db and systemd. Its server, a mirror and its tools are
+used there, then it is removed and purged. What it leaves behind is told, and only data may be. It
+needs dpkg-dev and binutils. Where lintian is installed, the package must have no error of its.
 """
 
 import argparse
 import gzip
 import hashlib
+import json
 import os
 import re
 import shutil
@@ -26,10 +27,10 @@ sys.path.insert(0, os.path.join(os.path.dirname(HERE), "tools"))
 
 from served import HOST, PROGRAM, ROOT, free_port
 
-# The units, each a file of this folder; those of a mirror are not enabled, since a machine need not have one.
-# Scripts of the package have their names where @UNITS@ and @ENABLED@ stand.
-ENABLED = ["tzdistd.service"]
-UNITS = [*ENABLED, "tzdistd-mirror.service", "tzdistd-sync.service", "tzdistd-sync.timer"]
+# The units, each a file of this folder. Those of a mirror may be enabled, and are not, since a machine need not have one.
+# Scripts of the package have these names where @UNITS@, @ENABLED@ and @OTHERS@ stand.
+ENABLED, OTHERS = ["tzdistd.service"], ["tzdistd-mirror.service", "tzdistd-sync.timer"]
+UNITS = [*ENABLED, *OTHERS, "tzdistd-sync.service"]
 
 # Each file, the folder that it goes to, its mode, and its name there, if that is another.
 FILES = [
@@ -41,6 +42,7 @@ FILES = [
     ("tools/fetch_zoneinfo.py", "usr/lib/tzdistd", 0o755),
     ("deploy/page/index.html", "usr/share/tzdistd/page", 0o644),
     ("deploy/nginx-tzdistd.conf", "usr/share/doc/tzdistd/examples", 0o644),
+    ("deploy/nginx-mirrors.conf", "usr/share/doc/tzdistd/examples", 0o644),
     ("deploy/README.md", "usr/share/doc/tzdistd", 0o644),
     ("docs/FORMATS.md", "usr/share/doc/tzdistd", 0o644),
     ("deploy/debian/copyright", "usr/share/doc/tzdistd", 0o644),
@@ -143,7 +145,7 @@ def control(stage, words):
     write(os.path.join(at, "conffiles"), b"/etc/default/tzdistd\n/etc/default/tzdistd-mirror\n")
     for script in SCRIPTS:
         text = read("deploy/debian/" + script).decode()
-        for word, units in (("@UNITS@", UNITS), ("@ENABLED@", ENABLED)):
+        for word, units in (("@UNITS@", UNITS), ("@ENABLED@", ENABLED), ("@OTHERS@", OTHERS)):
             text = text.replace(word, " ".join(units))
         write(os.path.join(at, script), text.encode(), 0o755)
 
@@ -185,7 +187,7 @@ def lint(path):
 
 
 # What dpkg and the tools of users keep for themselves, whatever the package, and the package itself.
-FOLDERS = r"(var/lib/dpkg|var/log|var/cache/(apt|debconf|ldconfig)|proc|sys|dev)/.*"
+FOLDERS = r"(var/lib/dpkg|var/log|var/cache/(apt|debconf|ldconfig|man)|proc|sys|dev)/.*"
 KEPT = re.compile(FOLDERS + r"|etc/[a-z]+-|run/adduser|tmp/tzdistd\.deb")
 
 
@@ -218,23 +220,73 @@ def in_root(root, *words):
     return done.stdout.strip()
 
 
-def served(root):
-    """What the console says of a server that the package's user starts in the root, as the unit would."""
-    values = dict(re.findall("^Environment=([A-Z]+)=(.*)$", read("deploy/" + ENABLED[0]).decode(), re.M))
-    os.mkdir(os.path.join(root, "run/tzdistd"))
-    in_root(root, "chown", "tzdistd:tzdistd", "/run/tzdistd")
-    values["ADDRESS"] = f"{HOST}:{free_port()}"
-    values["RUNTIME_DIRECTORY"] = "/run/tzdistd"
-    words = ["chroot", "--userspec=tzdistd:tzdistd", root, "/usr/lib/tzdistd/tzdistd-serve"]
-    with subprocess.Popen(words, env={**PLAIN, **values}, stdin=subprocess.DEVNULL) as child:
-        try:
-            console = os.path.join(root, "run/tzdistd/console")
-            while child.poll() is None and not os.path.exists(console):
-                time.sleep(0.1)
-            said = [in_root(root, "/usr/lib/tzdistd/tzdistd-console", line) for line in ("status", "quit")]
-            return f"{', '.join(said)}, and then the status {child.wait(30)}"
-        finally:
-            child.kill()
+class InRoot:
+    """What a unit of the package starts in the root, by its user and with its values."""
+
+    def __init__(self, root, unit, **values):
+        text = read("deploy/" + unit).decode()
+        self.root, self.values = root, dict(re.findall("^Environment=([A-Z_]+)=(.*)$", text, re.M))
+        self.values.update(values)
+        self.at = self.values["RUNTIME_DIRECTORY"]
+        os.makedirs(root + self.at, exist_ok=True)
+        in_root(root, "chown", "tzdistd:tzdistd", self.at)
+        self.child = self.start(re.search("^ExecStart=(.*)$", text, re.M)[1])
+
+    def start(self, *words, **more):
+        words = ["chroot", "--userspec=tzdistd:tzdistd", self.root, *words]
+        return subprocess.Popen(words, env={**PLAIN, **self.values}, stdin=subprocess.DEVNULL, **more)
+
+    def say(self, *line):
+        """What its console says to a line."""
+        replies = f"{self.root}{self.at}/replies"
+        for _ in range(100):
+            if os.path.exists(replies) and os.path.getsize(replies):
+                break
+            time.sleep(0.1)
+        done = self.start("/usr/lib/tzdistd/tzdistd-console", *line, stdout=subprocess.PIPE, text=True)
+        return done.communicate(timeout=90)[0].strip()
+
+    def ended(self):
+        return f"{self.say('quit')}, and then the status {self.child.wait(30)}"
+
+    def close(self):
+        self.child.kill()
+        self.child.wait()
+
+
+def one_more(releases):
+    """The folder next to the first release, with a zone more."""
+    shutil.copytree(os.path.join(releases, "first"), os.path.join(releases, "next"))
+    path = os.path.join(releases, "next/manifest.json")
+    with open(path) as file:
+        manifest = json.load(file)
+    manifest["stamp"] = "2030-01-01T00:00:00Z"
+    manifest["zones"].append({"tzid": "Test/More", "file": manifest["zones"][0]["file"]})
+    with open(path, "w") as file:
+        json.dump(manifest, file)
+
+
+def used(root):
+    """The server, a mirror of it and a device in the root, as the package's units and tools would have them."""
+    tools, addresses = "/usr/lib/tzdistd", [f"{HOST}:{free_port()}" for _ in range(2)]
+    in_root(root, f"{tools}/pack_zoneinfo.py", "/usr/share/zoneinfo", f"/{DATA}/first")
+    print("checked there:", in_root(root, "tzdistd", "check", f"/{DATA}/first"))
+    started = []
+    try:
+        started.append(InRoot(root, "tzdistd.service", ADDRESS=addresses[0]))
+        print("the server:", started[0].say("status"))
+        started.append(InRoot(root, "tzdistd-mirror.service", ADDRESS=addresses[1], UPSTREAM=addresses[0]))
+        print("the mirror:", started[1].say("status"))
+        one_more(os.path.join(root, DATA))
+        print("an install:", started[0].say("install", f"/{DATA}/next"))
+        print("a sync as the timer asks for it:", started[1].say("sync"))
+        print("a device:", in_root(root, f"{tools}/fetch_zoneinfo.py", f"http://{addresses[1]}", "/root/zones"))
+        print("its time:", in_root(root, "env", "TZDIR=/root/zones", "TZ=Asia/Tokyo", "date", "-d", "@0"))
+        print("the ends:", ", ".join(one.ended() for one in reversed(started)))
+    finally:
+        for one in started:
+            one.close()
+    in_root(root, "rm", "-r", "/root/zones", "/root/zones.trees")
 
 
 def tried(path, root):
@@ -246,18 +298,19 @@ def tried(path, root):
     print(f"installed: {len(set(installed) - set(before))} files and folders more")
     for word in ("passwd", "group"):
         print(f"the user: {in_root(root, 'getent', word, 'tzdistd')}")
-    release = os.path.join(root, DATA, "a")
-    shutil.copytree(os.path.join(ROOT, "crates/tzdistd/data/a"), release)
-    print("checked there:", in_root(root, "tzdistd", "check", f"/{DATA}/a"))
-    print("its console:", served(root))
-    print("enabled:", os.readlink(os.path.join(root, "etc/systemd/system/multi-user.target.wants", ENABLED[0])))
+    print("the manual page:", in_root(root, "sh", "-c", "man tzdistd | head -4 | tail -1"))
+    links = [name for name, at in picture(root).items() if str(at).startswith("/lib/systemd/system/tzdistd")]
+    print("enabled:", *links)
+    used(root)
+    in_root(root, "systemctl", "enable", *OTHERS)
     in_root(root, "dpkg", "-i", "/tmp/tzdistd.deb")
     in_root(root, "dpkg", "--remove", "tzdistd")
     in_root(root, "dpkg", "--purge", "tzdistd")
     after = picture(root)
     left = sorted(name for name in set(before) | set(after) if before.get(name) != after.get(name))
     data = [name for name in left if name == DATA or name.startswith(DATA + "/") or DATA.startswith(name + "/")]
-    print(f"left behind of data: {' '.join(data)}")
+    shown = [name for name in data if name.count("/") < 5]
+    print(f"left behind of data: {len(data)} files and folders, {' '.join(shown)}")
     shutil.rmtree(os.path.join(root, "var/lib/tzdistd"))
     os.unlink(os.path.join(root, "tmp/tzdistd.deb"))
     return [name for name in left if name not in data]
