@@ -5,7 +5,6 @@ use Rattle.td_base.specs.DoorViews.{DoorView, NetworkContent, NetworkView}
 use Rattle.td_base.specs.Upstreams.{ReachTold, Reaches, UpstreamView}
 use Rattle.td_base.specs.Views.{LaterSink, SinkView, SourceView, StoreView}
 use Rattle.td_base.specs.declared.network.Made.TheVariants as made
-use Rattle.td_base.specs.declared.report.Role.{Role}
 use Rattle.td_base.specs.declared.report.Role.TheVariants as role
 use Rattle.td_base.proofs.lemmas.LaterLemmas.{sink_refl, source_refl, store_refl}
 use Rattle.catalogue.specs.Holdings.{history_of}
@@ -32,7 +31,7 @@ use Rattle.td_top.specs.Running.{RunEndsLater, mirrored}
 use Rattle.td_top.specs.Server.{CalledTold, OpenedEnds, no_network, not_started, served, status_for}
 use Rattle.td_top.specs.Server.{out_of_memory as out_of_memory_opened}
 use Rattle.td_top.specs.ServerSteps.{ServesOpened}
-use Rattle.td_top.specs.Setting.{LaterSetting, Setting, around, setting}
+use Rattle.td_top.specs.Site.{LaterSite, SiteView, console, site}
 use Rattle.td_top.specs.Tells.{IsLeft, RefusesInstall, RefusesSync, Tells}
 use Rattle.td_top.specs.declared.status.Status.{Status}
 use Rattle.td_top.specs.declared.status.Status.TheVariants as status
@@ -45,39 +44,33 @@ use Rattle.td_top.proofs.MirrorHistory.{Laws, follows_first, follows_primary}
 
 -- nothing but the output was touched
 later_output : (g : GrowthView) (i : SourceView) (o p : SinkView) (n : NetworkView) (r : ℕ) → LaterSink o p
-    → LaterSetting (setting (around g i o) n r) (setting (around g i p) n r)
+    → LaterSite (site (console g i o) n r) (site (console g i p) n r)
 later_output g i o p n r sink = record {
-  around = record { growth = growth_refl g; input = source_refl i; output = sink };
+  console = record { growth = growth_refl g; input = source_refl i; output = sink };
   network = omega arith;
   spawner = omega arith;
 }
 
 -- nothing was done
 pub left_all : (g : GrowthView) (i : SourceView) (o : SinkView) (n : NetworkView) (r : ℕ)
-    → LaterSetting (setting (around g i o) n r) (setting (around g i o) n r)
+    → LaterSite (site (console g i o) n r) (site (console g i o) n r)
 left_all g i o n r = later_output g i o o n r (sink_refl o)
 
--- a server that is the same
-pub served_as : (a b : Role) (address : List ℕ) (workers : ℕ) (opening : List ReleaseData) (before after : Setting) (doors : List DoorView) (is : Status)
-    → a ≡ b → ServesOpened a address workers opening before after doors is → ServesOpened b address workers opening before after doors is
-served_as a b address workers opening before after doors is same h =
-    subst (λ server. ServesOpened server address workers opening before after doors is) same h
-
 tells_why : (called : Status) (why : List ℕ) (g : GrowthView) (i : SourceView) (o p : SinkView) (n : NetworkView) (r : ℕ) (end : Status)
-    → Printed called (refused_line why) o p end → TellsWhy called why (setting (around g i o) n r) (setting (around g i p) n r) end
+    → Printed called (refused_line why) o p end → TellsWhy called why (site (console g i o) n r) (site (console g i p) n r) end
 tells_why called why g i o p n r end h = record { printed = h; growth = refl; input = refl; network = refl; spawner = refl }
 
 -- ---- what a settled mirror states
 
 module _ (host address : List ℕ) (workers : ℕ) (s : MirrorState) where
-  pub stated_starved : (before after : Setting) (is : Status) (doors : List DoorView) → LaterSetting before after → is ≡ status.NoMemory → doors ≡ []
+  pub stated_starved : (before after : SiteView) (is : Status) (doors : List DoorView) → LaterSite before after → is ≡ status.NoMemory → doors ≡ []
       → ServesStated host address workers s before after doors is
   stated_starved before after is doors later e none =
       subst (λ ds. ServesStated host address workers s before after ds is) (sym none)
       (subst (λ x. ServesStated host address workers s before after [] x) (sym e) (record { later = later; ends = steps.out_of_memory }))
 
   -- a history that was opened, and its doors served
-  pub stated_served : (list : List (Catalogue (List ℕ))) (before after : Setting) (doors : List DoorView) (is : Status) → OpensStated s (Ok list)
+  pub stated_served : (list : List (Catalogue (List ℕ))) (before after : SiteView) (doors : List DoorView) (is : Status) → OpensStated s (Ok list)
       → ServesOpened (role.Secondary host) address workers (history_of list) before after doors is
       → ServesStated host address workers s before after doors is
   stated_served list before after doors is opens h = record {
@@ -87,9 +80,9 @@ module _ (host address : List ℕ) (workers : ℕ) (s : MirrorState) where
   }
 
   why_stated : (e : InstallFault) (g : GrowthView) (i : SourceView) (o p : SinkView) (n : NetworkView) (r : ℕ) (is : Status) → OpensStated s (Err e)
-      → RefusesInstall e o p is → ServesStated host address workers s (setting (around g i o) n r) (setting (around g i p) n r) [] is
+      → RefusesInstall e o p is → ServesStated host address workers s (site (console g i o) n r) (site (console g i p) n r) [] is
   why_stated install.NoMemory g i o p n r is opens h =
-      subst (λ x. ServesStated host address workers s (setting (around g i o) n r) (setting (around g i p) n r) [] x) (sym h.0)
+      subst (λ x. ServesStated host address workers s (site (console g i o) n r) (site (console g i p) n r) [] x) (sym h.0)
       (record { later = later_output g i o p n r (left_sink o p h.1); ends = steps.out_of_memory })
   why_stated (install.Check fault.NoMemory) g i o p n r is opens h = absurd (opens.1 refl)
   why_stated (install.Check fault.ReadFault) g i o p n r is opens h = absurd (opens.0 refl)
@@ -99,31 +92,31 @@ module _ (host address : List ℕ) (workers : ℕ) (s : MirrorState) where
         (tells_why status.Refused (fault_text (install.Check f)) g i o p n r is told);
   }
   why_stated (install.Check f) g i o p n r is opens (inr left) =
-      subst (λ x. ServesStated host address workers s (setting (around g i o) n r) (setting (around g i p) n r) [] x) (sym left.0)
+      subst (λ x. ServesStated host address workers s (site (console g i o) n r) (site (console g i p) n r) [] x) (sym left.0)
       (record { later = later_output g i o p n r (left_sink o p left.1); ends = steps.out_of_memory })
 
   pub stated_refused : (e : InstallFault) (g : GrowthView) (i : SourceView) (o p : SinkView) (n : NetworkView) (r : ℕ) (doors : List DoorView)
       (is told : Status) → OpensStated s (Err e) → RefusesInstall e o p told → is ≡ told → doors ≡ []
-      → ServesStated host address workers s (setting (around g i o) n r) (setting (around g i p) n r) doors is
+      → ServesStated host address workers s (site (console g i o) n r) (site (console g i p) n r) doors is
   stated_refused e g i o p n r doors is told opens h same none =
-      subst (λ ds. ServesStated host address workers s (setting (around g i o) n r) (setting (around g i p) n r) ds is) (sym none)
-      (subst (λ x. ServesStated host address workers s (setting (around g i o) n r) (setting (around g i p) n r) [] x) (sym same)
+      subst (λ ds. ServesStated host address workers s (site (console g i o) n r) (site (console g i p) n r) ds is) (sym none)
+      (subst (λ x. ServesStated host address workers s (site (console g i o) n r) (site (console g i p) n r) [] x) (sym same)
       (why_stated e g i o p n r told opens h))
 
 -- ---- the first sync
 
 module _ (host address : List ℕ) (workers : ℕ) (s t : MirrorState) (old new : UpstreamView) where
-  pub followed : (i : SourceView) (o : SinkView) (n : NetworkView) (r : ℕ) (after : Setting) (doors : List DoorView) (is : Status)
+  pub followed : (i : SourceView) (o : SinkView) (n : NetworkView) (r : ℕ) (after : SiteView) (doors : List DoorView) (is : Status)
       → SyncsAs host s t old new (Ok tt)
-      → ServesStated host address workers t (setting (around (following host t new) i o) n r) after doors is
-      → FollowsOn host address workers s old (setting (around (following host s old) i o) n r) after doors is
+      → ServesStated host address workers t (site (console (following host t new) i o) n r) after doors is
+      → FollowsOn host address workers s old (site (console (following host s old) i o) n r) after doors is
   followed i o n r after doors is h so = record {
     later = record {
-      around = record {
-        growth = growth_trans (following host s old) (following host t new) after.around.growth (later_sync host s t old new (Ok tt) h)
-            so.later.around.growth;
-        input = so.later.around.input;
-        output = so.later.around.output;
+      console = record {
+        growth = growth_trans (following host s old) (following host t new) after.console.growth (later_sync host s t old new (Ok tt) h)
+            so.later.console.growth;
+        input = so.later.console.input;
+        output = so.later.console.output;
       };
       network = so.later.network;
       spawner = so.later.spawner;
@@ -132,24 +125,24 @@ module _ (host address : List ℕ) (workers : ℕ) (s t : MirrorState) (old new 
   }
 
   left_later : (e : SyncFault) (i : SourceView) (o p : SinkView) (n : NetworkView) (r : ℕ) → SyncsAs host s t old new (Err e) → LaterSink o p
-      → LaterSetting (setting (around (following host s old) i o) n r) (setting (around (following host t new) i p) n r)
+      → LaterSite (site (console (following host s old) i o) n r) (site (console (following host t new) i p) n r)
   left_later e i o p n r h sink = record {
-    around = record { growth = later_sync host s t old new (Err e) h; input = source_refl i; output = sink };
+    console = record { growth = later_sync host s t old new (Err e) h; input = source_refl i; output = sink };
     network = omega arith;
     spawner = omega arith;
   }
 
   left_starved : (e : SyncFault) (i : SourceView) (o p : SinkView) (n : NetworkView) (r : ℕ) (is : Status) → SyncsAs host s t old new (Err e)
       → IsLeft o p is status.NoMemory
-      → FollowsOn host address workers s old (setting (around (following host s old) i o) n r) (setting (around (following host t new) i p) n r) [] is
+      → FollowsOn host address workers s old (site (console (following host s old) i o) n r) (site (console (following host t new) i p) n r) [] is
   left_starved e i o p n r is h left =
       subst
-      (λ x. FollowsOn host address workers s old (setting (around (following host s old) i o) n r) (setting (around (following host t new) i p) n r) [] x)
+      (λ x. FollowsOn host address workers s old (site (console (following host s old) i o) n r) (site (console (following host t new) i p) n r) [] x)
       (sym left.0) (record { later = left_later e i o p n r h (left_sink o p left.1); ends = steps.out_of_memory })
 
   left_told : (e : SyncFault) (i : SourceView) (o p : SinkView) (n : NetworkView) (r : ℕ) (is : Status) → SyncsAs host s t old new (Err e)
       → e ≢ sync.NoMemory → Tells status.NotSynced (refused_line (sync_text e)) o p is
-      → FollowsOn host address workers s old (setting (around (following host s old) i o) n r) (setting (around (following host t new) i p) n r) [] is
+      → FollowsOn host address workers s old (site (console (following host s old) i o) n r) (site (console (following host t new) i p) n r) [] is
   left_told e i o p n r is h some (inl told) = record {
     later = left_later e i o p n r h (printed_later status.NotSynced is (refused_line (sync_text e)) o p told);
     ends = steps.not_synced t new e is h some (tells_why status.NotSynced (sync_text e) (following host t new) i o p n r is told);
@@ -158,19 +151,19 @@ module _ (host address : List ℕ) (workers : ℕ) (s t : MirrorState) (old new 
 
   why_left : (e : SyncFault) (i : SourceView) (o p : SinkView) (n : NetworkView) (r : ℕ) (is : Status) → SyncsAs host s t old new (Err e)
       → RefusesSync e o p is
-      → FollowsOn host address workers s old (setting (around (following host s old) i o) n r) (setting (around (following host t new) i p) n r) [] is
+      → FollowsOn host address workers s old (site (console (following host s old) i o) n r) (site (console (following host t new) i p) n r) [] is
   why_left sync.NoMemory i o p n r is h left = left_starved sync.NoMemory i o p n r is h left
   why_left e i o p n r is h told = left_told e i o p n r is h (λ none. cc) told
 
   pub not_followed : (e : SyncFault) (i : SourceView) (o p : SinkView) (n : NetworkView) (r : ℕ) (doors : List DoorView) (is told : Status)
       → SyncsAs host s t old new (Err e) → RefusesSync e o p told → is ≡ told → doors ≡ []
-      → FollowsOn host address workers s old (setting (around (following host s old) i o) n r) (setting (around (following host t new) i p) n r) doors is
+      → FollowsOn host address workers s old (site (console (following host s old) i o) n r) (site (console (following host t new) i p) n r) doors is
   not_followed e i o p n r doors is told h so same none =
       subst
-      (λ ds. FollowsOn host address workers s old (setting (around (following host s old) i o) n r) (setting (around (following host t new) i p) n r) ds is)
+      (λ ds. FollowsOn host address workers s old (site (console (following host s old) i o) n r) (site (console (following host t new) i p) n r) ds is)
       (sym none)
       (subst
-      (λ x. FollowsOn host address workers s old (setting (around (following host s old) i o) n r) (setting (around (following host t new) i p) n r) [] x)
+      (λ x. FollowsOn host address workers s old (site (console (following host s old) i o) n r) (site (console (following host t new) i p) n r) [] x)
       (sym same) (why_left e i o p n r told h so))
 
 -- ---- the network
@@ -202,8 +195,8 @@ module _ (address : List ℕ) (workers : ℕ) (upstream : List ℕ) (store : Sto
       (q : ℕ) (t : MirrorState) (last : UpstreamView) where
     opened_run : (u : MirrorState) (ready : UpstreamView) (release : ReleaseData) (history : List ReleaseData) (doors : List DoorView) (is : Status)
         → SyncsAs upstream empty_mirror u first ready (Ok tt) → StatesAfter [] u (Ok release)
-        → OpenedEnds (role.Secondary upstream) address workers (release ∷ []) (setting (around (following upstream u ready) i o) reached r)
-        (setting (around (following upstream t last) j p) m q) history doors is
+        → OpenedEnds (role.Secondary upstream) address workers (release ∷ []) (site (console (following upstream u ready) i o) reached r)
+        (site (console (following upstream t last) j p) m q) history doors is
         → Mirrors address workers upstream (world (outside store i o) n r) (world (outside store j p) m q) doors (Some last) is
     opened_run u ready release history doors is h states (served past given ds ended worn operator opens over) =
         opened reached first ready last u t release past ds (status_for ended worn) reaches h states (served past given ds ended worn operator opens over)
@@ -218,8 +211,8 @@ module _ (address : List ℕ) (workers : ℕ) (upstream : List ℕ) (store : Sto
     opened_run u ready release history doors is h states out_of_memory_opened = out_of_memory (Some last)
 
     stated_run : (u : MirrorState) (ready : UpstreamView) (doors : List DoorView) (is : Status) → SyncsAs upstream empty_mirror u first ready (Ok tt)
-        → StatedEnds upstream address workers u (setting (around (following upstream u ready) i o) reached r)
-        (setting (around (following upstream t last) j p) m q) doors is
+        → StatedEnds upstream address workers u (site (console (following upstream u ready) i o) reached r)
+        (site (console (following upstream t last) j p) m q) doors is
         → Mirrors address workers upstream (world (outside store i o) n r) (world (outside store j p) m q) doors (Some last) is
     stated_run u ready doors is h (steps.opened release history ds end states ends) = opened_run u ready release history ds end h states ends
     stated_run u ready doors is h (steps.refused e end states of told) =
@@ -230,8 +223,8 @@ module _ (address : List ℕ) (workers : ℕ) (upstream : List ℕ) (store : Sto
     stated_run u ready doors is h steps.out_of_memory = out_of_memory (Some last)
 
     follow_run : (doors : List DoorView) (is : Status)
-        → FollowEnds upstream address workers empty_mirror first (setting (around (following upstream empty_mirror first) i o) reached r)
-        (setting (around (following upstream t last) j p) m q) doors is
+        → FollowEnds upstream address workers empty_mirror first (site (console (following upstream empty_mirror first) i o) reached r)
+        (site (console (following upstream t last) j p) m q) doors is
         → Mirrors address workers upstream (world (outside store i o) n r) (world (outside store j p) m q) doors (Some last) is
     follow_run doors is (steps.settled u ready ds end h ends) = stated_run u ready ds end h ends
     follow_run doors is (steps.not_synced u ended e end h some told) =
@@ -246,20 +239,20 @@ module _ (address : List ℕ) (workers : ℕ) (upstream : List ℕ) (store : Sto
       (t : MirrorState)
       (last : UpstreamView) (doors : List DoorView) (up : Option UpstreamView) (is : Status) → ReachesServer n reached upstream first
       → n.faults ≤ reached.faults
-      → FollowsOn upstream address workers empty_mirror first (setting (around (following upstream empty_mirror first) i o) reached r)
-      (setting (around (following host t last) j p) m q) doors is → up ≡ Some last
+      → FollowsOn upstream address workers empty_mirror first (site (console (following upstream empty_mirror first) i o) reached r)
+      (site (console (following host t last) j p) m q) doors is → up ≡ Some last
       → RunEndsLater (Some (mirror address workers upstream)) (world (outside store i o) n r) (world (outside store j p) m q) doors up is
   ran_mirror laws reached first host j p m q t last doors up is reaches later h same =
-      let asked : host ≡ upstream = h.later.around.growth.0 in
+      let asked : host ≡ upstream = h.later.console.growth.0 in
       let ends = subst
-      (λ x. FollowEnds upstream address workers empty_mirror first (setting (around (following upstream empty_mirror first) i o) reached r)
-      (setting (around (following x t last) j p) m q) doors is)
+      (λ x. FollowEnds upstream address workers empty_mirror first (site (console (following upstream empty_mirror first) i o) reached r)
+      (site (console (following x t last) j p) m q) doors is)
       asked h.ends in
       subst (λ x. RunEndsLater (Some (mirror address workers upstream)) (world (outside store i o) n r) (world (outside store j p) m q) doors x is) (sym same)
       (record {
         ends = mirrored address workers upstream doors (Some last) is refl (follow_run laws reached first reaches j p m q t last doors is ends) refl;
         later = record {
-          outside = record { store = store_refl store; input = h.later.around.input; output = h.later.around.output };
+          outside = record { store = store_refl store; input = h.later.console.input; output = h.later.console.output };
           network = omega (arith, later, h.later.network);
           spawner = h.later.spawner;
         };

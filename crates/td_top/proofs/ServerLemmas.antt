@@ -8,7 +8,6 @@ use Rattle.std.proofs.lemmas.Simd.{map-map}
 use Rattle.std.proofs.lemmas.List.Elements.{All-cons, All-head, All-nil, All-tail, All-weaker}
 use Rattle.std.proofs.lemmas.Bool.{true≢false}
 use mathlib.Core.List.{IsPrefix}
-use Rattle.td_base.specs.Views.{Rose}
 use Rattle.td_base.specs.DoorViews.{DoorContent, DoorView, NetworkContent, NetworkView}
 use Rattle.td_base.specs.Doors.{IsNewDoor, OpenTold, Opens}
 use Rattle.td_base.specs.declared.network.Made.TheVariants as made
@@ -26,15 +25,11 @@ use Rattle.catalogue.specs.Holdings.{history_of}
 use Rattle.logbook.specs.Pages.{Book}
 use Rattle.publication.specs.Views.{DeskView}
 use Rattle.td_base.proofs.lemmas.Beginnings.{prefix_self}
-use Rattle.td_top.specs.ConsoleBeside.{ConsoleView, Halted, Ran}
+use Rattle.td_top.specs.ConsoleBeside.{BesideView, Halted, Ran}
 use Rattle.td_top.specs.Server.{CalledTold, ConnsTold, IsDone, OpensDoors, OpenedTold}
 use Rattle.td_top.specs.Server.{ServesDoor, ServesDoors, no_door, one_more}
-use Rattle.td_top.specs.ServerSteps.{Concludes, LearntAll}
-use Rattle.td_top.specs.Setting.{Around}
 use Rattle.td_top.specs.Talking.{AnswersOperator, ComesTo, LaterScene, Scene, Talked}
-use Rattle.td_top.specs.Works.{AreWorks, WorksEnd, not_started, out_of_memory, served}
-use Rattle.td_top.specs.declared.status.Status.{Status}
-use Rattle.td_top.specs.declared.status.Status.TheVariants as status
+use Rattle.td_top.specs.Works.{AreWorks}
 use Rattle.td_top.specs.declared.talking.TalkEnd.{TalkEnd}
 use Rattle.catalogue.proofs.lemmas.HistoryLemmas.{history_longer}
 
@@ -42,7 +37,7 @@ use Rattle.catalogue.proofs.lemmas.HistoryLemmas.{history_longer}
 
 -- over the history that was published, of which the console's desk has seen no more
 pub operated : (before now : Scene) (ended : TalkEnd) → IsPrefix now.session.desk.seen now.session.installer.list → Talked before now ended
-    → AnswersOperator (history_of before.session.installer.list) (history_of now.session.installer.list) before.around now.around ended
+    → AnswersOperator (history_of before.session.installer.list) (history_of now.session.installer.list) before.console now.console ended
 operated before now ended seen t =
     let whole : List ReleaseData = history_of now.session.installer.list in
     let talk = t.over.talks whole (record {
@@ -100,21 +95,6 @@ door_served server list before now desk desk' sign sign' worn seen h = record {
   failed = worn_by before now sign'.raised worn h.stops;
 }
 
--- ---- no doors
-
-module _ {D : Type 0} (seen : D → DoorView) where
-  pub without_memory : (server : Role) (opening : List ReleaseData) (given : List DoorView) (before now : Around) (r r' : ℕ) (doors : List D) (is : Status)
-      → is ≡ status.NoMemory → doors ≡ [] → WorksEnd server opening given before now r r' (map seen doors) is
-  without_memory server opening given before now r r' doors is e none =
-      subst (λ ds. WorksEnd server opening given before now r r' (map seen ds) is) (sym none)
-      (subst (λ s. WorksEnd server opening given before now r r' [] s) (sym e) out_of_memory)
-
-  pub unstarted : (server : Role) (opening : List ReleaseData) (given : List DoorView) (before now : Around) (r r' : ℕ) (doors : List D) (is : Status)
-      → is ≡ status.NotStarted → doors ≡ [] → now ≡ before → Rose r r' → WorksEnd server opening given before now r r' (map seen doors) is
-  unstarted server opening given before now r r' doors is e none left rose =
-      subst (λ ds. WorksEnd server opening given before now r r' (map seen ds) is) (sym none)
-      (subst (λ s. WorksEnd server opening given before now r r' [] s) (sym e) (not_started left rose))
-
 -- ---- doors that were served
 
 module _ {D C : Type 0} (seen : D → DoorView) where
@@ -155,32 +135,10 @@ module _ {D C : Type 0} (seen : D → DoorView) where
   same_pairs server pair (g ∷ gs) (w ∷ ws) (d ∷ ds) are does =
       All-cons (λ d. d.desk.pair ≡ pair) d ds (does.0.desk_goes_on.pair ∙ are.0.2) (same_pairs server pair gs ws ds are.1 does.1)
 
-  -- ---- the end
-
-  pub concluded : (server : Role) (before now : Scene) (ended : TalkEnd) (works : List WorkView) (dones : List (DoorDone D C)) (doors : List D) (is : Status)
-      (given : List DoorView) (r r' : ℕ) → AreWorks server before.session.installer.pair given works → DoesEach Does works dones
-      → Talked before now ended → LearntAll now.session dones ended doors is
-      → WorksEnd server (history_of before.session.installer.list) given before.around now.around r r' (map seen doors) is
-  concluded server before now ended works dones doors is given r r' are does talked learnt =
-      let list = now.session.installer.list in
-      let over : ServesDoors server (history_of list) given (map seen doors) (list_any (λ d. d.worn) dones) =
-      subst (λ ds. ServesDoors server (history_of list) given (map seen ds) (list_any (λ d. d.worn) dones)) (sym learnt.workers.doors_are)
-      (all_served server list before.session.installer.pair given works dones are learnt.workers.seen does) in
-      subst (λ e. WorksEnd server (history_of before.session.installer.list) given before.around now.around r r' (map seen doors) e) (sym learnt.ending)
-      (served (history_of list) (map seen doors) ended (list_any (λ d. d.worn) dones) (operated before now ended learnt.seen talked) over)
-
-  pub comes_concluded : (server : Role) (before now : Scene) (ended : TalkEnd) (works : List WorkView) (dones : List (DoorDone D C)) (doors : List D)
-      (is : Status)
-      (given : List DoorView) (r r' : ℕ) → AreWorks server before.session.installer.pair given works → DoesEach Does works dones
-      → ComesTo before now (Some ended) → Concludes now.session dones ended doors is
-      → WorksEnd server (history_of before.session.installer.list) given before.around now.around r r' (map seen doors) is
-  comes_concluded server before now ended works dones doors is given r r' are does talked (inl learnt) =
-      concluded server before now ended works dones doors is given r r' are does talked learnt
-  comes_concluded server before now ended works dones doors is given r r' are does talked (inr none) =
-      without_memory seen server (history_of before.session.installer.list) given before.around now.around r r' doors is none.0 none.1
+-- ---- the talk beside the works
 
 -- the talk beside the works, and what it was lent
-pub came : (before mid now : ConsoleView) → Ran before mid → Halted mid now → (ComesTo before.scene now.scene now.end) × (now.lent ≡ before.lent)
+pub came : (before mid now : BesideView) → Ran before mid → Halted mid now → (ComesTo before.scene now.scene now.end) × (now.lent ≡ before.lent)
 came before mid now ran halted =
     (subst (λ v. ComesTo before.scene v.scene v.end) (sym halted) ran.talk, ap (λ v. v.lent) halted ∙ ran.lent)
 

@@ -25,7 +25,7 @@ use Rattle.td_base.proofs.lemmas.Beginnings.{prefix_trans}
 use Rattle.td_top.specs.Growth.{GrowthView}
 use Rattle.td_top.specs.Replies.{last_token}
 use Rattle.td_top.specs.Sessions.{AnswersLine, BeginsWhole, LaterSession}
-use Rattle.td_top.specs.Setting.{around}
+use Rattle.td_top.specs.Site.{console}
 use Rattle.td_top.specs.Talk.{KeepsTalking, more, none, talk_begun}
 use Rattle.td_top.specs.Talking.{ComesTo, IsAt, LaterScene, Scene, TalksOver, at_ready, at_reply, scene, talk_text}
 use Rattle.td_top.specs.TalkingSteps.{FeedsHeld, FeedsTalk, HasNone, IsNextLine, Reaches, SaysBye}
@@ -85,9 +85,9 @@ as_text a b one two how e h = subst (λ (t : List ℕ). WritesAll a b t how) e h
 -- ---- the beginning
 
 nothing_asked : (s : GrowthView) (i : SourceView) (o p : SinkView) (x : Session) → length x.installer.list ≤ length x.desk.seen → LaterSink o p
-    → TalksOver (scene (around s i o) x) (scene (around s i p) x) [] []
+    → TalksOver (scene (console s i o) x) (scene (console s i p) x) [] []
 nothing_asked s i o p x knows sink = record {
-  later = record { around = record { growth = growth_refl s; input = source_refl i; output = sink }; session = session_refl x };
+  later = record { console = record { growth = growth_refl s; input = source_refl i; output = sink }; session = session_refl x };
   talks = λ whole begins. (
     talk_begun (history_of x.installer.list) s,
     record {
@@ -101,7 +101,7 @@ nothing_asked s i o p x knows sink = record {
 
 pub starts : (s : GrowthView) (i : SourceView) (o p : SinkView) (x : Session) (text : List ℕ) → length x.installer.list ≤ length x.desk.seen
     → text ≡ reply_text (said.Ready (last_token (history_of x.installer.list))) → WritesAll o p text written.Whole
-    → GivesLines [] [] [] → IsAt (scene (around s i o) x) (scene (around s i p) x) []
+    → GivesLines [] [] [] → IsAt (scene (console s i o) x) (scene (console s i p) x) []
 starts s i o p x text knows is h gives = record {
   read = [];
   asked = [];
@@ -115,7 +115,7 @@ starts s i o p x text knows is h gives = record {
 
 pub cut_at_once : (s : GrowthView) (i : SourceView) (o p : SinkView) (x : Session) (text : List ℕ) → length x.installer.list ≤ length x.desk.seen
     → text ≡ reply_text (said.Ready (last_token (history_of x.installer.list))) → WritesAll o p text written.Cut
-    → GivesLines [] [] [] → ComesTo (scene (around s i o) x) (scene (around s i p) x) (Some end.NotWritten)
+    → GivesLines [] [] [] → ComesTo (scene (console s i o) x) (scene (console s i p) x) (Some end.NotWritten)
 cut_at_once s i o p x text knows is h gives = record {
   read = [];
   asked = [];
@@ -129,29 +129,29 @@ cut_at_once s i o p x text knows is h gives = record {
 
 -- ---- a piece of the input
 
-later_input : (start : Scene) (s : GrowthView) (i j : SourceView) (o : SinkView) (x : Session) → LaterScene start (scene (around s i o) x) → LaterSource i j
-    → LaterScene start (scene (around s j o) x)
+later_input : (start : Scene) (s : GrowthView) (i j : SourceView) (o : SinkView) (x : Session) → LaterScene start (scene (console s i o) x) → LaterSource i j
+    → LaterScene start (scene (console s j o) x)
 later_input start s i j o x later input = record {
-  around = record {
-    growth = later.around.growth;
-    input = source_trans start.around.input i j later.around.input input;
-    output = later.around.output;
+  console = record {
+    growth = later.console.growth;
+    input = source_trans start.console.input i j later.console.input input;
+    output = later.console.output;
   };
   session = later.session;
 }
 
 over_input : (start : Scene) (s : GrowthView) (i j : SourceView) (o : SinkView) (x : Session) (asked : List Line) (told : List (List ℕ)) → LaterSource i j
-    → TalksOver start (scene (around s i o) x) asked told → TalksOver start (scene (around s j o) x) asked told
+    → TalksOver start (scene (console s i o) x) asked told → TalksOver start (scene (console s j o) x) asked told
 over_input start s i j o x asked told input over = record { later = later_input start s i j o x over.later input; talks = over.talks }
 
 fed : (start : Scene) (s : GrowthView) (i j : SourceView) (o : SinkView) (x : Session) (held held' new : List ℕ)
-    → IsAt start (scene (around s i o) x) held → HasNone held held' → LaterSource i j → FeedsHeld i j held' new
-    → IsAt start (scene (around s j o) x) new
+    → IsAt start (scene (console s i o) x) held → HasNone held held' → LaterSource i j → FeedsHeld i j held' new
+    → IsAt start (scene (console s j o) x) new
 fed start s i j o x held held' new at whole input f = record {
   read = at.read ++ f.read;
   asked = at.asked;
   told = at.told;
-  consumed = Consumes-trans start.around.input.left i.left j.left at.read f.read at.consumed f.consumed;
+  consumed = Consumes-trans start.console.input.left i.left j.left at.read f.read at.consumed f.consumed;
   gives = subst (λ (l : List ℕ). GivesLines (at.read ++ f.read) at.asked l) (sym f.joined)
       (gives_more at.read held' f.read at.asked (whole at.read at.asked at.gives).0);
   goes_on = at.goes_on;
@@ -163,37 +163,37 @@ consumed_on : (a b c : Option (List ℕ)) (bs : List ℕ) → Consumes a b bs �
 consumed_on a b c bs h k = subst (λ (l : List ℕ). Consumes a c l) (append-nil bs) (Consumes-trans a b c bs [] h k)
 
 input_done : (start : Scene) (s : GrowthView) (i j : SourceView) (o : SinkView) (x : Session) (held held' : List ℕ)
-    → IsAt start (scene (around s i o) x) held → HasNone held held' → LaterSource i j → Consumes i.left j.left [] → IsAtEnd j.left
-    → ComesTo start (scene (around s j o) x) (Some end.InputEnded)
+    → IsAt start (scene (console s i o) x) held → HasNone held held' → LaterSource i j → Consumes i.left j.left [] → IsAtEnd j.left
+    → ComesTo start (scene (console s j o) x) (Some end.InputEnded)
 input_done start s i j o x held held' at whole input consumed ended = record {
   read = at.read;
   asked = at.asked;
   ignored = [];
   told = at.told;
-  reads = (consumed_on start.around.input.left i.left j.left at.read at.consumed consumed, (whole at.read at.asked at.gives).1 ∙ sym (append-nil at.asked));
+  reads = (consumed_on start.console.input.left i.left j.left at.read at.consumed consumed, (whole at.read at.asked at.gives).1 ∙ sym (append-nil at.asked));
   over = over_input start s i j o x at.asked at.told input at.over;
   written = at.written;
   ends = (at.goes_on, refl, ended);
 }
 
 input_failed : (start : Scene) (s : GrowthView) (i j : SourceView) (o : SinkView) (x : Session) (held held' : List ℕ)
-    → IsAt start (scene (around s i o) x) held → HasNone held held' → LaterSource i j → Consumes i.left j.left [] → SourceFailed i j
-    → ComesTo start (scene (around s j o) x) (Some end.NotRead)
+    → IsAt start (scene (console s i o) x) held → HasNone held held' → LaterSource i j → Consumes i.left j.left [] → SourceFailed i j
+    → ComesTo start (scene (console s j o) x) (Some end.NotRead)
 input_failed start s i j o x held held' at whole input consumed failed = record {
   read = at.read;
   asked = at.asked;
   ignored = [];
   told = at.told;
-  reads = (consumed_on start.around.input.left i.left j.left at.read at.consumed consumed, (whole at.read at.asked at.gives).1 ∙ sym (append-nil at.asked));
+  reads = (consumed_on start.console.input.left i.left j.left at.read at.consumed consumed, (whole at.read at.asked at.gives).1 ∙ sym (append-nil at.asked));
   over = over_input start s i j o x at.asked at.told input at.over;
   written = at.written;
-  ends = (at.goes_on, refl, source_then_failed start.around.input i j at.over.later.around.input failed);
+  ends = (at.goes_on, refl, source_then_failed start.console.input i j at.over.later.console.input failed);
 }
 
 -- a turn that reads
 pub read_turn : (start : Scene) (s : GrowthView) (i j : SourceView) (o : SinkView) (x : Session) (held held' new : List ℕ) (r : Turn)
-    → IsAt start (scene (around s i o) x) held → HasNone held held' → LaterSource i j → FeedsTalk i j held' new r
-    → Reaches start (scene (around s j o) x) new r
+    → IsAt start (scene (console s i o) x) held → HasNone held held' → LaterSource i j → FeedsTalk i j held' new r
+    → Reaches start (scene (console s j o) x) new r
 read_turn start s i j o x held held' new turn.On at whole input f = fed start s i j o x held held' new at whole input f
 read_turn start s i j o x held held' new (turn.End end.InputEnded) at whole input f = input_done start s i j o x held held' at whole input f.0 f.1
 read_turn start s i j o x held held' new (turn.End end.NotRead) at whole input f = input_failed start s i j o x held held' at whole input f.0 f.1
@@ -205,14 +205,14 @@ read_turn start s i j o x held held' new turn.NoMemory at whole input f = later_
 
 over_more : (start : Scene) (s t : GrowthView) (i : SourceView) (o p : SinkView) (x y : Session) (asked : List Line) (told : List (List ℕ)) (next : Line)
     (a : List ℕ)
-    → AllByRecursion KeepsTalking asked → LaterSink o p → TalksOver start (scene (around s i o) x) asked told → AnswersLine s t x y next a
-    → TalksOver start (scene (around t i p) y) (asked ++ next ∷ []) (told ++ a ∷ [])
+    → AllByRecursion KeepsTalking asked → LaterSink o p → TalksOver start (scene (console s i o) x) asked told → AnswersLine s t x y next a
+    → TalksOver start (scene (console t i p) y) (asked ++ next ∷ []) (told ++ a ∷ [])
 over_more start s t i o p x y asked told next a goes sink over answers = record {
   later = record {
-    around = record {
-      growth = growth_trans start.around.growth s t over.later.around.growth answers.growth;
-      input = over.later.around.input;
-      output = sink_trans start.around.output o p over.later.around.output sink;
+    console = record {
+      growth = growth_trans start.console.growth s t over.later.console.growth answers.growth;
+      input = over.later.console.input;
+      output = sink_trans start.console.output o p over.later.console.output sink;
     };
     session = session_trans start.session x y over.later.session answers.later;
   };
@@ -221,13 +221,13 @@ over_more start s t i o p x y asked told next a goes sink over answers = record 
       let after = answers.answers whole before.0 begins before.1 in (
         after.0,
         after.1,
-        more (talk_begun (history_of start.session.installer.list) start.around.growth) before.0 after.0 asked told next a before.2 goes after.2,
+        more (talk_begun (history_of start.session.installer.list) start.console.growth) before.0 after.0 asked told next a before.2 goes after.2,
       );
 }
 
 cut_by : (start : Scene) (s t : GrowthView) (i : SourceView) (o p : SinkView) (x y : Session) (held new : List ℕ) (next : Line) (a : List ℕ)
-    → IsAt start (scene (around s i o) x) held → IsNextLine held new next → AnswersLine s t x y next a → WritesAll o p a written.Cut
-    → ComesTo start (scene (around t i p) y) (Some end.NotWritten)
+    → IsAt start (scene (console s i o) x) held → IsNextLine held new next → AnswersLine s t x y next a → WritesAll o p a written.Cut
+    → ComesTo start (scene (console t i p) y) (Some end.NotWritten)
 cut_by start s t i o p x y held new next a at is answers h = record {
   read = at.read;
   asked = at.asked ++ next ∷ [];
@@ -240,16 +240,16 @@ cut_by start s t i o p x y held new next a at is answers h = record {
 }
 
 said_whole : (start : Scene) (o p : SinkView) (told : List (List ℕ)) (a : List ℕ)
-    → WritesAll start.around.output o (talk_text (history_of start.session.installer.list) told) written.Whole → WritesAll o p a written.Whole
-    → WritesAll start.around.output p (talk_text (history_of start.session.installer.list) (told ++ a ∷ [])) written.Whole
+    → WritesAll start.console.output o (talk_text (history_of start.session.installer.list) told) written.Whole → WritesAll o p a written.Whole
+    → WritesAll start.console.output p (talk_text (history_of start.session.installer.list) (told ++ a ∷ [])) written.Whole
 said_whole start o p told a g h =
-    as_text start.around.output p (talk_text (history_of start.session.installer.list) told ++ a)
+    as_text start.console.output p (talk_text (history_of start.session.installer.list) told ++ a)
     (talk_text (history_of start.session.installer.list) (told ++ a ∷ [])) written.Whole (text_more (history_of start.session.installer.list) told a)
-    (written_more start.around.output o p (talk_text (history_of start.session.installer.list) told) a g h)
+    (written_more start.console.output o p (talk_text (history_of start.session.installer.list) told) a g h)
 
 answered : (start : Scene) (s t : GrowthView) (i : SourceView) (o p : SinkView) (x y : Session) (held new : List ℕ) (next : Line) (a : List ℕ)
-    → KeepsTalking next → IsAt start (scene (around s i o) x) held → IsNextLine held new next → AnswersLine s t x y next a
-    → WritesAll o p a written.Whole → IsAt start (scene (around t i p) y) new
+    → KeepsTalking next → IsAt start (scene (console s i o) x) held → IsNextLine held new next → AnswersLine s t x y next a
+    → WritesAll o p a written.Whole → IsAt start (scene (console t i p) y) new
 answered start s t i o p x y held new next a goes at is answers h = record {
   read = at.read;
   asked = at.asked ++ next ∷ [];
@@ -262,8 +262,8 @@ answered start s t i o p x y held new next a goes at is answers h = record {
 }
 
 pub line_turn : (start : Scene) (s t : GrowthView) (i : SourceView) (o p : SinkView) (x y : Session) (held new : List ℕ) (next : Line) (a : List ℕ) (r : Turn)
-    → KeepsTalking next → IsAt start (scene (around s i o) x) held → IsNextLine held new next → AnswersLine s t x y next a → SaysText o p a r
-    → Reaches start (scene (around t i p) y) new r
+    → KeepsTalking next → IsAt start (scene (console s i o) x) held → IsNextLine held new next → AnswersLine s t x y next a → SaysText o p a r
+    → Reaches start (scene (console t i p) y) new r
 line_turn start s t i o p x y held new next a turn.On goes at is answers h = answered start s t i o p x y held new next a goes at is answers h
 line_turn start s t i o p x y held new next a (turn.End end.NotWritten) goes at is answers h = cut_by start s t i o p x y held new next a at is answers h
 line_turn start s t i o p x y held new next a (turn.End end.Quit) goes at is answers h = absurd h
@@ -273,8 +273,8 @@ line_turn start s t i o p x y held new next a turn.NoMemory goes at is answers h
 
 -- the last line
 quit_by : (start : Scene) (s : GrowthView) (i : SourceView) (o p : SinkView) (x : Session) (held new : List ℕ)
-    → IsAt start (scene (around s i o) x) held → IsNextLine held new line.Quit → AnswersLine s s x x line.Quit (reply_text said.Bye)
-    → WritesAll o p (reply_text said.Bye) written.Whole → ComesTo start (scene (around s i p) x) (Some end.Quit)
+    → IsAt start (scene (console s i o) x) held → IsNextLine held new line.Quit → AnswersLine s s x x line.Quit (reply_text said.Bye)
+    → WritesAll o p (reply_text said.Bye) written.Whole → ComesTo start (scene (console s i p) x) (Some end.Quit)
 quit_by start s i o p x held new at is answers h = record {
   read = at.read;
   asked = at.asked ++ line.Quit ∷ [];
@@ -289,8 +289,8 @@ quit_by start s i o p x held new at is answers h = record {
 }
 
 pub quit_turn : (start : Scene) (s : GrowthView) (i : SourceView) (o p : SinkView) (x : Session) (held new : List ℕ) (ended : TalkEnd)
-    → IsAt start (scene (around s i o) x) held → IsNextLine held new line.Quit → AnswersLine s s x x line.Quit (reply_text said.Bye)
-    → SaysBye o p ended → Reaches start (scene (around s i p) x) new (turn.End ended)
+    → IsAt start (scene (console s i o) x) held → IsNextLine held new line.Quit → AnswersLine s s x x line.Quit (reply_text said.Bye)
+    → SaysBye o p ended → Reaches start (scene (console s i p) x) new (turn.End ended)
 quit_turn start s i o p x held new end.Quit at is answers h = quit_by start s i o p x held new at is answers h
 quit_turn start s i o p x held new end.NotWritten at is answers h = cut_by start s s i o p x x held new line.Quit (reply_text said.Bye) at is answers h
 quit_turn start s i o p x held new end.InputEnded at is answers h = absurd h

@@ -1,46 +1,39 @@
 -- What the console of a server makes of all that it was lent, beside the workers.
 use Rattle.std.specs.Prelude.{◌≡◌, ℕ, Option}
-use Rattle.td_top.specs.Setting.{Around}
+use Rattle.td_base.specs.Views.{SinkView, SourceView}
+use Rattle.td_top.specs.Growth.{GrowthView}
+use Rattle.td_top.specs.Site.{console}
 use Rattle.td_top.specs.Talking.{ComesTo, Scene, scene}
-use Rattle.td_top.specs.declared.session.Session.{Session}
+use Rattle.td_top.specs.declared.console_beside.Console.{Console}
 use Rattle.td_top.specs.declared.talking.TalkEnd.{TalkEnd}
 
--- which objects were lent
-pub record Lent : Type 0 where
-  pub session : ℕ
-  pub end : ℕ
-  pub growth : ℕ
-  pub input : ℕ
-  pub output : ℕ
-
-abbrev pub lent : ℕ → ℕ → ℕ → ℕ → ℕ → Lent
-lent session end growth input output = record {
-  session = session;
-  end = end;
-  growth = growth;
-  input = input;
-  output = output;
-}
-
 -- a console: what it talks over, how its talk ended, if it did and memory served, and which objects
--- it was lent
-pub record ConsoleView : Type 0 where
+-- it was lent: a session, an end, what the history grows by, an input and an output
+pub record BesideView : Type 0 where
   pub scene : Scene
   pub end : Option TalkEnd
-  pub lent : Lent
+  pub lent : ℕ × ℕ × ℕ × ℕ × ℕ
 
-abbrev pub console_view : Around → Session → Option TalkEnd → Lent → ConsoleView
-console_view around session end objects = record {
-  scene = scene around session;
-  end = end;
-  lent = objects;
+abbrev pub beside_of : {G C K : Type 0} → (G → GrowthView) → (C → SourceView) → (K → SinkView)
+    → Console G C K → BesideView
+beside_of growth input output c = record {
+  scene = scene (console (growth c.growth.now) (input c.input.now) (output c.output.now))
+      c.session.now;
+  end = c.end.now;
+  lent = (
+    c.session.ghost_name,
+    c.end.ghost_name,
+    c.growth.ghost_name,
+    c.input.ghost_name,
+    c.output.ghost_name,
+  );
 }
 
 -- the talk came to its end, if memory did not run out, over the same objects
-pub record Ran (before now : ConsoleView) : Type 0 where
+pub record Ran (before now : BesideView) : Type 0 where
   pub talk : ComesTo before.scene now.scene now.end
   pub lent : now.lent ≡ before.lent
 
 -- the flag was raised, and nothing else was done
-abbrev pub Halted : ConsoleView → ConsoleView → Type 0
+abbrev pub Halted : BesideView → BesideView → Type 0
 Halted before now = now ≡ before

@@ -1,5 +1,6 @@
 -- What publishing what a mirror states comes to.
 use Rattle.std.specs.Prelude.{◌≡◌, ◌≢◌, ℕ, List, [], ◌∷◌, Option, Result, Ok, Err}
+use Rattle.td_base.specs.Upstreams.{UpstreamView}
 use Rattle.catalogue.specs.Holdings.{history_of}
 use Rattle.catalogue.specs.Releases.{ReleaseData}
 use Rattle.catalogue.specs.declared.holding.Catalogue.{Catalogue}
@@ -9,9 +10,15 @@ use Rattle.release_check.specs.declared.check_fault.CheckFault.TheVariants as fa
 use Rattle.sync_core.specs.Mirrors.{MirrorState}
 use Rattle.td_top.specs.Folders.{IsOfFiles}
 use Rattle.td_top.specs.Following.{SaysStated, StatesAfter}
+use Rattle.td_top.specs.Growth.{GrowthView, following}
 use Rattle.td_top.specs.Sessions.{LaterSession}
 use Rattle.td_top.specs.Talk.{with_joined}
+use Rattle.td_top.specs.declared.following.Follow.{Follow}
 use Rattle.td_top.specs.declared.session.Session.{Session}
+
+-- what is seen of a mirror, and of the server that it follows
+abbrev pub follow_of : {U : Type 0} → (U → UpstreamView) → Follow U → GrowthView
+follow_of upstream f = following f.host.now f.mirror (upstream f.upstream)
 
 -- what the mirror states was published as a first release, or it was not
 abbrev pub OpensStated : MirrorState → Result (List (Catalogue (List ℕ))) InstallFault → Type 0

@@ -12,7 +12,7 @@ pub mod Opening
 pub mod Replies
 pub mod Following
 pub mod Growth
-pub mod Setting
+pub mod Site
 pub mod Talk
 pub mod Sessions
 pub mod Talking

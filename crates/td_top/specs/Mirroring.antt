@@ -19,7 +19,7 @@ use Rattle.td_top.specs.MirrorHistory.{FollowsPrimary}
 use Rattle.td_top.specs.Outside.{LeavesStreams, World}
 use Rattle.td_top.specs.Printing.{Printed, refused_line}
 use Rattle.td_top.specs.Server.{CalledTold, OpenedEnds}
-use Rattle.td_top.specs.Setting.{set_in}
+use Rattle.td_top.specs.Site.{site_in}
 use Rattle.td_top.specs.declared.status.Status.{Status}
 use Rattle.td_top.specs.declared.status.Status.TheVariants as status
 
@@ -57,8 +57,8 @@ pub data Mirrors (address : List ℕ) (workers : ℕ) (upstream : List ℕ) (bef
       → ReachesServer before.network reached upstream first
       → SyncsAs upstream empty_mirror s first ready (Ok tt) → StatesAfter [] s (Ok r)
       → OpenedEnds (role.Secondary upstream) address workers (r ∷ [])
-      (set_in (following upstream s ready) (record before { network = reached }))
-      (set_in (following upstream t last) after) history doors end
+      (site_in (following upstream s ready) (record before { network = reached }))
+      (site_in (following upstream t last) after) history doors end
       → FollowsPrimary upstream first last history
       → Mirrors address workers upstream before after doors (Some last) end
   -- what the mirror stated was refused

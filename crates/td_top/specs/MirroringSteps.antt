@@ -15,22 +15,22 @@ use Rattle.td_top.specs.Following.{StatesAfter, SyncsAs}
 use Rattle.td_top.specs.Growth.{following}
 use Rattle.td_top.specs.Printing.{Printed, refused_line}
 use Rattle.td_top.specs.Server.{OpenedEnds}
-use Rattle.td_top.specs.Setting.{LaterSetting, Setting}
+use Rattle.td_top.specs.Site.{LaterSite, SiteView}
 use Rattle.td_top.specs.declared.status.Status.{Status}
 use Rattle.td_top.specs.declared.status.Status.TheVariants as status
 
 -- a refusal was printed, and nothing else was done since the mirror synced
-pub record TellsWhy (called : Status) (why : List ℕ) (before after : Setting) (end : Status)
+pub record TellsWhy (called : Status) (why : List ℕ) (before after : SiteView) (end : Status)
     : Type 0 where
-  pub printed : Printed called (refused_line why) before.around.output after.around.output end
-  pub growth : after.around.growth ≡ before.around.growth
-  pub input : after.around.input ≡ before.around.input
+  pub printed : Printed called (refused_line why) before.console.output after.console.output end
+  pub growth : after.console.growth ≡ before.console.growth
+  pub input : after.console.input ≡ before.console.input
   pub network : after.network ≡ before.network
   pub spawner : after.spawner ≡ before.spawner
 
 -- what a settled mirror states was published and served, or refused
 pub data StatedEnds (host address : List ℕ) (workers : ℕ) (s : MirrorState)
-    (before after : Setting) : List DoorView → Status → Type 0 where
+    (before after : SiteView) : List DoorView → Status → Type 0 where
   opened : (r : ReleaseData) (history : List ReleaseData) (doors : List DoorView) (end : Status)
       → StatesAfter [] s (Ok r)
       → OpenedEnds (role.Secondary host) address workers (r ∷ []) before after history doors end
@@ -41,29 +41,29 @@ pub data StatedEnds (host address : List ℕ) (workers : ℕ) (s : MirrorState)
   out_of_memory : StatedEnds host address workers s before after [] status.NoMemory
 
 pub record ServesStated (host address : List ℕ) (workers : ℕ) (s : MirrorState)
-    (before after : Setting) (doors : List DoorView) (is : Status) : Type 0 where
-  pub later : LaterSetting before after
+    (before after : SiteView) (doors : List DoorView) (is : Status) : Type 0 where
+  pub later : LaterSite before after
   pub ends : StatedEnds host address workers s before after doors is
 
 -- the mirror was synced for the first time, and what it states was served, or the sync's fault told
 pub data FollowEnds (host address : List ℕ) (workers : ℕ) (s : MirrorState) (first : UpstreamView)
-    (before after : Setting) : List DoorView → Status → Type 0 where
+    (before after : SiteView) : List DoorView → Status → Type 0 where
   settled : (t : MirrorState) (ready : UpstreamView) (doors : List DoorView) (end : Status)
       → SyncsAs host s t first ready (Ok tt)
       → StatedEnds host address workers t
-      (record before { around = record before.around { growth = following host t ready } }) after
+      (record before { console = record before.console { growth = following host t ready } }) after
       doors end
       → FollowEnds host address workers s first before after doors end
   not_synced : (t : MirrorState) (last : UpstreamView) (e : SyncFault) (end : Status)
       → SyncsAs host s t first last (Err e) → e ≢ sync.NoMemory
       → TellsWhy status.NotSynced (sync_text e)
-      (record before { around = record before.around { growth = following host t last } }) after
+      (record before { console = record before.console { growth = following host t last } }) after
       end
       → FollowEnds host address workers s first before after [] end
   out_of_memory : FollowEnds host address workers s first before after [] status.NoMemory
 
 pub record FollowsOn (host address : List ℕ) (workers : ℕ) (s : MirrorState)
-    (first : UpstreamView) (before after : Setting) (doors : List DoorView) (is : Status)
+    (first : UpstreamView) (before after : SiteView) (doors : List DoorView) (is : Status)
     : Type 0 where
-  pub later : LaterSetting before after
+  pub later : LaterSite before after
   pub ends : FollowEnds host address workers s first before after doors is

@@ -15,7 +15,7 @@ use Rattle.connection.specs.declared.door_work.TheConstants.{MOST_FAILURES}
 use Rattle.td_top.specs.Folders.{FoldersGive, ServesNothing}
 use Rattle.td_top.specs.Growth.{folders}
 use Rattle.td_top.specs.Outside.{IsAlone, World}
-use Rattle.td_top.specs.Setting.{Setting, set_in}
+use Rattle.td_top.specs.Site.{SiteView, site_in}
 use Rattle.td_top.specs.Talking.{AnswersOperator}
 use Rattle.td_top.specs.declared.status.Status.{Status}
 use Rattle.td_top.specs.declared.status.Status.TheVariants as status
@@ -101,24 +101,24 @@ status_for talk.NotWritten worn = status.NotWritten
 
 -- how serving doors ends, after an opening, with the history of the run, which begins with that
 pub data OpenedEnds (server : Role) (address : List ℕ) (workers : ℕ) (opening : List ReleaseData)
-    (before after : Setting) : List ReleaseData → List DoorView → Status → Type 0 where
+    (before after : SiteView) : List ReleaseData → List DoorView → Status → Type 0 where
   -- with the end of the talk, once the workers were done: the doors that the network gave were
   -- served over the history of the run, which grows by the releases that came of the operator's
   -- lines
   served : (history : List ReleaseData) (given doors : List DoorView) (ended : TalkEnd)
       (worn : Bool)
-      → AnswersOperator opening history before.around after.around ended
+      → AnswersOperator opening history before.console after.console ended
       → OpensDoors before.network after.network address workers given
       → ServesDoors server history given doors worn
       → OpenedEnds server address workers opening before after history doors
       (status_for ended worn)
   -- before anything was read or written, because the network failed
-  no_network : after.around ≡ before.around
+  no_network : after.console ≡ before.console
       → CalledTold before.network.content after.network.content
       → Rose before.network.faults after.network.faults
       → OpenedEnds server address workers opening before after opening [] status.NoNetwork
   -- before anything was read or written, because a worker was not started
-  not_started : (given : List DoorView) → after.around ≡ before.around
+  not_started : (given : List DoorView) → after.console ≡ before.console
       → OpensDoors before.network after.network address workers given
       → Rose before.spawner after.spawner
       → OpenedEnds server address workers opening before after opening [] status.NotStarted
@@ -133,8 +133,8 @@ pub data Serves (address : List ℕ) (workers : ℕ) (dirs : List (List ℕ)) (b
       (end : Status)
       → FoldersGive before.outside.store.files dirs opening
       → LaterStore before.outside.store ready
-      → OpenedEnds role.Primary address workers opening (set_in (folders ready) before)
-      (set_in (folders after.outside.store) after) history doors end
+      → OpenedEnds role.Primary address workers opening (site_in (folders ready) before)
+      (site_in (folders after.outside.store) after) history doors end
       → Serves address workers dirs before after doors end
   nothing : (end : Status) → ServesNothing dirs before.outside after.outside end
       → IsAlone before after → Serves address workers dirs before after [] end

@@ -2,15 +2,15 @@
 use Rattle.std.specs.Prelude.{◌≡◌, ℕ, ◌≤◌, List, [], ◌⊎◌}
 use Rattle.std.specs.List.{list_any}
 use mathlib.Core.List.{IsPrefix}
-use Rattle.td_base.specs.DoorViews.{DoorView}
+use Rattle.td_base.specs.DoorViews.{DoorView, NetworkView}
 use Rattle.td_base.specs.declared.report.Role.{Role}
 use Rattle.catalogue.specs.Releases.{ReleaseData}
 use Rattle.connection.specs.DoorWorks.{WorkView}
 use Rattle.connection.specs.declared.door_work.DoorDone.{DoorDone}
 use Rattle.catalogue.specs.Holdings.{history_of}
-use Rattle.td_top.specs.Server.{OpenedEnds, status_for}
-use Rattle.td_top.specs.Setting.{Around, LaterAround, LaterSetting, Setting}
-use Rattle.td_top.specs.Works.{AreWorks, Learnt, WorksEnd}
+use Rattle.td_top.specs.Server.{OpenedEnds, OpensDoors, status_for}
+use Rattle.td_top.specs.Site.{ConsoleView, LaterSite, SiteView, site}
+use Rattle.td_top.specs.Works.{AreWorks, Learnt}
 use Rattle.td_top.specs.declared.session.Session.{Session}
 use Rattle.td_top.specs.declared.status.Status.{Status}
 use Rattle.td_top.specs.declared.status.Status.TheVariants as status
@@ -29,20 +29,20 @@ abbrev pub Concludes : {D C : Type 0} → Session → List (DoorDone D C) → Ta
 Concludes session dones end doors is =
     LearntAll session dones end doors is ⊎ ((is ≡ status.NoMemory) × (doors ≡ []))
 
--- doors were served beside a talk over a session
-pub record ServesBeside (session : Session) (works : List WorkView) (before after : Around)
-    (refusals refusals' : ℕ) (doors : List DoorView) (is : Status) : Type 0 where
-  pub later : LaterAround before after
-  pub starting : refusals ≤ refusals'
-  pub ends : (server : Role) (given : List DoorView)
-      → AreWorks server session.installer.pair given works
-      → WorksEnd server (history_of session.installer.list) given before after refusals refusals'
-      doors is
-
 -- the doors of an address were served by such a server, after an opening
 pub record ServesOpened (server : Role) (address : List ℕ) (workers : ℕ)
-    (opening : List ReleaseData) (before after : Setting) (doors : List DoorView) (is : Status)
+    (opening : List ReleaseData) (before after : SiteView) (doors : List DoorView) (is : Status)
     : Type 0 where
-  pub later : LaterSetting before after
+  pub later : LaterSite before after
   pub history : List ReleaseData
   pub ends : OpenedEnds server address workers opening before after history doors is
+
+-- doors were served beside a talk over a session: whatever call of the network gave them, this is
+-- how serving them as any server ended
+pub record ServesBeside (session : Session) (works : List WorkView) (before after : ConsoleView)
+    (refusals refusals' : ℕ) (doors : List DoorView) (is : Status) : Type 0 where
+  pub serves : (server : Role) (address : List ℕ) (workers : ℕ) (given : List DoorView)
+      (asked called : NetworkView) → OpensDoors asked called address workers given
+      → asked.faults ≤ called.faults → AreWorks server session.installer.pair given works
+      → ServesOpened server address workers (history_of session.installer.list)
+      (site before asked refusals) (site after called refusals') doors is

@@ -15,7 +15,7 @@ use Rattle.console.specs.declared.said.Said.TheVariants as said
 use Rattle.catalogue.specs.Holdings.{history_of}
 use Rattle.td_top.specs.Replies.{last_token}
 use Rattle.td_top.specs.Sessions.{BeginsWhole, LaterSession, StandsAt}
-use Rattle.td_top.specs.Setting.{Around, LaterAround}
+use Rattle.td_top.specs.Site.{ConsoleView, LaterConsole}
 use Rattle.td_top.specs.Talk.{KeepsTalking, Talk, Talks, talk_begun}
 use Rattle.td_top.specs.declared.session.Session.{Session}
 use Rattle.td_top.specs.declared.talking.TalkEnd.{TalkEnd}
@@ -23,15 +23,15 @@ use Rattle.td_top.specs.declared.talking.TalkEnd.TheVariants as end
 
 -- a talk's moment: what it is over, and what the console publishes with and shows
 pub record Scene : Type 0 where
-  pub around : Around
+  pub console : ConsoleView
   pub session : Session
 
-abbrev pub scene : Around → Session → Scene
-scene around session = record { around = around; session = session }
+abbrev pub scene : ConsoleView → Session → Scene
+scene console session = record { console = console; session = session }
 
 -- any calls were made
 pub record LaterScene (before now : Scene) : Type 0 where
-  pub around : LaterAround before.around now.around
+  pub console : LaterConsole before.console now.console
   pub session : LaterSession before.session now.session
 
 -- all that is said: that the server is ready, and what each line gets said
@@ -44,9 +44,9 @@ pub record TalksOver (before now : Scene) (asked : List Line) (told : List (List
     : Type 0 where
   pub later : LaterScene before now
   pub talks : (whole : List ReleaseData) → BeginsWhole now.session whole
-      → (t : Talk) × StandsAt now.around.growth now.session t
+      → (t : Talk) × StandsAt now.console.growth now.session t
       × Talks whole
-      (talk_begun (history_of before.session.installer.list) before.around.growth) asked told t
+      (talk_begun (history_of before.session.installer.list) before.console.growth) asked told t
 
 -- the first of the lines in the bytes that were read
 abbrev pub ReadsLines : SourceView → SourceView → List ℕ → List Line → List Line → Type 0
@@ -55,7 +55,7 @@ ReadsLines before now read asked ignored =
 
 -- why a talk ended: the last line asked for it; the input ended, or a read of it failed, after all
 -- its lines, none of which asked for the end; or a write failed
-abbrev pub EndsBy : Around → Around → List Line → List Line → TalkEnd → Type 0
+abbrev pub EndsBy : ConsoleView → ConsoleView → List Line → List Line → TalkEnd → Type 0
 EndsBy before now asked ignored end.Quit =
     (first : List Line) × (asked ≡ first ++ line.Quit ∷ [])
 EndsBy before now asked ignored end.InputEnded =
@@ -90,11 +90,11 @@ pub record Talked (before now : Scene) (ended : TalkEnd) : Type 0 where
   pub asked : List Line
   pub ignored : List Line
   pub told : List (List ℕ)
-  pub reads : ReadsLines before.around.input now.around.input read asked ignored
+  pub reads : ReadsLines before.console.input now.console.input read asked ignored
   pub over : TalksOver before now asked told
   pub written : WritesTalk ended (history_of before.session.installer.list)
-      before.around.output now.around.output told
-  pub ends : EndsBy before.around now.around asked ignored ended
+      before.console.output now.console.output told
+  pub ends : EndsBy before.console now.console asked ignored ended
 
 -- what a talk came to: an end, or memory ran out, and then nothing is said but what any calls do
 abbrev pub ComesTo : Scene → Scene → Option TalkEnd → Type 0
@@ -106,16 +106,16 @@ pub record IsAt (before now : Scene) (held : List ℕ) : Type 0 where
   pub read : List ℕ
   pub asked : List Line
   pub told : List (List ℕ)
-  pub consumed : Consumes before.around.input.left now.around.input.left read
+  pub consumed : Consumes before.console.input.left now.console.input.left read
   pub gives : GivesLines read asked held
   pub goes_on : AllByRecursion KeepsTalking asked
   pub over : TalksOver before now asked told
-  pub written : WritesAll before.around.output now.around.output
+  pub written : WritesAll before.console.output now.console.output
       (talk_text (history_of before.session.installer.list) told) written.Whole
 
 -- An operator's lines were answered, while the history of the run grew from its opening: the lines
 -- stand in the bytes that were read, in order and up to an end, and what they got said was written.
-pub record AnswersOperator (opening whole : List ReleaseData) (before now : Around)
+pub record AnswersOperator (opening whole : List ReleaseData) (before now : ConsoleView)
     (ended : TalkEnd) : Type 0 where
   pub read : List ℕ
   pub asked : List Line

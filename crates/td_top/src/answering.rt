@@ -66,6 +66,7 @@ fn end_history<R: Wait>(
     ensures { IfOk result (λ p. (p.1.seen ≡ session.installer.list) × (p.1.ended ≡ true)) }
 {
     let Session {
+        alloc: _,
         installer,
         mut desk,
     } = session;

@@ -8,7 +8,6 @@ use crate::operator::newest;
 use crate::replies::Reply;
 use crate::session::Session;
 use console::{Line, Said};
-use std::alloc::Global;
 use std::sync::Wait;
 use td_base::{Bytes, Store};
 
@@ -16,33 +15,21 @@ use td_base::{Bytes, Store};
 impl<S: Store> Growth for S {
     ghost seen = { λ store. folders (S.seen store) };
 
-    fn grow<R: Wait>(
-        &mut self,
-        rt: &R,
-        alloc: Global,
-        session: &mut Session,
-        line: &Line,
-    ) -> Option<Reply> {
+    fn grow<R: Wait>(&mut self, rt: &R, session: &mut Session, line: &Line) -> Option<Reply> {
         match line {
-            Line::Install(dir) => Some(install(rt, alloc, session, self, dir)),
+            Line::Install(dir) => Some(install(rt, session, self, dir)),
             Line::Sync | Line::Status | Line::Quit | Line::Strange => None,
         }
     }
 }
 
 /// Installs the release of a folder.
-fn install<R: Wait, S: Store>(
-    rt: &R,
-    alloc: Global,
-    session: &mut Session,
-    store: &mut S,
-    dir: &Bytes,
-) -> Reply
+fn install<R: Wait, S: Store>(rt: &R, session: &mut Session, store: &mut S, dir: &Bytes) -> Reply
     ensures { AnswersLine (folders (S.seen store.old)) (folders (S.seen store.new)) session.old
         session.new (Line.Install dir.now) (reply_bytes result) }
 {
-    match session.install(rt, alloc, dir.as_slice(), store) {
+    match session.install(rt, dir.as_slice(), store) {
         Ok(()) => Reply::brief(&Said::Installed(newest(&session.installer))),
-        Err(fault) => Reply::refusal(alloc, &fault),
+        Err(fault) => Reply::refusal(session.alloc, &fault),
     }
 }

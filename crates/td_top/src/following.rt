@@ -3,8 +3,7 @@ ghost use Rattle.catalogue.specs.Holdings.{history_of};
 ghost use Rattle.sync_core.specs.Mirrors.{MirrorState};
 ghost use Rattle.sync_core.specs.Published.{HasFiles, manifest_of};
 ghost use Rattle.td_top.specs.Following.{StatesLast};
-ghost use Rattle.td_top.specs.FollowingSteps.{OpensStated, PublishesStated};
-ghost use Rattle.td_top.specs.Growth.{following};
+ghost use Rattle.td_top.specs.FollowingSteps.{OpensStated, PublishesStated, follow_of};
 ghost use Rattle.td_top.specs.Opening.{HasDesks, published_in};
 ghost use Rattle.td_top.specs.Replies.{reply_bytes};
 ghost use Rattle.td_top.specs.Sessions.{AnswersLine};
@@ -32,17 +31,11 @@ pub struct Follow<'h, U: Upstream> {
 
 /// A mirror's history grows by what the other server is heard to have.
 impl<'h, U: Upstream> Growth for Follow<'h, U> {
-    ghost seen = { λ f. following f.host.now f.mirror (U.seen f.upstream) };
+    ghost seen = { follow_of U.seen };
 
-    fn grow<R: Wait>(
-        &mut self,
-        rt: &R,
-        alloc: Global,
-        session: &mut Session,
-        line: &Line,
-    ) -> Option<Reply> {
+    fn grow<R: Wait>(&mut self, rt: &R, session: &mut Session, line: &Line) -> Option<Reply> {
         match line {
-            Line::Sync => Some(sync_once(rt, alloc, session, self)),
+            Line::Sync => Some(sync_once(rt, session, self)),
             Line::Install(_) | Line::Status | Line::Quit | Line::Strange => None,
         }
     }
@@ -51,29 +44,28 @@ impl<'h, U: Upstream> Growth for Follow<'h, U> {
 /// Syncs, and publishes what the mirror states, where that is another release than the last.
 fn sync_once<R: Wait, U: Upstream>(
     rt: &R,
-    alloc: Global,
     session: &mut Session,
     follow: &mut Follow<'_, U>,
 ) -> Reply
     ensures { AnswersLine
-        (following follow.old.host.now follow.old.mirror (U.seen follow.old.upstream))
-        (following follow.new.host.now follow.new.mirror (U.seen follow.new.upstream))
-        session.old session.new Line.Sync (reply_bytes result) }
+        (follow_of U.seen follow.old) (follow_of U.seen follow.new) session.old session.new
+        Line.Sync (reply_bytes result) }
 {
+    let alloc = session.alloc;
     match sync(alloc, &mut follow.mirror, follow.host, &mut follow.upstream) {
-        Ok(()) => publish(rt, alloc, session, &follow.mirror),
+        Ok(()) => publish(rt, session, &follow.mirror),
         Err(fault) => Reply::sync_refusal(alloc, &fault),
     }
 }
 
 /// Publishes what the mirror states, where that is another release than the last, and gives what is
 /// said of it.
-fn publish<R: Wait>(rt: &R, alloc: Global, session: &mut Session, mirror: &Mirror) -> Reply
+fn publish<R: Wait>(rt: &R, session: &mut Session, mirror: &Mirror) -> Reply
     requires { mirror.now.pending ≡ [] }
     ensures { PublishesStated mirror.now session.old session.new (reply_bytes result) }
 {
-    match mirror.manifest(alloc) {
-        Ok((manifest, mut store)) => publish_stated(rt, alloc, session, &manifest, &mut store),
+    match mirror.manifest(session.alloc) {
+        Ok((manifest, mut store)) => publish_stated(rt, session, &manifest, &mut store),
         Err(NoMemory) => Reply::brief(&Said::NoMemory),
     }
 }
@@ -81,7 +73,6 @@ fn publish<R: Wait>(rt: &R, alloc: Global, session: &mut Session, mirror: &Mirro
 /// The same of a manifest and its files.
 fn publish_stated<R: Wait>(
     rt: &R,
-    alloc: Global,
     session: &mut Session,
     manifest: &Manifest,
     store: &mut MemoryStore,
@@ -89,9 +80,10 @@ fn publish_stated<R: Wait>(
     ensures { (s : MirrorState) → manifest.now ≡ manifest_of s → HasFiles store.old s.files
         → PublishesStated s session.old session.new (reply_bytes result) }
 {
+    let alloc = session.alloc;
     match session.installer.serves(alloc, manifest, store) {
         Ok(true) => Reply::brief(&Said::Unchanged(newest(&session.installer))),
-        Ok(false) => install(rt, alloc, session, manifest, store),
+        Ok(false) => install(rt, session, manifest, store),
         Err(fault) => Reply::refusal(alloc, &fault),
     }
 }
@@ -99,7 +91,6 @@ fn publish_stated<R: Wait>(
 /// Publishes the release of a manifest and its files, which is not the last.
 fn install<R: Wait>(
     rt: &R,
-    alloc: Global,
     session: &mut Session,
     manifest: &Manifest,
     store: &mut MemoryStore,
@@ -108,9 +99,9 @@ fn install<R: Wait>(
         → (StatesLast (history_of session.old.installer.list) s → ⊥)
         → PublishesStated s session.old session.new (reply_bytes result) }
 {
-    match session.install_stated(rt, alloc, manifest, store) {
+    match session.install_stated(rt, manifest, store) {
         Ok(()) => Reply::brief(&Said::Installed(newest(&session.installer))),
-        Err(fault) => Reply::refusal(alloc, &fault),
+        Err(fault) => Reply::refusal(session.alloc, &fault),
     }
 }
 
@@ -137,7 +128,11 @@ pub fn open_stated<R: Wait>(
     )?;
     let desk = desks.pop().unwrap();
     Ok(Opened {
-        session: Session { installer, desk },
+        session: Session {
+            alloc,
+            installer,
+            desk,
+        },
         desks,
     })
 }

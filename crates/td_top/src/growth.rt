@@ -6,7 +6,6 @@ ghost use Rattle.td_top.specs.Sessions.{AnswersLine};
 use crate::replies::Reply;
 use crate::session::Session;
 use console::Line;
-use std::alloc::Global;
 use std::sync::Wait;
 
 /// What a history grows by while it is served: the folders of a store, or a mirror.
@@ -15,13 +14,7 @@ pub trait Growth {
 
     /// Does what a line asks for, where it is one that makes the history grow, and gives the reply
     /// to it.
-    fn grow<R: Wait>(
-        &mut self,
-        rt: &R,
-        alloc: Global,
-        session: &mut Session,
-        line: &Line,
-    ) -> Option<Reply>
+    fn grow<R: Wait>(&mut self, rt: &R, session: &mut Session, line: &Line) -> Option<Reply>
         ensures done { IfSome result (λ reply. AnswersLine (seen self.old) (seen self.new)
             session.old session.new line.now (reply_bytes reply)) }
         ensures other { result ≡ None → Grows (seen self.old) line.now → ⊥ }

@@ -3,10 +3,11 @@
 //! `RunEnds` of `specs/Running.antt`.
 #![tactic(auto)]
 
-// A run: its words, and how it ends.
+// A run: its words, what it is lent, and how it ends.
 mod command;
 mod outcome;
 mod running;
+mod site;
 mod status;
 
 // Texts that end a run.

@@ -3,18 +3,18 @@ ghost use Rattle.std.specs.Option.{option_map};
 ghost use Rattle.td_base.specs.Names.{IsPlain};
 ghost use Rattle.td_base.specs.Views.{StoreView};
 ghost use Rattle.td_top.specs.Grammar.{mirror};
-ghost use Rattle.td_top.specs.Growth.{following};
+ghost use Rattle.td_top.specs.FollowingSteps.{follow_of};
 ghost use Rattle.td_top.specs.MirroringSteps.{FollowsOn, ServesStated};
-ghost use Rattle.td_top.specs.Outside.{outside, world};
 ghost use Rattle.td_top.specs.Running.{RunEndsLater};
-ghost use Rattle.td_top.specs.Setting.{around, setting};
+ghost use Rattle.td_top.specs.Site.{site_names, site_of, world_of};
 ghost use Rattle.td_top.specs.Tells.{RefusesSync};
 
 use crate::following::{Follow, open_stated};
 use crate::outcome::{Ending, Served};
 use crate::printing::refuse_shown;
 use crate::refusing::refuse_install;
-use crate::server::serve_opened;
+use crate::server::{Serving, serve_opened};
+use crate::site::Site;
 use crate::status::Status;
 use mirror::{SyncFault, sync};
 use mirror_world::{histories_go_on, mirrors_hold_in_turn, releases_are_held};
@@ -33,10 +33,7 @@ pub fn mirror_server<R, C, K, N, W>(
     address: &[u8],
     workers: u32,
     upstream: &[u8],
-    input: &mut C,
-    output: &mut K,
-    net: &mut N,
-    spawner: &mut W,
+    site: &mut Site<'_, C, K, N, W>,
 ) -> Ending<N::Door, N::Up>
 where
     R: Threads + Wait + Copy + Send + 'static,
@@ -48,36 +45,25 @@ where
     W: Spawner,
     requires workers { workers ≤ 64 }
     requires plain { IsPlain upstream.now }
+    ensures kept { site_names site.new ≡ site_names site.old }
     // The store, whatever it is, is left alone.
-    ensures { (store : StoreView) → RunEndsLater
+    ensures ends { (store : StoreView) → RunEndsLater
         (Some (mirror address.now workers upstream.now))
-        (world (outside store (C.seen input.old) (K.seen output.old))
-        (N.seen net.old) (W.faults spawner.old))
-        (world (outside store (C.seen input.new) (K.seen output.new))
-        (N.seen net.new) (W.faults spawner.new))
+        (world_of store C.seen K.seen N.seen W.faults site.old)
+        (world_of store C.seen K.seen N.seen W.faults site.new)
         (map N.Door.seen result.doors.items) (option_map N.Up.seen result.up) result.status }
 {
     mirrors_hold_in_turn();
     histories_go_on();
     releases_are_held();
-    match net.upstream(alloc, upstream) {
+    match site.net.upstream(alloc, upstream) {
         Made::Given(server) => {
             let mut follow = Follow {
                 mirror: Mirror::empty(alloc),
                 host: upstream,
                 upstream: server,
             };
-            let served = follow_on(
-                rt,
-                alloc,
-                address,
-                workers,
-                &mut follow,
-                input,
-                output,
-                net,
-                spawner,
-            );
+            let served = follow_on(rt, alloc, address, workers, &mut follow, site);
             let Follow {
                 mirror: _,
                 host: _,
@@ -97,10 +83,7 @@ fn follow_on<R, U, C, K, N, W>(
     address: &[u8],
     workers: u32,
     follow: &mut Follow<'_, U>,
-    input: &mut C,
-    output: &mut K,
-    net: &mut N,
-    spawner: &mut W,
+    site: &mut Site<'_, C, K, N, W>,
 ) -> Served<N::Door>
 where
     R: Threads + Wait + Copy + Send + 'static,
@@ -113,21 +96,16 @@ where
     W: Spawner,
     requires workers { workers ≤ 64 }
     requires plain { IsPlain follow.old.host.now }
-    ensures { FollowsOn follow.old.host.now address.now workers follow.old.mirror
+    ensures kept { site_names site.new ≡ site_names site.old }
+    ensures ends { FollowsOn follow.old.host.now address.now workers follow.old.mirror
         (U.seen follow.old.upstream)
-        (setting (around (following follow.old.host.now follow.old.mirror
-        (U.seen follow.old.upstream)) (C.seen input.old) (K.seen output.old))
-        (N.seen net.old) (W.faults spawner.old))
-        (setting (around (following follow.new.host.now follow.new.mirror
-        (U.seen follow.new.upstream)) (C.seen input.new) (K.seen output.new))
-        (N.seen net.new) (W.faults spawner.new))
+        (site_of (follow_of U.seen follow.old) C.seen K.seen N.seen W.faults site.old)
+        (site_of (follow_of U.seen follow.new) C.seen K.seen N.seen W.faults site.new)
         (map N.Door.seen result.doors.items) result.status }
 {
     match sync(alloc, &mut follow.mirror, follow.host, &mut follow.upstream) {
-        Ok(()) => serve_stated(
-            rt, alloc, address, workers, follow, input, output, net, spawner,
-        ),
-        Err(fault) => Served::closed(alloc, refuse_sync(alloc, &fault, output)),
+        Ok(()) => serve_stated(rt, alloc, address, workers, follow, site),
+        Err(fault) => Served::closed(alloc, refuse_sync(alloc, &fault, site.output)),
     }
 }
 
@@ -138,10 +116,7 @@ fn serve_stated<R, U, C, K, N, W>(
     address: &[u8],
     workers: u32,
     follow: &mut Follow<'_, U>,
-    input: &mut C,
-    output: &mut K,
-    net: &mut N,
-    spawner: &mut W,
+    site: &mut Site<'_, C, K, N, W>,
 ) -> Served<N::Door>
 where
     R: Threads + Wait + Copy + Send + 'static,
@@ -155,23 +130,25 @@ where
     requires workers { workers ≤ 64 }
     requires plain { IsPlain follow.old.host.now }
     requires settled { follow.old.mirror.pending ≡ [] }
-    ensures { ServesStated follow.old.host.now address.now workers follow.old.mirror
-        (setting (around (following follow.old.host.now follow.old.mirror
-        (U.seen follow.old.upstream)) (C.seen input.old) (K.seen output.old))
-        (N.seen net.old) (W.faults spawner.old))
-        (setting (around (following follow.new.host.now follow.new.mirror
-        (U.seen follow.new.upstream)) (C.seen input.new) (K.seen output.new))
-        (N.seen net.new) (W.faults spawner.new))
+    ensures kept { site_names site.new ≡ site_names site.old }
+    ensures ends { ServesStated follow.old.host.now address.now workers follow.old.mirror
+        (site_of (follow_of U.seen follow.old) C.seen K.seen N.seen W.faults site.old)
+        (site_of (follow_of U.seen follow.new) C.seen K.seen N.seen W.faults site.new)
         (map N.Door.seen result.doors.items) result.status }
 {
     let Ok(role) = secondary(alloc, follow.host) else {
         return Served::closed(alloc, Status::NoMemory);
     };
     match open_stated(rt, alloc, &follow.mirror, workers) {
-        Ok(opened) => serve_opened(
-            rt, alloc, &role, address, workers, opened, follow, input, output, net, spawner,
-        ),
-        Err(fault) => Served::closed(alloc, refuse_install(alloc, &fault, output)),
+        Ok(opened) => {
+            let serving = Serving {
+                role: &role,
+                address,
+                workers,
+            };
+            serve_opened(rt, alloc, &serving, opened, follow, site)
+        }
+        Err(fault) => Served::closed(alloc, refuse_install(alloc, &fault, site.output)),
     }
 }
 

@@ -33,8 +33,12 @@ pub fn open_all<R: Wait, S: Store>(
     let first = folders[0].as_slice();
     let (installer, mut desks) = Installer::open(rt, alloc, first, store, workers + 1)?;
     let desk = desks.pop().unwrap();
-    let mut session = Session { installer, desk };
-    if let Err(fault) = install_rest(rt, alloc, &folders[1..], store, &mut session) {
+    let mut session = Session {
+        alloc,
+        installer,
+        desk,
+    };
+    if let Err(fault) = install_rest(rt, &folders[1..], store, &mut session) {
         session.close(rt);
         return Err(fault);
     }
@@ -44,7 +48,6 @@ pub fn open_all<R: Wait, S: Store>(
 /// Installs the releases of further folders, each after those before it.
 fn install_rest<R: Wait, S: Store>(
     rt: &R,
-    alloc: Global,
     folders: &[Bytes],
     store: &mut S,
     session: &mut Session,
@@ -54,7 +57,7 @@ fn install_rest<R: Wait, S: Store>(
     ensures pair { session.new.installer.pair ≡ session.old.installer.pair }
 {
     for folder in folders {
-        session.install(rt, alloc, folder.as_slice(), store)?;
+        session.install(rt, folder.as_slice(), store)?;
     }
     Ok(())
 }

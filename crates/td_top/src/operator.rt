@@ -14,7 +14,6 @@ use crate::session::Session;
 use catalogue::Catalogue;
 use console::{Line, Said};
 use installer::Installer;
-use std::alloc::Global;
 use std::sync::Wait;
 use td_base::{NoMemory, Token};
 use zone_meaning::Zone;
@@ -22,7 +21,6 @@ use zone_meaning::Zone;
 /// Does what a line asks for, and gives the reply to it.
 pub fn answer_line<R: Wait, G: Growth>(
     rt: &R,
-    alloc: Global,
     session: &mut Session,
     growth: &mut G,
     line: &Line,
@@ -34,7 +32,7 @@ pub fn answer_line<R: Wait, G: Growth>(
         Line::Status => show(session),
         Line::Quit => Reply::brief(&Said::Bye),
         Line::Install(_) | Line::Sync | Line::Strange => {
-            match growth.grow(rt, alloc, session, line) {
+            match growth.grow(rt, session, line) {
                 Some(reply) => reply,
                 None => Reply::brief(&Said::Unknown),
             }

@@ -6,7 +6,6 @@ ghost use Rattle.td_top.specs.Sessions.{LaterSession};
 use crate::session::Session;
 use installer::InstallFault;
 use release_manifest::Manifest;
-use std::alloc::Global;
 use std::sync::Wait;
 use td_base::Store;
 
@@ -15,7 +14,6 @@ impl Session {
     pub fn install<R: Wait, S: Store>(
         &mut self,
         rt: &R,
-        alloc: Global,
         dir: &[u8],
         store: &mut S,
     ) -> Result<(), InstallFault>
@@ -26,7 +24,7 @@ impl Session {
         ensures refused { OnErr result (self.new.installer.list ≡ self.old.installer.list) }
         ensures later { LaterSession self.old self.new }
     {
-        let receipt = self.installer.install(rt, alloc, dir, store)?;
+        let receipt = self.installer.install(rt, self.alloc, dir, store)?;
         self.desk.learn(receipt);
         Ok(())
     }
@@ -35,7 +33,6 @@ impl Session {
     pub fn install_stated<R: Wait, S: Store>(
         &mut self,
         rt: &R,
-        alloc: Global,
         manifest: &Manifest,
         store: &mut S,
     ) -> Result<(), InstallFault>
@@ -46,14 +43,20 @@ impl Session {
         ensures refused { OnErr result (self.new.installer.list ≡ self.old.installer.list) }
         ensures later { LaterSession self.old self.new }
     {
-        let receipt = self.installer.install_manifest(rt, alloc, manifest, store)?;
+        let receipt = self
+            .installer
+            .install_manifest(rt, self.alloc, manifest, store)?;
         self.desk.learn(receipt);
         Ok(())
     }
 
     /// Gives up what is published. It may wait for desks that are entering.
     pub fn close<R: Wait>(self, rt: &R) {
-        let Session { installer, desk: _ } = self;
+        let Session {
+            alloc: _,
+            installer,
+            desk: _,
+        } = self;
         installer.close(rt);
     }
 }

@@ -2,11 +2,10 @@ ghost use Rattle.std.specs.Prelude.{◌≡◌, map};
 ghost use Rattle.std.specs.Option.{option_map};
 ghost use Rattle.td_base.specs.Views.{SourceView, StoreView};
 ghost use Rattle.td_top.specs.Grammar.{command_of};
-ghost use Rattle.td_top.specs.Outside.{outside, LaterWorld, world};
-ghost use Rattle.td_top.specs.Running.{RunEnds, RunEndsLater};
-ghost use Rattle.td_top.specs.Tells.{ShowsUsage};
-ghost use Rattle.td_top.specs.Running.{number_of};
-ghost use Rattle.td_top.specs.Tells.{EndsLater};
+ghost use Rattle.td_top.specs.Site.{site_names, world_of};
+ghost use Rattle.td_top.specs.Outside.{LaterWorld, outside, world};
+ghost use Rattle.td_top.specs.Running.{RunEnds, RunEndsLater, number_of};
+ghost use Rattle.td_top.specs.Tells.{EndsLater, ShowsUsage};
 ghost use Rattle.td_top.specs.declared.status.Status.{Status};
 
 use crate::answering::answer;
@@ -15,13 +14,14 @@ use crate::command::{Command, read_words};
 use crate::mirroring::mirror_server;
 use crate::outcome::{Ending, Outcome};
 use crate::printing::print;
-use crate::server::serve_doors;
+use crate::server::{Serving, serve_doors};
+use crate::site::Site;
 use crate::state_line::state_at;
 use crate::status::Status;
 use std::alloc::Global;
 use std::sync::Wait;
 use std::thread::Threads;
-use td_base::{Bytes, Door, Network, Sink, Source, Spawner, Store};
+use td_base::{Bytes, Door, Network, Role, Sink, Source, Spawner, Store};
 
 /// The line that is printed for words that are no command.
 const USAGE: &[u8] = b"usage: tzdistd answer|serve|mirror|check|at|load\n";
@@ -56,24 +56,21 @@ where
     <N::Door as Door>::Conn: Send + 'static,
     W: Spawner,
     // The status stands for one of the ends, and each is tied to what the words call for and to
-    // what became of all that is outside. Memory may run out at any time.
-    ensures ends { (status : Status) × (result.status ≡ number_of status)
-        × RunEnds (command_of words.now)
-        (world (outside (S.seen store.old) (C.seen input.old) (K.seen output.old))
-        (N.seen net.old) (W.faults spawner.old))
-        (world (outside (S.seen store.new) (C.seen input.new) (K.seen output.new))
-        (N.seen net.new) (W.faults spawner.new))
-        (map N.Door.seen result.doors.items) (option_map N.Up.seen result.up) status }
-
-    // No file changed, the input was only read, the output only written, and no count of faults
-    // fell.
-    ensures later { LaterWorld
-        (world (outside (S.seen store.old) (C.seen input.old) (K.seen output.old))
-        (N.seen net.old) (W.faults spawner.old))
-        (world (outside (S.seen store.new) (C.seen input.new) (K.seen output.new))
-        (N.seen net.new) (W.faults spawner.new)) }
+    // what became of all that is outside: no file changed, the input was only read, the output only
+    // written, and no count of faults fell. Memory may run out at any time.
+    ensures ends { let before = world
+        (outside (S.seen store.old) (C.seen input.old) (K.seen output.old))
+        (N.seen net.old) (W.faults spawner.old) in
+        let after = world
+        (outside (S.seen store.new) (C.seen input.new) (K.seen output.new))
+        (N.seen net.new) (W.faults spawner.new) in
+        (status : Status) × (result.status ≡ number_of status)
+        × RunEnds (command_of words.now) before after
+        (map N.Door.seen result.doors.items) (option_map N.Up.seen result.up) status
+        × LaterWorld before after }
 {
-    do_words(rt, alloc, words, store, input, output, net, spawner).outcome()
+    let mut site = Site::new(input, output, net, spawner);
+    do_words(rt, alloc, words, store, &mut site).outcome()
 }
 
 /// Does what the words ask for.
@@ -82,10 +79,7 @@ fn do_words<R, S, C, K, N, W>(
     alloc: Global,
     words: &[Bytes],
     store: &mut S,
-    input: &mut C,
-    output: &mut K,
-    net: &mut N,
-    spawner: &mut W,
+    site: &mut Site<'_, C, K, N, W>,
 ) -> Ending<N::Door, N::Up>
 where
     R: Threads + Wait + Copy + Send + 'static,
@@ -96,11 +90,10 @@ where
     N::Door: Send + Drop + 'static,
     <N::Door as Door>::Conn: Send + 'static,
     W: Spawner,
-    ensures { RunEndsLater (command_of words.now)
-        (world (outside (S.seen store.old) (C.seen input.old) (K.seen output.old))
-        (N.seen net.old) (W.faults spawner.old))
-        (world (outside (S.seen store.new) (C.seen input.new) (K.seen output.new))
-        (N.seen net.new) (W.faults spawner.new))
+    ensures kept { site_names site.new ≡ site_names site.old }
+    ensures ends { RunEndsLater (command_of words.now)
+        (world_of (S.seen store.old) C.seen K.seen N.seen W.faults site.old)
+        (world_of (S.seen store.new) C.seen K.seen N.seen W.faults site.new)
         (map N.Door.seen result.doors.items) (option_map N.Up.seen result.up) result.status }
 {
     match read_words(words) {
@@ -110,28 +103,36 @@ where
                 workers,
                 folders,
             },
-        ) => serve_doors(
-            rt, alloc, address, workers, folders, store, input, output, net, spawner,
-        ),
+        ) => {
+            let serving = Serving {
+                role: &Role::Primary,
+                address,
+                workers,
+            };
+            serve_doors(rt, alloc, &serving, folders, store, site)
+        }
         Some(
             Command::Mirror {
                 address,
                 workers,
                 upstream,
             },
-        ) => mirror_server(
-            rt, alloc, address, workers, upstream, input, output, net, spawner,
-        ),
+        ) => mirror_server(rt, alloc, address, workers, upstream, site),
         Some(Command::Answer { folders }) => {
-            Ending::closed(alloc, answer(rt, alloc, folders, store, input, output))
+            Ending::closed(
+                alloc,
+                answer(rt, alloc, folders, store, site.input, site.output),
+            )
         }
-        Some(Command::Check { folders }) => {
-            Ending::closed(alloc, check_folders(alloc, folders, store, output))
-        }
-        Some(Command::At { file, moment }) => {
-            Ending::closed(alloc, state_at(alloc, file, moment, store, output))
-        }
-        None => Ending::closed(alloc, usage(output)),
+        Some(Command::Check { folders }) => Ending::closed(
+            alloc,
+            check_folders(alloc, folders, store, site.output),
+        ),
+        Some(Command::At { file, moment }) => Ending::closed(
+            alloc,
+            state_at(alloc, file, moment, store, site.output),
+        ),
+        None => Ending::closed(alloc, usage(site.output)),
     }
 }
 

@@ -5,8 +5,7 @@ ghost use Rattle.catalogue.specs.Holdings.{history_of};
 ghost use Rattle.json_forms.specs.PlainTexts.{IsPlainRole};
 ghost use Rattle.td_top.specs.Grammar.{serve};
 ghost use Rattle.td_top.specs.Opening.{HasDesks};
-ghost use Rattle.td_top.specs.Outside.{outside, world};
-ghost use Rattle.td_top.specs.Setting.{around, setting};
+ghost use Rattle.td_top.specs.Site.{console, site_names, site_of, world_of};
 ghost use Rattle.td_top.specs.Running.{RunEndsLater};
 ghost use Rattle.td_top.specs.ServerSteps.{Concludes, ServesBeside, ServesOpened};
 ghost use Rattle.td_top.specs.Works.{HasWorks, Learnt};
@@ -17,6 +16,7 @@ use crate::opening::{Opened, open_all};
 use crate::outcome::{Ending, Served};
 use crate::refusing::refuse_install;
 use crate::session::Session;
+use crate::site::Site;
 use crate::status::{Status, status_for};
 use crate::talking::TalkEnd;
 use crate::works::{learn_all, works_for};
@@ -30,19 +30,23 @@ use std::thread::Threads;
 use td_base::{Bytes, Door, Made, Network, NoMemory, Role, Sink, Source, Spawner, Store};
 use zone_meaning::Zone;
 
-/// Installs the releases of folders, and serves the doors of an address, each by a worker of its
-/// own, while an operator talks over the input and the output and installs further releases.
+/// Which doors are served: as such a server, at an address, each by a worker of its own.
+#[derive(Clone, Copy)]
+pub struct Serving<'d> {
+    pub role: &'d Role,
+    pub address: &'d [u8],
+    pub workers: u32,
+}
+
+/// Installs the releases of folders, and serves such doors, while an operator talks over the input
+/// and the output and installs further releases.
 pub fn serve_doors<R, S, C, K, N, W>(
     rt: &R,
     alloc: Global,
-    address: &[u8],
-    workers: u32,
+    serving: &Serving<'_>,
     folders: &[Bytes],
     store: &mut S,
-    input: &mut C,
-    output: &mut K,
-    net: &mut N,
-    spawner: &mut W,
+    site: &mut Site<'_, C, K, N, W>,
 ) -> Ending<N::Door, N::Up>
 where
     R: Threads + Wait + Copy + Send + 'static,
@@ -53,48 +57,31 @@ where
     N::Door: Send + Drop + 'static,
     <N::Door as Door>::Conn: Send + 'static,
     W: Spawner,
+    requires role { serving.now.role.now ≡ Role.Primary }
     requires folders { 0 < length folders.now }
-    requires workers { workers ≤ 64 }
-    ensures { RunEndsLater (Some (serve address.now workers folders.now))
-        (world (outside (S.seen store.old) (C.seen input.old) (K.seen output.old))
-        (N.seen net.old) (W.faults spawner.old))
-        (world (outside (S.seen store.new) (C.seen input.new) (K.seen output.new))
-        (N.seen net.new) (W.faults spawner.new))
+    requires workers { serving.now.workers ≤ 64 }
+    ensures kept { site_names site.new ≡ site_names site.old }
+    ensures ends { RunEndsLater
+        (Some (serve serving.now.address.now serving.now.workers folders.now))
+        (world_of (S.seen store.old) C.seen K.seen N.seen W.faults site.old)
+        (world_of (S.seen store.new) C.seen K.seen N.seen W.faults site.new)
         (map N.Door.seen result.doors.items) (option_map N.Up.seen result.up) result.status }
 {
-    match open_all(rt, alloc, folders, store, workers) {
-        Ok(opened) => serve_opened(
-            rt,
-            alloc,
-            &Role::Primary,
-            address,
-            workers,
-            opened,
-            store,
-            input,
-            output,
-            net,
-            spawner,
-        )
-        .after(None),
-        Err(fault) => Ending::closed(alloc, refuse_install(alloc, &fault, output)),
+    match open_all(rt, alloc, folders, store, serving.workers) {
+        Ok(opened) => serve_opened(rt, alloc, serving, opened, store, site).after(None),
+        Err(fault) => Ending::closed(alloc, refuse_install(alloc, &fault, site.output)),
     }
 }
 
-/// Serves the doors of an address as such a server, once a first history is published, while an
-/// operator talks over the input and the output.
+/// Serves such doors, once a first history is published, while an operator talks over the input and
+/// the output.
 pub fn serve_opened<R, G, C, K, N, W>(
     rt: &R,
     alloc: Global,
-    role: &Role,
-    address: &[u8],
-    workers: u32,
+    serving: &Serving<'_>,
     opened: Opened,
     growth: &mut G,
-    input: &mut C,
-    output: &mut K,
-    net: &mut N,
-    spawner: &mut W,
+    site: &mut Site<'_, C, K, N, W>,
 ) -> Served<N::Door>
 where
     R: Threads + Wait + Copy + Send + 'static,
@@ -105,37 +92,44 @@ where
     N::Door: Send + Drop + 'static,
     <N::Door as Door>::Conn: Send + 'static,
     W: Spawner,
-    requires role { IsPlainRole role.now }
-    requires desks { HasDesks workers opened }
-    ensures { ServesOpened role.now address.now workers (history_of opened.session.installer.list)
-        (setting (around (G.seen growth.old) (C.seen input.old) (K.seen output.old))
-        (N.seen net.old) (W.faults spawner.old))
-        (setting (around (G.seen growth.new) (C.seen input.new) (K.seen output.new))
-        (N.seen net.new) (W.faults spawner.new))
+    requires role { IsPlainRole serving.now.role.now }
+    requires desks { HasDesks serving.now.workers opened }
+    ensures kept { site_names site.new ≡ site_names site.old }
+    ensures ends { ServesOpened serving.now.role.now serving.now.address.now serving.now.workers
+        (history_of opened.session.installer.list)
+        (site_of (G.seen growth.old) C.seen K.seen N.seen W.faults site.old)
+        (site_of (G.seen growth.new) C.seen K.seen N.seen W.faults site.new)
         (map N.Door.seen result.doors.items) result.status }
 {
     let Opened { session, desks } = opened;
-    match net.doors(alloc, address, workers) {
-        Made::Given(doors) => match works_for(alloc, role, doors, desks) {
+    match site.net.doors(alloc, serving.address, serving.workers) {
+        Made::Given(doors) => match works_for(alloc, serving.role, doors, desks) {
             Ok((works, flag)) => {
-                serve_beside(
-                    rt, alloc, session, works, flag, growth, input, output, spawner,
-                )
+                let staff = Staff {
+                    session,
+                    works,
+                    flag,
+                };
+                serve_beside(rt, staff, growth, site.input, site.output, site.spawner)
             }
-            Err(NoMemory) => give_up(rt, alloc, session, Status::NoMemory),
+            Err(NoMemory) => give_up(rt, session, Status::NoMemory),
         },
-        Made::Failed => give_up(rt, alloc, session, Status::NoNetwork),
-        Made::NoMemory => give_up(rt, alloc, session, Status::NoMemory),
+        Made::Failed => give_up(rt, session, Status::NoNetwork),
+        Made::NoMemory => give_up(rt, session, Status::NoMemory),
     }
+}
+
+/// Who serves: a session, and the works of workers, of such a flag.
+struct Staff<D: Door> {
+    session: Session,
+    works: Vec<DoorWork<D>>,
+    flag: StopFlag,
 }
 
 /// Serves doors by their works, beside a talk with the operator.
 fn serve_beside<R, G, C, K, D, W>(
     rt: &R,
-    alloc: Global,
-    session: Session,
-    works: Vec<DoorWork<D>>,
-    flag: StopFlag,
+    staff: Staff<D>,
     growth: &mut G,
     input: &mut C,
     output: &mut K,
@@ -149,34 +143,30 @@ where
     D: Door + Send + Drop + 'static,
     D::Conn: Send + 'static,
     W: Spawner,
-    requires flag { flag.raised ≡ false }
-    requires works { HasWorks session.installer.pair works.items }
-    ensures { ServesBeside session works.items
-        (around (G.seen growth.old) (C.seen input.old) (K.seen output.old))
-        (around (G.seen growth.new) (C.seen input.new) (K.seen output.new))
+    requires flag { staff.flag.raised ≡ false }
+    requires works { HasWorks staff.session.installer.pair staff.works.items }
+    ensures { ServesBeside staff.session staff.works.items
+        (console (G.seen growth.old) (C.seen input.old) (K.seen output.old))
+        (console (G.seen growth.new) (C.seen input.new) (K.seen output.new))
         (W.faults spawner.old) (W.faults spawner.new)
         (map D.seen result.doors.items) result.status }
 {
-    let mut session = session;
-    let mut flag = flag;
+    let Staff {
+        mut session,
+        works,
+        mut flag,
+    } = staff;
+    let alloc = session.alloc;
     let mut end = None;
-    let mut console = Console::new(
-        alloc,
-        &mut session,
-        &mut flag,
-        &mut end,
-        growth,
-        input,
-        output,
-    );
+    let mut console = Console::new(&mut session, &mut flag, &mut end, growth, input, output);
     let pool = run_beside(rt, alloc, spawner, works, &mut console);
     match pool {
         PoolEnd::All(dones) => match end {
-            Some(end) => conclude(rt, alloc, session, end, dones),
-            None => give_up(rt, alloc, session, Status::NoMemory),
+            Some(end) => conclude(rt, session, end, dones),
+            None => give_up(rt, session, Status::NoMemory),
         },
-        PoolEnd::NotStarted(_) => give_up(rt, alloc, session, Status::NotStarted),
-        PoolEnd::NoMemory => give_up(rt, alloc, session, Status::NoMemory),
+        PoolEnd::NotStarted(_) => give_up(rt, session, Status::NotStarted),
+        PoolEnd::NoMemory => give_up(rt, session, Status::NoMemory),
     }
 }
 
@@ -184,7 +174,6 @@ where
 /// is over.
 fn conclude<R: Wait, D: Door + Drop>(
     rt: &R,
-    alloc: Global,
     session: Session,
     end: TalkEnd,
     dones: Vec<DoorDone<D>>,
@@ -193,6 +182,7 @@ fn conclude<R: Wait, D: Door + Drop>(
     ensures { Concludes session dones.items end result.doors.items result.status }
 {
     let Session {
+        alloc,
         installer,
         mut desk,
     } = session;
@@ -227,10 +217,11 @@ fn learn_last<D: Door + Drop>(
 }
 
 /// Gives up what is published, and ends without doors.
-fn give_up<R: Wait, D>(rt: &R, alloc: Global, session: Session, status: Status) -> Served<D>
+fn give_up<R: Wait, D>(rt: &R, session: Session, status: Status) -> Served<D>
     ensures status { result.status ≡ status }
     ensures doors { result.doors.items ≡ [] }
 {
+    let alloc = session.alloc;
     session.close(rt);
     Served::closed(alloc, status)
 }

@@ -1,6 +1,6 @@
 ghost use Rattle.std.specs.Prelude.{◌≡◌};
 ghost use Rattle.td_base.specs.Views.{LaterSource};
-ghost use Rattle.td_top.specs.Setting.{around};
+ghost use Rattle.td_top.specs.Site.{console};
 ghost use Rattle.td_top.specs.Talk.{is_quit};
 ghost use Rattle.td_top.specs.Talking.{ComesTo, scene};
 ghost use Rattle.td_top.specs.TalkingSteps.{FeedsTalk, SaysBye, SaysText, TakesLine, TalksOn};
@@ -10,7 +10,6 @@ use crate::growth::Growth;
 use crate::operator::{answer_line, newest};
 use crate::session::Session;
 use console::{Line, Lines, Said, short};
-use std::alloc::Global;
 use std::sync::Wait;
 use td_base::{NoMemory, ReadStep, Sink, Source, Written, write_whole};
 
@@ -56,20 +55,19 @@ pub enum Taken {
 /// ends, or a read or a write fails. It gives no end where memory ran out.
 pub fn talk<R: Wait, G: Growth, C: Source, K: Sink>(
     rt: &R,
-    alloc: Global,
     session: &mut Session,
     growth: &mut G,
     input: &mut C,
     output: &mut K,
 ) -> Option<TalkEnd>
     ensures { ComesTo
-        (scene (around (G.seen growth.old) (C.seen input.old) (K.seen output.old)) session.old)
-        (scene (around (G.seen growth.new) (C.seen input.new) (K.seen output.new)) session.new)
+        (scene (console (G.seen growth.old) (C.seen input.old) (K.seen output.old)) session.old)
+        (scene (console (G.seen growth.new) (C.seen input.new) (K.seen output.new)) session.new)
         result }
 {
     let ready = short(&Said::Ready(newest(&session.installer)));
     match write_whole(output, ready.as_slice()) {
-        Written::Whole => answer_lines(rt, alloc, session, growth, input, output),
+        Written::Whole => answer_lines(rt, session, growth, input, output),
         Written::Cut => Some(TalkEnd::NotWritten),
     }
 }
@@ -77,20 +75,19 @@ pub fn talk<R: Wait, G: Growth, C: Source, K: Sink>(
 /// Answers line by line up to the end of the talk.
 fn answer_lines<R: Wait, G: Growth, C: Source, K: Sink>(
     rt: &R,
-    alloc: Global,
     session: &mut Session,
     growth: &mut G,
     input: &mut C,
     output: &mut K,
 ) -> Option<TalkEnd>
     ensures { TalksOn
-        (scene (around (G.seen growth.old) (C.seen input.old) (K.seen output.old)) session.old)
-        (scene (around (G.seen growth.new) (C.seen input.new) (K.seen output.new)) session.new)
+        (scene (console (G.seen growth.old) (C.seen input.old) (K.seen output.old)) session.old)
+        (scene (console (G.seen growth.new) (C.seen input.new) (K.seen output.new)) session.new)
         result }
 {
-    let mut lines = Lines::new(alloc);
+    let mut lines = Lines::new(session.alloc);
     for _ in rt.forever() {
-        match take_turn(rt, alloc, session, growth, input, output, &mut lines) {
+        match take_turn(rt, session, growth, input, output, &mut lines) {
             Turn::On => {}
             Turn::End(end) => return Some(end),
             Turn::NoMemory => return None,
@@ -102,7 +99,6 @@ fn answer_lines<R: Wait, G: Growth, C: Source, K: Sink>(
 /// Answers the next line, or reads a piece of the input where none is held whole.
 fn take_turn<R: Wait, G: Growth, C: Source, K: Sink>(
     rt: &R,
-    alloc: Global,
     session: &mut Session,
     growth: &mut G,
     input: &mut C,
@@ -110,8 +106,8 @@ fn take_turn<R: Wait, G: Growth, C: Source, K: Sink>(
     lines: &mut Lines,
 ) -> Turn
     ensures { Turns
-        (scene (around (G.seen growth.old) (C.seen input.old) (K.seen output.old)) session.old)
-        (scene (around (G.seen growth.new) (C.seen input.new) (K.seen output.new)) session.new)
+        (scene (console (G.seen growth.old) (C.seen input.old) (K.seen output.old)) session.old)
+        (scene (console (G.seen growth.new) (C.seen input.new) (K.seen output.new)) session.new)
         lines.old lines.new result }
 {
     match take_line(lines) {
@@ -121,7 +117,7 @@ fn take_turn<R: Wait, G: Growth, C: Source, K: Sink>(
             if is_quit(&line) {
                 return Turn::End(quit(output));
             }
-            let reply = answer_line(rt, alloc, session, growth, &line);
+            let reply = answer_line(rt, session, growth, &line);
             say(output, reply.as_slice())
         }
     }

@@ -12,37 +12,37 @@ pub serve_doors-requires-clause-workers : goal.serve_doors-requires-clause-worke
 serve_doors-requires-clause-workers g c =
     let meant = rw c.in-Some-Serve.field-0-is at c.in-Some-Serve.ensures.meant in search (meant.0, rules)
 
-pub returns-in-Some-Serve : goal.returns-in-Some-Serve
-returns-in-Some-Serve g c = runs_as _ _ _ _ _ _ _ (rw c.in-Some-Serve.field-0-is at c.in-Some-Serve.ensures.spelled) c.serve_doors.ensures
+pub returns-in-Some-Serve-clause-ends : goal.returns-in-Some-Serve-clause-ends
+returns-in-Some-Serve-clause-ends g c = runs_as _ _ _ _ _ _ _ (rw c.in-Some-Serve.field-0-is at c.in-Some-Serve.ensures.spelled) c.serve_doors.ensures.ends
 
 pub answer-requires : goal.answer-requires
 answer-requires g c = rw c.in-Some-Answer.field-0-is at c.in-Some-Answer.ensures.meant
 
-pub returns-in-Some-Answer : goal.returns-in-Some-Answer
-returns-in-Some-Answer g c =
+pub returns-in-Some-Answer-clause-ends : goal.returns-in-Some-Answer-clause-ends
+returns-in-Some-Answer-clause-ends g c =
     let is = sym (rw c.in-Some-Answer.field-0-is at c.in-Some-Answer.ensures.spelled) in
     ran_alone g.N.Door.Door.seen g.N.Up.Upstream.seen _ _ _ _ _ _ _ _ _ _ c.closed.ensures.status c.closed.ensures.doors c.closed.ensures.up
     c.answer.ensures (λ ends alone. answered _ _ is ends alone)
 
-pub returns-in-Some-Check : goal.returns-in-Some-Check
-returns-in-Some-Check g c =
+pub returns-in-Some-Check-clause-ends : goal.returns-in-Some-Check-clause-ends
+returns-in-Some-Check-clause-ends g c =
     let is = sym (rw c.in-Some-Check.field-0-is at c.in-Some-Check.ensures.spelled) in
     ran_alone g.N.Door.Door.seen g.N.Up.Upstream.seen _ _ _ _ _ _ _ _ _ _ c.closed-in-Some-Check.ensures.status c.closed-in-Some-Check.ensures.doors
     c.closed-in-Some-Check.ensures.up
-    (c.check_folders.ensures (g.C.Source.seen c.args.input.now)) (λ ends alone. checked _ _ is ends.0 ends.1 alone)
+    (c.check_folders.ensures (g.C.Source.seen c.args.site.now.input.now)) (λ ends alone. checked _ _ is ends.0 ends.1 alone)
 
-pub returns-in-Some-At : goal.returns-in-Some-At
-returns-in-Some-At g c =
+pub returns-in-Some-At-clause-ends : goal.returns-in-Some-At-clause-ends
+returns-in-Some-At-clause-ends g c =
     let is = sym (rw c.in-Some-At.field-0-is at c.in-Some-At.ensures.spelled) in
     ran_alone g.N.Door.Door.seen g.N.Up.Upstream.seen _ _ _ _ _ _ _ _ _ _ c.closed-in-Some-At.ensures.status c.closed-in-Some-At.ensures.doors
     c.closed-in-Some-At.ensures.up
-    (c.state_at.ensures (g.C.Source.seen c.args.input.now)) (λ ends alone. shown _ _ _ is ends alone)
+    (c.state_at.ensures (g.C.Source.seen c.args.site.now.input.now)) (λ ends alone. shown _ _ _ is ends alone)
 
-pub returns-in-None : goal.returns-in-None
-returns-in-None g c =
+pub returns-in-None-clause-ends : goal.returns-in-None-clause-ends
+returns-in-None-clause-ends g c =
     ran_alone g.N.Door.Door.seen g.N.Up.Upstream.seen ShowsUsage _ _ _ _ _ _ _ _ _ c.closed-in-None.ensures.status c.closed-in-None.ensures.doors
     c.closed-in-None.ensures.up
-    (c.usage.ensures (g.S.Store.seen c.args.store.now) (g.C.Source.seen c.args.input.now))
+    (c.usage.ensures (g.S.Store.seen c.args.store.now) (g.C.Source.seen c.args.site.now.input.now))
     (λ ends alone. no_command _ (sym c.in-None.ensures.spelled) ends.0 ends.1 alone)
 
 pub mirror_server-requires-clause-workers : goal.mirror_server-requires-clause-workers
@@ -53,6 +53,6 @@ pub mirror_server-requires-clause-plain : goal.mirror_server-requires-clause-pla
 mirror_server-requires-clause-plain g c =
     let meant = rw c.in-Some-Mirror.field-0-is at c.in-Some-Mirror.ensures.meant in search (meant.1, rules)
 
-pub returns-in-Some-Mirror : goal.returns-in-Some-Mirror
-returns-in-Some-Mirror g c =
-    runs_as _ _ _ _ _ _ _ (rw c.in-Some-Mirror.field-0-is at c.in-Some-Mirror.ensures.spelled) (c.mirror_server.ensures (g.S.Store.seen c.args.store.now))
+pub returns-in-Some-Mirror-clause-ends : goal.returns-in-Some-Mirror-clause-ends
+returns-in-Some-Mirror-clause-ends g c =
+    runs_as _ _ _ _ _ _ _ (rw c.in-Some-Mirror.field-0-is at c.in-Some-Mirror.ensures.spelled) (c.mirror_server.ensures.ends (g.S.Store.seen c.args.store.now))
