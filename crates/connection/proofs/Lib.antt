@@ -2,6 +2,7 @@ pub mod ClosingLemmas
 pub mod DoorLemmas
 pub mod EnteringLemmas
 pub mod HearLemmas
+pub mod KeepingLemmas
 pub mod PlaceLemmas
 pub mod RoundLemmas
 pub mod ServedLemmas

@@ -1,10 +1,9 @@
 -- How the end of a connection that is served over a desk follows from its parts.
 use Rattle.std.proofs.Common.{if◌then◌else◌, ◌≡◌, ℕ, ◌+◌, ◌<◌, ◌≤◌, List, [], ◌∷◌, ◌++◌, length, take, drop, Bool, true}
-use Rattle.std.proofs.Common.{false, inl, inr, Option, Some, None, Result, Ok, Err, refl, sym, ap, ◌∙◌, subst, arith, append-nil}
+use Rattle.std.proofs.Common.{false, inl, inr, Option, Some, None, Result, Ok, Err, refl, sym, ap, ◌∙◌, subst, arith}
 use Rattle.std.specs.Io.KnownBytes.{IsAtEnd}
 use mathlib.Core.List.{IsPrefix}
-use Rattle.actions.specs.Action.{action}
-use Rattle.catalogue.specs.Holdings.{StandsFor, history_of}
+use Rattle.catalogue.specs.Holdings.{history_of}
 use Rattle.catalogue.specs.Releases.{ReleaseData}
 use Rattle.catalogue.specs.declared.holding.Catalogue.{Catalogue}
 use Rattle.http_answer.specs.Replies.{fixed, reply}
@@ -21,15 +20,14 @@ use Rattle.td_base.specs.declared.report.Role.{Role}
 use Rattle.td_base.specs.declared.report.TheConstants.{MOST_PLACES}
 use Rattle.td_base.specs.declared.transfer.Written.{Written}
 use Rattle.td_base.specs.declared.transfer.Written.TheVariants as written
-use Rattle.zone_meaning.specs.Sound.{IsSound}
-use Rattle.zone_meaning.specs.ZoneHistories.{ForEachZoneHistory}
 use Rattle.connection.specs.Answering.{AnswersOne, HasReplied, IsAnswered, IsAnsweredInPart, IsReplyAt, IsServing, IsUnanswered, ServesOn, TakesPlace}
 use Rattle.connection.specs.FaultCounts.{AreLater, ReadFailed, WriteFailed, faults_of}
 use Rattle.connection.specs.Hearing.{Hears, joined}
-use Rattle.connection.specs.Replies.{IsOpen, is_last, reply_at}
-use Rattle.connection.specs.Served.{ArePlaces, IsNeeded, IsStarved, IsTold, Session}
+use Rattle.connection.specs.Keeping.{IsReplyNow}
+use Rattle.connection.specs.Replies.{is_last, reply_at}
+use Rattle.connection.specs.Served.{ArePlaces, IsStarved, Session}
 use Rattle.connection.specs.Sending.{GivesUp, IsCutOff, IsSent, Refuses, SendsReply}
-use Rattle.connection.specs.Serving.{ForEachLonger, Serves, ServesPart, answer_at}
+use Rattle.connection.specs.Serving.{Serves, ServesPart, answer_at}
 use Rattle.connection.specs.Traffic.{Passes, Traffic}
 use Rattle.connection.specs.declared.hearing.Arrival.{Arrival}
 use Rattle.connection.specs.declared.hearing.Arrival.TheVariants as arrival
@@ -79,95 +77,64 @@ grown desk later role a b held places more s = record {
   replied = λ H st. s.replied H (prefix_trans (history_of desk.seen) (history_of later.seen) H (history_longer desk.seen later.seen more) st);
 }
 
--- what was said of the reply to a request
-abbrev pub IsReply : Catalogue (List ℕ) → Role → Head → Bool → List ℕ → Type 0
-IsReply catalogue role head close bytes = ForEachZoneHistory catalogue (λ H. bytes ≡ reply (action H role head) head.head_only close)
-
-take_front : (xs rest : List ReleaseData) → take (length xs) (xs ++ rest) ≡ xs
-take_front [] rest = refl
-take_front (x ∷ xs) rest = ap (λ l. x ∷ l) (take_front xs rest)
-
-whole_place : (seen H : List ReleaseData) (role : Role) (head : Head) (place : ℕ) → IsPrefix seen H → place ≡ length seen
-    → answer_at H role place head ≡ action seen role head
-whole_place seen H role head place p e =
-    ap (λ l. action l role head) (ap (λ l. take place l) (sym p.1) ∙ (ap (λ n. take n (seen ++ p.0)) e ∙ take_front seen p.0))
-
-reply_is : (seen H : List ReleaseData) (role : Role) (head : Head) (place : ℕ) (close : Bool) (n m : ℕ) (bytes : List ℕ)
-    → bytes ≡ reply (action seen role head) head.head_only close → close ≡ is_last n head → n ≡ m → place ≡ length seen → IsPrefix seen H
-    → bytes ≡ reply_at (answer_at H role) m head place
-reply_is seen H role head place close n m bytes b c e p longer =
-    b
-    ∙ (ap (λ k. reply (action seen role head) head.head_only k) (c ∙ ap (λ k. is_last k head) e)
-    ∙ ap (λ x. reply x head.head_only (is_last m head)) (sym (whole_place seen H role head place longer p)))
-
--- the catalogue that the desk holds after its enter, and the place of it
-pub record IsHeld (desk : DeskView (Catalogue (List ℕ))) (catalogue : Catalogue (List ℕ)) (place : ℕ) : Type 0 where
-  pub stands : StandsFor (λ f. f) IsSound catalogue (history_of desk.seen)
-  pub place_is : place ≡ length (history_of desk.seen)
-  pub some : 1 ≤ place
-
-pub held_at : (desk : DeskView (Catalogue (List ℕ))) (catalogue : Catalogue (List ℕ)) (place : ℕ)
-    → StandsFor (λ f. f) IsSound catalogue (history_of desk.seen) → ForEachZoneHistory catalogue (λ H. place ≡ length H) → 1 ≤ place
-    → IsHeld desk catalogue place
-held_at desk catalogue place s e some = record { stands = s; place_is = e (history_of desk.seen) s; some = some }
-
--- the place is the number of values that the desk has seen
-pub place_seen : (desk : DeskView (Catalogue (List ℕ))) (catalogue : Catalogue (List ℕ)) (place : ℕ) → IsHeld desk catalogue place
-    → place ≡ length desk.seen
-place_seen desk catalogue place k = k.place_is ∙ history_length desk.seen
-
--- the bytes of a reply, which are those of the answer over what the desk has seen, are those of the answer at the place
-pub told : (desk : DeskView (Catalogue (List ℕ))) (role : Role) (before : ℕ) (head : Head) (catalogue : Catalogue (List ℕ)) (place : ℕ)
-    (close : Bool) (bytes : List ℕ) → IsHeld desk catalogue place → IsReply catalogue role head close bytes → close ≡ is_last before head
+-- the reply at the place of what the desk holds, where nothing but the number of requests before tells whether it closes the connection
+pub told : (desk : DeskView (Catalogue (List ℕ))) (role : Role) (before : ℕ) (head : Head) (place : ℕ) (close : Bool) (bytes : List ℕ)
+    → place ≡ length desk.seen → close ≡ is_last before head → IsReplyNow desk role head close bytes
     → IsReplyAt desk role before head place bytes
-told desk role before head catalogue place close bytes k r c = λ H st.
-    reply_is (history_of desk.seen) H role head place close before before bytes (r (history_of desk.seen) k.stands) c refl k.place_is st
+told desk role before head place close bytes e c r = λ H st.
+    r H st
+    ∙ (ap (λ k. reply (answer_at H role (length desk.seen) head) head.head_only k) c
+    ∙ ap (λ n. reply (answer_at H role n head) head.head_only (is_last before head)) (sym e))
 
 -- ---- what became of one request, once the desk had entered for it, its place was told, and its reply was made
 
-module _ (desk later : DeskView (Catalogue (List ℕ))) (role : Role) (head : Head) (a b : ConnView) (old new : List ℕ)
-    (catalogue : Catalogue (List ℕ)) (place : ℕ) (close : Bool)
+module _ (desk later : DeskView (Catalogue (List ℕ))) (role : Role) (head : Head) (a b : ConnView) (old new : List ℕ) (place : ℕ) (close : Bool)
     (step : (later.enters ≡ desk.enters + 1) × (later.seen ≡ later.entered)) (pair : later.pair ≡ desk.pair)
     (longer : IsPrefix desk.seen later.seen) (over : desk.ended ≡ true → (later.seen ≡ desk.seen) × (later.ended ≡ true))
-    (k : IsHeld later catalogue place) (e : new ≡ old ++ place ∷ []) (is : close ≡ is_last (length old) head) where
+    (is_place : place ≡ length later.seen) (some : 1 ≤ place) (e : new ≡ old ++ place ∷ []) where
   takes : TakesPlace desk later old new
   takes = record {
     place = place;
-    enters = entered desk later place step pair longer over (place_seen later catalogue place k);
-    some = k.some;
+    enters = entered desk later place step pair longer over is_place;
+    some = some;
     places_are = e;
   }
 
-  is_reply : (bytes : List ℕ) → IsReply catalogue role head close bytes → IsReplyAt later role (length old) head place bytes
-  is_reply bytes r = told later role (length old) head catalogue place close bytes k r is
+  -- there was no memory for the reply
+  pub without_reply : b ≡ a → IsUnanswered desk later role head a b old new
+  without_reply kept = record { kept = kept; why = inl takes }
 
-  answered_by : IsSent a b (IsReply catalogue role head close) → IsAnswered desk later role head a b old new
-  unfolding takes
-  answered_by p = record { takes = takes; sent = record { reply = p.reply; passes = p.passes; is = is_reply p.reply p.is } }
+  module _ (is : close ≡ is_last (length old) head) where
+    is_reply : (bytes : List ℕ) → IsReplyNow later role head close bytes → IsReplyAt later role (length old) head place bytes
+    is_reply bytes r = told later role (length old) head place close bytes is_place is r
 
-  kept_open : (c : Bool) → c ≡ is_last (length old) head → IsAnswered desk later role head a b old new
-      → AnswersOne desk later role head a b old new (Ok (if c then Some end.Closed else None))
-  kept_open true i x = (x, sym i)
-  kept_open false i x = (x, sym i)
+    answered_by : IsSent a b (IsReplyNow later role head close) → IsAnswered desk later role head a b old new
+    unfolding takes
+    answered_by p = record { takes = takes; sent = record { reply = p.reply; passes = p.passes; is = is_reply p.reply p.is } }
 
-  -- what was said of the sending, of a reply that was sent or cut
-  sent_so : (w v : Written) → SendsReply (IsReply catalogue role head close) a b w → w ≡ v → SendsReply (IsReply catalogue role head close) a b v
-  sent_so w v p i = subst (λ x. SendsReply (IsReply catalogue role head close) a b x) i p
+    kept_open : (c : Bool) → c ≡ is_last (length old) head → IsAnswered desk later role head a b old new
+        → AnswersOne desk later role head a b old new (Ok (if c then Some end.Closed else None))
+    kept_open true i x = (x, sym i)
+    kept_open false i x = (x, sym i)
 
-  -- the reply was sent
-  pub whole : (w : Written) → SendsReply (IsReply catalogue role head close) a b w → w ≡ written.Whole
-      → (r : Option End) → r ≡ (if close then Some end.Closed else None) → AnswersOne desk later role head a b old new (Ok r)
-  whole w p i r ends =
-      subst (λ x. AnswersOne desk later role head a b old new (Ok x)) (sym ends)
-      (kept_open close is (answered_by (sent_so w written.Whole p i)))
+    -- what was said of the sending, of a reply that was sent or cut
+    sent_so : (w v : Written) → SendsReply (IsReplyNow later role head close) a b w → w ≡ v → SendsReply (IsReplyNow later role head close) a b v
+    sent_so w v p i = subst (λ x. SendsReply (IsReplyNow later role head close) a b x) i p
 
-  -- a write of the reply failed
-  pub in_part : (w : Written) → SendsReply (IsReply catalogue role head close) a b w → w ≡ written.Cut
-      → IsAnsweredInPart desk later role head a b old new
-  unfolding takes
-  in_part w p i =
-      let cut : IsCutOff a b (IsReply catalogue role head close) = sent_so w written.Cut p i in
-      record { takes = takes; cut = record { reply = cut.reply; cut = cut.cut; is = is_reply cut.reply cut.is } }
+    -- the reply was sent
+    pub whole : (w : Written) → SendsReply (IsReplyNow later role head close) a b w → w ≡ written.Whole
+        → (r : Option End) → r ≡ (if close then Some end.Closed else None) → AnswersOne desk later role head a b old new (Ok r)
+    whole w p i r ends =
+        subst (λ x. AnswersOne desk later role head a b old new (Ok x)) (sym ends)
+        (kept_open close is (answered_by (sent_so w written.Whole p i)))
+
+    -- a write of the reply failed
+    pub in_part : (w : Written) → SendsReply (IsReplyNow later role head close) a b w → w ≡ written.Cut
+        → IsAnsweredInPart desk later role head a b old new
+    unfolding takes
+    in_part w p i =
+        let cut : IsCutOff a b (IsReplyNow later role head close) = sent_so w written.Cut p i in
+        record { takes = takes; cut = record { reply = cut.reply; cut = cut.cut; is = is_reply cut.reply cut.is } }
 
 -- the heads before the last stand at the beginning too
 gives_before : (bytes : List ℕ) (given : List Head) (head : Head) (held : List ℕ) → Gives bytes (given ++ head ∷ []) held

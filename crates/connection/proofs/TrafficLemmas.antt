@@ -5,7 +5,7 @@ use Rattle.td_base.specs.Transfer.{Sends}
 use Rattle.td_base.specs.Views.{ConnView}
 use Rattle.connection.specs.FaultCounts.{faults_of}
 use Rattle.connection.specs.Traffic.{Passes, Traffic}
-use Rattle.connection.specs.Sending.{GivesUp, IsCut}
+use Rattle.connection.specs.Sending.{GivesUp, IsCut, SendsReply}
 use Rattle.http_answer.specs.Replies.{fixed}
 use Rattle.td_base.specs.declared.transfer.Written.{Written}
 use Rattle.td_base.specs.declared.transfer.Written.TheVariants as written
@@ -77,3 +77,8 @@ sent_cut a b bytes p = record {
 pub gives_up : (a b : ConnView) (r : Written) → Sends a b (fixed 503) r → GivesUp a b
 gives_up a b written.Whole p = inl (sent_whole a b (fixed 503) p)
 gives_up a b written.Cut p = inr (sent_cut a b (fixed 503) p)
+
+-- a reply of which something is said
+pub sends_reply : (P : List ℕ → Type 0) (a b : ConnView) (bytes : List ℕ) (w : Written) → Sends a b bytes w → P bytes → SendsReply P a b w
+sends_reply P a b bytes written.Whole s p = record { reply = bytes; passes = sent_whole a b bytes s; is = p }
+sends_reply P a b bytes written.Cut s p = record { reply = bytes; cut = sent_cut a b bytes s; is = p }

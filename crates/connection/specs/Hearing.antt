@@ -3,7 +3,6 @@ use Rattle.std.specs.Prelude.{◌≡◌, ℕ, ◌+◌, ◌-◌, ◌<◌, ◌≤�
 use Rattle.std.specs.Prelude.{flat_map, Result, Ok, Err}
 use Rattle.std.specs.Io.KnownBytes.{IsAtEnd}
 use Rattle.http_request.specs.Asks.{Asks, Bad, Gives, Rest}
-use Rattle.http_request.specs.Holding.{HeadsView}
 use Rattle.http_request.specs.Steps.{IsStep, Waiting}
 use Rattle.http_request.specs.Taking.{IsRefusal}
 use Rattle.http_request.specs.declared.head.Head.{Head}

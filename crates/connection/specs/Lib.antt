@@ -3,6 +3,7 @@ pub mod DoorWorks
 pub mod Entering
 pub mod FaultCounts
 pub mod Hearing
+pub mod Keeping
 pub mod Replies
 pub mod Rounds
 pub mod Sending

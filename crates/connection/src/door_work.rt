@@ -2,6 +2,7 @@ ghost use Rattle.std.specs.Prelude.{◌≡◌};
 ghost use Rattle.connection.specs.DoorWorks.{DoesDoor, NoneOut};
 ghost use Rattle.json_forms.specs.PlainTexts.{IsPlainRole};
 
+use crate::kept_answers::KeptAnswers;
 use crate::round::{Round, serve_next};
 use catalogue::Catalogue;
 use desk_pool::StopSign;
@@ -16,7 +17,7 @@ use zone_meaning::Zone;
 pub const MOST_FAILURES: u32 = 16;
 
 /// The work of one worker: it serves the connections of its door one after the other, over a desk
-/// of its own, and hands each back. It ends where the door answers that no connection is still to
+/// of its own, and hands each back. What it answered to one it keeps for all. It ends where the door answers that no connection is still to
 /// come, where none waits and the flag of its sign was raised, and where the door fails for the
 /// 16th time.
 #[derive(Drop)]
@@ -118,9 +119,10 @@ fn serve_door<R: Wait, D: Door>(
     ensures { DoesDoor role.now (D.seen door.old) (D.seen door.new) desk.old desk.new
         sign.old sign.new result }
 {
+    let mut kept = KeptAnswers::for_worker(alloc);
     let mut failures = 0;
     'rounds: for _ in rt.forever() {
-        match serve_next(alloc, role, door, desk, sign) {
+        match serve_next(alloc, role, door, desk, &mut kept, sign) {
             Round::GoesOn => {}
             Round::Failed => {
                 failures += 1;

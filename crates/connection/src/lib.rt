@@ -16,13 +16,19 @@ mod serving;
 
 // What is read, answered and written of a connection.
 mod hearing;
+mod places;
 mod replying;
 mod sending;
+
+// Answers that are kept, and those that are computed.
+mod asking;
+mod kept_answers;
 
 // Laws, and what may cross threads.
 mod laws;
 mod send_sync;
 
 pub use door_work::{DoorDone, DoorWork};
+pub use kept_answers::KeptAnswers;
 pub use laws::{nothing_needed, one_closing};
-pub use serving::serve;
+pub use serving::{serve, serve_over};

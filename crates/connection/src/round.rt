@@ -1,8 +1,10 @@
 ghost use Rattle.connection.specs.DoorWorks.{NoneOut};
+ghost use Rattle.connection.specs.Keeping.{KeepsAnswers};
 ghost use Rattle.connection.specs.Rounds.{ServesNext};
 ghost use Rattle.json_forms.specs.PlainTexts.{IsPlainRole};
 
-use crate::serving::serve;
+use crate::kept_answers::KeptAnswers;
+use crate::serving::serve_over;
 use catalogue::Catalogue;
 use desk_pool::StopSign;
 use publication::Desk;
@@ -29,17 +31,20 @@ pub fn serve_next<D: Door>(
     role: &Role,
     door: &mut D,
     desk: &mut Desk<Catalogue<Zone>>,
+    kept: &mut KeptAnswers,
     sign: &mut StopSign,
 ) -> Round
     requires role { IsPlainRole role.now }
     requires door { NoneOut (D.seen door.old) }
-    ensures { ServesNext role.now (D.seen door.old) (D.seen door.new) desk.old desk.new
+    requires kept { KeepsAnswers desk.old role.now kept.old }
+    ensures serves { ServesNext role.now (D.seen door.old) (D.seen door.new) desk.old desk.new
         sign.old sign.new result }
+    ensures kept { KeepsAnswers desk.new role.now kept.new }
 {
     match door.accept() {
         Accepted::Given(conn) => {
             let mut conn = conn;
-            let report = serve(alloc, role, desk, &mut conn);
+            let report = serve_over(alloc, role, desk, kept, &mut conn);
             door.finish(conn, report);
             Round::GoesOn
         }

@@ -7,6 +7,7 @@ ghost use Rattle.connection.specs.Answering.{AnswersOne, EntersOn, IsServing, Se
 ghost use Rattle.connection.specs.Entering.{EntersEach, EntersFor, EntersUpTo, HasCounted};
 ghost use Rattle.connection.specs.FaultCounts.{AreLater, faults_of};
 ghost use Rattle.connection.specs.Hearing.{most_held};
+ghost use Rattle.connection.specs.Keeping.{ComputesFew, KeepsAnswers};
 ghost use Rattle.connection.specs.Replies.{is_last};
 ghost use Rattle.connection.specs.Serving.{Serves, ServesUpTo};
 ghost use Rattle.json_forms.specs.PlainTexts.{IsPlainRole};
@@ -17,6 +18,8 @@ ghost use Rattle.td_base.specs.declared.report.End.TheVariants as end;
 ghost use Rattle.td_base.specs.declared.report.TheConstants.{MOST_PLACES};
 
 use crate::hearing::{Arrival, hear};
+use crate::kept_answers::KeptAnswers;
+use crate::places::place_of;
 use crate::replying::reply_to;
 use crate::sending::{give_up, refuse};
 use catalogue::Catalogue;
@@ -47,18 +50,47 @@ pub fn serve<C: Conn>(
     ensures seen { IsPrefix desk.old.seen desk.new.seen }
     ensures first { AllByRecursion (λ p. length desk.old.seen ≤ p) result.places }
     ensures counted { HasCounted desk.old.enters result.places desk.new.enters result.end }
-    ensures computed { result.computed ≡ length result.places }
+    ensures computed { result.computed ≤ length result.places }
     ensures ended { desk.old.ended ≡ true → (desk.new.seen ≡ desk.old.seen)
         × (desk.new.ended ≡ true)
         × AllByRecursion (λ p. p ≡ length desk.old.seen) result.places }
 {
+    let mut kept = KeptAnswers::for_connection(alloc);
+    serve_over(alloc, role, desk, &mut kept, conn)
+}
+
+/// The same over answers that are lent to it: one that is kept is not computed, and one that was
+/// computed is kept. They have to be right for the desk and the role, and they stay so.
+pub fn serve_over<C: Conn>(
+    alloc: Global,
+    role: &Role,
+    desk: &mut Desk<Catalogue<Zone>>,
+    kept: &mut KeptAnswers,
+    conn: &mut C,
+) -> Report
+    requires role { IsPlainRole role.now }
+    requires kept { KeepsAnswers desk.old role.now kept.old }
+    ensures served { Serves desk.new role.now (C.seen conn.old) (C.seen conn.new)
+        result.places result.end }
+    ensures enters { EntersFor desk.old result.places desk.new result.end }
+    ensures later { AreLater (faults_of (C.seen conn.old)) (faults_of (C.seen conn.new)) }
+    ensures pair { desk.new.pair ≡ desk.old.pair }
+    ensures seen { IsPrefix desk.old.seen desk.new.seen }
+    ensures first { AllByRecursion (λ p. length desk.old.seen ≤ p) result.places }
+    ensures counted { HasCounted desk.old.enters result.places desk.new.enters result.end }
+    ensures computed { result.computed ≤ length result.places }
+    ensures kept { KeepsAnswers desk.new role.now kept.new }
+    ensures ended { desk.old.ended ≡ true → (desk.new.seen ≡ desk.old.seen)
+        × (desk.new.ended ≡ true)
+        × AllByRecursion (λ p. p ≡ length desk.old.seen) result.places }
+{
+    kept.computed = 0;
     let mut places = Places::new();
-    let end = serve_requests(alloc, role, desk, conn, &mut places);
-    let computed = places.as_slice().len() as u64;
+    let end = serve_requests(alloc, role, desk, kept, conn, &mut places);
     Report {
         end,
         places,
-        computed,
+        computed: kept.computed,
     }
 }
 
@@ -67,16 +99,20 @@ fn serve_requests<C: Conn>(
     alloc: Global,
     role: &Role,
     desk: &mut Desk<Catalogue<Zone>>,
+    kept: &mut KeptAnswers,
     conn: &mut C,
     places: &mut Places,
 ) -> End
     requires role { IsPlainRole role.now }
+    requires kept { KeepsAnswers desk.old role.now kept.old }
     requires none { places.old ≡ [] }
     ensures served { Serves desk.new role.now (C.seen conn.old) (C.seen conn.new)
         places.new result }
     ensures enters { EntersFor desk.old places.new desk.new result }
+    ensures kept { KeepsAnswers desk.new role.now kept.new }
+    ensures computed { ComputesFew kept.old.computed kept.new.computed places.old places.new }
 {
-    match answer_requests(alloc, role, desk, conn, places) {
+    match answer_requests(alloc, role, desk, kept, conn, places) {
         Ok(end) => end,
         Err(_) => {
             give_up(conn);
@@ -91,18 +127,22 @@ fn answer_requests<C: Conn>(
     alloc: Global,
     role: &Role,
     desk: &mut Desk<Catalogue<Zone>>,
+    kept: &mut KeptAnswers,
     conn: &mut C,
     places: &mut Places,
 ) -> Result<End, NoMemory>
     requires role { IsPlainRole role.now }
+    requires kept { KeepsAnswers desk.old role.now kept.old }
     requires none { places.old ≡ [] }
     ensures served { ServesUpTo desk.new role.now (C.seen conn.old) (C.seen conn.new)
         places.new result }
     ensures enters { EntersUpTo desk.old places.new desk.new result }
+    ensures kept { KeepsAnswers desk.new role.now kept.new }
+    ensures computed { ComputesFew kept.old.computed kept.new.computed places.old places.new }
 {
     let mut heads = Heads::new(alloc);
     'requests: loop {
-        if let Some(end) = answer_next(alloc, role, desk, conn, &mut heads, places)? {
+        if let Some(end) = answer_next(alloc, role, desk, kept, conn, &mut heads, places)? {
             return Ok(end);
         }
     }
@@ -113,11 +153,13 @@ fn answer_next<C: Conn>(
     alloc: Global,
     role: &Role,
     desk: &mut Desk<Catalogue<Zone>>,
+    kept: &mut KeptAnswers,
     conn: &mut C,
     heads: &mut Heads,
     places: &mut Places,
 ) -> Result<Option<End>, NoMemory>
     requires role { IsPlainRole role.now }
+    requires kept { KeepsAnswers desk.old role.now kept.old }
     requires held { heads.old.size ≤ most_held }
     requires room { length places.old < MOST_PLACES }
     ensures served { (before : ConnView)
@@ -127,9 +169,11 @@ fn answer_next<C: Conn>(
         → EntersEach before places.old desk.old → EntersOn before places.new desk.new result }
     ensures held { heads.new.size ≤ most_held }
     ensures more { result ≡ Ok None → length places.new ≡ length places.old + 1 }
+    ensures kept { KeepsAnswers desk.new role.now kept.new }
+    ensures computed { ComputesFew kept.old.computed kept.new.computed places.old places.new }
 {
     match hear(alloc, heads, conn)? {
-        Arrival::Request(head) => answer_one(alloc, role, desk, conn, &head, places),
+        Arrival::Request(head) => answer_one(alloc, role, desk, kept, conn, head, places),
         Arrival::Refused(status) => Ok(Some(refuse(conn, status))),
         Arrival::Ended => Ok(Some(End::Closed)),
         Arrival::ReadFault => Ok(Some(End::ReadFault)),
@@ -141,21 +185,24 @@ fn answer_one<C: Conn>(
     alloc: Global,
     role: &Role,
     desk: &mut Desk<Catalogue<Zone>>,
+    kept: &mut KeptAnswers,
     conn: &mut C,
-    head: &Head,
+    head: Head,
     places: &mut Places,
 ) -> Result<Option<End>, NoMemory>
     requires role { IsPlainRole role.now }
-    requires form { IsTrue (has_form head.now.target) }
+    requires kept { KeepsAnswers desk.old role.now kept.old }
+    requires form { IsTrue (has_form head.target) }
     requires room { length places.old < MOST_PLACES }
-    ensures { AnswersOne desk.old desk.new role.now head.now (C.seen conn.old) (C.seen conn.new)
+    ensures answers { AnswersOne desk.old desk.new role.now head (C.seen conn.old) (C.seen conn.new)
         places.old places.new result }
+    ensures kept { KeepsAnswers desk.new role.now kept.new }
+    ensures computed { ComputesFew kept.old.computed kept.new.computed places.old places.new }
 {
-    let close = is_last(places, head);
+    let close = is_last(places, &head);
     desk.enter()?;
-    let catalogue = desk.value();
-    places.push(catalogue.count());
-    match reply_to(alloc, role, catalogue, conn, head, close)? {
+    places.push(place_of(desk));
+    match reply_to(alloc, role, desk, kept, conn, head, close)? {
         Written::Whole => Ok(ended_by(close)),
         Written::Cut => Ok(Some(End::WriteFault)),
     }

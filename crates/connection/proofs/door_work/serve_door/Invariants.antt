@@ -1,5 +1,6 @@
 use Rattle.std.proofs.Common.{◌≡◌, ◌<◌}
 use Rattle.connection.specs.FaultCounts.{RoseTimes}
+use Rattle.connection.specs.Keeping.{KeepsAnswers}
 use Rattle.connection.specs.Rounds.{HasServed}
 use Rattle.connection.specs.declared.door_work.TheConstants.{MOST_FAILURES}
 use Rattle.connection.proofs.door_work.serve_door.Given as goal
@@ -10,4 +11,5 @@ invariant-rounds g l = record {
   flag : l.sign.flag ≡ l.fn.sign.flag;
   rose : RoseTimes l.failures (g.D.Door.seen l.fn.door).faults (g.D.Door.seen l.door).faults;
   few : l.failures < MOST_FAILURES;
+  kept : KeepsAnswers l.desk l.role l.kept;
 }

@@ -10,10 +10,10 @@ returns-in_err-head-clause-served g c = λ before s.
 
 pub returns-in-Request-clause-served : goal.returns-in-Request-clause-served
 returns-in-Request-clause-served g c = λ before s.
-    serving.answered _ _ _ _ _ _ _ _ _ _ _ _ s (serving.heard _ _ _ _ _ _ c.in-Request.is c.in_ok-head.ensures.hears) _ c.answer_one.ensures
+    serving.answered _ _ _ _ _ _ _ _ _ _ _ _ s (serving.heard _ _ _ _ _ _ c.in-Request.is c.in_ok-head.ensures.hears) _ c.answer_one.ensures.answers
 
 pub returns-in-Request-clause-enters : goal.returns-in-Request-clause-enters
-returns-in-Request-clause-enters g c = λ before e. entering.answered _ _ _ _ _ _ _ _ _ e _ c.answer_one.ensures
+returns-in-Request-clause-enters g c = λ before e. entering.answered _ _ _ _ _ _ _ _ _ e _ c.answer_one.ensures.answers
 
 pub returns-in-Refused-clause-served : goal.returns-in-Refused-clause-served
 returns-in-Refused-clause-served g c = λ before s.

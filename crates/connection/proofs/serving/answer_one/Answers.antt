@@ -1,14 +1,27 @@
+use Rattle.std.proofs.lemmas.Result.{err_from_is_err_and}
+use Rattle.connection.proofs.KeepingLemmas as keeping
 use Rattle.connection.proofs.ServingLemmas as serving
 use Rattle.connection.proofs.serving.answer_one.Goals as goal
 
-pub returns-in-Whole : goal.returns-in-Whole
-returns-in-Whole g c =
-    let held = serving.held_at c.enter.new.self _ _ c.value-catalogue.ensures.stands c.count.ensures.count c.count.ensures.some in
-    serving.whole _ _ _ _ _ _ _ _ _ _ _ c.in_ok-enter.ensures.ok c.enter.ensures.pair c.enter.ensures.seen c.enter.ensures.ended held
-    c.push.ensures c.is_last-close.ensures _ c.in_ok-reply_to.ensures.sends c.in-Whole.is _ c.ended_by.ensures
+pub reply_to-requires-clause-kept : goal.reply_to-requires-clause-kept
+reply_to-requires-clause-kept g c = keeping.grown _ _ _ _ c.enter.ensures.seen c.requires.kept
 
-pub returns-in-Cut : goal.returns-in-Cut
-returns-in-Cut g c =
-    let held = serving.held_at c.enter.new.self _ _ c.value-catalogue.ensures.stands c.count.ensures.count c.count.ensures.some in
-    serving.in_part _ _ _ _ _ _ _ _ _ _ _ c.in_ok-enter.ensures.ok c.enter.ensures.pair c.enter.ensures.seen c.enter.ensures.ended held
-    c.push.ensures c.is_last-close.ensures _ c.in_ok-reply_to.ensures.sends c.in-Cut.is
+pub returns-in_err-enter-clause-kept : goal.returns-in_err-enter-clause-kept
+returns-in_err-enter-clause-kept g c = keeping.grown _ _ _ _ c.enter.ensures.seen c.requires.kept
+
+pub returns-in-Whole-clause-answers : goal.returns-in-Whole-clause-answers
+returns-in-Whole-clause-answers g c =
+    serving.whole _ _ _ _ _ _ _ _ _ _ c.in_ok-enter.ensures.ok c.enter.ensures.pair c.enter.ensures.seen c.enter.ensures.ended c.place_of.ensures.is
+    c.place_of.ensures.some c.push.ensures c.is_last-close.ensures _ c.in_ok-reply_to.ensures.sends c.in-Whole.is _ c.ended_by.ensures
+
+pub returns-in-Cut-clause-answers : goal.returns-in-Cut-clause-answers
+returns-in-Cut-clause-answers g c =
+    serving.in_part _ _ _ _ _ _ _ _ _ _ c.in_ok-enter.ensures.ok c.enter.ensures.pair c.enter.ensures.seen c.enter.ensures.ended c.place_of.ensures.is
+    c.place_of.ensures.some c.push.ensures c.is_last-close.ensures _ c.in_ok-reply_to.ensures.sends c.in-Cut.is
+
+pub returns-in_err-reply_to-clause-answers : goal.returns-in_err-reply_to-clause-answers
+returns-in_err-reply_to-clause-answers g c =
+    let p = err_from_is_err_and c.from_residual-in_err-reply_to.result c.from_residual-in_err-reply_to.ensures.1 in
+    rw p.1
+    (serving.without_reply _ _ _ _ _ _ _ _ _ c.is_last-close.result c.in_ok-enter.ensures.ok c.enter.ensures.pair c.enter.ensures.seen
+    c.enter.ensures.ended c.place_of.ensures.is c.place_of.ensures.some c.push.ensures c.in_err-reply_to.ensures.none)

@@ -3,6 +3,7 @@ use Rattle.td_base.specs.declared.report.TheConstants.{MOST_PLACES}
 use Rattle.connection.specs.Answering.{IsServing}
 use Rattle.connection.specs.Entering.{EntersEach}
 use Rattle.connection.specs.Hearing.{most_held}
+use Rattle.connection.specs.Keeping.{ComputesFew, KeepsAnswers}
 use Rattle.connection.proofs.serving.answer_requests.Given as goal
 
 abbrev pub invariant-requests : goal.invariant-requests
@@ -10,6 +11,8 @@ invariant-requests g l = record {
   serving : IsServing l.desk l.role (g.C.Conn.seen l.fn.conn) (g.C.Conn.seen l.conn) l.heads.rest l.places;
   enters : EntersEach l.fn.desk l.places l.desk;
   held : l.heads.size ≤ most_held;
+  kept : KeepsAnswers l.desk l.role l.kept;
+  computed : ComputesFew l.fn.kept.computed l.kept.computed l.fn.places l.places;
 }
 
 abbrev pub decreases-requests : goal.decreases-requests

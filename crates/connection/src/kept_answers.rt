@@ -1,0 +1,70 @@
+ghost use Rattle.std.specs.Prelude.{◌≡◌, ◌≤◌, []};
+ghost use Rattle.answer_cache.specs.declared.cache.TheConstants.{MOST_ANSWERS};
+
+use answer_cache::{AnswerCache, Key, MOST_ANSWERS, MOST_BODY};
+use http_answer::Answer;
+use std::alloc::Global;
+
+/// The most bytes of a body that is kept at all.
+pub const MOST_LARGE_BODY: usize = 8_388_608;
+
+/// The answers that a server keeps from one request to the next.
+#[derive(Drop)]
+pub struct KeptAnswers {
+    /// Those used last, with bodies of at most 65,536 bytes.
+    pub many: AnswerCache,
+    /// The last of those with larger bodies, of at most 8,388,608 bytes.
+    pub large: AnswerCache,
+    /// How often an answer was computed.
+    pub computed: u64,
+}
+
+impl KeptAnswers {
+    ghost use Rattle.connection.specs.Keeping.{KeepsNothing, KeepsOneOf};
+
+    /// Room for 64 answers, and for no large one. Without memory for it no answer will be kept.
+    pub fn for_connection(alloc: Global) -> KeptAnswers
+        ensures { KeepsNothing result }
+    {
+        KeptAnswers {
+            many: room_or_none(alloc, MOST_ANSWERS, MOST_BODY),
+            large: AnswerCache::without_room(alloc),
+            computed: 0,
+        }
+    }
+
+    /// Room for 64 answers, and for a large one. Without memory for the one or the other, no answer
+    /// will be kept in its place.
+    pub fn for_worker(alloc: Global) -> KeptAnswers
+        ensures { KeepsNothing result }
+    {
+        KeptAnswers {
+            many: room_or_none(alloc, MOST_ANSWERS, MOST_BODY),
+            large: room_or_none(alloc, 1, MOST_LARGE_BODY),
+            computed: 0,
+        }
+    }
+
+    /// Keeps the answer to the key, by the size of its body. Without memory nothing changes.
+    pub fn keep(&mut self, key: Key, answer: Answer)
+        ensures { KeepsOneOf self.old self.new key answer }
+    {
+        if answer.body.len() <= MOST_BODY {
+            self.many.keep(key, answer);
+        } else {
+            self.large.keep(key, answer);
+        }
+    }
+}
+
+/// A cache that keeps nothing yet, or, without memory for it, one that never does.
+fn room_or_none(alloc: Global, capacity: usize, most_body: usize) -> AnswerCache
+    requires some { 1 ≤ capacity }
+    requires few { capacity ≤ MOST_ANSWERS }
+    ensures { result.kept ≡ [] }
+{
+    match AnswerCache::with_bound(alloc, capacity, most_body) {
+        Ok(cache) => cache,
+        Err(_) => AnswerCache::without_room(alloc),
+    }
+}
