@@ -119,7 +119,7 @@ fn serve_door<R: Wait, D: Door>(
     ensures { DoesDoor role.now (D.seen door.old) (D.seen door.new) desk.old desk.new
         sign.old sign.new result }
 {
-    let mut kept = KeptAnswers::for_worker(alloc);
+    let mut kept = KeptAnswers::new(alloc);
     let mut failures = 0;
     'rounds: for _ in rt.forever() {
         match serve_next(alloc, role, door, desk, &mut kept, sign) {

@@ -22,20 +22,9 @@ pub struct KeptAnswers {
 impl KeptAnswers {
     ghost use Rattle.connection.specs.Keeping.{KeepsNothing, KeepsOneOf};
 
-    /// Room for 64 answers, and for no large one. Without memory for it no answer will be kept.
-    pub fn for_connection(alloc: Global) -> KeptAnswers
-        ensures { KeepsNothing result }
-    {
-        KeptAnswers {
-            many: room_or_none(alloc, MOST_ANSWERS, MOST_BODY),
-            large: AnswerCache::without_room(alloc),
-            computed: 0,
-        }
-    }
-
     /// Room for 64 answers, and for a large one. Without memory for the one or the other, no answer
     /// will be kept in its place.
-    pub fn for_worker(alloc: Global) -> KeptAnswers
+    pub fn new(alloc: Global) -> KeptAnswers
         ensures { KeepsNothing result }
     {
         KeptAnswers {

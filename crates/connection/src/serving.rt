@@ -55,7 +55,7 @@ pub fn serve<C: Conn>(
         × (desk.new.ended ≡ true)
         × AllByRecursion (λ p. p ≡ length desk.old.seen) result.places }
 {
-    let mut kept = KeptAnswers::for_connection(alloc);
+    let mut kept = KeptAnswers::new(alloc);
     serve_over(alloc, role, desk, &mut kept, conn)
 }
 

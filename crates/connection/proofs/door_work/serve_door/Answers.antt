@@ -9,7 +9,7 @@ rounds-init g c = record {
   flag = refl;
   rose = rounds.rose_none _;
   few = omega arith;
-  kept = keeping.none _ _ _ c.for_worker-kept.ensures;
+  kept = keeping.none _ _ _ c.new-kept.ensures;
 }
 
 pub serve_next-requires-clause-door : goal.serve_next-requires-clause-door
