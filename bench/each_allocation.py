@@ -17,8 +17,10 @@ import tempfile
 
 ROOT = os.path.dirname(os.path.dirname(os.path.abspath(__file__)))
 
-# The Nth call of malloc, calloc or realloc gives no memory, and tells so on descriptor TOLD.
+# The Nth call of malloc, calloc or realloc, of all threads, gives no memory, and makes the file TOLD.
 FAILING = r"""
+#include <errno.h>
+#include <fcntl.h>
 #include <stddef.h>
 #include <stdlib.h>
 #include <unistd.h>
@@ -27,21 +29,28 @@ extern void *__libc_malloc(size_t);
 extern void *__libc_calloc(size_t, size_t);
 extern void *__libc_realloc(void *, size_t);
 
-static long left, told;
+static long calls, failing;
 
 __attribute__((constructor)) static void begin(void) {
-    left = atol(getenv("FAILING_CALL"));
-    told = atol(getenv("FAILING_TOLD"));
+    failing = atol(getenv("FAILING_CALL"));
 }
 
 static int fails(void) {
-    return left && !--left && write(told, "x", 1) == 1;
+    if (!failing || __atomic_add_fetch(&calls, 1, __ATOMIC_RELAXED) != failing) return 0;
+    close(open(getenv("FAILING_TOLD"), O_CREAT | O_WRONLY, 0600));
+    errno = ENOMEM;
+    return 1;
 }
 
 void *malloc(size_t size) { return fails() ? NULL : __libc_malloc(size); }
 void *calloc(size_t count, size_t size) { return fails() ? NULL : __libc_calloc(count, size); }
 void *realloc(void *old, size_t size) { return fails() ? NULL : __libc_realloc(old, size); }
 """
+
+
+def failing_at(library, call, told):
+    """The variables of a process of which this call fails; where it came to that it makes the file `told`."""
+    return {"LD_PRELOAD": library, "FAILING_CALL": str(call), "FAILING_TOLD": told}
 
 
 def build(folder):
@@ -55,21 +64,17 @@ def build(folder):
 
 def run(program, table, library, call):
     """The status of a run in which this call fails, its output, and whether it came to that call."""
-    reads, writes = os.pipe()
-    names = {"LD_PRELOAD": library, "FAILING_CALL": str(call), "FAILING_TOLD": str(writes)}
-    child = subprocess.run(
-        [program],
-        env=names,
-        pass_fds=[writes],
-        input=table,
-        stdout=subprocess.PIPE,
-        stderr=subprocess.DEVNULL,
-        timeout=60,
-    )
-    os.close(writes)
-    came = os.read(reads, 1) != b""
-    os.close(reads)
-    return child.returncode, child.stdout, came
+    with tempfile.TemporaryDirectory() as folder:
+        told = os.path.join(folder, "told")
+        child = subprocess.run(
+            [program],
+            env=failing_at(library, call, told),
+            input=table,
+            stdout=subprocess.PIPE,
+            stderr=subprocess.DEVNULL,
+            timeout=60,
+        )
+        return child.returncode, child.stdout, os.path.exists(told)
 
 
 def is_right(status, output, whole):

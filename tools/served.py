@@ -133,6 +133,8 @@ class Served:
         if self.child.poll() is None:
             self.child.kill()
         self.child.wait()
+        for reader in self._readers:
+            reader.join(5)
         for stream in (self.child.stdin, self.child.stdout, self.child.stderr):
             try:
                 stream.close()

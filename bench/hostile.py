@@ -1,0 +1,437 @@
+#!/usr/bin/env python3
+"""Attacks `tzdistd` as it is built, over the loopback, and tells what was seen.
+
+    bench/hostile.py RELEASE_DIR [--program PATH] [--only PART,..] [--count N] [--seconds N]
+
+The parts, each of them rows of a table:
+
+    clients      so many connections of each kind of client that misbehaves, beside a good one whose 50th and
+                 99th percentile are told: garbage, half a head, a reset, a half-closed stream, a slow writer,
+                 a slow reader, one that takes nothing
+    descriptors  a server that may open 64, of which 300 connections want one, and the same once they are gone
+    space        a server whose address space is limited, from what it cannot start with to ample
+    upstreams    a mirror whose other server is slow, silent, endless, resets, ends, cuts or lies, in a first
+                 sync and in one of a console
+
+After each attack on a server a new client must get the whole list, the console must know the release that
+is served, and a quit must end it with status 0; where memory is limited it may end with status 70 as well,
+and a request may be answered 503. What is held by then, descriptors and memory, is told. Anything else
+makes the status 1.
+
+Every loop is bounded in count and time, and what is started ends with the script. It is run by hand, and
+is no part of the gate. It needs Linux and Python's standard library alone.
+"""
+
+import argparse
+import collections
+import os
+import random
+import resource
+import statistics
+import subprocess
+import sys
+import tempfile
+import threading
+import time
+
+sys.dont_write_bytecode = True
+sys.path.insert(0, os.path.join(os.path.dirname(os.path.dirname(os.path.abspath(__file__))), "tools"))
+
+import test_mirror
+from checks import ZONES, ran, same
+from serve import deaf, descriptors, drip, garbage, half_closed, parts_of, resetting, sip, status_of
+from served import DATA, PROGRAM, Client, Failure, Mirror, Served, request
+
+PARTS = ["clients", "descriptors", "space", "upstreams"]
+GONE = "refused 1 UpstreamFault"
+
+
+# ---- clients that misbehave
+
+
+def half_head(peer, rng):
+    """a part of a head, and the end"""
+    whole = request(ZONES, "Accept: application/tzif")
+    peer.send(whole[: rng.randrange(1, len(whole))])
+
+
+def many_heads(peer, rng):
+    """heads of 16 KB that never end"""
+    peer.send(b"GET / HTTP/1.1\r\nHost: x\r\n" + b"x: y\r\n" * rng.randrange(60, 2700))
+
+
+def too_much(peer, rng):
+    """a body that no request has, of up to a megabyte"""
+    peer.send(request(ZONES, method="POST"))
+    try:
+        for _ in range(rng.randrange(1, 16)):
+            peer.send(bytes(65_536))
+    except OSError:
+        pass
+
+
+SHORT = {
+    "garbage": garbage,
+    "half a head": half_head,
+    "heads without end": many_heads,
+    "a body": too_much,
+    "requests and a reset": resetting,
+    "half-closed": half_closed,
+}
+LONG_LIVED = {"slow writers": drip, "slow readers": sip, "takers of nothing": deaf}
+
+
+class Good:
+    """A client that asks for the list, a thousand times a second at most, and keeps its times."""
+
+    def __init__(self, port):
+        self.port, self.times, self.faults, self.done = port, [], [], threading.Event()
+        self.thread = threading.Thread(target=self.ask, daemon=True)
+        self.thread.start()
+
+    def ask(self):
+        while not self.done.is_set():
+            try:
+                with Client(self.port, timeout=60) as client:
+                    for _ in range(500):
+                        begin = time.monotonic()
+                        reply = client.ask(f"{ZONES}?pattern=*york", timeout=60)
+                        self.times.append(time.monotonic() - begin)
+                        if reply.status != 200:
+                            self.faults.append(f"status {reply.status}")
+                        if self.done.wait(0.001):
+                            return
+            except (Failure, OSError) as fault:
+                self.faults.append(str(fault))
+
+    def end(self):
+        self.done.set()
+        self.thread.join(70)
+        times = sorted(self.times)
+        return len(times), statistics.median(times), times[len(times) * 99 // 100], self.faults
+
+
+def misbehave(port, kind, count, seconds):
+    """So many connections of a kind, by eight threads: how many were made, and how many were refused."""
+    turns, lock, made, refused = iter(range(count)), threading.Lock(), [], []
+    end = time.monotonic() + seconds
+
+    def work():
+        while time.monotonic() < end:
+            with lock:
+                turn = next(turns, None)
+            if turn is None:
+                return
+            try:
+                with Client(port, timeout=20) as peer:
+                    made.append(turn)
+                    kind(peer, random.Random(turn))
+            except (OSError, Failure):
+                refused.append(turn)
+
+    threads = [threading.Thread(target=work) for _ in range(8)]
+    for thread in threads:
+        thread.start()
+    for thread in threads:
+        thread.join(seconds + 60)
+    return len(made)
+
+
+def keep(port, kind, count, seconds):
+    """So many connections of a kind that last, for so long, once a second each."""
+    peers = []
+    for _ in range(count):
+        try:
+            peers.append(kind(port))
+        except OSError:
+            break
+    end, ended = time.monotonic() + seconds, set()
+    while time.monotonic() < end:
+        for number, (_, turn) in enumerate(peers):
+            try:
+                turn()
+            except OSError:
+                ended.add(number)
+        time.sleep(1)
+    for peer, _ in peers:
+        peer.close()
+    return len(peers)
+
+
+class Bench:
+    def __init__(self, words):
+        self.folder, self.program = os.path.abspath(words.folder), os.path.abspath(words.program)
+        self.count, self.seconds, self.faults = words.count, words.seconds, 0
+
+    def served(self, folders=None, workers=2, by=()):
+        return Served(folders or [self.folder], workers=workers, program=self.program, by=by)
+
+    def fault(self, what):
+        self.faults += 1
+        print(f"\nWRONG: {what}\n", flush=True)
+
+    def is_well(self, server, whole, what):
+        """A new client has the whole list, the console knows its token, and nothing was complained of."""
+        try:
+            with Client(server.port, timeout=60) as client:
+                same("the list", client.ask(ZONES, timeout=60).body, whole)
+            same("status", server.say("status").split(" ")[1], server.token)
+            same("the end", server.quit(), 0)
+            same("standard error", server.errors, b"")
+        except (Failure, OSError) as fault:
+            self.fault(f"{what}: {fault}")
+
+    # -- clients
+
+    def clients(self):
+        print("| Clients | Connections | Seconds | Requests of a good client | 50th, ms | 99th, ms | Resident, KiB | Descriptors | after |")
+        print("|---|---|---|---|---|---|---|---|---|")
+        self.attack("none", lambda port: time.sleep(5) or 0)
+        for name, kind in SHORT.items():
+            self.attack(name, lambda port: misbehave(port, kind, self.count, self.seconds))
+        for name, kind in LONG_LIVED.items():
+            self.attack(name, lambda port: keep(port, kind, 500, 20))
+
+    def attack(self, name, act):
+        with self.served() as server:
+            with Client(server.port) as client:
+                whole = client.ask(ZONES).body
+            before = descriptors(server.pid)
+            good, begin = Good(server.port), time.monotonic()
+            made = act(server.port)
+            took = time.monotonic() - begin
+            asked, middle, late, faults = good.end()
+            memory, most = status_of(server.pid, "VmRSS"), descriptors(server.pid)
+            until = time.monotonic() + 90
+            while descriptors(server.pid) > before and time.monotonic() < until:
+                time.sleep(0.2)
+            after = descriptors(server.pid)
+            if faults:
+                self.fault(f"{name}: the good client had {len(faults)} failures: {faults[0]}")
+            if after > before:
+                self.fault(f"{name}: {after} descriptors are open, and {before} were")
+            self.is_well(server, whole, name)
+            print(f"| {name} | {made} | {took:.1f} | {asked} | {middle * 1000:.2f} | {late * 1000:.2f} | {memory} | {most} | {after} |", flush=True)
+
+    # -- descriptors
+
+    def descriptors(self):
+        print("| Descriptors | Workers | Connections tried | Answered while they were there | Answered when they were gone |")
+        print("|---|---|---|---|---|")
+        for workers in (1, 4):
+            with self.served(["data/a"], workers, ["sh", "-c", 'ulimit -n 64; exec "$@"', "sh"]) as server:
+                peers, answered = [], 0
+                for _ in range(300):
+                    try:
+                        peers.append(Client(server.port, timeout=1))
+                        peers[-1].send(request(ZONES))
+                        answered += peers[-1].reply(timeout=1).status == 200
+                    except (OSError, Failure):
+                        pass
+                for peer in peers:
+                    peer.close()
+                later = 0
+                for _ in range(100):
+                    with Client(server.port, timeout=60) as client:
+                        later += client.ask(ZONES, timeout=60).status == 200
+                        whole = client.held
+                if later < 100:
+                    self.fault(f"{later} of 100 were answered once descriptors were free")
+                self.is_well_again(server)
+                print(f"| 64 | {workers} | 300 | {answered} | {later} of 100 |", flush=True)
+
+    def is_well_again(self, server):
+        try:
+            same("status", server.say("status").split(" ")[1], server.token)
+            same("the end", server.quit(), 0)
+        except Failure as fault:
+            self.fault(f"descriptors: {fault}")
+
+    # -- address space
+
+    def space(self):
+        """The smallest address space with which a server starts, in steps of 1,024 KiB, and from there on steps of
+        256 until nothing is refused."""
+        print("| Address space, KiB | Began | Requests | Answered | 503 | Ended | Installs | Status |")
+        print("|---|---|---|---|---|---|---|---|")
+        kib = 2_048
+        while not self.tell_space(kib, self.in_space(kib))["began"]:
+            kib += 1_024
+            if kib > 400_000:
+                self.fault("no address space was enough")
+                return
+        kib -= 1_024
+        while not self.tell_space(kib, self.in_space(kib))["well"]:
+            kib += 256
+
+    @staticmethod
+    def tell_space(kib, seen):
+        began = "yes" if seen["began"] else "no"
+        told = [seen[name] for name in ("asked", "answered", "503", "ended", "installs", "status")]
+        print("| " + " | ".join(map(str, [f"{kib:,}", began, *told])) + " |", flush=True)
+        return seen
+
+    def in_space(self, kib):
+        seen = collections.defaultdict(int, began=False, installs="", status="", well=False)
+        by = ["sh", "-c", f'ulimit -v {kib}; exec "$@"', "sh"]
+        try:
+            server = self.served(by=by)
+        except Failure:
+            status, output, errors = self.alone(by)
+            seen["status"] = status
+            # 126 and 127 are the words of the system for a program that it has no room to load
+            if status not in (5, 6, 70, 126, 127) or output:
+                self.fault(f"{kib} KiB: status {status}, {output!r}, {errors!r} at the start")
+            return seen
+        with server:
+            seen["began"] = True
+            targets = [ZONES, f"{ZONES}/America%2FNew_York", f"{ZONES}?pattern=*a*", "/tzdist/capabilities"]
+            said = []
+            for turn in range(40):
+                self.ask_in_space(server, targets[turn % 4], seen)
+                if turn % 10 == 9 and server.child.poll() is None:
+                    said.append(server.say(f"install {self.folder}").split(" ")[0:2])
+            seen["installs"] = ", ".join(" ".join(word).split("-")[0] for word in said)
+            for word in said:
+                if word[0] != "installed" and word != ["no", "memory"]:
+                    self.fault(f"{kib} KiB: install said {' '.join(word)}")
+            try:
+                seen["status"] = server.quit() if server.child.poll() is None else server.ended()[0]
+            except Failure as fault:
+                self.fault(f"{kib} KiB: {fault}")
+            if seen["status"] not in (0, 70):
+                self.fault(f"{kib} KiB: status {seen['status']}, {server.errors!r}")
+            seen["well"] = seen["answered"] == 40 and seen["status"] == 0 and all(word[0] == "installed" for word in said)
+        return seen
+
+    def alone(self, by):
+        child = subprocess.run(
+            [*by, self.program, "serve", "127.0.0.1:0", "2", self.folder], cwd=DATA, stdin=subprocess.DEVNULL, capture_output=True, timeout=60
+        )
+        return child.returncode, child.stdout, child.stderr
+
+    def ask_in_space(self, server, target, seen):
+        seen["asked"] += 1
+        try:
+            with Client(server.port, timeout=20) as client:
+                status = client.ask(target, timeout=20).status
+        except (Failure, OSError):
+            seen["ended"] += 1
+            return
+        if status == 200:
+            seen["answered"] += 1
+        elif status == 503:
+            seen["503"] += 1
+        else:
+            self.fault(f"{target} was answered {status}")
+
+    # -- upstreams
+
+    def upstreams(self):
+        print("| The other server | A first sync | Seconds | A sync of a console | Seconds | Served after it |")
+        print("|---|---|---|---|---|---|")
+        t = test_mirror
+        whole = t.listing("t", ("Test/One",))
+        kinds = {
+            "resets": lambda fake, peer, *_: t.resets(fake, peer),
+            "resets inside its answer": lambda fake, peer, *_: t.resets_inside(fake, peer),
+            "ends without a byte": lambda fake, peer, *_: t.ends(fake, peer),
+            "says nothing": lambda fake, peer, *_: t.hangs(fake, peer),
+            "stops inside its answer": lambda fake, peer, *_: t.stops(fake, peer),
+            "a byte a second": lambda fake, peer, *_: t.drips(fake, peer),
+            "answers without end": lambda fake, peer, *_: t.floods(fake, peer),
+            "is cut in its head": t.just(whole[:30]),
+            "is cut in its body": t.just(whole[:-3]),
+            "no HTTP": t.just(b"\x16\x03\x01 hello\r\n\r\n"),
+            "another document": t.just(t.reply(b'{"synctoken":1,"timezones":{}}')),
+            "status 500": t.just(t.reply(b"", status="500 Oops")),
+            "a zone that changes for ever": self.restless,
+            "a file that is none": self.one_zone(t.reply(b"TZif, almost")),
+            "a zone without its file": self.one_zone(t.reply(b"", status="404 Not Found")),
+        }
+        for name, kind in kinds.items():
+            self.follow(name, kind)
+
+    @staticmethod
+    def one_zone(answer):
+        """A server of one zone, whose file is answered so, and which has changed for whoever has it."""
+        listed = test_mirror.listing("u", ("Test/One",))
+        settled = test_mirror.listing("u")
+        return test_mirror.Answers(
+            **{
+                ZONES: listed,
+                f"{ZONES}?changedsince=t": listed,
+                f"{ZONES}?changedsince=u": settled,
+                f"{ZONES}/Test%2FOne": answer,
+            }
+        )
+
+    @staticmethod
+    def behaves(fake, peer, target):
+        """Answers as a server of one zone does whose token is t; of any other it tells that the zone changed."""
+        if target.startswith(f"{ZONES}/"):
+            peer.sendall(test_mirror.reply(test_mirror.slim_zone(1)))
+        elif target.endswith("changedsince=t"):
+            peer.sendall(test_mirror.listing("t"))
+        else:
+            peer.sendall(test_mirror.listing("t", ("Test/One",)))
+
+    @staticmethod
+    def restless(fake, peer, target):
+        if target.startswith(f"{ZONES}/"):
+            peer.sendall(test_mirror.reply(test_mirror.slim_zone(1)))
+        else:
+            peer.sendall(test_mirror.listing(f"t{len(fake.requests)}", ("Test/One",)))
+
+    def follow(self, name, kind):
+        """A first sync with such a server ends by status 2 or 7 and a line that says why; a sync of a mirror that
+        serves already says why, and leaves what is served."""
+        with test_mirror.Fake(kind) as fake:
+            begin = time.monotonic()
+            status, output, errors = ran(self.program, "mirror", "127.0.0.1:0", "1", fake.address, timeout=200)
+            first = time.monotonic() - begin
+        if status not in (2, 7) or not output.startswith(b"refused ") or output.count(b"\n") != 1:
+            self.fault(f"{name}: a first sync ended with {status}, {output!r}, {errors!r}")
+        says = output.decode().strip()
+        with test_mirror.Fake(self.behaves) as fake, Mirror(fake.address, workers=1, program=self.program) as mirror:
+            with Client(mirror.port) as client:
+                whole = client.ask(ZONES).body
+            fake.treat = kind
+            begin = time.monotonic()
+            said = mirror.say("sync", timeout=200)
+            second = time.monotonic() - begin
+            if not said.startswith("refused "):
+                self.fault(f"{name}: a sync was answered {said!r}")
+            with Client(mirror.port, timeout=60) as client:
+                kept = client.ask(ZONES, timeout=60).body == whole
+            if not kept:
+                self.fault(f"{name}: what is served changed")
+            fake.treat = self.behaves
+            again = mirror.say("sync", timeout=60)
+            if mirror.quit() != 0:
+                self.fault(f"{name}: the mirror did not end well")
+        print(f"| {name} | `{says}`, status {status} | {first:.1f} | `{said}` | {second:.1f} | {'the same' if kept else 'CHANGED'}; then `{again.split('-')[0]}` |", flush=True)
+
+
+def main():
+    parser = argparse.ArgumentParser(description=__doc__.splitlines()[0])
+    parser.add_argument("folder", metavar="RELEASE_DIR")
+    parser.add_argument("--program", default=PROGRAM)
+    parser.add_argument("--only", default=",".join(PARTS), help=f"parts of {','.join(PARTS)}")
+    parser.add_argument("--count", type=int, default=10_000, help="connections of each kind that ends")
+    parser.add_argument("--seconds", type=int, default=120, help="for each kind at most")
+    words = parser.parse_args()
+    parts = parts_of(words, PARTS)
+    hard = resource.getrlimit(resource.RLIMIT_NOFILE)[1]
+    resource.setrlimit(resource.RLIMIT_NOFILE, (hard, hard))
+    bench = Bench(words)
+    for number, part in enumerate(parts):
+        if number:
+            print()
+        getattr(bench, part)()
+    print(f"\n{bench.faults} wrong" if bench.faults else "\nnothing was wrong")
+    return 1 if bench.faults else 0
+
+
+if __name__ == "__main__":
+    sys.exit(main())
