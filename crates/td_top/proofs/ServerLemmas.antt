@@ -51,6 +51,7 @@ operated before now ended seen t =
       told = t.told;
       last = talk.0;
       reads = t.reads;
+      needed = t.needed;
       talks = talk.2;
       published = talk.1.published;
       growth = talk.1.growth;

@@ -15,7 +15,7 @@ use Rattle.td_base.proofs.lemmas.LaterLemmas.{writes_all_later}
 use Rattle.catalogue.specs.Holdings.{history_of}
 use Rattle.catalogue.specs.Releases.{ReleaseData}
 use Rattle.catalogue.proofs.lemmas.HistoryLemmas.{history_length, history_longer}
-use Rattle.console.specs.Lines.{lines_of}
+use Rattle.console.specs.Lines.{lines_from, lines_of}
 use Rattle.console.specs.Replies.{reply_text}
 use Rattle.console.specs.Steps.{GivesLines}
 use Rattle.console.specs.declared.line.Line.{Line}
@@ -27,9 +27,10 @@ use Rattle.td_top.specs.Replies.{last_token}
 use Rattle.td_top.specs.Sessions.{AnswersLine, BeginsWhole, LaterSession}
 use Rattle.td_top.specs.Site.{console}
 use Rattle.td_top.specs.Talk.{KeepsTalking, more, none, talk_begun}
-use Rattle.td_top.specs.Talking.{ComesTo, IsAt, LaterScene, Scene, TalksOver, at_ready, at_reply, scene, talk_text}
+use Rattle.td_top.specs.Talking.{ComesTo, IsAt, IsNeeded, LaterScene, Scene, TalksOver, at_ready, at_reply, scene, talk_text}
 use Rattle.td_top.specs.TalkingSteps.{FeedsHeld, FeedsTalk, HasNone, IsNextLine, Reaches, SaysBye}
 use Rattle.td_top.specs.TalkingSteps.{SaysText}
+use Rattle.td_top.specs.declared.talking.TheConstants.{PIECE}
 use Rattle.td_top.specs.declared.talking.Turn.{Turn}
 use Rattle.td_top.specs.declared.talking.Turn.TheVariants as turn
 use Rattle.td_top.specs.declared.session.Session.{Session}
@@ -67,6 +68,19 @@ gives_none = λ more. refl
 all_more : {A : Type 0} (P : A → Type 0) (xs : List A) (x : A) → AllByRecursion P xs → P x → AllByRecursion P (xs ++ x ∷ [])
 all_more P [] x h p = (p, tt)
 all_more P (y ∷ ys) x h p = (h.0, all_more P ys x h.1 p)
+
+-- ---- what was read
+
+needs_none : IsNeeded [] []
+unfolding lines_from
+needs_none = ([], [], [], refl, omega arith, refl)
+
+needs_more : (read : List ℕ) (asked : List Line) (next : Line) → IsNeeded read asked → IsNeeded read (asked ++ next ∷ [])
+needs_more read asked next h =
+    (h.0, h.1, h.2 ++ next ∷ [], h.3, h.4, ap (λ (ls : List Line). ls ++ next ∷ []) h.5 ∙ append_assoc (lines_of h.0) h.2 (next ∷ []))
+
+needs_piece : (before piece : List ℕ) (asked : List Line) → lines_of before ≡ asked → length piece ≤ PIECE → IsNeeded (before ++ piece) asked
+needs_piece before piece asked all few = (before, piece, [], refl, few, sym (append-nil (lines_of before) ∙ all))
 
 -- ---- texts
 
@@ -108,6 +122,7 @@ starts s i o p x text knows is h gives = record {
   told = [];
   consumed = Consumes-nil i.left;
   gives = gives;
+  needed = needs_none;
   goes_on = tt;
   over = nothing_asked s i o p x knows (writes_all_later o p text written.Whole h);
   written = as_text o p text (talk_text (history_of x.installer.list) []) written.Whole (is ∙ first_text (history_of x.installer.list)) h;
@@ -122,6 +137,7 @@ cut_at_once s i o p x text knows is h gives = record {
   ignored = lines_of [];
   told = [];
   reads = (Consumes-nil i.left, refl);
+  needed = needs_none;
   over = nothing_asked s i o p x knows (writes_all_later o p text written.Cut h);
   written = at_ready (as_text o p text (reply_text (said.Ready (last_token (history_of x.installer.list)))) written.Cut is h);
   ends = tt;
@@ -154,6 +170,7 @@ fed start s i j o x held held' new at whole input f = record {
   consumed = Consumes-trans start.console.input.left i.left j.left at.read f.read at.consumed f.consumed;
   gives = subst (λ (l : List ℕ). GivesLines (at.read ++ f.read) at.asked l) (sym f.joined)
       (gives_more at.read held' f.read at.asked (whole at.read at.asked at.gives).0);
+  needed = needs_piece at.read f.read at.asked (whole at.read at.asked at.gives).1 f.few;
   goes_on = at.goes_on;
   over = over_input start s i j o x at.asked at.told input at.over;
   written = at.written;
@@ -171,6 +188,7 @@ input_done start s i j o x held held' at whole input consumed ended = record {
   ignored = [];
   told = at.told;
   reads = (consumed_on start.console.input.left i.left j.left at.read at.consumed consumed, (whole at.read at.asked at.gives).1 ∙ sym (append-nil at.asked));
+  needed = at.needed;
   over = over_input start s i j o x at.asked at.told input at.over;
   written = at.written;
   ends = (at.goes_on, refl, ended);
@@ -185,6 +203,7 @@ input_failed start s i j o x held held' at whole input consumed failed = record 
   ignored = [];
   told = at.told;
   reads = (consumed_on start.console.input.left i.left j.left at.read at.consumed consumed, (whole at.read at.asked at.gives).1 ∙ sym (append-nil at.asked));
+  needed = at.needed;
   over = over_input start s i j o x at.asked at.told input at.over;
   written = at.written;
   ends = (at.goes_on, refl, source_then_failed start.console.input i j at.over.later.console.input failed);
@@ -234,6 +253,7 @@ cut_by start s t i o p x y held new next a at is answers h = record {
   ignored = lines_of new;
   told = at.told ++ a ∷ [];
   reads = (at.consumed, lines_held at.read new (at.asked ++ next ∷ []) (is at.read at.asked at.gives));
+  needed = needs_more at.read at.asked next at.needed;
   over = over_more start s t i o p x y at.asked at.told next a at.goes_on (writes_all_later o p a written.Cut h) at.over answers;
   written = at_reply at.told a o at.written h;
   ends = tt;
@@ -256,6 +276,7 @@ answered start s t i o p x y held new next a goes at is answers h = record {
   told = at.told ++ a ∷ [];
   consumed = at.consumed;
   gives = is at.read at.asked at.gives;
+  needed = needs_more at.read at.asked next at.needed;
   goes_on = all_more KeepsTalking at.asked next at.goes_on goes;
   over = over_more start s t i o p x y at.asked at.told next a at.goes_on (writes_all_later o p a written.Whole h) at.over answers;
   written = said_whole start o p at.told a at.written h;
@@ -281,6 +302,7 @@ quit_by start s i o p x held new at is answers h = record {
   ignored = lines_of new;
   told = at.told ++ reply_text said.Bye ∷ [];
   reads = (at.consumed, lines_held at.read new (at.asked ++ line.Quit ∷ []) (is at.read at.asked at.gives));
+  needed = needs_more at.read at.asked line.Quit at.needed;
   over = over_more start s s i o p x x at.asked at.told line.Quit (reply_text said.Bye) at.goes_on (writes_all_later o p (reply_text said.Bye) written.Whole h)
       at.over
       answers;

@@ -33,7 +33,11 @@ site console network spawner = record { console = console; network = network; sp
 
 -- what a history grows by, in a world
 abbrev pub site_in : GrowthView → World → SiteView
-site_in growth w = site (console growth w.outside.input w.outside.output) w.network w.spawner
+site_in growth w = record {
+  console = record { growth = growth; input = w.outside.input; output = w.outside.output };
+  network = w.network;
+  spawner = w.spawner;
+}
 
 -- any calls were made
 pub record LaterSite (before after : SiteView) : Type 0 where

@@ -1,5 +1,6 @@
 -- How a talk with an operator goes, over what the history grows by, an input and an output.
-use Rattle.std.specs.Prelude.{◌≡◌, ℕ, List, [], ◌∷◌, ◌++◌, flat_map, ⊤, Option, None, Some}
+use Rattle.std.specs.Prelude.{◌≡◌, ◌≤◌, ℕ, List, [], ◌∷◌, ◌++◌, length, flat_map, ⊤, Option, None}
+use Rattle.std.specs.Prelude.{Some}
 use Rattle.std.specs.Io.KnownBytes.{Consumes, IsAtEnd}
 use Rattle.std.specs.List.{AllByRecursion}
 use Rattle.td_base.specs.Views.{SinkView, SourceFailed, SourceView}
@@ -18,6 +19,7 @@ use Rattle.td_top.specs.Sessions.{BeginsWhole, LaterSession, StandsAt}
 use Rattle.td_top.specs.Site.{ConsoleView, LaterConsole}
 use Rattle.td_top.specs.Talk.{KeepsTalking, Talk, Talks, talk_begun}
 use Rattle.td_top.specs.declared.session.Session.{Session}
+use Rattle.td_top.specs.declared.talking.TheConstants.{PIECE}
 use Rattle.td_top.specs.declared.talking.TalkEnd.{TalkEnd}
 use Rattle.td_top.specs.declared.talking.TalkEnd.TheVariants as end
 
@@ -52,6 +54,13 @@ pub record TalksOver (before now : Scene) (asked : List Line) (told : List (List
 abbrev pub ReadsLines : SourceView → SourceView → List ℕ → List Line → List Line → Type 0
 ReadsLines before now read asked ignored =
     Consumes before.left now.left read × (lines_of read ≡ asked ++ ignored)
+
+-- nothing was read before it was needed: the last piece, of so many bytes at most, was read once all
+-- lines of the bytes before it had got what they get said
+abbrev pub IsNeeded : List ℕ → List Line → Type 0
+IsNeeded read asked =
+    (first piece : List ℕ) × (more : List Line) × (read ≡ first ++ piece)
+    × (length piece ≤ PIECE) × (asked ≡ lines_of first ++ more)
 
 -- why a talk ended: the last line asked for it; the input ended, or a read of it failed, after all
 -- its lines, none of which asked for the end; or a write failed
@@ -91,6 +100,7 @@ pub record Talked (before now : Scene) (ended : TalkEnd) : Type 0 where
   pub ignored : List Line
   pub told : List (List ℕ)
   pub reads : ReadsLines before.console.input now.console.input read asked ignored
+  pub needed : IsNeeded read asked
   pub over : TalksOver before now asked told
   pub written : WritesTalk ended (history_of before.session.installer.list)
       before.console.output now.console.output told
@@ -108,6 +118,7 @@ pub record IsAt (before now : Scene) (held : List ℕ) : Type 0 where
   pub told : List (List ℕ)
   pub consumed : Consumes before.console.input.left now.console.input.left read
   pub gives : GivesLines read asked held
+  pub needed : IsNeeded read asked
   pub goes_on : AllByRecursion KeepsTalking asked
   pub over : TalksOver before now asked told
   pub written : WritesAll before.console.output now.console.output
@@ -123,6 +134,7 @@ pub record AnswersOperator (opening whole : List ReleaseData) (before now : Cons
   pub told : List (List ℕ)
   pub last : Talk
   pub reads : ReadsLines before.input now.input read asked ignored
+  pub needed : IsNeeded read asked
   pub talks : Talks whole (talk_begun opening before.growth) asked told last
   pub published : last.published ≡ whole
   pub growth : last.growth ≡ now.growth

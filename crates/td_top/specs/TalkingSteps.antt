@@ -1,5 +1,5 @@
 -- One turn of a talk with an operator, by its parts.
-use Rattle.std.specs.Prelude.{◌≡◌, ℕ, List, [], ◌∷◌, ◌++◌, ⊤, Option, None, Some}
+use Rattle.std.specs.Prelude.{◌≡◌, ◌≤◌, ℕ, List, [], ◌∷◌, ◌++◌, length, ⊤, Option, None, Some}
 use Rattle.std.specs.Io.KnownBytes.{Consumes, IsAtEnd}
 use Rattle.td_base.specs.Views.{SourceFailed, SinkView, SourceView}
 use Rattle.td_base.specs.Transfer.{WritesAll}
@@ -11,6 +11,7 @@ use Rattle.console.specs.declared.line.Line.{Line}
 use Rattle.console.specs.declared.line.Line.TheVariants as line
 use Rattle.console.specs.declared.said.Said.TheVariants as said
 use Rattle.td_top.specs.Talking.{ComesTo, IsAt, Scene}
+use Rattle.td_top.specs.declared.talking.TheConstants.{PIECE}
 use Rattle.td_top.specs.declared.talking.TalkEnd.{TalkEnd}
 use Rattle.td_top.specs.declared.talking.TalkEnd.TheVariants as end
 use Rattle.td_top.specs.declared.talking.Turn.{Turn}
@@ -41,6 +42,7 @@ pub record FeedsHeld (before now : SourceView) (held new : List ℕ) : Type 0 wh
   pub read : List ℕ
   pub consumed : Consumes before.left now.left read
   pub joined : new ≡ held ++ read
+  pub few : length read ≤ PIECE
 
 -- what a read of the input came to
 abbrev pub FeedsTalk : SourceView → SourceView → List ℕ → List ℕ → Turn → Type 0
