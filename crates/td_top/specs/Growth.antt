@@ -18,10 +18,9 @@ pub data GrowthView : Type 0 where
 -- any calls were made
 abbrev pub LaterGrowth : GrowthView → GrowthView → Type 0
 LaterGrowth (folders old) (folders new) = LaterStore old new
-LaterGrowth (folders old) (following host s new) = ⊥
-LaterGrowth (following host s old) (folders new) = ⊥
 LaterGrowth (following host s old) (following host' t new) =
     (host' ≡ host) × LaterUpstream old new
+LaterGrowth old new = ⊥
 
 -- the lines that make it grow
 abbrev pub Grows : GrowthView → Line → Type 0

@@ -30,9 +30,8 @@ ReachedTold (Some before) (Some now) address upstream =
     (before.upstreams ≡ now.upstreams + 1)
     × (now ≡ record (reached_at address before) { upstreams = now.upstreams })
     × (upstream.told ≡ Some [])
-ReachedTold (Some before) None address upstream = ⊥
-ReachedTold None (Some now) address upstream = ⊥
 ReachedTold None None address upstream = ⊤
+ReachedTold before now address upstream = ⊥
 
 -- the network was called once, for the server at an address, of which nothing was asked yet
 pub record ReachesServer (before now : NetworkView) (address : List ℕ) (upstream : UpstreamView)

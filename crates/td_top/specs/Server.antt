@@ -39,9 +39,8 @@ pub record ServesInputs (server : Role) (H : List ReleaseData) (before now : Doo
 
 abbrev pub ConnsTold : Role → List ReleaseData → Option DoorContent → Option DoorContent → Type 0
 ConnsTold server H (Some before) (Some now) = ServesInputs server H before now
-ConnsTold server H (Some before) None = ⊥
-ConnsTold server H None (Some now) = ⊥
 ConnsTold server H None None = ⊤
+ConnsTold server H before now = ⊥
 
 -- no connection is still to come, or none waited
 abbrev pub IsDone : DoorView → Type 0
@@ -72,16 +71,14 @@ OpenedTold (Some before) (Some now) address doors =
     (now ≡ opened_at address (length doors) before)
     × (map (λ d. d.content) doors
     ≡ map (λ inputs. Some (new_content inputs)) (take (length doors) before.doors))
-OpenedTold (Some before) None address doors = ⊥
-OpenedTold None (Some now) address doors = ⊥
 OpenedTold None None address doors = ⊤
+OpenedTold before now address doors = ⊥
 
 -- a network that tells its calls was called once, and gave nothing
 abbrev pub CalledTold : Option NetworkContent → Option NetworkContent → Type 0
 CalledTold (Some before) (Some now) = now ≡ called before
-CalledTold (Some before) None = ⊥
-CalledTold None (Some now) = ⊥
 CalledTold None None = ⊤
+CalledTold before now = ⊥
 
 -- the network was called once, for so many doors at an address, and gave these, which are new
 pub record OpensDoors (before now : NetworkView) (address : List ℕ) (number : ℕ)

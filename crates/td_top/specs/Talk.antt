@@ -77,11 +77,8 @@ pub data GetsAnswer (whole : List ReleaseData) (t : Talk) (asked : Line) (answer
 
 -- a line that asks that the talk end
 abbrev pub is_quit : Line → Bool
-is_quit (line.Install dir) = false
-is_quit line.Sync = false
-is_quit line.Status = false
 is_quit line.Quit = true
-is_quit line.Strange = false
+is_quit asked = false
 
 -- a line after which the talk goes on
 abbrev pub KeepsTalking : Line → Type 0

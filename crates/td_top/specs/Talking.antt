@@ -86,12 +86,8 @@ pub data IsCut (opening : List ReleaseData) (old new : SinkView) : List (List �
 -- all that is said was written, unless the talk ended by a failed write, which cut the last of it
 abbrev pub WritesTalk : TalkEnd → List ReleaseData → SinkView → SinkView → List (List ℕ)
     → Type 0
-WritesTalk end.Quit opening old new told = WritesAll old new (talk_text opening told) written.Whole
-WritesTalk end.InputEnded opening old new told =
-    WritesAll old new (talk_text opening told) written.Whole
-WritesTalk end.NotRead opening old new told =
-    WritesAll old new (talk_text opening told) written.Whole
 WritesTalk end.NotWritten opening old new told = IsCut opening old new told
+WritesTalk ended opening old new told = WritesAll old new (talk_text opening told) written.Whole
 
 -- the lines that an operator wrote were answered, one after the other, up to an end
 pub record Talked (before now : Scene) (ended : TalkEnd) : Type 0 where

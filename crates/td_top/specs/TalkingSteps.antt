@@ -51,25 +51,20 @@ FeedsTalk before now held new (turn.End end.InputEnded) =
     Consumes before.left now.left [] × IsAtEnd now.left
 FeedsTalk before now held new (turn.End end.NotRead) =
     Consumes before.left now.left [] × SourceFailed before now
-FeedsTalk before now held new (turn.End end.Quit) = ⊥
-FeedsTalk before now held new (turn.End end.NotWritten) = ⊥
 FeedsTalk before now held new turn.NoMemory = ⊤
+FeedsTalk before now held new done = ⊥
 
 -- a text was written, or a failed write cut it, which ends the talk
 abbrev pub SaysText : SinkView → SinkView → List ℕ → Turn → Type 0
 SaysText old new text turn.On = WritesAll old new text written.Whole
 SaysText old new text (turn.End end.NotWritten) = WritesAll old new text written.Cut
-SaysText old new text (turn.End end.Quit) = ⊥
-SaysText old new text (turn.End end.InputEnded) = ⊥
-SaysText old new text (turn.End end.NotRead) = ⊥
-SaysText old new text turn.NoMemory = ⊥
+SaysText old new text done = ⊥
 
 -- the last reply was written, or a failed write cut it
 abbrev pub SaysBye : SinkView → SinkView → TalkEnd → Type 0
 SaysBye old new end.Quit = WritesAll old new (reply_text said.Bye) written.Whole
 SaysBye old new end.NotWritten = WritesAll old new (reply_text said.Bye) written.Cut
-SaysBye old new end.InputEnded = ⊥
-SaysBye old new end.NotRead = ⊥
+SaysBye old new ended = ⊥
 
 -- a talk goes on after a turn, or has come to its end
 abbrev pub Reaches : Scene → Scene → List ℕ → Turn → Type 0

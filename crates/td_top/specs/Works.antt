@@ -12,10 +12,9 @@ use Rattle.logbook.specs.Pages.{Book}
 -- the works of such a server serve these doors, in order, by desks of a pair
 abbrev pub AreWorks : Role → Book → List DoorView → List WorkView → Type 0
 AreWorks server pair [] [] = ⊤
-AreWorks server pair [] (w ∷ ws) = ⊥
-AreWorks server pair (door ∷ doors) [] = ⊥
 AreWorks server pair (door ∷ doors) (w ∷ ws) =
     ((w.role ≡ server) × (w.door ≡ door) × (w.desk.pair ≡ pair)) × AreWorks server pair doors ws
+AreWorks server pair doors works = ⊥
 
 -- the works serve some doors
 abbrev pub HasWorks : Book → List WorkView → Type 0
