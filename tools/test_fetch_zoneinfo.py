@@ -796,6 +796,35 @@ class ServedAndFetched(Room):
             if found.is_file():
                 self.assertEqual((self.dir / name).read_bytes(), found.read_bytes(), name)
 
+    def test_killed_at_any_time(self):
+        """The script is killed a little later each time, until that comes too late: the old tree stands, or the new one."""
+        first, second = self.release(STEADY, "2025-06-01"), self.release(RULED, "2025-06-02")
+        device, base = self.home / "device", self.root / "base"
+        device.mkdir()
+        self.dir = device / "zi"
+        with Served([first], program=PROGRAM) as server:
+            script = Path(__file__).with_name("fetch_zoneinfo.py")
+            words = [sys.executable, str(script), f"http://127.0.0.1:{server.port}", str(self.dir)]
+            begin = time.monotonic()
+            subprocess.run(words, check=True, capture_output=True)
+            step = (time.monotonic() - begin) / 8
+            # without its state a run asks for all zones, as the first one did
+            (Path(os.path.realpath(self.dir)).parent / "state.json").unlink()
+            shutil.copytree(device, base, symlinks=True)
+            server.say(f"install {second}")
+            old = tree_of(self.dir)
+            for count in range(100):
+                with subprocess.Popen(words, stdout=subprocess.DEVNULL) as child:
+                    time.sleep(count * step)
+                    child.kill()
+                if tree_of(self.dir) != old:
+                    break
+                shutil.rmtree(device)
+                shutil.copytree(base, device, symlinks=True)
+            self.as_released(second)
+            self.assertGreater(count, 1)
+            self.assertEqual(server.quit(), 0)
+
     def date(self, name):
         """Local time at the beginning of July 2025, as the system's own program tells it."""
         environment = {**os.environ, "TZDIR": str(self.dir), "TZ": name, "LC_ALL": "C"}
