@@ -116,11 +116,11 @@ class Driven:
 UNITS = {"us": 1e-3, "ms": 1, "s": 1e3, "m": 6e4}
 
 
-def by_wrk(wrk, port, asked, connections, seconds):
+def by_wrk(wrk, port, asked, connections, seconds, scheme="http"):
     words = [wrk, f"-t{min(connections, 2)}", f"-c{connections}", f"-d{seconds}s", "--latency"]
     for field in asked.fields:
         words += ["-H", field]
-    words.append(f"http://{HOST}:{port}{asked.target}")
+    words.append(f"{scheme}://{HOST}:{port}{asked.target}")
     text = subprocess.run(words, capture_output=True, text=True, timeout=seconds + 60, check=True).stdout
 
     def percentile(part):
@@ -176,6 +176,12 @@ def processor_seconds(pids):
             fields = line.read().rpartition(")")[2].split()
         ticks += int(fields[11]) + int(fields[12])
     return ticks / TICKS
+
+
+def children_of(pid):
+    """The processes that a process started."""
+    words = ["ps", "-o", "pid=", "--ppid", str(pid)]
+    return [int(it) for it in subprocess.run(words, capture_output=True, text=True, check=True).stdout.split()]
 
 
 def status_of(pid, name):
@@ -248,10 +254,7 @@ class Nginx:
         return same
 
     def processes(self):
-        listed = subprocess.run(
-            ["ps", "-o", "pid=", "--ppid", str(self.child.pid)], capture_output=True, text=True, check=True
-        )
-        return [int(pid) for pid in listed.stdout.split()]
+        return children_of(self.child.pid)
 
     def close(self):
         self.child.send_signal(signal.SIGTERM)

@@ -147,7 +147,7 @@ def cache(deployed):
     same("an answer that was kept", (reply.status, body[:15]), (200, b"BEGIN:VCALENDAR"))
     tag = reply.headers["ETag"]
     asked = [(head.split(" ")[1], f"If-None-Match: {tag}" in head) for head in relay.heads]
-    same("it was asked for by its tag", (asked, relay.not_modified()), ([(UTC, True)], 1))
+    same("it was asked for by its tag", (asked, relay.unmodified), ([(UTC, True)], 1))
     relay.clear()
     same("its tag of a client", ask(front, UTC, If_None_Match=tag)[0].status, 304)
     same("another tag of a client", ask(front, UTC, If_None_Match='"x"')[0].status, 200)
