@@ -1,0 +1,3 @@
+pub mod Counts
+pub mod Releases
+pub mod Requests
