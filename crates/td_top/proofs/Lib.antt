@@ -17,5 +17,6 @@ pub mod TurnLemmas
 pub mod ServerLemmas
 pub mod WorkLemmas
 pub mod RunLemmas
-pub mod WorkerLemmas
+pub mod NumberLemmas
+pub mod LoadLemmas
 pub mod BesideLemmas

@@ -2,7 +2,8 @@
 use Rattle.std.specs.Prelude.{⊤, ◌<◌, ◌≤◌, length}
 use Rattle.td_base.specs.Names.{IsPlain}
 use Rattle.td_civil.specs.Bounds.{HasMeaning}
-use Rattle.td_top.specs.Grammar.{Asked, answer, check, at, mirror, most_workers, serve}
+use Rattle.td_top.specs.Grammar.{Asked, answer, check, at, load, mirror, most_releases, most_workers}
+use Rattle.td_top.specs.Grammar.{serve}
 use Rattle.td_top.specs.declared.command.Command.{Command}
 use Rattle.td_top.specs.declared.command.Command.TheVariants as command
 
@@ -14,9 +15,10 @@ plain_command (command.At file moment) = at file.now moment.seconds
 plain_command (command.Serve address workers folders) = serve address.now workers folders.now
 plain_command (command.Mirror address workers upstream) =
     mirror address.now workers upstream.now
+plain_command (command.Load number) = load number
 
--- a command names a folder to serve, its moment has a meaning, its workers are few, and the server
--- that it follows has a plain address
+-- a command names a folder to serve, its moment has a meaning, its workers are few, the server that
+-- it follows has a plain address, and a load has some releases and not too many
 abbrev pub IsMeantCommand : Command → Type 0
 IsMeantCommand (command.Answer folders) = 0 < length folders.now
 IsMeantCommand (command.Check folders) = ⊤
@@ -25,3 +27,4 @@ IsMeantCommand (command.Serve address workers folders) =
     (workers ≤ most_workers) × (0 < length folders.now)
 IsMeantCommand (command.Mirror address workers upstream) =
     (workers ≤ most_workers) × IsPlain upstream.now
+IsMeantCommand (command.Load number) = (1 ≤ number) × (number ≤ most_releases)

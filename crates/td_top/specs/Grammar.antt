@@ -16,6 +16,7 @@ pub data Asked : Type 0 where
   at : List ℕ → ℤ → Asked
   serve : List ℕ → ℕ → List (List ℕ) → Asked
   mirror : List ℕ → ℕ → List ℕ → Asked
+  load : ℕ → Asked
 
 -- the most folders that a command takes
 abbrev pub most_folders : ℕ
@@ -60,15 +61,19 @@ is_address (b ∷ bs) =
 abbrev pub most_workers : ℕ
 most_workers = 64
 
--- the number of workers that a word writes in decimal, from 1 to the most
-unfoldable pub workers_in : List ℕ → Option ℕ
-workers_in word = find (λ n. bytes_eq (decimal n) word) (range_with_len 1 most_workers)
+-- the most releases of a load
+abbrev pub most_releases : ℕ
+most_releases = 1_000
+
+-- the number that a word writes in decimal, from 1 to the most
+unfoldable pub number_in : ℕ → List ℕ → Option ℕ
+number_in most word = find (λ n. bytes_eq (decimal n) word) (range_with_len 1 most)
 
 -- `serve ADDRESS WORKERS DIR..`
 abbrev pub serve_of : List (List ℕ) → Option Asked
 serve_of (address ∷ workers ∷ dirs) =
     if is_address address
-    then option_and_then (λ n. over_folders (serve address n) dirs) (workers_in workers)
+    then option_and_then (λ n. over_folders (serve address n) dirs) (number_in most_workers workers)
     else None
 serve_of _ = None
 
@@ -76,9 +81,14 @@ serve_of _ = None
 abbrev pub mirror_of : List (List ℕ) → Option Asked
 mirror_of (address ∷ workers ∷ upstream ∷ []) =
     if is_address address && is_address upstream
-    then option_map (λ n. mirror address n upstream) (workers_in workers)
+    then option_map (λ n. mirror address n upstream) (number_in most_workers workers)
     else None
 mirror_of _ = None
+
+-- `load NUMBER`
+abbrev pub load_of : List (List ℕ) → Option Asked
+load_of (number ∷ []) = option_map load (number_in most_releases number)
+load_of _ = None
 
 -- the command that the words spell: its name first, and then what stands after it
 abbrev pub command_of : List (List ℕ) → Option Asked
@@ -88,4 +98,5 @@ command_of (name ∷ words) =
     else if bytes_eq name (codes "check") then over_folders check words
     else if bytes_eq name (codes "at") then at_of words
     else if bytes_eq name (codes "serve") then serve_of words
-    else if bytes_eq name (codes "mirror") then mirror_of words else None
+    else if bytes_eq name (codes "mirror") then mirror_of words
+    else if bytes_eq name (codes "load") then load_of words else None

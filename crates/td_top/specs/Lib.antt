@@ -6,6 +6,8 @@ pub mod Checking
 pub mod Printing
 pub mod Answering
 pub mod StateLine
+pub mod Loading
+pub mod LoadSteps
 pub mod Tells
 pub mod CheckingSteps
 pub mod Opening

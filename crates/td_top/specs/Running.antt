@@ -4,7 +4,8 @@ use Rattle.td_base.specs.DoorViews.{DoorView}
 use Rattle.td_base.specs.Upstreams.{UpstreamView}
 use Rattle.td_top.specs.Answering.{Answers}
 use Rattle.td_top.specs.Checking.{Checks}
-use Rattle.td_top.specs.Grammar.{Asked, answer, at, check, mirror, serve}
+use Rattle.td_top.specs.Grammar.{Asked, answer, at, check, load, mirror, serve}
+use Rattle.td_top.specs.Loading.{LoadEnds}
 use Rattle.td_top.specs.Mirroring.{Mirrors}
 use Rattle.td_top.specs.Outside.{IsAlone, LaterWorld, World}
 use Rattle.td_top.specs.Printing.{Printed, usage_line}
@@ -53,6 +54,10 @@ pub data RunEnds (asked : Option Asked) (before after : World) : List DoorView
       → Mirrors address workers upstream before after doors up end
       → after.outside.store ≡ before.outside.store
       → RunEnds asked before after doors up end
+  loaded : (n : ℕ) (end : Status) → asked ≡ Some (load n)
+      → LoadEnds n before.outside after.outside end
+      → after.outside.store ≡ before.outside.store
+      → IsAlone before after → RunEnds asked before after [] None end
 
 -- a run ended, and nothing else was done to the outside than calls do
 pub record RunEndsLater (asked : Option Asked) (before after : World) (doors : List DoorView)

@@ -1,12 +1,12 @@
-ghost use Rattle.std.specs.Prelude.{◌≡◌, ◌<◌, ◌≤◌, [], ◌∷◌, length, IfSome, IsTrue};
+ghost use Rattle.std.specs.Prelude.{◌≡◌, ◌<◌, ◌≤◌, ◌^◌, [], ◌∷◌, length, IfSome, IsTrue};
 ghost use Rattle.std.specs.List.{list_all};
 ghost use Rattle.std.specs.Option.{option_map};
 ghost use Rattle.td_base.specs.Names.{is_path_word};
 ghost use Rattle.td_civil.specs.Bounds.{HasMeaning};
 ghost use Rattle.td_top.specs.Grammar.{command_of, over_folders, are_folders, at_of};
 ghost use Rattle.td_top.specs.Grammar.{answer, check, if_meant, meant_moment};
-ghost use Rattle.td_top.specs.Grammar.{is_address, is_address_byte, mirror_of, most_workers};
-ghost use Rattle.td_top.specs.Grammar.{serve_of, workers_in};
+ghost use Rattle.td_top.specs.Grammar.{is_address, is_address_byte, load_of, mirror_of};
+ghost use Rattle.td_top.specs.Grammar.{number_in, serve_of};
 ghost use Rattle.td_top.specs.Command.{plain_command, IsMeantCommand};
 
 use td_base::{Bytes, is_path_word, read_decimal};
@@ -20,6 +20,9 @@ const ADDRESS_LIMIT: usize = 255;
 
 /// The most workers.
 const MOST_WORKERS: u64 = 64;
+
+/// The most releases of a load.
+const MOST_RELEASES: u64 = 1_000;
 
 /// What the words ask for.
 #[derive(Clone, Copy, Debug)]
@@ -49,6 +52,10 @@ pub enum Command<'a> {
         workers: u32,
         upstream: &'a [u8],
     },
+    /// Make so many releases, serve requests after each, and print what was counted.
+    Load {
+        number: u32,
+    },
 }
 
 /// The command that the words spell, if they are of the grammar.
@@ -77,6 +84,8 @@ fn read_named<'a>(name: &[u8], words: &'a [Bytes]) -> Option<Command<'a>>
         read_serve(words)
     } else if name == b"mirror".as_slice() {
         read_mirror(words)
+    } else if name == b"load".as_slice() {
+        read_load(words)
     } else {
         None
     }
@@ -167,7 +176,7 @@ fn serve_at<'a>(address: &'a [u8], workers: &[u8], folders: &'a [Bytes]) -> Opti
     if !is_address(address) {
         return None;
     }
-    let workers = read_workers(workers)?;
+    let workers = read_number(workers, MOST_WORKERS)?;
     if !are_folders(folders) {
         return None;
     }
@@ -201,7 +210,7 @@ fn mirror_at<'a>(address: &'a [u8], workers: &[u8], upstream: &'a [u8]) -> Optio
     if !is_address(address) || !is_address(upstream) {
         return None;
     }
-    let workers = read_workers(workers)?;
+    let workers = read_number(workers, MOST_WORKERS)?;
     Some(Command::Mirror {
         address,
         workers,
@@ -234,13 +243,29 @@ fn is_address_byte(byte: u8) -> bool
     byte.is_ascii_alphanumeric() || matches!(byte, b'.' | b':' | b'-' | b'[' | b']')
 }
 
-/// The number of workers that a word writes in decimal.
-fn read_workers(word: &[u8]) -> Option<u32>
-    ensures value { result ≡ workers_in word.now }
-    ensures few { IfSome result (λ n. n ≤ most_workers) }
+/// `load NUMBER`
+fn read_load(words: &[Bytes]) -> Option<Command<'_>>
+    ensures spelled { option_map plain_command result ≡ load_of words.now }
+    ensures meant { IfSome result IsMeantCommand }
+{
+    match words {
+        [number] => {
+            let number = read_number(number.as_slice(), MOST_RELEASES)?;
+            Some(Command::Load { number })
+        }
+        _ => None,
+    }
+}
+
+/// The number that a word writes in decimal, from 1 to the most.
+fn read_number(word: &[u8], most: u64) -> Option<u32>
+    requires { most < 2 ^ 32 }
+    ensures value { result ≡ number_in most word.now }
+    ensures some { IfSome result (λ n. 1 ≤ n) }
+    ensures few { IfSome result (λ n. n ≤ most) }
 {
     match read_decimal(word) {
-        Some(number) if 1 <= number && number <= MOST_WORKERS => Some(number as u32),
+        Some(number) if 1 <= number && number <= most => Some(number as u32),
         _ => None,
     }
 }

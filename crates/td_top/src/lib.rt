@@ -18,6 +18,10 @@ mod refusing;
 mod checking;
 mod state_line;
 
+// A load of made releases.
+mod load_turns;
+mod loading;
+
 // One connection over the standard streams.
 mod answering;
 mod opening;

@@ -11,6 +11,7 @@ ghost use Rattle.td_top.specs.declared.status.Status.{Status};
 use crate::answering::answer;
 use crate::checking::check_folders;
 use crate::command::{Command, read_words};
+use crate::loading::load;
 use crate::mirroring::mirror_server;
 use crate::outcome::{Ending, Outcome};
 use crate::printing::print;
@@ -35,7 +36,8 @@ const USAGE: &[u8] = b"usage: tzdistd answer|serve|mirror|check|at|load\n";
 /// of an address by so many workers, while an operator talks over the input and the output. `mirror
 /// ADDRESS WORKERS UPSTREAM` does so over what another server has, with which it syncs first and
 /// whenever the operator asks for that. `check DIR..` checks folders as one history, with a line
-/// for each. `at FILE MOMENT` prints the state of a zone file at a moment.
+/// for each. `at FILE MOMENT` prints the state of a zone file at a moment. `load NUMBER` makes so
+/// many releases, serves requests after each in memory, and prints what was counted.
 pub fn run<R, S, C, K, N, W>(
     rt: &R,
     alloc: Global,
@@ -132,6 +134,9 @@ where
             alloc,
             state_at(alloc, file, moment, store, site.output),
         ),
+        Some(Command::Load { number }) => {
+            Ending::closed(alloc, load(rt, alloc, number, site.output))
+        }
         None => Ending::closed(alloc, usage(site.output)),
     }
 }

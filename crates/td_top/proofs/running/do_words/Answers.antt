@@ -1,6 +1,6 @@
-use Rattle.std.proofs.Common.{rules, sym}
+use Rattle.std.proofs.Common.{refl, rules, sym}
 use Rattle.td_top.specs.Tells.{ShowsUsage}
-use Rattle.td_top.specs.Running.{answered, checked, no_command, shown}
+use Rattle.td_top.specs.Running.{answered, checked, loaded, no_command, shown}
 use Rattle.td_top.proofs.RunLemmas.{ran_alone, runs_as}
 use Rattle.td_top.proofs.running.do_words.Goals as goal
 
@@ -37,6 +37,21 @@ returns-in-Some-At-clause-ends g c =
     ran_alone g.N.Door.Door.seen g.N.Up.Upstream.seen _ _ _ _ _ _ _ _ _ _ c.closed-in-Some-At.ensures.status c.closed-in-Some-At.ensures.doors
     c.closed-in-Some-At.ensures.up
     (c.state_at.ensures (g.C.Source.seen c.args.site.now.input.now)) (λ ends alone. shown _ _ _ is ends alone)
+
+pub load-requires-clause-some : goal.load-requires-clause-some
+load-requires-clause-some g c =
+    let meant = rw c.in-Some-Load.field-0-is at c.in-Some-Load.ensures.meant in search (meant.0, rules)
+
+pub load-requires-clause-most : goal.load-requires-clause-most
+load-requires-clause-most g c =
+    let meant = rw c.in-Some-Load.field-0-is at c.in-Some-Load.ensures.meant in search (meant.1, rules)
+
+pub returns-in-Some-Load-clause-ends : goal.returns-in-Some-Load-clause-ends
+returns-in-Some-Load-clause-ends g c =
+    let is = sym (rw c.in-Some-Load.field-0-is at c.in-Some-Load.ensures.spelled) in
+    ran_alone g.N.Door.Door.seen g.N.Up.Upstream.seen _ _ _ _ _ _ _ _ _ _ c.closed-in-Some-Load.ensures.status c.closed-in-Some-Load.ensures.doors
+    c.closed-in-Some-Load.ensures.up
+    (c.load.ensures (g.S.Store.seen c.args.store.now) (g.C.Source.seen c.args.site.now.input.now)) (λ ends alone. loaded _ _ is ends refl alone)
 
 pub returns-in-None-clause-ends : goal.returns-in-None-clause-ends
 returns-in-None-clause-ends g c =

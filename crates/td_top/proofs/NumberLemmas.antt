@@ -1,4 +1,4 @@
--- How many workers a word asks for.
+-- Which number a word writes.
 use Rattle.std.proofs.Common.{◌≡◌, ◌≢◌, ℕ, zero, suc, ◌+◌, ◌^◌, ◌<◌, ◌≤◌, List, Bool, true, false, Option, None, Some, refl, sym, ap, ◌∙◌, arith, cond}
 use Rattle.std.specs.Prelude.{decimal}
 use Rattle.std.specs.List.{find, range_with_len}
@@ -6,7 +6,7 @@ use Rattle.std.specs.Str.{bytes_eq}
 use Rattle.std.proofs.lemmas.Bool.{true≢false}
 use Rattle.std.proofs.lemmas.Fmt.{decimal_injective}
 use Rattle.std.proofs.lemmas.Slice.Eq.{bytes_eq-Decides}
-use Rattle.td_top.specs.Grammar.{workers_in}
+use Rattle.td_top.specs.Grammar.{number_in}
 
 abbrev writes : List ℕ → ℕ → Bool
 writes word n = bytes_eq (decimal n) word
@@ -35,18 +35,20 @@ missed word a (suc n) not =
     (missed word (a + 1) n (λ m least less. not m (omega (arith, least)) (omega (arith, less))))
 
 -- a number from 1 to the most
-pub some_workers : (word : List ℕ) (k : ℕ) → word ≡ decimal k → 1 ≤ k → k ≤ 64 → workers_in word ≡ Some k
-unfolding workers_in
-some_workers word k is least most = found word k 1 64 is least (omega (arith, most)) (omega arith)
+pub some_number : (most : ℕ) (word : List ℕ) (k : ℕ) → most < 2 ^ 32 → word ≡ decimal k → 1 ≤ k → k ≤ most → number_in most word ≡ Some k
+unfolding number_in
+some_number most word k small is least within = found word k 1 most is least (omega (arith, within)) (omega (arith, small))
 
 -- another number
-pub other_workers : (word : List ℕ) (k : ℕ) → k < 2 ^ 64 → word ≡ decimal k → (1 ≤ k → k ≤ 64 → ⊥) → workers_in word ≡ None
-unfolding workers_in
-other_workers word k fits is not =
-    missed word 1 64 (λ m least less same.
-    let one : k ≡ m = decimal_injective k m fits (omega (arith, less)) (sym is ∙ same) in not (omega (arith, least, one)) (omega (arith, less, one)))
+pub other_number : (most : ℕ) (word : List ℕ) (k : ℕ) → most < 2 ^ 32 → k < 2 ^ 64 → word ≡ decimal k → (1 ≤ k → k ≤ most → ⊥)
+    → number_in most word ≡ None
+unfolding number_in
+other_number most word k small fits is not =
+    missed word 1 most (λ m least less same.
+    let one : k ≡ m = decimal_injective k m fits (omega (arith, small, less)) (sym is ∙ same) in
+    not (omega (arith, least, one)) (omega (arith, less, one)))
 
 -- no number
-pub no_workers : (word : List ℕ) → ((n : ℕ) → n < 2 ^ 64 → word ≢ decimal n) → workers_in word ≡ None
-unfolding workers_in
-no_workers word not = missed word 1 64 (λ m least less. not m (omega (arith, less)))
+pub no_number : (most : ℕ) (word : List ℕ) → most < 2 ^ 32 → ((n : ℕ) → n < 2 ^ 64 → word ≢ decimal n) → number_in most word ≡ None
+unfolding number_in
+no_number most word small not = missed word 1 most (λ m least less. not m (omega (arith, small, less)))

@@ -1,0 +1,138 @@
+ghost use Rattle.std.specs.Prelude.{◌≡◌, ◌+◌, ◌≤◌, [], length, false, All, IfOk, OnOk};
+ghost use Rattle.publication.specs.Views.{IsNewDesk};
+ghost use Rattle.td_base.specs.Views.{SourceView, StoreView};
+ghost use Rattle.td_top.specs.Loading.{IsLoadLine, LoadEnds, LoadsAll};
+ghost use Rattle.td_top.specs.LoadSteps.{JoinsMade};
+ghost use Rattle.td_top.specs.Outside.{outside};
+ghost use Rattle.td_top.specs.Tells.{EndsLater};
+
+use crate::load_turns::serve_release;
+use crate::printing::print;
+use crate::status::Status;
+use catalogue::Catalogue;
+use installer::Installer;
+use made_load::{LoadCounts, release, summary};
+use publication::Desk;
+use std::alloc::Global;
+use std::sync::Wait;
+use td_base::{Bytes, NoMemory, Sink};
+use zone_meaning::Zone;
+
+/// Makes so many releases, serves requests after each, and prints what was counted of the replies.
+/// A load that stops before its end, whatever for, ends as one without memory.
+pub fn load<R: Wait, K: Sink>(rt: &R, alloc: Global, number: u32, output: &mut K) -> Status
+    requires some { 1 ≤ number }
+    requires most { number ≤ 1_000 }
+    // The store and the input, whatever they are, are left alone.
+    ensures { (store : StoreView) (input : SourceView) → EndsLater (LoadEnds number)
+        (outside store input (K.seen output.old)) (outside store input (K.seen output.new)) result }
+{
+    match load_line(rt, alloc, number) {
+        Ok(line) => print(output, Status::Done, line.as_slice()),
+        Err(NoMemory) => Status::NoMemory,
+    }
+}
+
+/// The line that tells what was counted of a load of so many releases.
+fn load_line<R: Wait>(rt: &R, alloc: Global, number: u32) -> Result<Bytes, NoMemory>
+    requires some { 1 ≤ number }
+    requires most { number ≤ 1_000 }
+    ensures { IfOk result (IsLoadLine number) }
+{
+    let counts = count_load(rt, alloc, number)?;
+    let mut line = Bytes::new(alloc);
+    summary(&mut line, &counts)?;
+    Ok(line)
+}
+
+/// Publishes the releases one after another, and serves the requests of each.
+fn count_load<R: Wait>(rt: &R, alloc: Global, number: u32) -> Result<LoadCounts, NoMemory>
+    requires some { 1 ≤ number }
+    requires most { number ≤ 1_000 }
+    ensures { IfOk result (LoadsAll number) }
+{
+    let (manifest, mut store) = release(alloc, number, 1)?;
+    match Installer::open_manifest(rt, alloc, &manifest, &mut store, 1) {
+        Ok((installer, desks)) => count_opened(rt, alloc, number, installer, desks),
+        Err(_) => Err(NoMemory),
+    }
+}
+
+/// The same, where the first release is published for one desk.
+fn count_opened<R: Wait>(
+    rt: &R,
+    alloc: Global,
+    number: u32,
+    installer: Installer,
+    desks: Vec<Desk<Catalogue<Zone>>>,
+) -> Result<LoadCounts, NoMemory>
+    requires some { 1 ≤ number }
+    requires most { number ≤ 1_000 }
+    requires first { JoinsMade [] installer.list }
+    requires one { length desks.items ≡ 1 }
+    requires each { All (IsNewDesk installer.pair installer.list false) desks.items }
+    ensures { IfOk result (LoadsAll number) }
+{
+    let mut installer = installer;
+    let mut desks = desks;
+    let mut desk = desks.pop().unwrap();
+    let counts = count_releases(rt, alloc, number, &mut installer, &mut desk);
+    installer.close(rt);
+    counts
+}
+
+/// Serves the requests of the first release, which is published, and publishes and serves the
+/// others.
+fn count_releases<R: Wait>(
+    rt: &R,
+    alloc: Global,
+    number: u32,
+    installer: &mut Installer,
+    desk: &mut Desk<Catalogue<Zone>>,
+) -> Result<LoadCounts, NoMemory>
+    requires some { 1 ≤ number }
+    requires most { number ≤ 1_000 }
+    requires first { JoinsMade [] installer.old.list }
+    requires paired { desk.old.pair ≡ installer.old.pair }
+    requires seen { desk.old.seen ≡ installer.old.list }
+    ensures { IfOk result (LoadsAll number) }
+{
+    let mut counts = LoadCounts::none();
+    serve_release(alloc, desk, &mut counts)?;
+    let mut made = 1;
+    'releases: while made < number {
+        made += 1;
+        publish(rt, alloc, number, made, installer, desk)?;
+        serve_release(alloc, desk, &mut counts)?;
+    }
+    Ok(counts)
+}
+
+/// Publishes a release, and lets the desk learn of it.
+fn publish<R: Wait>(
+    rt: &R,
+    alloc: Global,
+    number: u32,
+    made: u32,
+    installer: &mut Installer,
+    desk: &mut Desk<Catalogue<Zone>>,
+) -> Result<(), NoMemory>
+    requires within { made ≤ number }
+    requires most { number ≤ 1_000 }
+    requires next { made ≡ length installer.old.list + 1 }
+    requires paired { desk.old.pair ≡ installer.old.pair }
+    requires seen { desk.old.seen ≡ installer.old.list }
+    ensures joins { OnOk result (JoinsMade installer.old.list installer.new.list) }
+    ensures longer { OnOk result (length installer.new.list ≡ length installer.old.list + 1) }
+    ensures paired { OnOk result (desk.new.pair ≡ installer.new.pair) }
+    ensures seen { OnOk result (desk.new.seen ≡ installer.new.list) }
+{
+    let (manifest, mut store) = release(alloc, number, made)?;
+    match installer.install_manifest(rt, alloc, &manifest, &mut store) {
+        Ok(receipt) => {
+            desk.learn(receipt);
+            Ok(())
+        }
+        Err(_) => Err(NoMemory),
+    }
+}
