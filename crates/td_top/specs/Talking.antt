@@ -55,8 +55,8 @@ abbrev pub ReadsLines : SourceView → SourceView → List ℕ → List Line →
 ReadsLines before now read asked ignored =
     Consumes before.left now.left read × (lines_of read ≡ asked ++ ignored)
 
--- nothing was read before it was needed: the last piece, of so many bytes at most, was read once all
--- lines of the bytes before it had got what they get said
+-- nothing was read before it was needed: the last piece, of so many bytes at most, was read once
+-- all lines of the bytes before it had got what they get said
 abbrev pub IsNeeded : List ℕ → List Line → Type 0
 IsNeeded read asked =
     (first piece : List ℕ) × (more : List Line) × (read ≡ first ++ piece)

@@ -1,12 +1,12 @@
 -- One turn of a talk with an operator, by its parts.
-use Rattle.std.specs.Prelude.{◌≡◌, ◌≤◌, ℕ, List, [], ◌∷◌, ◌++◌, length, ⊤, Option, None, Some}
+use Rattle.std.specs.Prelude.{◌≡◌, ◌≤◌, ◌+◌, ℕ, List, [], ◌∷◌, ◌++◌, length, ⊤, Option, None, Some}
 use Rattle.std.specs.Io.KnownBytes.{Consumes, IsAtEnd}
 use Rattle.td_base.specs.Views.{SourceFailed, SinkView, SourceView}
 use Rattle.td_base.specs.Transfer.{WritesAll}
 use Rattle.td_base.specs.declared.transfer.Written.TheVariants as written
 use Rattle.console.specs.Lines.{lines_of}
 use Rattle.console.specs.Replies.{reply_text}
-use Rattle.console.specs.Steps.{GivesLines}
+use Rattle.console.specs.Steps.{GivesLines, most_held}
 use Rattle.console.specs.declared.line.Line.{Line}
 use Rattle.console.specs.declared.line.Line.TheVariants as line
 use Rattle.console.specs.declared.said.Said.TheVariants as said
@@ -36,6 +36,10 @@ abbrev pub TakesLine : List ℕ → List ℕ → Taken → Type 0
 TakesLine held new (taken.Line next) = IsNextLine held new next
 TakesLine held new taken.Unread = (dir : List ℕ) × IsNextLine held new (line.Install dir)
 TakesLine held new taken.None = HasNone held new
+
+-- how many bytes are held at most: those that stay where there is no line, and a piece
+abbrev pub most_waiting : ℕ
+most_waiting = most_held + PIECE
 
 -- one read of the input, of whose bytes these joined those held
 pub record FeedsHeld (before now : SourceView) (held new : List ℕ) : Type 0 where

@@ -56,7 +56,8 @@ impl<'a, G, C, K> Console<'a, G, C, K> {
 impl<'a, G: Growth, C: Source, K: Sink> Beside for Console<'a, G, C, K> {
     ghost stopped = { λ c. c.flag.now.raised };
 
-    ghost ran = { λ c d. Ran (beside_of G.seen C.seen K.seen c) (beside_of G.seen C.seen K.seen d) };
+    ghost ran = { λ c d.
+        Ran (beside_of G.seen C.seen K.seen c) (beside_of G.seen C.seen K.seen d) };
 
     ghost halted = { λ c d.
         Halted (beside_of G.seen C.seen K.seen c) (beside_of G.seen C.seen K.seen d) };

@@ -1,10 +1,11 @@
-ghost use Rattle.std.specs.Prelude.{◌≡◌};
+ghost use Rattle.std.specs.Prelude.{◌≡◌, ◌≤◌, length};
+ghost use Rattle.console.specs.Steps.{most_held};
 ghost use Rattle.td_base.specs.Views.{LaterSource};
 ghost use Rattle.td_top.specs.Site.{console};
 ghost use Rattle.td_top.specs.Talk.{is_quit};
 ghost use Rattle.td_top.specs.Talking.{ComesTo, scene};
 ghost use Rattle.td_top.specs.TalkingSteps.{FeedsTalk, SaysBye, SaysText, TakesLine, TalksOn};
-ghost use Rattle.td_top.specs.TalkingSteps.{Turns};
+ghost use Rattle.td_top.specs.TalkingSteps.{Turns, most_waiting};
 
 use crate::growth::Growth;
 use crate::operator::{answer_line, newest};
@@ -105,10 +106,12 @@ fn take_turn<R: Wait, G: Growth, C: Source, K: Sink>(
     output: &mut K,
     lines: &mut Lines,
 ) -> Turn
-    ensures { Turns
+    requires { length lines.old ≤ most_waiting }
+    ensures turns { Turns
         (scene (console (G.seen growth.old) (C.seen input.old) (K.seen output.old)) session.old)
         (scene (console (G.seen growth.new) (C.seen input.new) (K.seen output.new)) session.new)
         lines.old lines.new result }
+    ensures held { length lines.new ≤ most_waiting }
 {
     match take_line(lines) {
         Taken::None => feed(lines, input),
@@ -135,7 +138,9 @@ fn is_quit(line: &Line) -> bool
 
 /// Takes the next line off the bytes that are held.
 fn take_line(lines: &mut Lines) -> Taken
-    ensures { TakesLine lines.old lines.new result }
+    ensures takes { TakesLine lines.old lines.new result }
+    ensures fewer { length lines.new ≤ length lines.old }
+    ensures few { result ≡ Taken.None → length lines.new ≤ most_held }
 {
     match lines.next() {
         Ok(Some(line)) => Taken::Line(line),
@@ -149,8 +154,10 @@ fn take_line(lines: &mut Lines) -> Taken
 
 /// Reads a piece of the input, and holds it.
 fn feed<C: Source>(lines: &mut Lines, input: &mut C) -> Turn
+    requires { length lines.old ≤ most_held }
     ensures told { FeedsTalk (C.seen input.old) (C.seen input.new) lines.old lines.new result }
     ensures later { LaterSource (C.seen input.old) (C.seen input.new) }
+    ensures held { length lines.new ≤ most_waiting }
 {
     let mut room = [0; PIECE];
     match input.read(&mut room) {

@@ -5,29 +5,29 @@ use Rattle.td_top.proofs.TalkLemmas.{line_turn, quit_turn, read_turn}
 use Rattle.td_top.proofs.TurnLemmas.{is_last}
 use Rattle.td_top.proofs.talking.take_turn.Goals as goal
 
-pub returns-in-None : goal.returns-in-None
-returns-in-None g c = λ start at.
-    read_turn start _ _ _ _ _ c.args.lines.now c.take_line.new.lines c.feed.new.lines c.feed.result at c.in-None.ensures c.feed.ensures.later
+pub returns-in-None-clause-turns : goal.returns-in-None-clause-turns
+returns-in-None-clause-turns g c = λ start at.
+    read_turn start _ _ _ _ _ c.args.lines.now c.take_line.new.lines c.feed.new.lines c.feed.result at c.in-None.ensures.takes c.feed.ensures.later
     c.feed.ensures.told
 
-pub returns-in-Unread : goal.returns-in-Unread
-returns-in-Unread g c = λ start at.
-    line_turn start _ _ _ _ _ _ _ c.args.lines.now c.take_line.new.lines (line.Install c.in-Unread.ensures.0) c.as_slice.result.now c.say.result refl at
-    c.in-Unread.ensures.1
+pub returns-in-Unread-clause-turns : goal.returns-in-Unread-clause-turns
+returns-in-Unread-clause-turns g c = λ start at.
+    line_turn start _ _ _ _ _ _ _ c.args.lines.now c.take_line.new.lines (line.Install c.in-Unread.ensures.takes.0) c.as_slice.result.now c.say.result refl at
+    c.in-Unread.ensures.takes.1
     (said_as _ _ _ _ _ _ _ (c.as_slice.ensures.value ∙ c.short.ensures)
-    (starved _ c.args.session.now (line.Install c.in-Unread.ensures.0) tt))
+    (starved _ c.args.session.now (line.Install c.in-Unread.ensures.takes.0) tt))
     c.say.ensures
 
-pub returns-then-is_quit : goal.returns-then-is_quit
-returns-then-is_quit g c = λ start at.
+pub returns-then-is_quit-clause-turns : goal.returns-then-is_quit-clause-turns
+returns-then-is_quit-clause-turns g c = λ start at.
     quit_turn start _ _ _ _ _ c.args.lines.now c.take_line.new.lines c.quit.result at
-    (is_last c.args.lines.now c.take_line.new.lines c.in-Line.line (sym c.is_quit.ensures ∙ c.if-is_quit.true) c.in-Line.ensures) (is_quit _ _)
+    (is_last c.args.lines.now c.take_line.new.lines c.in-Line.line (sym c.is_quit.ensures ∙ c.if-is_quit.true) c.in-Line.ensures.takes) (is_quit _ _)
     c.quit.ensures
 
-pub returns-else-is_quit : goal.returns-else-is_quit
-returns-else-is_quit g c = λ start at.
+pub returns-else-is_quit-clause-turns : goal.returns-else-is_quit-clause-turns
+returns-else-is_quit-clause-turns g c = λ start at.
     line_turn start _ _ _ _ _ _ _ c.args.lines.now c.take_line.new.lines c.in-Line.line c.as_slice-in-Line.result.now c.say-in-Line.result
     (sym c.is_quit.ensures ∙ c.if-is_quit.false) at
-    c.in-Line.ensures
+    c.in-Line.ensures.takes
     (said_as _ _ _ _ _ _ _ c.as_slice-in-Line.ensures c.answer_line-reply.ensures)
     c.say-in-Line.ensures
