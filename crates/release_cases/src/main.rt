@@ -1,6 +1,6 @@
-//! Tries what `release_manifest`, `leap_table`, `release_check`, `catalogue` and `installer` offer
-//! over the cases of a table on standard input, and tells of each whose answer is not the expected
-//! one. The table explains its own lines.
+//! Tries what `release_manifest`, `leap_table`, `release_check`, `catalogue`, `installer` and
+//! `made_load` offer over the cases of a table on standard input, and tells of each whose answer is
+//! not the expected one. The table explains its own lines.
 #![tactic(auto)]
 
 // Manifests and tables of leap seconds.
@@ -17,6 +17,9 @@ mod values;
 mod installs;
 mod joins;
 mod stated;
+
+// The made load.
+mod loads;
 
 use case_lines::{Answer, CaseFault, Row, Table};
 use std::alloc::Global;
@@ -56,6 +59,7 @@ fn answer<R: Wait>(rt: &R, alloc: Global, row: &Row, store: &mut MemoryStore) ->
         "examine" => values::examined(alloc, row, store),
         "history" => histories::told(alloc, row, store),
         "again" => histories::again(alloc, row, store),
+        "load-manifest" | "load-file" | "load-requests" | "load-summary" => loads::told(alloc, row),
         "laws" => laws(alloc),
         _ => catalogues::asked(alloc, row, store),
     }

@@ -13,7 +13,7 @@ pub fn read_back(alloc: Global, row: &Row) -> Answer {
 
 /// Publisher, version and stamp, then each zone and the table of leap seconds, with a bar before
 /// each.
-fn said(alloc: Global, manifest: &Manifest) -> Result<Vec<u8>, AllocError> {
+pub fn said(alloc: Global, manifest: &Manifest) -> Result<Vec<u8>, AllocError> {
     let mut out = Vec::from_slice(alloc, manifest.publisher.as_slice())?;
     out.push(b' ')?;
     out.extend_from_slice(manifest.version.as_slice())?;

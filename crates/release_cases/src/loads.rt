@@ -1,0 +1,101 @@
+//! The made load: its releases, its requests and the line that tells its counts.
+use crate::manifests::said;
+use case_lines::{Answer, CaseFault, Row};
+use catalogue::Catalogue;
+use installer::{InstallFault, first_stated, next_stated};
+use made_load::{LoadCounts, release, requests, summary};
+use release_manifest::Manifest;
+use std::alloc::Global;
+use td_base::{Bytes, FileRead, MemoryStore, Store, put_hex};
+use zone_meaning::Zone;
+
+/// The most bytes of a file that are looked at.
+const MOST_BYTES: u64 = 4_096;
+
+/// What a row of a load is answered.
+pub fn told(alloc: Global, row: &Row) -> Answer {
+    match row.kind() {
+        "load-manifest" => manifest(alloc, row),
+        "load-file" => file(alloc, row),
+        "load-requests" => asked(alloc, row),
+        "load-summary" => line(alloc, row),
+        _ => crate::strange(),
+    }
+}
+
+/// `load-manifest NUMBER RELEASE`: what the manifest of a release says.
+fn manifest(alloc: Global, row: &Row) -> Answer {
+    let (manifest, _store) = made(alloc, small(row, 0)?, small(row, 1)?)?;
+    Ok(said(alloc, &manifest)?)
+}
+
+/// `load-file NUMBER RELEASE PATH`: a file of a release, in hex digits, or `absent`.
+fn file(alloc: Global, row: &Row) -> Answer {
+    let (_manifest, mut store) = made(alloc, small(row, 0)?, small(row, 1)?)?;
+    let mut out = Bytes::new(alloc);
+    match store.read_file(alloc, row.word(2)?, MOST_BYTES) {
+        FileRead::Found(bytes) => put_hex(&mut out, bytes.as_slice())?,
+        FileRead::Absent => out.append(b"absent")?,
+        FileRead::Failed => return crate::strange(),
+        FileRead::NoMemory => return Err(CaseFault::NoMemory),
+    }
+    Ok(out.into_vec())
+}
+
+/// `load-requests RELEASE`: the requests after a release.
+fn asked(alloc: Global, row: &Row) -> Answer {
+    let catalogue = last_made(alloc, small(row, 0)?)?;
+    let asked = requests(alloc, &catalogue, catalogue.count())?;
+    Ok(asked.into_vec())
+}
+
+/// `load-summary RELEASES REQUESTS FINE UNCHANGED ENTRIES`: the line that tells these counts.
+fn line(alloc: Global, row: &Row) -> Answer {
+    let counts = LoadCounts {
+        releases: small(row, 0)?,
+        requests: small(row, 1)?,
+        fine: small(row, 2)?,
+        unchanged: small(row, 3)?,
+        entries: small(row, 4)?,
+    };
+    let mut out = Bytes::new(alloc);
+    summary(&mut out, &counts)?;
+    Ok(out.into_vec())
+}
+
+/// The catalogue of the first so many releases.
+fn last_made(alloc: Global, number: u32) -> Result<Catalogue<Zone>, CaseFault> {
+    let (manifest, mut store) = made(alloc, number, 1)?;
+    let mut last = stated(first_stated(alloc, &manifest, &mut store))?;
+    for r in 2..number.saturating_add(1) {
+        let (manifest, mut store) = made(alloc, number, r)?;
+        last = stated(next_stated(alloc, &manifest, &mut store, &last))?;
+    }
+    Ok(last)
+}
+
+/// The catalogue, if there is one.
+fn stated(made: Result<Catalogue<Zone>, InstallFault>) -> Result<Catalogue<Zone>, CaseFault> {
+    match made {
+        Ok(catalogue) => Ok(catalogue),
+        Err(InstallFault::NoMemory) => Err(CaseFault::NoMemory),
+        Err(InstallFault::Check(_fault)) => crate::strange(),
+    }
+}
+
+/// A release of a load, where it has one of this number.
+fn made(alloc: Global, n: u32, r: u32) -> Result<(Manifest, MemoryStore), CaseFault> {
+    if r < 1 || n < r || 1_000 < n {
+        return crate::strange();
+    }
+    Ok(release(alloc, n, r)?)
+}
+
+/// The word at a place as a number of 32 bits.
+fn small(row: &Row, at: usize) -> Result<u32, CaseFault> {
+    let number = row.number(at)?;
+    if number > u32::MAX as u64 {
+        return crate::strange();
+    }
+    Ok(number as u32)
+}
