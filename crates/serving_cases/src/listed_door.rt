@@ -8,6 +8,9 @@ use td_base::{
     NoMemory, Report,
 };
 
+/// How many bytes a connection takes.
+const ROOM: usize = 300_000;
+
 /// A connection of which no call failed yet.
 #[derive(Drop)]
 pub struct NewConn {
@@ -36,7 +39,7 @@ pub struct ListedDoor {
 /// A connection of this input, whose first read fails where that is wanted.
 fn new_conn(alloc: Global, input: &[u8], fails: bool) -> Result<NewConn, NoMemory> {
     let source = MemorySource::new(Bytes::from_slice(alloc, input)?);
-    let sink = MemorySink::new(alloc, 1_000)?;
+    let sink = MemorySink::new(alloc, ROOM)?;
     let mut reads = Items::new(alloc);
     if fails {
         reads.push(1)?;
@@ -46,14 +49,14 @@ fn new_conn(alloc: Global, input: &[u8], fails: bool) -> Result<NewConn, NoMemor
 }
 
 impl ListedDoor {
-    /// A door of these steps: `c` a connection with a list request, `r` one whose first read fails,
-    /// `i` none waits, and else a failure.
+    /// A door of these steps: `c` and `p` a connection with a list request, `r` one whose first read
+    /// fails, `i` none waits, and else a failure.
     pub fn new(alloc: Global, letters: &[u8]) -> Result<ListedDoor, NoMemory> {
         let input = b"GET /tzdist/zones HTTP/1.1\r\nHost: x\r\n\r\n";
         let mut steps = VecDeque::new(alloc);
         for letter in letters {
             steps.push_back(match *letter {
-                b'c' => DoorStep::Conn(new_conn(alloc, input, false)?),
+                b'c' | b'p' => DoorStep::Conn(new_conn(alloc, input, false)?),
                 b'r' => DoorStep::Conn(new_conn(alloc, input, true)?),
                 b'i' => DoorStep::Idle,
                 _ => DoorStep::Fails,

@@ -1,4 +1,4 @@
-//! Tries what `connection` and `desk_pool` offer over the cases of a table on standard input, and
+//! Tries what `connection`, `answer_cache` and `desk_pool` offer over the cases of a table on standard input, and
 //! tells of each whose answer is not the expected one. The table explains its own lines.
 #![tactic(auto)]
 
@@ -8,7 +8,13 @@ mod streams;
 
 // A worker at a door.
 mod doors;
+mod growing_door;
 mod listed_door;
+mod workers;
+
+// Answers that are kept.
+mod echo;
+mod gets;
 
 // The flag that stops workers, and works beside one thing of the caller's.
 mod counted;
@@ -58,6 +64,9 @@ fn waiting<R: Wait>(rt: &R, alloc: Global, row: &Row) -> Answer {
         "failing" => streams::failing(rt, alloc, row),
         "refused" => streams::refused(rt, alloc, row),
         "door" => doors::door(rt, alloc, row),
+        "computed" => streams::computed(rt, alloc, row),
+        "worker" => workers::worker(rt, alloc, row),
+        "get" => gets::gets(alloc, row),
         "laws" => laws(alloc),
         _ => Err(CaseFault::Strange),
     }

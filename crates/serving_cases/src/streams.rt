@@ -1,6 +1,6 @@
 //! One connection that is served over a desk.
 use crate::desks::one_desk;
-use case_lines::{Answer, Row};
+use case_lines::{Answer, Row, shown};
 use catalogue::Catalogue;
 use connection::serve;
 use publication::Desk;
@@ -30,6 +30,22 @@ pub fn once<R: Wait>(rt: &R, alloc: Global, row: &Row) -> Answer {
     let told = served(alloc, &mut desk, input, cut as usize);
     publisher.close(rt);
     told
+}
+
+/// `computed TEXT`: how many answers were computed for a connection of this input.
+pub fn computed<R: Wait>(rt: &R, alloc: Global, row: &Row) -> Answer {
+    let input = row.word(0)?;
+    let (publisher, desk) = one_desk(rt, alloc)?;
+    let mut desk = desk;
+    let counted = counted(alloc, &mut desk, input);
+    publisher.close(rt);
+    shown(alloc, &counted?)
+}
+
+fn counted(alloc: Global, desk: &mut Desk<Catalogue<Zone>>, input: &[u8]) -> Result<u64, NoMemory> {
+    let mut conn = conn_of(alloc, input, 1)?;
+    let report = serve(alloc, &Role::Primary, desk, &mut conn);
+    Ok(report.computed)
 }
 
 /// `refused TEXT`: the same after the publisher is gone, where each enter is refused.

@@ -1,0 +1,118 @@
+//! A worker that keeps its answers, at a door at which releases are installed.
+use crate::growing_door::GrowingDoor;
+use crate::listed_door::ListedDoor;
+use case_lines::{Answer, CaseFault, Row};
+use catalogue::Catalogue;
+use connection::{DoorDone, DoorWork};
+use desk_pool::StopFlag;
+use installer::Installer;
+use publication::Desk;
+use release_manifest::{Manifest, read};
+use std::alloc::{AllocError, Global};
+use std::collections::VecDeque;
+use std::sync::Wait;
+use td_base::{Bytes, MemoryStore, NoMemory, Role, Work};
+use zone_meaning::Zone;
+
+/// How many bytes a reply has more than the largest body of which many are kept.
+const LARGE_REPLY: usize = 66_048;
+
+/// `worker STEPS FILE MANIFEST MANIFEST ..`: what comes of a worker at a door of these steps, over a
+/// history that begins with the release of the first manifest: `c` gives a connection that asks for
+/// the list, and `p` installs the release of the next manifest before that. `FILE` is the file `z`
+/// of zones. For each connection it tells at which place it was answered, how many answers were
+/// computed for that, and by a plus sign that the list has over 65,536 bytes.
+pub fn worker<R: Wait>(rt: &R, alloc: Global, row: &Row) -> Answer {
+    let mut store = store_of(alloc, row.word(1)?)?;
+    let first = manifest_of(alloc, row.word(2)?)?;
+    match Installer::open_manifest(rt, alloc, &first, &mut store, 1) {
+        Ok((installer, desks)) => {
+            let (mut installer, mut desks) = (installer, desks);
+            let told = match desks.pop() {
+                Some(desk) => works(rt, alloc, row, &mut installer, &mut store, desk),
+                None => Err(CaseFault::Strange),
+            };
+            installer.close(rt);
+            told
+        }
+        Err(_) => Err(CaseFault::Strange),
+    }
+}
+
+/// A store of one file.
+fn store_of(alloc: Global, file: &[u8]) -> Result<MemoryStore, NoMemory> {
+    let mut store = MemoryStore::new(alloc);
+    store.put(
+        Bytes::from_slice(alloc, b"z")?,
+        Bytes::from_slice(alloc, file)?,
+    )?;
+    Ok(store)
+}
+
+fn manifest_of(alloc: Global, text: &[u8]) -> Result<Manifest, CaseFault> {
+    match read(alloc, text) {
+        Ok(manifest) => Ok(manifest),
+        Err(_) => Err(CaseFault::Strange),
+    }
+}
+
+/// The manifests after the first.
+fn later_manifests(alloc: Global, row: &Row) -> Result<VecDeque<Manifest>, CaseFault> {
+    let mut manifests = VecDeque::new(alloc);
+    for at in 3..row.words().len() {
+        manifests.push_back(manifest_of(alloc, row.word(at)?)?)?;
+    }
+    Ok(manifests)
+}
+
+fn steps_of(alloc: Global, row: &Row) -> Result<VecDeque<u8>, CaseFault> {
+    let mut steps = VecDeque::new(alloc);
+    for step in row.word(0)? {
+        steps.push_back(*step)?;
+    }
+    Ok(steps)
+}
+
+/// Lets a worker serve the door.
+fn works<R: Wait>(
+    rt: &R,
+    alloc: Global,
+    row: &Row,
+    installer: &mut Installer,
+    store: &mut MemoryStore,
+    desk: Desk<Catalogue<Zone>>,
+) -> Answer {
+    let mut flag = StopFlag::new(alloc)?;
+    let sign = flag.share()?;
+    let door = GrowingDoor {
+        rt,
+        alloc,
+        installer,
+        store,
+        steps: steps_of(alloc, row)?,
+        manifests: later_manifests(alloc, row)?,
+        door: ListedDoor::new(alloc, row.word(0)?)?,
+    };
+    let DoorDone {
+        door,
+        desk: _,
+        sign: _,
+        worn: _,
+    } = DoorWork::new(alloc, Role::Primary, door, desk, sign).run(rt);
+    Ok(told(alloc, &door.into_door())?)
+}
+
+fn told(alloc: Global, door: &ListedDoor) -> Result<Vec<u8>, AllocError> {
+    let mut out = Vec::new(alloc);
+    for (conn, report) in &door.finished {
+        for place in report.places.as_slice() {
+            out.extend_from_slice(format!(in alloc; "{place}")?.as_bytes())?;
+        }
+        out.extend_from_slice(format!(in alloc; ":{}", report.computed)?.as_bytes())?;
+        if conn.inner().sink.taken().len() > LARGE_REPLY {
+            out.push(b'+')?;
+        }
+        out.push(b';')?;
+    }
+    Ok(out)
+}
