@@ -18,6 +18,8 @@ The parts:
              and without them, what one that rests takes of memory, and the processor time that they cost
     installs the 99th percentile of the time to a reply, with releases installed in a loop and without
     memory   resident memory over many installs of two releases that take turns
+    kept     resident memory of 64 workers before they have answered, and once each keeps the full list and the
+             whole calendars of 64 zones
     idle     200 connections that ask once and stay, and the time of a new client
     delay    replies on one connection that come later than 5 ms
     peers    memory and descriptors before and after 10,000 connections of peers that misbehave
@@ -520,6 +522,27 @@ class Bench:
             grown = (found[last] - found[100]) * 1024 / (last - 100)
             print(f"From 100 installs to {last} memory grew by {found[last] - found[100]} KiB, {grown:.0f} bytes a release.")
 
+    def kept(self):
+        workers, rounds = 64, 8
+        print("| Workers | Resident KiB before | with full caches | of one worker |")
+        print("|---|---|---|---|")
+        with self.served([self.folder], workers) as server:
+            before = status_of(server.pid, "VmRSS")
+            with Client(server.port) as client:
+                zones = json.loads(client.ask("/tzdist/zones").body)["timezones"][:64]
+            targets = ["/tzdist/zones", *(f"/tzdist/zones/{quote(zone['tzid'], safe='')}" for zone in zones)]
+            # the system gives connections to workers by chance, one in each round on an average to each
+            for _ in range(rounds):
+                clients = [Client(server.port, timeout=60) for _ in range(64)]
+                for target in targets:
+                    for client in clients:
+                        client.ask(target, "Accept: text/calendar", timeout=60)
+                for client in clients:
+                    client.close()
+            full = status_of(server.pid, "VmRSS")
+            print(f"| {workers} | {before:,} | {full:,} | {(full - before) // workers:,} |", flush=True)
+            server.quit()
+
     def idle(self):
         count, workers = 200, 4
         with self.served([self.folder], workers) as server:
@@ -731,7 +754,7 @@ def crowd(port, path, idle, slow, pipe):
     pipe.send((idle - sum(map(has_ended, resting)), replaced))
 
 
-PARTS = ["rates", "opened", "crowd", "installs", "memory", "idle", "delay", "peers"]
+PARTS = ["rates", "opened", "crowd", "installs", "memory", "kept", "idle", "delay", "peers"]
 
 
 def processor():
