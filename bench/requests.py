@@ -5,7 +5,7 @@
 
 Each action is asked for once, and then 1,000 times, on one stream that `answer` serves. The
 difference of the two, over 999, is what a further request costs: processor microseconds (user and
-system) and bytes. Beside it stands the time that the program takes to read, check and publish the
+system) and bytes. Two rows ask for all zones by turns, so that no answer is still kept. Beside it stands the time that the program takes to read, check and publish the
 release, which is the run without any request less one that prints the usage line. At last comes
 one head that arrives a byte at a time, short and long: what a byte costs is not to grow with the
 head. Figures are medians over several rounds, in each of which all runs come once. It needs
@@ -111,7 +111,8 @@ def requests_of(program, folder, zone):
     path = "/tzdist/zones/" + quote(zone, safe="")
     tag = ask(program, folder, head(path))[0]["ETag"]
     token = quote(listing["synctoken"], safe="")
-    return zone, len(names), [
+    paths = ["/tzdist/zones/" + quote(name, safe="") for name in names]
+    asked = [
         ("full list", head("/tzdist/zones"), 200),
         ("list since the last token", head(f"/tzdist/zones?changedsince={token}"), 200),
         ("get as calendar, whole", head(path), 200),
@@ -122,7 +123,15 @@ def requests_of(program, folder, zone):
         ("find `*york`", head("/tzdist/zones?pattern=*york"), 200),
         ("capabilities", head("/tzdist/capabilities"), 200),
         ("unknown target", head("/tzdist/nothing"), 400),
+        ("get as TZif, zone by zone", [head(it, "Accept: application/tzif") for it in paths], 200),
+        ("get as calendar, a year, zone by zone", [head(f"{it}?{YEAR}") for it in paths], 200),
     ]
+    return zone, len(names), [(name, it if isinstance(it, list) else [it], status) for name, it, status in asked]
+
+
+def stream_of(requests, count):
+    """So many requests, by turns."""
+    return b"".join(requests[number % len(requests)] for number in range(count))
 
 
 def measure(program, folder, rounds, requests):
@@ -135,7 +144,7 @@ def measure(program, folder, rounds, requests):
         empty.append(Run(program, ["answer", folder], b""))
         for name, request, status in requests:
             for runs, count in ((once, 1), (many, MANY)):
-                run = Run(program, ["answer", folder], request * count)
+                run = Run(program, ["answer", folder], stream_of(request, count))
                 if run.status != 0 or first_reply(run.output)[0] != status:
                     sys.exit(f"{name}: ended with {run.status}, {run.output[:200]!r}")
                 runs[name].append(run)
@@ -212,10 +221,9 @@ def main():
     asked = {name: request for name, request, _ in requests}
     for name, _, _ in requests:
         seconds = median(many[name], lambda r: r.seconds) - median(once[name], lambda r: r.seconds)
-        size = len(once[name][0].output)
-        memory = peak_memory(
-            words.program, ["answer", words.folder], asked[name] * (MANY - 1), size * (MANY - 1)
-        )
+        size, stream = len(once[name][0].output), stream_of(asked[name], MANY - 1)
+        whole = len(Run(words.program, ["answer", words.folder], stream).output)
+        memory = peak_memory(words.program, ["answer", words.folder], stream, whole)
         print(f"| {name} | {seconds / (MANY - 1) * 1e6:.1f} | {size} | {memory} |")
     reading = median(empty, lambda r: r.seconds) - median(usage, lambda r: r.seconds)
     request = head("/tzdist/nothing")
