@@ -166,18 +166,20 @@ class Talk:
 
     def unserved(self, program, by, fault):
         """What became of a server that did not say that it is ready."""
-        words = [*by, program, *self.words()]
+        return self.judged([*by, program, "serve", "127.0.0.1:0", "2", "data/a"], fault)
+
+    def judged(self, words, fault):
+        """What becomes of one more run of these words, without input, after one that never served."""
         child = subprocess.run(words, cwd=DATA, stdin=subprocess.DEVNULL, capture_output=True, timeout=60)
-        if child.returncode == 70 and child.stdout == b"":
-            return "status 70 before it served"
-        if child.returncode in (5, 6) and child.stdout == b"" and child.stderr:
-            return f"status {child.returncode} before it served"
         if child.returncode == 0 and b"ready" in child.stdout:
             return "status 70 before it served, once"
+        if child.stdout == b"" and child.returncode == 70:
+            return "status 70 before it served"
+        if child.stdout == b"" and child.returncode in (5, 6) and child.stderr:
+            return f"status {child.returncode} before it served"
+        if child.stdout == b"refused 1 UpstreamFault\n" and child.returncode == 7:
+            return "status 7: the system had no memory to reach the other server"
         raise Wrong(f"{fault}; once more: {child.returncode}, {child.stdout!r}, {child.stderr!r}")
-
-    def words(self):
-        return ["serve", "127.0.0.1:0", "2", "data/a"]
 
     def talk(self, server):
         seen, place = set(), 1
@@ -222,17 +224,7 @@ class MirrorTalk(Talk):
 
     def unserved(self, program, by, fault):
         with Served(["data/a"], program=program) as primary:
-            words = [*by, program, "mirror", "127.0.0.1:0", "2", primary.address]
-            child = subprocess.run(words, cwd=DATA, stdin=subprocess.DEVNULL, capture_output=True, timeout=60)
-        if child.returncode == 70 and child.stdout == b"":
-            return "status 70 before it served"
-        if child.returncode in (5, 6) and child.stdout == b"" and child.stderr:
-            return f"status {child.returncode} before it served"
-        if child.returncode == 7 and child.stdout == b"refused 1 UpstreamFault\n":
-            return "status 7: the system had no memory to reach the other server"
-        if child.returncode == 0 and b"ready" in child.stdout:
-            return "status 70 before it served, once"
-        raise Wrong(f"{fault}; once more: {child.returncode}, {child.stdout!r}, {child.stderr!r}")
+            return self.judged([*by, program, "mirror", "127.0.0.1:0", "2", primary.address], fault)
 
 
 RUNS = {
