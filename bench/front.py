@@ -13,7 +13,6 @@ It needs wrk, nginx and openssl. Every loop is bounded, and what is started ends
 part of the gate.
 """
 
-import argparse
 import contextlib
 import functools
 import os
@@ -28,8 +27,8 @@ ROOT = os.path.dirname(os.path.dirname(os.path.abspath(__file__)))
 sys.path[:0] = [os.path.join(ROOT, "tools"), os.path.join(ROOT, "deploy")]
 
 from proxied import Proxy, Relay, ask, edited, needed, one_server, text_of, two_mirrors
-from serve import by_wrk, children_of, parts_of, processor, processor_seconds, requests_of
-from served import PROGRAM, Failure, Mirror, Served
+from serve import by_wrk, children_of, parser_of, parts_of, processor, processor_seconds, requests_of
+from served import Failure, Mirror, Served
 
 PARTS = ["rates", "many"]
 WORKERS = 4
@@ -119,10 +118,7 @@ class Bench:
 
 
 def main():
-    parser = argparse.ArgumentParser(description=__doc__.split("\n")[0])
-    parser.add_argument("folder", metavar="RELEASE_DIR")
-    parser.add_argument("--program", default=PROGRAM)
-    parser.add_argument("--only", default=",".join(PARTS), help=f"parts of {','.join(PARTS)}")
+    parser = parser_of(__doc__, PARTS)
     parser.add_argument("--seconds", type=int, default=3, help="of one measurement")
     parser.add_argument("--rounds", type=int, default=3, help="of which the median counts")
     parser.add_argument("--connections", type=int, default=64, help="over which wrk asks")

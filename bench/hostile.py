@@ -22,7 +22,6 @@ Every loop is bounded in count and time, and what is started ends with the scrip
 is no part of the gate. It needs Linux and Python's standard library alone.
 """
 
-import argparse
 import collections
 import os
 import random
@@ -39,8 +38,8 @@ sys.path.insert(0, os.path.join(os.path.dirname(os.path.dirname(os.path.abspath(
 
 import test_mirror
 from checks import ZONES, ran, same
-from serve import deaf, descriptors, drip, garbage, half_closed, parts_of, resetting, sip, status_of
-from served import DATA, PROGRAM, Client, Failure, Mirror, Served, request
+from serve import deaf, descriptors, drip, garbage, half_closed, parser_of, parts_of, resetting, sip, status_of
+from served import DATA, Client, Failure, Mirror, Served, request
 
 PARTS = ["clients", "descriptors", "space", "upstreams"]
 GONE = "refused 1 UpstreamFault"
@@ -414,10 +413,7 @@ class Bench:
 
 
 def main():
-    parser = argparse.ArgumentParser(description=__doc__.splitlines()[0])
-    parser.add_argument("folder", metavar="RELEASE_DIR")
-    parser.add_argument("--program", default=PROGRAM)
-    parser.add_argument("--only", default=",".join(PARTS), help=f"parts of {','.join(PARTS)}")
+    parser = parser_of(__doc__, PARTS)
     parser.add_argument("--count", type=int, default=10_000, help="connections of each kind that ends")
     parser.add_argument("--seconds", type=int, default=120, help="for each kind at most")
     words = parser.parse_args()

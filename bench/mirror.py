@@ -19,7 +19,6 @@ Every loop is bounded, and what is started ends with the script. It is run by ha
 and is no part of the gate.
 """
 
-import argparse
 import json
 import os
 import shutil
@@ -31,8 +30,8 @@ import time
 sys.dont_write_bytecode = True
 sys.path.insert(0, os.path.join(os.path.dirname(os.path.dirname(os.path.abspath(__file__))), "tools"))
 
-from serve import parts_of, processor, processor_seconds, status_of
-from served import PROGRAM, Failure, Mirror, Served, slim_zone
+from serve import parser_of, parts_of, processor, processor_seconds, status_of
+from served import Failure, Mirror, Served, slim_zone
 
 PARTS = ["first", "nothing", "one", "all"]
 
@@ -132,10 +131,7 @@ class Bench:
 
 
 def main():
-    parser = argparse.ArgumentParser(description=__doc__.split("\n")[0])
-    parser.add_argument("folder", metavar="RELEASE_DIR")
-    parser.add_argument("--program", default=PROGRAM)
-    parser.add_argument("--only", default=",".join(PARTS), help=f"parts of {','.join(PARTS)}")
+    parser = parser_of(__doc__, PARTS)
     parser.add_argument("--rounds", type=int, default=9, help="of the parts first and all")
     parser.add_argument("--syncs", type=int, default=500, help="of the part nothing; of the part one a fifth")
     words = parser.parse_args()

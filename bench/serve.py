@@ -766,6 +766,15 @@ def processor():
         return "unknown processor"
 
 
+def parser_of(page, parts):
+    """A parser of what every such script takes: a release, a program and parts of it."""
+    parser = argparse.ArgumentParser(description=page.split("\n")[0])
+    parser.add_argument("folder", metavar="RELEASE_DIR")
+    parser.add_argument("--program", default=PROGRAM)
+    parser.add_argument("--only", default=",".join(parts), help=f"parts of {','.join(parts)}")
+    return parser
+
+
 def parts_of(words, known):
     """The parts that are asked for. The script ends where one is none, or where the program is not built."""
     parts = words.only.split(",")
@@ -777,11 +786,8 @@ def parts_of(words, known):
 
 
 def main():
-    parser = argparse.ArgumentParser(description=__doc__.split("\n")[0])
-    parser.add_argument("folder", metavar="RELEASE_DIR")
-    parser.add_argument("--program", default=PROGRAM)
+    parser = parser_of(__doc__, PARTS)
     parser.add_argument("--beside", help="another program, measured by turns with it")
-    parser.add_argument("--only", default=",".join(PARTS), help=f"parts of {','.join(PARTS)}")
     parser.add_argument("--seconds", type=int, default=3, help="of each drive")
     parser.add_argument("--rounds", type=int, default=3, help="of which the median is taken")
     parser.add_argument("--installs", type=int, default=10_000, help="of the part memory")
