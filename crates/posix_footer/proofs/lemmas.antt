@@ -3,5 +3,6 @@ pub mod ChangeLemmas
 pub mod Lawfulness
 pub mod NextLemmas
 pub mod OnsetLemmas
+pub mod Repeating
 pub mod StateLemmas
 pub mod YearLemmas

@@ -2,6 +2,7 @@
 ghost use Rattle.std.specs.Prelude.{◌≡◌, ◌≤◌, ◌<◌, ◌+◌, ◌*◌, ◌≤ℤ◌, ◌<ℤ◌, ◌+ℤ◌, ℕ, List, ℤ, pos};
 ghost use Rattle.std.specs.Prelude.{min, Ok, Option};
 ghost use Rattle.jiff_core.specs.Calendar.{IsYear, days_from_civil, days_in_month};
+ghost use Rattle.td_civil.specs.Bounds.{HasMeaning};
 ghost use Rattle.td_civil.specs.Calendar.{IsInYear};
 ghost use Rattle.posix_footer.specs.declared.rule_types.DayForm.{DayForm};
 ghost use Rattle.posix_footer.specs.declared.rule_types.DstRule.{DstRule};
@@ -60,4 +61,15 @@ pub fn state_stays()
     ensures until_next { (footer : Footer) (t u : ℤ) (next : Option Moment) → t ≤ℤ u
         → IsNext footer.dst footer.std.offset t next → ComesAfter next u
         → state_of footer t ≡ state_of footer u }
+{}
+
+/// The calendar repeats in 400 years, and so do the onsets of a rule and the state that a footer
+/// gives.
+pub fn states_repeat()
+    ensures onsets { (rule : DstRule) (std : ℤ) (edge : Edge) (year : ℕ)
+        → onset_of rule std (pos (year + 400)) edge
+        ≡ onset_of rule std (pos year) edge +ℤ pos 12_622_780_800 }
+    ensures states { (footer : Footer) (t later : ℤ) → IsLawful footer
+        → later ≡ t +ℤ pos 12_622_780_800 → HasMeaning t → HasMeaning later
+        → state_of footer later ≡ state_of footer t }
 {}

@@ -26,7 +26,8 @@ mod send_sync;
 
 pub use footer_fault::FooterFault;
 pub use laws::{
-    day_is_named, day_of_week_form, far_years_are_quiet, footer_is_lawful, onsets_rise, state_stays,
+    day_is_named, day_of_week_form, far_years_are_quiet, footer_is_lawful, onsets_rise,
+    state_stays, states_repeat,
 };
 pub use next_edge::next_onset;
 pub use onsets::onset;

@@ -8,10 +8,10 @@ use Rattle.jiff_core.proofs.SignedLemmas.{signed_arith}
 use Rattle.jiff_core.proofs.CalendarLemmas.{days_from_civil-day_count, day_count-later_year, day_count-next_year}
 
 -- 1 January of the first year and of the last one
-year_1800 : days_from_civil (pos 1800) 1 1 ≡ neg_ℤ (pos 62091)
+pub year_1800 : days_from_civil (pos 1800) 1 1 ≡ neg_ℤ (pos 62091)
 year_1800 = omega (arith, signed_arith, days_from_civil-day_count, day_count-early (pos 1800) 11799 1 1 refl (omega arith) (omega arith) (omega arith))
 
-year_9999 : days_from_civil (pos 9999) 1 1 ≡ pos 2932532
+pub year_9999 : days_from_civil (pos 9999) 1 1 ≡ pos 2932532
 year_9999 = omega (arith, signed_arith, days_from_civil-day_count, day_count-early (pos 9999) 19998 1 1 refl (omega arith) (omega arith) (omega arith))
 
 -- the year in which a moment lies that has a meaning
