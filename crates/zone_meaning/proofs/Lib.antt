@@ -1,7 +1,10 @@
 pub mod ChangeLists
 pub mod Counting
+pub mod Decided
+pub mod Differing
 pub mod lemmas
 pub mod RangeMeaning
 pub mod Refusals
+pub mod Repeating
 pub mod Walking
 pub mod ZoneNames

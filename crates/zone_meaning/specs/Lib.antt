@@ -5,6 +5,7 @@ pub mod RangeLaws
 pub mod Rules
 pub mod Kept
 pub mod Observed
+pub mod Difference
 pub mod Walks
 pub mod WalkLeft
 pub mod Names

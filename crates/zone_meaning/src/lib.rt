@@ -3,7 +3,8 @@
 //!
 //! [`zone_of`] makes the zone of a file, or gives `zone_fault` of `specs/Faults.antt`. [`at`] gives
 //! the state at a moment, which is `zone_state` of `specs/State.antt`, and [`observances`] the
-//! changes of it in a range, which are those of `specs/Observed.antt`.
+//! changes of it in a range, which are those of `specs/Observed.antt`. [`first_difference`] gives the
+//! first moment at which two zones differ, which is `zone_difference` of `specs/Difference.antt`.
 #![tactic(auto)]
 
 // A zone, read from its file, and why bytes are none.
@@ -23,11 +24,16 @@ mod observing;
 mod stepping;
 mod walk;
 
+// The first moment at which two zones differ.
+mod deciding;
+mod difference;
+
 // Laws, and what may cross threads.
 mod laws;
 mod send_sync;
 
 pub use agreement::footer_agrees;
+pub use difference::first_difference;
 pub use laws::{last_observance_tells_the_state, names_are_printable, observances_are_the_changes};
 pub use lookup::at;
 pub use observing::{Changes, observances};

@@ -36,10 +36,10 @@ an_other : (b : Bool) → not b ≡ false → b ≡ true
 an_other true e = refl
 an_other false e = sym e
 
-is_other : (state : ℤ → Local) (t : ℤ) → is_change state t ≡ true → state t ≢ state (t -ℤ pos 1)
+pub is_other : (state : ℤ → Local) (t : ℤ) → is_change state t ≡ true → state t ≢ state (t -ℤ pos 1)
 is_other state t e = other_local (state t) (state (t -ℤ pos 1)) (no_other _ e)
 
-is_same : (state : ℤ → Local) (t : ℤ) → is_change state t ≡ false → state t ≡ state (t -ℤ pos 1)
+pub is_same : (state : ℤ → Local) (t : ℤ) → is_change state t ≡ false → state t ≡ state (t -ℤ pos 1)
 is_same state t e = same_local_is (state t) (state (t -ℤ pos 1)) (an_other _ e)
 
 -- the seconds after t, up to u
@@ -93,7 +93,7 @@ rising_from : (t u : ℤ) (xs : List Observance) → u ≤ℤ t → AreRisingAft
 rising_from t u [] h up = tt
 rising_from t u (x ∷ xs) h up = let first = up.0 in (omega (arith, signed_arith), up.1)
 
-changes_rise : (state : ℤ → Local) (n : ℕ) (t : ℤ) → AreRisingAfter t (changes_after state t n)
+pub changes_rise : (state : ℤ → Local) (n : ℕ) (t : ℤ) → AreRisingAfter t (changes_after state t n)
 unfolding changes_after
 changes_rise state zero t = tt
 changes_rise state (suc n) t =

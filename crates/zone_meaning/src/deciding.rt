@@ -1,0 +1,121 @@
+//! By when two zones differ, if they ever do.
+ghost use Rattle.std.specs.Prelude.{◌≡◌, ◌⊎◌, ◌-◌, length, IsTrue, ◌+ℤ◌, ◌≤ℤ◌, ◌<ℤ◌, pos};
+ghost use Rattle.std.specs.List.{slice_get};
+ghost use Rattle.std.specs.Option.{IfSome};
+ghost use Rattle.td_civil.specs.Bounds.{HasMeaning};
+ghost use Rattle.posix_footer.specs.Lawful.{IsLawful};
+ghost use Rattle.zone_meaning.specs.Difference.{lists_state, Decides};
+ghost use Rattle.zone_meaning.specs.Kept.{HasTypes};
+ghost use Rattle.zone_meaning.specs.Observed.{IsRange};
+ghost use Rattle.zone_meaning.specs.State.{footer_meant, zone_state};
+ghost use Rattle.zone_meaning.specs.Walks.{HaveBegun};
+
+use crate::Zone;
+use td_civil::{HI, LO, Moment};
+use tzif_reader::ZoneFile;
+
+/// After how many seconds the calendar repeats: 400 years, which are 146,097 days and whole weeks.
+const CYCLE: i64 = 12_622_780_800;
+
+/// A moment before which two zones differ, if they ever do.
+pub(crate) fn decided_by(one: &Zone, two: &Zone) -> Moment
+    ensures range { IsRange LO result.seconds }
+    ensures decided { Decides (zone_state one.now) (zone_state two.now) result.seconds }
+{
+    decided_by_lists(&one.lists, &two.lists)
+}
+
+/// The same of the lists of two files. After the last transition of both the footers decide: those
+/// of one text for ever alike, and others as they do within the years after which the calendar
+/// repeats.
+fn decided_by_lists(one: &ZoneFile, two: &ZoneFile) -> Moment
+    requires types { HasTypes one.now }
+    requires lawful { IfSome (footer_meant one.now.footer) IsLawful }
+    requires ends { IfSome (slice_get one.now.moments (length one.now.moments - 1))
+        (λ m. m.seconds <ℤ HI) }
+    requires other_types { HasTypes two.now }
+    requires other_lawful { IfSome (footer_meant two.now.footer) IsLawful }
+    requires other_ends { IfSome (slice_get two.now.moments (length two.now.moments - 1))
+        (λ m. m.seconds <ℤ HI) }
+    ensures range { IsRange LO result.seconds }
+    ensures decided { Decides (lists_state one.now) (lists_state two.now) result.seconds }
+{
+    let last = last_of_both(one, two);
+    if has_same_footer(one, two) {
+        second_after(last)
+    } else {
+        cycle_after(last)
+    }
+}
+
+/// Whether the footers of two files are one text.
+fn has_same_footer(one: &ZoneFile, two: &ZoneFile) -> bool
+    ensures { IsTrue result → one.now.footer ≡ two.now.footer }
+{
+    one.footer.as_slice() == two.footer.as_slice()
+}
+
+/// The next second.
+fn second_after(last: Moment) -> Moment
+    requires { HasMeaning last.seconds }
+    ensures range { IsRange LO result.seconds }
+    ensures next { result.seconds ≡ last.seconds +ℤ pos 1 }
+{
+    Moment {
+        seconds: last.seconds + 1,
+    }
+}
+
+/// The end of the years after which the calendar repeats, or of the moments that have a meaning.
+fn cycle_after(last: Moment) -> Moment
+    requires { HasMeaning last.seconds }
+    ensures range { IsRange LO result.seconds }
+    ensures end { (result.seconds ≡ last.seconds +ℤ pos 12_622_780_800) ⊎ (result.seconds ≡ HI) }
+{
+    let end = last.seconds + CYCLE;
+    if end < HI {
+        Moment { seconds: end }
+    } else {
+        Moment { seconds: HI }
+    }
+}
+
+/// A moment by which each transition of both files has come.
+fn last_of_both(one: &ZoneFile, two: &ZoneFile) -> Moment
+    requires types { HasTypes one.now }
+    requires ends { IfSome (slice_get one.now.moments (length one.now.moments - 1))
+        (λ m. m.seconds <ℤ HI) }
+    requires other_types { HasTypes two.now }
+    requires other_ends { IfSome (slice_get two.now.moments (length two.now.moments - 1))
+        (λ m. m.seconds <ℤ HI) }
+    ensures meaning { HasMeaning result.seconds }
+    ensures one { HaveBegun one.now.moments result.seconds (length one.now.moments) }
+    ensures two { HaveBegun two.now.moments result.seconds (length two.now.moments) }
+{
+    later(last_turn(one), last_turn(two))
+}
+
+/// A moment by which each transition has come: the last one, or 1800 where none comes after it.
+fn last_turn(lists: &ZoneFile) -> Moment
+    requires types { HasTypes lists.now }
+    requires ends { IfSome (slice_get lists.now.moments (length lists.now.moments - 1))
+        (λ m. m.seconds <ℤ HI) }
+    ensures meaning { HasMeaning result.seconds }
+    ensures begun { HaveBegun lists.now.moments result.seconds (length lists.now.moments) }
+{
+    let first = Moment { seconds: LO };
+    let moments = lists.moments.as_slice();
+    if moments.is_empty() {
+        return first;
+    }
+    later(first, moments[moments.len() - 1])
+}
+
+/// The later of two moments.
+fn later(one: Moment, two: Moment) -> Moment
+    ensures first { one.seconds ≤ℤ result.seconds }
+    ensures second { two.seconds ≤ℤ result.seconds }
+    ensures either { (result.seconds ≡ one.seconds) ⊎ (result.seconds ≡ two.seconds) }
+{
+    if one.seconds <= two.seconds { two } else { one }
+}

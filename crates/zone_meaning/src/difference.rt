@@ -1,0 +1,77 @@
+//! The first moment at which two zones differ.
+ghost use Rattle.std.specs.Prelude.{◌≡◌, ◌↔◌, IsTrue, int_le, if◌then◌else◌};
+ghost use Rattle.zone_meaning.specs.Difference.{onset_if_any, zone_difference, IsFirstDifference};
+ghost use Rattle.zone_meaning.specs.Observed.{IsRange};
+ghost use Rattle.zone_meaning.specs.State.{zone_state};
+
+use crate::deciding::decided_by;
+use crate::observing::Changes;
+use crate::{Zone, file};
+use td_civil::{HI, LO, Moment, Observance};
+
+/// The first moment from 1800 on, before 9999, at which the states of two zones differ, if there is
+/// one. It takes no memory. The changes of both are walked over side by side up to that moment;
+/// where there is none, those up to the last transition of both, and where their footers are not
+/// one text, those of the next 400 years.
+pub fn first_difference(one: &Zone, two: &Zone) -> Option<Moment>
+    ensures first { result ≡ zone_difference one.now two.now }
+    ensures least { IsFirstDifference (zone_state one.now) (zone_state two.now) LO HI result }
+{
+    if is_one_file(one, two) {
+        return None;
+    }
+    difference_before(one, two, decided_by(one, two))
+}
+
+/// Whether two zones have one file.
+fn is_one_file(one: &Zone, two: &Zone) -> bool
+    ensures { IsTrue result ↔ (one.now ≡ two.now) }
+{
+    file(one) == file(two)
+}
+
+/// The first moment before an end at which two zones differ, if there is one: that at which the
+/// first observance begins that only one of them has.
+fn difference_before(one: &Zone, two: &Zone, end: Moment) -> Option<Moment>
+    requires { IsRange LO end.seconds }
+    ensures { IsFirstDifference (zone_state one.now) (zone_state two.now) LO end.seconds result }
+{
+    let first = Moment { seconds: LO };
+    let mut of_one = Changes::new(one, first, end);
+    let mut of_two = Changes::new(two, first, end);
+    while let Some(change) = of_one.next() {
+        match of_two.next() {
+            None => return Some(change.onset),
+            Some(other) => {
+                if !is_same(&change, &other) {
+                    return Some(earlier(change.onset, other.onset));
+                }
+            }
+        }
+    }
+    onset_of(of_two.next())
+}
+
+/// When an observance begins, if there is one.
+fn onset_of(change: Option<Observance>) -> Option<Moment>
+    ensures { result ≡ onset_if_any change }
+{
+    match change {
+        None => None,
+        Some(change) => Some(change.onset),
+    }
+}
+
+/// Whether two observances are one.
+fn is_same(one: &Observance, two: &Observance) -> bool
+    ensures { IsTrue result ↔ (one.now ≡ two.now) }
+{
+    one == two
+}
+
+/// The earlier of two moments.
+fn earlier(one: Moment, two: Moment) -> Moment
+    ensures { result ≡ (if int_le one.seconds two.seconds then one else two) }
+{
+    if one.seconds <= two.seconds { one } else { two }
+}
