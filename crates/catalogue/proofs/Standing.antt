@@ -11,7 +11,7 @@ use Rattle.catalogue.specs.Releases.{ContentData, ReleaseData, same_content}
 use Rattle.catalogue.specs.Digests.{chain_of, content_digest, linked, token_text}
 use Rattle.catalogue.specs.Histories.{IsRelease, IsHistory, EntryData, entry_from, entry_of, has_content, last_change, meta, token_of, tokens_of}
 use Rattle.catalogue.specs.HeldZones.{held_content, held_digest, held_entry}
-use Rattle.catalogue.specs.Holdings.{StandsFor, release_of}
+use Rattle.catalogue.specs.Holdings.{StandsFor, place_count, release_of}
 use Rattle.catalogue.specs.declared.holding.Catalogue.{Catalogue}
 
 same_texts : (xs : List (List ℕ)) → pointwise bytes_eq xs xs ≡ true
@@ -62,10 +62,10 @@ mapped_ids (x ∷ xs) = ap (λ ys. x ∷ ys) (mapped_ids xs)
 pub stands_first : {Z : Type 0} (bytes : Z → List ℕ) (sound : ReleaseData → Type 0) (c : Catalogue Z) (r : ReleaseData)
     → IsRelease sound [] r → release_of c.head r.contents ≡ r
     → map (held_entry bytes) c.held ≡ map (entry_from r 1) r.contents → map held_digest c.held ≡ map content_digest r.contents
-    → c.chain ≡ linked (replicate 32 0) r → c.tokens ≡ token_text 1 c.chain ∷ []
+    → place_count c ≡ 1 → c.chain ≡ linked (replicate 32 0) r → c.tokens ≡ token_text 1 c.chain ∷ []
     → StandsFor bytes sound c (r ∷ [])
 unfolding meta chain_of tokens_of token_of
-stands_first bytes sound c r is head entries digests chain tokens =
+stands_first bytes sound c r is head entries digests count chain tokens =
     let content : EntryData → ContentData = λ (d : EntryData). d.content in
     let held : map (held_content bytes) c.held ≡ r.contents =
     sym (map-map content (held_entry bytes) c.held) ∙ ap (map content) entries
@@ -76,5 +76,5 @@ stands_first bytes sound c r is head entries digests chain tokens =
       entries = entries ∙ sym (entries_first r r.contents (each_content r));
       digests = digests ∙ ap (map content_digest) (sym held) ∙ map-map content_digest (held_content bytes) c.held;
       chain = chain;
-      tokens = tokens ∙ ap (λ v. token_text 1 v ∷ []) chain;
+      places = (count, tokens ∙ ap (λ v. token_text 1 v ∷ []) chain);
     }

@@ -9,6 +9,7 @@ use Rattle.td_base.specs.Names.{is_identifier}
 use Rattle.catalogue.specs.Releases.{ContentData, ReleaseData, same_content, names_of, IsInOrder}
 use Rattle.catalogue.specs.Digests.{tag_of, chain_of, token_text}
 use Rattle.catalogue.specs.declared.limits.TheConstants.{MOST_ZONES, MOST_NAMES, MOST_RELEASES}
+use Rattle.catalogue.specs.declared.limits.TheConstants.{KEPT_TOKENS}
 
 abbrev pub last_release : List ReleaseData → Option ReleaseData
 last_release H = last_or None H
@@ -49,9 +50,17 @@ IsHistory sound H =
 unfoldable pub token_of : List ReleaseData → ℕ → List ℕ
 token_of H n = token_text n (chain_of (take n H))
 
--- the tokens of all places
+-- how many of so many places come before the last ones, whose tokens are kept
+abbrev pub retired : ℕ → ℕ
+retired count = count - KEPT_TOKENS
+
+-- the last ones of so many places
+abbrev pub kept_places : ℕ → List ℕ
+kept_places count = range_with_len (retired count + 1) (count - retired count)
+
+-- their tokens
 unfoldable pub tokens_of : List ReleaseData → List (List ℕ)
-tokens_of H = map (token_of H) (range_with_len 1 (length H))
+tokens_of H = map (token_of H) (kept_places (length H))
 
 -- whether a content is one of the release's
 abbrev pub has_content : ContentData → ReleaseData → Bool

@@ -34,7 +34,8 @@ abbrev pub place_count : {Z : Type 0} → Catalogue Z → ℕ
 place_count c = c.count
 
 -- the catalogue stands for the history: it holds its last release, the digests and the last changes
--- of that release's zones, the last chain value and all tokens
+-- of that release's zones, the last chain value, how many places there are, and the tokens of the
+-- last ones
 pub record StandsFor {Z : Type 0} (bytes : Z → List ℕ) (sound : ReleaseData → Type 0)
     (c : Catalogue Z) (H : List ReleaseData) : Type 0 where
   pub history : IsHistory sound H
@@ -42,7 +43,7 @@ pub record StandsFor {Z : Type 0} (bytes : Z → List ℕ) (sound : ReleaseData 
   pub entries : map (held_entry bytes) c.held ≡ meta H
   pub digests : map held_digest c.held ≡ map (λ h. content_digest (held_content bytes h)) c.held
   pub chain : c.chain ≡ chain_of H
-  pub tokens : c.tokens ≡ tokens_of H
+  pub places : (place_count c ≡ length H) × (c.tokens ≡ tokens_of H)
 
 -- a fact of each history that the catalogue stands for
 abbrev pub ForEachHistory : {Z : Type 0} → (Z → List ℕ) → (ReleaseData → Type 0) → Catalogue Z

@@ -1,11 +1,12 @@
 -- What is looked up in a history: zones by their names, places by their tokens, and what changed
 -- after a place.
-use Rattle.std.specs.Prelude.{ℕ, ◌+◌, List, [], ◌∷◌, Bool, Option, None, Some, if◌then◌else◌}
+use Rattle.std.specs.Prelude.{ℕ, List, [], ◌∷◌, Bool, Option, None, Some}
 use Rattle.std.specs.Prelude.{length, nat_lt}
-use Rattle.std.specs.List.{filter, find, list_any, position_from, range_with_len}
+use Rattle.std.specs.List.{filter, find, list_any, position_from}
 use Rattle.std.specs.Str.{bytes_eq}
+use Rattle.change_index.specs.Positions.{positions}
 use Rattle.catalogue.specs.Releases.{ContentData, ReleaseData}
-use Rattle.catalogue.specs.Histories.{EntryData, last_release, meta, token_of}
+use Rattle.catalogue.specs.Histories.{EntryData, kept_places, last_release, meta, token_of}
 
 -- whether a name is the zone's identifier or one of its aliases
 abbrev pub is_name_of : List ℕ → ContentData → Bool
@@ -31,18 +32,13 @@ zones_of H = contents_of (last_release H)
 unfoldable pub place_named : List ReleaseData → List ℕ → Option ℕ
 place_named H name = position_from (λ e. is_name_of name e.content) 0 (meta H)
 
--- the place whose token this is
+-- the one of the last places whose token this is
 unfoldable pub place_of : List ReleaseData → List ℕ → Option ℕ
-place_of H text = find (λ n. bytes_eq (token_of H n) text) (range_with_len 1 (length H))
+place_of H text = find (λ n. bytes_eq (token_of H n) text) (kept_places (length H))
 
 -- the entries whose content last changed after a place
 unfoldable pub delta : List ReleaseData → ℕ → List EntryData
 delta H n = filter (λ e. nat_lt n e.changed) (meta H)
-
--- the positions of the items that pass a test, where the first has this position
-abbrev pub positions : {X : Type 0} → (X → Bool) → ℕ → List X → List ℕ
-positions p k [] = []
-positions p k (x ∷ xs) = if p x then k ∷ positions p (k + 1) xs else positions p (k + 1) xs
 
 -- their positions, counted from 0
 unfoldable pub places_changed : List ReleaseData → ℕ → List ℕ

@@ -1,21 +1,23 @@
-ghost use Rattle.std.specs.Prelude.{◌≡◌, ◌≤◌, ◌<◌, Some, length, map, option_copied};
+ghost use Rattle.std.specs.Prelude.{◌≡◌, ◌+◌, ◌-◌, ◌≤◌, ◌<◌, Some, length, map, option_copied};
 ghost use Rattle.std.specs.Option.{IsSomeAnd};
 ghost use Rattle.std.specs.List.{slice_get};
 ghost use Rattle.td_base.specs.Names.{IsPlain};
-ghost use Rattle.catalogue.specs.HeldZones.{entry_data, held_names, numbered};
-ghost use Rattle.catalogue.specs.Histories.{last_release, meta, token_of};
+ghost use Rattle.catalogue.specs.HeldZones.{entry_data, held_change, held_names, numbered};
+ghost use Rattle.catalogue.specs.Histories.{last_release, meta, retired, token_of};
 ghost use Rattle.catalogue.specs.Order.{rising_by};
 ghost use Rattle.catalogue.specs.Plain.{IsPlainEntry};
 
 use crate::entries::Held;
 use crate::head::Head;
+use crate::limits::KEPT_TOKENS;
 use crate::names::{Name, text_at};
 use crate::{Entry, Leaps, ZoneData};
+use change_index::ChangeIndex;
 use std::sync::Arc;
 use td_base::{Items, Token};
 use td_civil::Moment;
 
-/// The last release of a history, with the tokens of all its places.
+/// The last release of a history, with the tokens of its last places.
 #[derive(Debug, Drop)]
 pub struct Catalogue<Z> {
     pub(crate) head: Head,
@@ -25,9 +27,12 @@ pub struct Catalogue<Z> {
     pub(crate) count: u32,
     pub(crate) tokens: Items<Token>,
     pub(crate) names: Items<Name>,
+    /// Of the places at which the entries last changed.
+    pub(crate) index: ChangeIndex,
     ghost some: { 1 ≤ count },
-    ghost counted: { length tokens ≡ count },
+    ghost counted: { length tokens ≡ count - retired count },
     ghost indexed: { names ≡ rising_by (λ n. n.text) (numbered 0 (map held_names held)) },
+    ghost changes: { index ≡ map held_change held },
 }
 
 impl<Z: ZoneData> Catalogue<Z> {
@@ -62,13 +67,30 @@ impl<Z: ZoneData> Catalogue<Z> {
         &self.held.as_slice()[i].entry
     }
 
-    /// The token of a place, counted from 1.
+    /// How many places come before the last ones, whose tokens are kept.
+    pub(crate) fn retired(&self) -> u32
+        ensures { result ≡ retired (place_count self.now) }
+    {
+        self.count.saturating_sub(KEPT_TOKENS)
+    }
+
+    /// The token of one of the last [`KEPT_TOKENS`] places, counted from 1.
     pub fn token(&self, n: u32) -> Token
-        requires { (1 ≤ n) × (n ≤ place_count self.now) }
+        requires some { 1 ≤ n }
+        requires there { n ≤ place_count self.now }
+        requires kept { place_count self.now < n + KEPT_TOKENS }
         ensures token { ForEachHistory Z.bytes Z.sound self.now (λ H. result ≡ token_of H n) }
         ensures plain { ForEachHistory Z.bytes Z.sound self.now (λ H. IsPlain result) }
     {
-        self.tokens.as_slice()[n as usize - 1].copy()
+        self.tokens.as_slice()[(n - 1 - self.retired()) as usize].copy()
+    }
+
+    /// The index of the places at which the entries last changed, in the order of the entries.
+    pub fn index(&self) -> &ChangeIndex
+        ensures { ForEachHistory Z.bytes Z.sound self.now (λ H.
+            result.now ≡ map (λ e. e.changed) (meta H)) }
+    {
+        &self.index
     }
 
     /// How many names, identifiers and aliases, the zones of the last release have.

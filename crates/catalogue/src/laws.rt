@@ -1,5 +1,5 @@
 //! Laws of the definitions of this crate, each the contract of a function that does nothing.
-ghost use Rattle.std.specs.Prelude.{◌≡◌, ◌∷◌, ◌++◌, [], ℕ, List, Some, ◌<◌, ◌≤◌, ◌^◌, length};
+ghost use Rattle.std.specs.Prelude.{◌≡◌, ◌+◌, ◌∷◌, ◌++◌, [], ℕ, List, Some, ◌<◌, ◌≤◌, ◌^◌, length};
 ghost use Rattle.std.specs.Prelude.{IsTrue};
 ghost use Rattle.std.specs.List.{AllByRecursion};
 ghost use Rattle.td_base.specs.Names.{IsPlain};
@@ -11,7 +11,7 @@ ghost use Rattle.catalogue.specs.Plain.{HasTokenForm, IsPlainEntry, is_token};
 ghost use Rattle.catalogue.specs.declared.holding.Catalogue.{Catalogue};
 ghost use Rattle.catalogue.specs.declared.release.Release.{Release};
 
-use crate::ZoneData;
+use crate::{KEPT_TOKENS, ZoneData};
 
 /// The order in which the zones of a release and their aliases stand does not decide whether it
 /// fits a history.
@@ -51,10 +51,11 @@ pub fn tokens_are_plain()
         → IsTrue (is_token (token_of H n)) }
 {}
 
-/// The token of a place finds that place.
+/// The token of one of the last places finds that place.
 pub fn tokens_find_places()
     ensures { (H : List ReleaseData) (n : ℕ) →
-        1 ≤ n → n ≤ length H → length H < 2 ^ 32 → place_of H (token_of H n) ≡ Some n }
+        1 ≤ n → n ≤ length H → length H < n + KEPT_TOKENS → length H < 2 ^ 32
+        → place_of H (token_of H n) ≡ Some n }
 {}
 
 /// Two places, of whatever histories, never share a token.

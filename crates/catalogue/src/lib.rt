@@ -18,7 +18,8 @@ mod keeping;
 mod making;
 mod value;
 
-// What is looked up in it.
+// What is looked up in it, and by which index.
+mod changes;
 mod lookups;
 
 // Orders by a text, and the digests that tags and tokens are made of.
@@ -37,7 +38,7 @@ pub use laws::{
     entries_are_plain, fits_what_is_held, histories_grow, order_is_free, tokens_are_apart,
     tokens_are_plain, tokens_find_places,
 };
-pub use limits::{MOST_NAMES, MOST_RELEASES, MOST_ZONES};
+pub use limits::{KEPT_TOKENS, MOST_NAMES, MOST_RELEASES, MOST_ZONES};
 pub use release::{Content, LeapStep, Leaps, Release};
 pub use value::ReleaseMark;
 pub use zone_data::ZoneData;

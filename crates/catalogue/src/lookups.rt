@@ -1,16 +1,14 @@
 ghost use Rattle.std.specs.Prelude.{◌≡◌, ◌<◌, ◌∷◌, ◌++◌, ◌^◌, ℕ, List, IfOk, IfSome, Some, decimal};
-ghost use Rattle.std.specs.Prelude.{map, nat_lt};
+ghost use Rattle.std.specs.Prelude.{map};
 ghost use Rattle.std.specs.Prelude.{nat_eq};
 ghost use Rattle.std.specs.List.{position_or_len, slice_get};
-ghost use Rattle.catalogue.specs.HeldZones.{held_change};
 ghost use Rattle.catalogue.specs.Histories.{meta};
-ghost use Rattle.catalogue.specs.Lookups.{delta, place_named, place_of, places_changed, positions};
+ghost use Rattle.catalogue.specs.Lookups.{delta, place_named, place_of, places_changed};
 
-use crate::entries::Held;
+use crate::limits::KEPT_TOKENS;
 use crate::names::compare;
 use crate::{Catalogue, ZoneData};
 use std::alloc::Global;
-use std::sync::Arc;
 use td_base::{Items, NoMemory, read_decimal};
 
 /// Where the first dash stands, or the length where there is none.
@@ -38,19 +36,6 @@ fn first_number(text: &[u8]) -> Option<u32>
     }
 }
 
-/// The positions of the zones that changed after a place.
-fn changed_after<Z>(alloc: Global, held: &[Arc<Held<Z>>], n: u32) -> Result<Items<usize>, NoMemory>
-    ensures { IfOk result (λ r. r ≡ positions (λ h. nat_lt n (held_change h)) 0 held.now) }
-{
-    let mut changed = Items::new(alloc);
-    for at in 0..held.len() {
-        if n < held[at].entry.changed {
-            changed.push(at)?;
-        }
-    }
-    Ok(changed)
-}
-
 impl<Z: ZoneData> Catalogue<Z> {
     ghost use Rattle.catalogue.specs.Holdings.{ForEachHistory, zone_count};
 
@@ -67,15 +52,17 @@ impl<Z: ZoneData> Catalogue<Z> {
         }
     }
 
-    /// The place, counted from 1, whose token is the text.
+    /// The one of the last [`KEPT_TOKENS`] places, counted from 1, whose token is the text. A token
+    /// begins with its place, so one token alone is compared.
     pub fn place_of(&self, text: &[u8]) -> Option<u32>
         ensures { ForEachHistory Z.bytes Z.sound self.now (λ H. result ≡ place_of H text.now) }
     {
         let place = first_number(text)?;
-        if place == 0 || self.count < place {
+        let retired = self.retired();
+        if place <= retired || self.count < place {
             return None;
         }
-        if self.tokens.as_slice()[place as usize - 1].as_slice() == text {
+        if self.tokens.as_slice()[(place - 1 - retired) as usize].as_slice() == text {
             Some(place)
         } else {
             None
@@ -83,13 +70,16 @@ impl<Z: ZoneData> Catalogue<Z> {
     }
 
     /// The positions, in rising order, of the entries whose content last changed after a place.
+    /// What it costs grows with how many there are.
     pub fn changed_since(&self, alloc: Global, n: u32) -> Result<Items<usize>, NoMemory>
         ensures positions { IfOk result (λ r. ForEachHistory Z.bytes Z.sound self.now (λ H.
             r ≡ places_changed H n)) }
         ensures entries { IfOk result (λ r. ForEachHistory Z.bytes Z.sound self.now (λ H.
             map (slice_get (meta H)) r ≡ map Some (delta H n))) }
     {
-        let changed = changed_after(alloc, self.held.as_slice(), n)?;
-        Ok(changed)
+        match self.index.positions_after(alloc, n) {
+            Ok(changed) => Ok(Items::from(changed)),
+            Err(_) => Err(NoMemory),
+        }
     }
 }

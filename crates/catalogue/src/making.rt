@@ -1,19 +1,21 @@
-ghost use Rattle.std.specs.Prelude.{◌≡◌, ◌<◌, ◌+◌, ◌^◌, ◌∷◌, ◌++◌, [], List, IfOk, Some, length};
-ghost use Rattle.std.specs.Prelude.{map};
+ghost use Rattle.std.specs.Prelude.{◌≡◌, ◌<◌, ◌≤◌, ◌+◌, ◌-◌, ◌^◌, ◌∷◌, ◌++◌, [], List, IfOk, Some};
+ghost use Rattle.std.specs.Prelude.{drop, length, map};
 ghost use Rattle.std.specs.List.{AllByRecursion};
 ghost use Rattle.catalogue.specs.Releases.{ContentData, HasLengths, IsShort, content_as_is};
 ghost use Rattle.catalogue.specs.Releases.{release_data};
 ghost use Rattle.catalogue.specs.Digests.{content_digest, linked, token_text};
-ghost use Rattle.catalogue.specs.Histories.{Fits, FitsAfter, entry_from};
+ghost use Rattle.catalogue.specs.Histories.{Fits, FitsAfter, entry_from, retired};
 ghost use Rattle.catalogue.specs.HeldZones.{held_digest, held_entry};
 ghost use Rattle.catalogue.specs.Holdings.{ForEachHistory, StandsFor, place_count, release_held};
 ghost use Rattle.catalogue.specs.Holdings.{release_of};
 
 use crate::chain::link;
+use crate::changes::index_changes;
 use crate::digest::{content_digest, tag, token};
 use crate::entries::Held;
 use crate::head::Head;
 use crate::holding::Catalogue;
+use crate::limits::KEPT_TOKENS;
 use crate::names::all_names;
 use crate::order::in_order;
 use crate::{Content, Entry, Release, ZoneData};
@@ -68,12 +70,20 @@ fn all_changed<Z: ZoneData + Drop>(
     Ok(Items::from(held))
 }
 
+/// The tokens, copied, without the first where there are as many as are kept.
+fn copy_last(alloc: Global, tokens: &Items<Token>) -> Result<Items<Token>, NoMemory>
+    ensures { IfOk result (λ r. r ≡ drop (retired (length tokens.now + 1)) tokens.now) }
+{
+    let first = tokens.len().saturating_sub(KEPT_TOKENS as usize - 1);
+    copy_tokens(alloc, &tokens.as_slice()[first..])
+}
+
 /// The tokens, copied.
-fn copy_tokens(alloc: Global, tokens: &Items<Token>) -> Result<Items<Token>, NoMemory>
+fn copy_tokens(alloc: Global, tokens: &[Token]) -> Result<Items<Token>, NoMemory>
     ensures { IfOk result (λ r. r ≡ tokens.now) }
 {
     let mut copied = Items::new(alloc);
-    for token in tokens.as_slice() {
+    for token in tokens {
         copied.push(token.copy())?;
     }
     Ok(copied)
@@ -105,10 +115,11 @@ fn parted<Z>(release: Release<Z>) -> (Head, Items<Content<Z>>)
     (head, zones)
 }
 
-/// The catalogue of the place after those of the tokens, of which this head and these zones are
-/// held, from the chain value of the place before it.
+/// The catalogue of a place, of which this head and these zones are held, from the chain value of
+/// the place before it and the tokens that are kept beside its own.
 fn closed<Z: Drop>(
     alloc: Global,
+    place: u32,
     head: Head,
     held: Items<Arc<Held<Z>>>,
     before: &[u8; 32],
@@ -116,17 +127,18 @@ fn closed<Z: Drop>(
 ) -> Result<Catalogue<Z>, NoMemory>
     requires lengths { HasLengths (release_of head []) }
     requires zones { length held < 2 ^ 32 }
-    requires places { length tokens + 1 < 2 ^ 32 }
+    requires some { 1 ≤ place }
+    requires kept { length tokens + 1 ≡ place - retired place }
     ensures held { IfOk result (λ c. (c.head ≡ head) × (c.held ≡ held)) }
-    ensures count { IfOk result (λ c. c.count ≡ length tokens + 1) }
+    ensures count { IfOk result (λ c. c.count ≡ place) }
     ensures chain { IfOk result (λ c. (contents : List ContentData) →
         map held_digest held ≡ map content_digest contents →
         c.chain ≡ linked before.now (release_of head contents)) }
-    ensures tokens { IfOk result (λ c. c.tokens ≡ tokens ++ token_text c.count c.chain ∷ []) }
+    ensures tokens { IfOk result (λ c. c.tokens ≡ tokens ++ token_text place c.chain ∷ []) }
 {
-    let place = tokens.len() as u32 + 1;
     let chain = link(before, &head, held.as_slice());
     let names = all_names(alloc, held.as_slice())?;
+    let index = index_changes(alloc, held.as_slice())?;
     let mut tokens = tokens;
     tokens.push(token(place, &chain))?;
     Ok(Catalogue {
@@ -136,6 +148,7 @@ fn closed<Z: Drop>(
         count: place,
         tokens,
         names,
+        index,
     })
 }
 
@@ -151,7 +164,7 @@ impl<Z: ZoneData + Drop> Catalogue<Z> {
         let (head, zones) = parted(release);
         let contents = in_order(alloc, zones)?;
         let held = all_changed(alloc, contents, 1, &head)?;
-        let catalogue = closed(alloc, head, held, &[0; 32], Items::new(alloc))?;
+        let catalogue = closed(alloc, 1, head, held, &[0; 32], Items::new(alloc))?;
         Ok(catalogue)
     }
 
@@ -166,9 +179,10 @@ impl<Z: ZoneData + Drop> Catalogue<Z> {
     {
         let (head, zones) = parted(release);
         let contents = in_order(alloc, zones)?;
-        let held = self.all_next(alloc, contents, self.count + 1, &head)?;
-        let tokens = copy_tokens(alloc, &self.tokens)?;
-        let catalogue = closed(alloc, head, held, &self.chain, tokens)?;
+        let place = self.count + 1;
+        let held = self.all_next(alloc, contents, place, &head)?;
+        let tokens = copy_last(alloc, &self.tokens)?;
+        let catalogue = closed(alloc, place, head, held, &self.chain, tokens)?;
         Ok(catalogue)
     }
 }

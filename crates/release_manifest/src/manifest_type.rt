@@ -2,7 +2,7 @@ use td_base::{Bytes, Items};
 use td_civil::Moment;
 
 /// The most bytes that a manifest may have.
-pub const MOST_BYTES: usize = 1_048_576;
+pub const MOST_BYTES: usize = 4_194_304;
 
 /// What a release's manifest says.
 #[derive(Debug, Drop)]

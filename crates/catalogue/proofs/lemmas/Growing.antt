@@ -1,8 +1,9 @@
 -- A history with one release more: its last changes, entries, chain value and tokens.
 use Rattle.std.proofs.Common.{◌≡◌, ℕ, ◌+◌, ◌-◌, ◌<◌, ◌≤◌, Bool, true, false, cond, if◌then◌else◌, ◌&&◌, Option, None, Some, List, [], ◌∷◌, ◌++◌, length}
-use Rattle.std.proofs.Common.{take, get_or, refl, sym, ap, ◌∙◌, subst, map, arith, length-append, append_assoc}
-use Rattle.std.specs.Prelude.{reverse, replicate}
+use Rattle.std.proofs.Common.{inl, inr, add-one, take, get_or, refl, sym, ap, ◌∙◌, subst, map, arith, length-append, append_assoc}
+use Rattle.std.specs.Prelude.{drop, reverse, replicate}
 use Rattle.std.specs.List.{AllByRecursion, list_all, last_or, prefix_len, suffix_len, range_with_len}
+use Rattle.std.proofs.lemmas.Bool.{cases_lt}
 use Rattle.std.proofs.lemmas.List.{reverse-append, length-reverse, get_or_append_left, get_or_default, take-append-le}
 use Rattle.std.proofs.lemmas.List.Folds.{list_all-append}
 use Rattle.std.proofs.lemmas.List.FromFn.{length-map-range_with_len, map-range_with_len_more}
@@ -13,7 +14,8 @@ use Rattle.catalogue.specs.Digests.{chain_of, content_digest, linked, token_text
 use Rattle.catalogue.specs.Growing.{entry_next}
 use Rattle.catalogue.specs.HeldZones.{held_content, held_digest, held_entry}
 use Rattle.catalogue.specs.Histories.{IsHistory, IsRelease, EntryData, FitsAfter, entries_of, entry_from, entry_of, has_content, last_change, last_release}
-use Rattle.catalogue.specs.Histories.{meta, token_of, tokens_of}
+use Rattle.catalogue.specs.Histories.{kept_places, meta, retired, token_of, tokens_of}
+use Rattle.catalogue.specs.declared.limits.TheConstants.{KEPT_TOKENS}
 use Rattle.catalogue.specs.Holdings.{StandsFor, place_count, release_held, release_of}
 use Rattle.catalogue.specs.declared.holding.Catalogue.{Catalogue}
 use Rattle.catalogue.proofs.lemmas.LastRelease.{Last, last_of}
@@ -179,14 +181,42 @@ token_last H r =
     let long : length H + 1 ≡ length (H ++ r ∷ []) = omega (arith, length-append H (r ∷ [])) in
     ap (λ G. token_text (length H + 1) (chain_of G)) (ap (λ n. take n (H ++ r ∷ [])) long ∙ take_whole (H ++ r ∷ []))
 
-pub tokens_next : (H : List ReleaseData) (r : ReleaseData) → tokens_of (H ++ r ∷ []) ≡ tokens_of H ++ token_text (length H + 1) (chain_of (H ++ r ∷ [])) ∷ []
+-- of the last places the first falls away once there are more than are kept
+at_places : {X : Type 0} (f : ℕ → X) (a b l m : ℕ) → a ≡ b → l ≡ m → map f (range_with_len a l) ≡ map f (range_with_len b m)
+at_places f a b l m p q = ap (λ x. map f (range_with_len x l)) p ∙ ap (λ y. map f (range_with_len b y)) q
+
+one_less : {X : Type 0} (f : ℕ → X) (a l : ℕ) → drop 1 (map f (range_with_len a (l + 1))) ≡ map f (range_with_len (a + 1) l)
+one_less f a l = ap (λ n. drop 1 (map f (range_with_len a n))) (add-one l)
+
+kept_next : {X : Type 0} (f : ℕ → X) (n l : ℕ) → l ≡ n - retired n
+    → map f (kept_places (n + 1)) ≡ drop (retired (l + 1)) (map f (kept_places n)) ++ f (n + 1) ∷ []
+kept_next f n l is = elim (cases_lt n KEPT_TOKENS) [
+  | inl few ↦
+      let none : retired (l + 1) ≡ 0 = omega (arith, is, few) in
+      at_places f (retired (n + 1) + 1) 1 ((n + 1) - retired (n + 1)) (n + 1) (omega (arith, few)) (omega (arith, few))
+      ∙ map-range_with_len_more f 1 n (n + 1) (omega arith)
+      ∙ ap (λ ts. ts ++ f (n + 1) ∷ []) (at_places f 1 (retired n + 1) n (n - retired n) (omega (arith, few)) (omega (arith, few))
+      ∙ sym (ap (λ k. drop k (map f (kept_places n))) none))
+  | inr many ↦
+      let one : retired (l + 1) ≡ 1 = omega (arith, is, many) in
+      at_places f (retired (n + 1) + 1) ((retired n + 1) + 1) ((n + 1) - retired (n + 1)) ((l - 1) + 1) (omega (arith, many)) (omega (arith, is, many))
+      ∙ map-range_with_len_more f ((retired n + 1) + 1) (l - 1) (n + 1) (omega (arith, is, many))
+      ∙ ap (λ ts. ts ++ f (n + 1) ∷ []) (sym (one_less f (retired n + 1) (l - 1))
+      ∙ ap (drop 1) (at_places f (retired n + 1) (retired n + 1) ((l - 1) + 1) (n - retired n) refl (omega (arith, is, many)))
+      ∙ sym (ap (λ k. drop k (map f (kept_places n))) one))
+]
+
+pub tokens_next : (H : List ReleaseData) (r : ReleaseData)
+    → tokens_of (H ++ r ∷ []) ≡ drop (retired (length (tokens_of H) + 1)) (tokens_of H) ++ token_text (length H + 1) (chain_of (H ++ r ∷ [])) ∷ []
 unfolding tokens_of
 tokens_next H r =
     let long : length (H ++ r ∷ []) ≡ length H + 1 = omega (arith, length-append H (r ∷ [])) in
-    ap (λ n. map (token_of (H ++ r ∷ [])) (range_with_len 1 n)) long
-    ∙ map-range_with_len_more (token_of (H ++ r ∷ [])) 1 (length H) (length H + 1) (omega arith)
-    ∙ ap (λ ts. ts ++ token_of (H ++ r ∷ []) (length H + 1) ∷ []) (tokens_before H r 1 (length H) (omega arith))
-    ∙ ap (λ t. map (token_of H) (range_with_len 1 (length H)) ++ t ∷ []) (token_last H r)
+    let before : tokens_of H ≡ map (token_of (H ++ r ∷ [])) (kept_places (length H)) =
+    sym (tokens_before H r (retired (length H) + 1) (length H - retired (length H)) (omega arith)) in
+    ap (λ n. map (token_of (H ++ r ∷ [])) (kept_places n)) long
+    ∙ kept_next (token_of (H ++ r ∷ [])) (length H) (length (tokens_of H)) (length-map-range_with_len (token_of H) _ _)
+    ∙ ap (λ ts. drop (retired (length (tokens_of H) + 1)) ts ++ token_of (H ++ r ∷ []) (length H + 1) ∷ []) (sym before)
+    ∙ ap (λ t. drop (retired (length (tokens_of H) + 1)) (tokens_of H) ++ t ∷ []) (token_last H r)
 
 -- ---- histories
 
@@ -218,8 +248,7 @@ history_grown sound H r h is before x after e = by (parted H r before x after e)
 
 pub places_are : {Z : Type 0} (bytes : Z → List ℕ) (sound : ReleaseData → Type 0) (k : Catalogue Z) (H : List ReleaseData) → StandsFor bytes sound k H
     → place_count k ≡ length H
-unfolding tokens_of
-places_are bytes sound k H s = sym k.counted ∙ ap length s.tokens ∙ length-map-range_with_len (token_of H) 1 (length H)
+places_are bytes sound k H s = s.places.0
 
 next_content : (H : List ReleaseData) (x r : ReleaseData) (n : ℕ) (c : ContentData) → (entry_next H x r n c).content ≡ c
 next_content H x r n c = by (has_content c x)
@@ -239,9 +268,10 @@ pub stands_next : {Z : Type 0} (bytes : Z → List ℕ) (sound : ReleaseData →
     → map (held_entry bytes) new.held ≡ map (entry_next H (release_held bytes old) r (place_count old + 1)) r.contents
     → map held_digest new.held ≡ map content_digest r.contents
     → new.chain ≡ linked old.chain r
-    → new.tokens ≡ old.tokens ++ token_text (place_count old + 1) new.chain ∷ []
+    → place_count new ≡ place_count old + 1
+    → new.tokens ≡ drop (retired (length old.tokens + 1)) old.tokens ++ token_text (place_count old + 1) new.chain ∷ []
     → StandsFor bytes sound new (H ++ r ∷ [])
-stands_next bytes sound old new H r s in_order is_sound fits head entries digests chain tokens =
+stands_next bytes sound old new H r s in_order is_sound fits head entries digests chain count tokens =
     let x = release_held bytes old in
     let places = places_are bytes sound old H s in
     let last : Last sound H x = last_of sound H x s.history s.last in
@@ -260,8 +290,11 @@ stands_next bytes sound old new H r s in_order is_sound fits head entries digest
       entries = entries ∙ ap (λ n. map (entry_next H x r (n + 1)) r.contents) places ∙ sym grown;
       digests = digests ∙ ap (map content_digest) (sym held) ∙ map-map content_digest (held_content bytes) new.held;
       chain = chained;
-      tokens = tokens ∙ ap (λ ts. ts ++ token_text (place_count old + 1) new.chain ∷ []) s.tokens
-          ∙ ap (λ n. tokens_of H ++ token_text (n + 1) new.chain ∷ []) places
-          ∙ ap (λ v. tokens_of H ++ token_text (length H + 1) v ∷ []) chained
-          ∙ sym (tokens_next H r);
+      places = (
+        omega (arith, count, places, length-append H (r ∷ [])),
+        tokens ∙ ap (λ ts. drop (retired (length ts + 1)) ts ++ token_text (place_count old + 1) new.chain ∷ []) s.places.1
+            ∙ ap (λ n. drop (retired (length (tokens_of H) + 1)) (tokens_of H) ++ token_text (n + 1) new.chain ∷ []) places
+            ∙ ap (λ v. drop (retired (length (tokens_of H) + 1)) (tokens_of H) ++ token_text (length H + 1) v ∷ []) chained
+            ∙ sym (tokens_next H r),
+      );
     }

@@ -14,11 +14,13 @@ use Rattle.std.proofs.lemmas.Slice.Eq.{bytes_eq-Decides}
 use Rattle.std.proofs.Common.{inl, inr}
 use Rattle.catalogue.specs.Releases.{ReleaseData}
 use Rattle.catalogue.specs.Digests.{token_text}
-use Rattle.catalogue.specs.Histories.{token_of, tokens_of}
+use Rattle.catalogue.specs.Histories.{kept_places, retired, token_of, tokens_of}
+use Rattle.catalogue.specs.declared.limits.TheConstants.{KEPT_TOKENS}
 use Rattle.catalogue.specs.Holdings.{StandsFor, place_count, release_held}
-use Rattle.catalogue.specs.Lookups.{place_of, positions}
+use Rattle.catalogue.specs.Lookups.{place_of}
+use Rattle.change_index.specs.Positions.{positions}
 use Rattle.catalogue.specs.declared.holding.Catalogue.{Catalogue}
-use Rattle.catalogue.proofs.lemmas.Growing.{places_are, prefix_all}
+use Rattle.catalogue.proofs.lemmas.Growing.{prefix_all}
 use Rattle.catalogue.proofs.lemmas.LastRelease.{last_of}
 
 -- ---- a token begins with its place
@@ -86,10 +88,12 @@ found f m a (suc l) low high one = by (found f m (a + 1) l) (bytes_eq (f a) (f m
     by again true e = ap Some (one a (omega arith) (omega arith) ((bytes_eq-Decides (f a) (f m)).0 e))
     by again false e = again (later low e) (omega arith) (λ k ge lt. one k (omega arith) (omega arith))
 
-pub place_found : (H : List ReleaseData) (n : ℕ) → 1 ≤ n → n ≤ length H → length H < 2 ^ 32 → place_of H (token_of H n) ≡ Some n
+pub place_found : (H : List ReleaseData) (n : ℕ) → 1 ≤ n → n ≤ length H → length H < n + KEPT_TOKENS → length H < 2 ^ 32
+    → place_of H (token_of H n) ≡ Some n
 unfolding place_of
-place_found H n some there small =
-    found (token_of H) n 1 (length H) some (omega arith) (λ k low high. tokens_apart H H k n (omega arith) (omega arith))
+place_found H n some there kept small =
+    found (token_of H) n (retired (length H) + 1) (length H - retired (length H)) (omega arith) (omega arith)
+    (λ k low high. tokens_apart H H k n (omega arith) (omega arith))
 
 -- a text that no number has is not found
 not_found : (f : ℕ → List ℕ) (text : List ℕ) (a l : ℕ) → ((k : ℕ) → a ≤ k → k < a + l → bytes_eq (f k) text ≡ false)
@@ -97,12 +101,14 @@ not_found : (f : ℕ → List ℕ) (text : List ℕ) (a l : ℕ) → ((k : ℕ) 
 not_found f text a zero none = refl
 not_found f text a (suc l) none = rw (none a (omega arith) (omega arith)) (not_found f text (a + 1) l (λ k low high. none k (omega arith) (omega arith)))
 
-pub place_missed : (H : List ReleaseData) (text : List ℕ) → ((k : ℕ) → 1 ≤ k → k ≤ length H → token_of H k ≡ text → ⊥) → place_of H text ≡ None
+pub place_missed : (H : List ReleaseData) (text : List ℕ) → ((k : ℕ) → retired (length H) < k → k ≤ length H → token_of H k ≡ text → ⊥) → place_of H text ≡ None
 unfolding place_of
-place_missed H text none = not_found (token_of H) text 1 (length H) (λ k low high. by k low high (bytes_eq (token_of H k) text) refl)
+place_missed H text none =
+    not_found (token_of H) text (retired (length H) + 1) (length H - retired (length H))
+    (λ k low high. by k (omega arith) (omega arith) (bytes_eq (token_of H k) text) refl)
   where
-    by : (k : ℕ) → 1 ≤ k → k < 1 + length H → (b : Bool) → bytes_eq (token_of H k) text ≡ b → bytes_eq (token_of H k) text ≡ false
-    by k low high true e = absurd (none k low (omega arith) ((bytes_eq-Decides (token_of H k) text).0 e))
+    by : (k : ℕ) → retired (length H) < k → k ≤ length H → (b : Bool) → bytes_eq (token_of H k) text ≡ b → bytes_eq (token_of H k) text ≡ false
+    by k low high true e = absurd (none k low high ((bytes_eq-Decides (token_of H k) text).0 e))
     by k low high false e = e
 
 -- ---- positions
@@ -135,11 +141,15 @@ items_at p done (x ∷ xs) = by (p x) (later (items_at p (done ++ x ∷ []) xs))
 -- ---- the tokens of a catalogue
 
 pub token_at : {Z : Type 0} (bytes : Z → List ℕ) (sound : ReleaseData → Type 0) (k : Catalogue Z) (H : List ReleaseData) → StandsFor bytes sound k H
-    → (n : ℕ) (t : List ℕ) → 1 ≤ n → n ≤ place_count k → t ≡ get_or k.tokens (n - 1) t → t ≡ token_of H n
+    → (n : ℕ) (t : List ℕ) → retired (place_count k) < n → n ≤ place_count k → t ≡ get_or k.tokens (n - 1 - retired (place_count k)) t → t ≡ token_of H n
 unfolding tokens_of
-token_at bytes sound k H s n t some there is =
-    let below : n - 1 < length H = omega (arith, places_are bytes sound k H s) in
-    is ∙ ap (λ ts. get_or ts (n - 1) t) s.tokens ∙ get_or-map-range_with_len (token_of H) 1 (length H) (n - 1) n t below (omega arith)
+token_at bytes sound k H s n t kept there is =
+    let count : place_count k ≡ length H = s.places.0 in
+    is ∙ ap (λ ts. get_or ts (n - 1 - retired (place_count k)) t) s.places.1
+    ∙ ap (λ c. get_or (map (token_of H) (kept_places (length H))) (n - 1 - retired c) t) count
+    ∙ get_or-map-range_with_len (token_of H) (retired (length H) + 1) (length H - retired (length H)) (n - 1 - retired (length H)) n t
+    (omega (arith, count, kept, there))
+    (omega (arith, count, kept, there))
 
 -- a history has few places
 pub few_places : {Z : Type 0} (bytes : Z → List ℕ) (sound : ReleaseData → Type 0) (k : Catalogue Z) (H : List ReleaseData) → StandsFor bytes sound k H

@@ -1,4 +1,4 @@
-use Rattle.std.proofs.Common.{◌≡◌, [], ◌∷◌, ◌+◌, ◌++◌, ap, sym, ◌∙◌, map, length, arith}
+use Rattle.std.proofs.Common.{◌≡◌, [], ◌∷◌, ◌++◌, ap, sym, ◌∙◌, map, length, arith}
 use Rattle.std.proofs.lemmas.List.{length-map}
 use Rattle.std.specs.Prelude.{replicate}
 use Rattle.std.specs.List.{AllByRecursion}
@@ -55,6 +55,6 @@ returns g c =
     (ap (λ h. release_of h r.contents) (made.held.0 ∙ head))
     (ap (map (held_entry bytes)) made.held.1 ∙ entries)
     (ap (map held_digest) made.held.1 ∙ digests)
+    made.count
     (made.chain r.contents digests ∙ ap (λ h. linked (replicate 32 0) (release_of h r.contents)) head)
-    (made.tokens ∙ ap (λ n. c.new.result ++ token_text n c.in_ok-catalogue.catalogue.chain ∷ []) (made.count ∙ ap (λ ts. length ts + 1) c.new.ensures)
-    ∙ ap (λ ts. ts ++ token_text 1 c.in_ok-catalogue.catalogue.chain ∷ []) c.new.ensures)
+    (made.tokens ∙ ap (λ ts. ts ++ token_text 1 c.in_ok-catalogue.catalogue.chain ∷ []) c.new.ensures)

@@ -48,12 +48,11 @@ returns g c = λ H s.
     ∙ ap (map (entry_next H (release_held bytes old) r (place_count old + 1))) sorted in
     let digests : map held_digest c.in_ok-held.held ≡ map content_digest r.contents =
     c.in_ok-held.ensures.digests H s ∙ ap (map content_digest) sorted in
-    let count = made.count ∙ ap (λ ts. length ts + 1) c.in_ok-tokens.ensures ∙ ap (λ n. n + 1) old.counted in
     stands_next bytes g.Z.ZoneData.sound old c.in_ok-catalogue.catalogue H r s (in_order bytes c.args.release c.requires.fits.distinct)
     c.requires.sound c.requires.fits
     (ap (λ h. release_of h r.contents) (made.held.0 ∙ head))
     (ap (map (held_entry bytes)) made.held.1 ∙ entries)
     (ap (map held_digest) made.held.1 ∙ digests)
     (made.chain r.contents digests ∙ ap (λ h. linked old.chain (release_of h r.contents)) head)
-    (made.tokens ∙ ap (λ n. c.in_ok-tokens.tokens ++ token_text n c.in_ok-catalogue.catalogue.chain ∷ []) count
-    ∙ ap (λ ts. ts ++ token_text (place_count old + 1) c.in_ok-catalogue.catalogue.chain ∷ []) c.in_ok-tokens.ensures)
+    made.count
+    (made.tokens ∙ ap (λ ts. ts ++ token_text (place_count old + 1) c.in_ok-catalogue.catalogue.chain ∷ []) c.in_ok-tokens.ensures)
