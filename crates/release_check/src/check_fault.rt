@@ -14,9 +14,9 @@ use tzif_reader::TzifFault;
 /// Which number of a release is limited.
 #[derive(Clone, Copy, Debug, PartialEq, Eq)]
 pub enum Limited {
-    /// The zones, at most 1,024.
+    /// The zones, at most [`catalogue::MOST_ZONES`].
     Zones,
-    /// The identifiers and aliases, at most 4,096.
+    /// The identifiers and aliases, at most [`catalogue::MOST_NAMES`].
     Names,
 }
 
