@@ -21,7 +21,7 @@ use Rattle.mirror.specs.declared.sync_fault.SyncFault.{SyncFault}
 use Rattle.mirror.specs.declared.understood_type.Understood.TheVariants as understood
 use Rattle.sync_world.specs.Hearing.{IsHeadOf, IsHeardIn, IsHeardOver, action_service}
 use Rattle.sync_world.specs.Holding.{HoldsLast, SaysHolds}
-use Rattle.sync_world.specs.Primaries.{IsPlace}
+use Rattle.sync_world.specs.Primaries.{AsksSinceKept, IsPlace}
 use Rattle.sync_world.specs.Worlds as world
 use Rattle.sync_world.specs.Worlds.{IsAnswer, Leads, LeadsTo, Sent, SyncWorld, WorldStep, world_begun}
 use Rattle.mirror_world.specs.Answers.{AreAnswered, IsAnswered, IsAnsweredOver}
@@ -104,11 +104,13 @@ abbrev pub RequestsAnswered : Type 0
 RequestsAnswered =
     (H : List ReleaseData) (steps : List WorldStep) (w : SyncWorld) (sent : Sent) (n : ℕ) (head : Head) → IsHistory IsSound H → 1 ≤ length H
     → Leads IsSound IsHeardOver (world_begun H) steps w → w.sent ≡ Some sent → sent.since ≤ n → n ≤ length w.history → IsHeadOf sent.ask head
-    → (h : Heard) × IsHeardIn sent.ask (action (take n w.history) Primary head) h × (h ≢ heard.BadToken)
+    → (h : Heard) × IsHeardIn sent.ask (action (take n w.history) Primary head) h
+    × (AsksSinceKept action_service w.history n sent.ask → h ≢ heard.BadToken)
 
 pub understood_so : (law : RequestsAnswered) (H : List ReleaseData) (steps : List WorldStep) (xs : List Exchange) (w : SyncWorld) (n : ℕ) (sent : Sent)
     (x : Exchange) → IsHistory IsSound H → 1 ≤ length H → Logs IsSound IsAnsweredOver Means (world_begun H) steps xs w → IsAnswered IsAnsweredOver w n sent x
-    → length x.answer < MOST_ANSWER → (h : Heard) × Means (ask_of w.mirror) x.answer (understood.Hears h) × (h ≢ heard.BadToken)
+    → length x.answer < MOST_ANSWER → (h : Heard) × Means (ask_of w.mirror) x.answer (understood.Hears h)
+    × (AsksSinceKept action_service w.history n sent.ask → h ≢ heard.BadToken)
 understood_so law H steps xs w n sent x history some logs k few =
     let leads : Leads IsSound IsHeardOver (world_begun H) steps w = led IsSound IsAnsweredOver Means IsHeardOver heard_over (world_begun H) steps xs w logs in
     let stands = stood_on IsSound IsHeardOver (length H) (world_begun H) steps w leads (begins H) in

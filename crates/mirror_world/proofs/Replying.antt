@@ -134,6 +134,7 @@ media_passes kind.Json = refl
 media_passes kind.Problem = refl
 media_passes kind.Calendar = refl
 media_passes kind.Tzif = refl
+media_passes kind.CalendarJson = refl
 
 module _ (media size : List ℕ) (m : list_all is_value_byte media ≡ true) (s : list_all is_value_byte size ≡ true) where
   abbrev type_pair : Pair

@@ -25,7 +25,7 @@ ghost use Rattle.mirror.specs.declared.sync_fault.SyncFault.{SyncFault};
 ghost use Rattle.mirror.specs.declared.understood_type.Understood.TheVariants as understood;
 ghost use Rattle.sync_world.specs.Hearing.{IsHeardOver, action_service};
 ghost use Rattle.sync_world.specs.Holding.{HoldsLast, SaysHolds};
-ghost use Rattle.sync_world.specs.Primaries.{IsPlace};
+ghost use Rattle.sync_world.specs.Primaries.{AsksSinceKept, IsPlace};
 ghost use Rattle.sync_world.specs.Worlds.{Sent, SyncWorld, WorldStep, world_begun};
 ghost use Rattle.mirror_world.specs.Answers.{AreAnswered, IsAnswered, IsAnsweredOver, IsRequestFor};
 ghost use Rattle.mirror_world.specs.Asking.{IsAskable};
@@ -124,7 +124,7 @@ pub fn walks_hold()
 }
 
 /// An exchange that answers what is outstanding in a world, if it is not cut, means something that
-/// the mirror takes, and does not refuse a token.
+/// the mirror takes, and does not refuse the token of one of the last places.
 pub fn answers_are_understood()
     ensures { (H : List ReleaseData) (steps : List WorldStep) (xs : List Exchange) (w : SyncWorld)
         (n : ℕ) (sent : Sent) (x : Exchange)
@@ -132,7 +132,7 @@ pub fn answers_are_understood()
         → Logs IsSound IsAnsweredOver Means (world_begun H) steps xs w
         → IsAnswered IsAnsweredOver w n sent x → length x.answer < MOST_ANSWER
         → (h : Heard) × Means (ask_of w.mirror) x.answer (understood.Hears h)
-        × (h ≢ heard.BadToken) }
+        × (AsksSinceKept action_service w.history n sent.ask → h ≢ heard.BadToken) }
 {
     requests_are_answered();
 }

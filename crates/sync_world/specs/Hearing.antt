@@ -5,7 +5,7 @@ use Rattle.td_base.specs.declared.report.Ask.TheVariants as ask
 use Rattle.td_base.specs.declared.report.Role.TheVariants.{Primary}
 use Rattle.catalogue.specs.Lookups.{place_of}
 use Rattle.catalogue.specs.Releases.{ContentData, ReleaseData}
-use Rattle.catalogue.specs.declared.limits.TheConstants.{MOST_RELEASES}
+use Rattle.catalogue.specs.declared.limits.TheConstants.{KEPT_TOKENS}
 use Rattle.http_answer.specs.declared.answer.Answer.{Answer}
 use Rattle.http_request.specs.declared.head.Head.{Head}
 use Rattle.json_forms.specs.ListReading.{list_read}
@@ -56,10 +56,10 @@ pub record IsHeardOver (H : List ReleaseData) (a : Ask) (h : Heard) : Type 0 whe
   pub asks_so : IsHeadOf a head
   pub hears : IsHeardIn a (action H Primary head) h
 
--- a primary that answers so knows the tokens of all its places, and has a zone's own file under
+-- a primary that answers so knows the tokens of its last places, and has a zone's own file under
 -- each of its names
 abbrev pub file_bytes : List ℕ → ContentData → List ℕ
 file_bytes name c = c.file
 
 abbrev pub action_service : Service
-action_service = record { kept = MOST_RELEASES; place = place_of; served = file_bytes }
+action_service = record { kept = KEPT_TOKENS; place = place_of; served = file_bytes }

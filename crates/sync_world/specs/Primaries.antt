@@ -62,6 +62,12 @@ FindsNoOther sound P = (H : List ReleaseData) (m n : ℕ) → IsHistory sound H 
     → n ≤ length H → (P.place (take n H) (token_of H m) ≡ Some m)
     ⊎ (P.place (take n H) (token_of H m) ≡ None)
 
+-- the ask is for a list since the token of one of the last of the first n places, which is known
+-- for certain
+abbrev pub AsksSinceKept : Service → List ReleaseData → ℕ → Ask → Type 0
+AsksSinceKept P H n a = (m : ℕ) × (1 ≤ m) × (m ≤ n) × (n < m + P.kept)
+    × (a ≡ ask.List (Some (token_of H m)))
+
 -- what is heard over a history of sound releases is what there is to be told
 abbrev pub HeardIsTold : (ReleaseData → Type 0) → (List ReleaseData → Ask → Heard → Type 0)
     → Service → Type 0

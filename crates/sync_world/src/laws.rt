@@ -16,7 +16,7 @@ ghost use Rattle.sync_core.specs.declared.heard_type.Heard.{Heard};
 ghost use Rattle.sync_core.specs.declared.heard_type.Heard.TheVariants as heard;
 ghost use Rattle.sync_world.specs.Hearing.{IsHeardIn, IsHeadOf, IsHeardOver, action_service};
 ghost use Rattle.sync_world.specs.Holding.{HoldsLast, SaysHolds};
-ghost use Rattle.sync_world.specs.Primaries.{IsPlace, IsTokenOf, ServesSo};
+ghost use Rattle.sync_world.specs.Primaries.{AsksSinceKept, IsPlace, IsTokenOf, ServesSo};
 ghost use Rattle.sync_world.specs.Primaries.{changes_of, list_told, told_by};
 ghost use Rattle.sync_world.specs.Reaching.{ComesToHold, ToldIsHeard};
 ghost use Rattle.sync_world.specs.Worlds.{Sent, WorldStep, SyncWorld, IsAnswer, Leads, world_begun};
@@ -33,14 +33,14 @@ pub fn answers_are_heard()
 {}
 
 /// Each request for what is outstanding is answered, at each place from the one on at which it was
-/// first sent, and the answer does not refuse the token.
+/// first sent, and the answer does not refuse the token of one of the last places.
 pub fn requests_are_answered()
     ensures { (H : List ReleaseData) (steps : List WorldStep) (w : SyncWorld) (sent : Sent)
         (n : ℕ) (head : Head)
         → IsHistory IsSound H → 1 ≤ length H → Leads IsSound IsHeardOver (world_begun H) steps w
         → w.sent ≡ Some sent → sent.since ≤ n → n ≤ length w.history → IsHeadOf sent.ask head
         → (h : Heard) × IsHeardIn sent.ask (action (take n w.history) Primary head) h
-        × (h ≢ heard.BadToken) }
+        × (AsksSinceKept action_service w.history n sent.ask → h ≢ heard.BadToken) }
 {}
 
 /// What is heard in the answers of the actions is what there is to be told, and a token finds its
