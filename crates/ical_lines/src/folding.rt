@@ -6,7 +6,7 @@ ghost use Rattle.ical_lines.specs.Lines.{folded, content_line};
 use td_base::{Bytes, NoMemory};
 
 /// How many octets stand in a line at most, without its end.
-const MOST_OCTETS: usize = 75;
+pub const MOST_OCTETS: usize = 75;
 
 /// Appends one content line: the name, a colon and the value, folded where the line is longer than
 /// 75 octets. Where memory runs out nothing is appended.
@@ -62,8 +62,10 @@ fn append_long(out: &mut Bytes, name: &[u8], value: &[u8]) -> Result<(), NoMemor
     Ok(())
 }
 
-/// Appends octets to a line that has room for so many more, and answers the room after them.
-fn append_folded(out: &mut Bytes, room: usize, octets: &[u8]) -> Result<usize, NoMemory>
+/// Appends octets to a line that has room for so many more, folded where there is no room for the
+/// next, and answers the room after them. So a line may be written piece by piece: it begins with
+/// room for [`MOST_OCTETS`], and ends with CRLF. Where memory runs out, its beginning stays.
+pub fn append_folded(out: &mut Bytes, room: usize, octets: &[u8]) -> Result<usize, NoMemory>
     ensures ok { IfOk result (λ left. (rest : List ℕ)
         → out.new ++ folded left rest ≡ out.old ++ folded room (octets.now ++ rest)) }
     ensures kept { take (length out.old) out.new ≡ out.old }

@@ -1,5 +1,5 @@
 //! Content lines of iCalendar (RFC 5545, section 3.1): [`line`] writes one folded, as
-//! `specs/Lines.antt` says, and [`unfold`] reads lines back, as `specs/Unfolding.antt` says.
+//! `specs/Lines.antt` says, [`append_folded`] a piece of one, and [`unfold`] reads lines back, as `specs/Unfolding.antt` says.
 //! [`reads_back`] is the law that ties them, and [`lines_fit`] that no line is too long.
 #![tactic(auto)]
 
@@ -14,7 +14,7 @@ mod reading;
 mod laws;
 mod send_sync;
 
-pub use folding::line;
+pub use folding::{MOST_OCTETS, append_folded, line};
 pub use laws::{lines_fit, reads_back};
 pub use line_fault::BadLine;
 pub use reading::unfold;

@@ -1,5 +1,5 @@
 -- Which part of a VTIMEZONE is in force at a moment (RFC 5545, section 3.6.5).
-use Rattle.std.specs.Prelude.{◌≡◌, ◌⊎◌, List, ℤ, ◌≤ℤ◌, ◌<ℤ◌, Option, None, Some, ⊤}
+use Rattle.std.specs.Prelude.{◌≡◌, ◌⊎◌, List, ◌∷◌, ℤ, ◌≤ℤ◌, ◌<ℤ◌, Option, None, Some, ⊤}
 use Rattle.std.specs.List.{Contains}
 use Rattle.td_civil.specs.declared.moment_type.Moment.{Moment}
 use Rattle.td_civil.specs.declared.local_time.Local.{Local}
@@ -25,9 +25,13 @@ pub record IsRuleOnset (rule : Rule) (p : Part) (m : ℤ) : Type 0 where
   pub from_start : p.start.seconds ≤ℤ m
   pub not_after : NotAfter m p.until
 
--- without a rule the start is the only onset
+-- one of the moments that the part lists: its start and its dates
+abbrev pub IsListed : Part → ℤ → Type 0
+IsListed p m = Contains (p.start ∷ p.dates) (record { seconds = m })
+
+-- without a rule these are its onsets
 abbrev pub IsOnsetBy : Option Rule → Part → ℤ → Type 0
-IsOnsetBy None p m = m ≡ p.start.seconds
+IsOnsetBy None p m = IsListed p m
 IsOnsetBy (Some rule) p m = IsRuleOnset rule p m
 
 abbrev pub IsOnset : Part → ℤ → Type 0

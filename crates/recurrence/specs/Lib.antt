@@ -1,7 +1,13 @@
+pub mod AllRead
 pub mod Falls
+pub mod FormFields
 pub mod InForce
 pub mod Occurs
+pub mod PartFields
 pub mod Row
 pub mod RuleOfDate
 pub mod SameDates
+pub mod Spellable
+pub mod Spelling
 pub mod Valid
+pub mod Weekdays

@@ -8,6 +8,7 @@
 #![tactic(auto)]
 
 // Rules, the parts of calendars, and footers that no rules say.
+mod moment_list;
 mod part_types;
 mod rule_fault;
 mod rule_types;
@@ -31,6 +32,7 @@ pub use laws::{
     all_year_daylight, apart_in_each_year, falls_once, keeps_onsets, onset_in_year, onsets_ordered,
     steady_dates_are,
 };
+pub use moment_list::Moments;
 pub use part_types::{Part, Range};
 pub use rule_fault::RuleBeyond;
 pub use rule_types::{Carried, Form, Rule};

@@ -1,4 +1,4 @@
-use crate::Rule;
+use crate::{Moments, Rule};
 use td_civil::{Moment, Name};
 
 /// The moments for which a calendar is asked.
@@ -10,8 +10,9 @@ pub struct Range {
     pub until: Option<Moment>,
 }
 
-/// A part of a VTIMEZONE (RFC 5545, section 3.6.5): one change of local time, or one in each year.
-#[derive(Debug, Drop, PartialEq, Eq)]
+/// A part of a VTIMEZONE (RFC 5545, section 3.6.5): changes of local time that are alike, or one in
+/// each year.
+#[derive(Debug, Drop)]
 pub struct Part {
     /// Whether daylight saving time holds after its onsets.
     pub dst: bool,
@@ -23,8 +24,10 @@ pub struct Part {
     pub to: i32,
     /// The name after them.
     pub name: Name,
-    /// The days and the time of its onsets, where it has more than one.
+    /// The days and the time of its onsets, where it has one in each year.
     pub rule: Option<Rule>,
     /// The last onset, where the rule has one.
     pub until: Option<Moment>,
+    /// Its other onsets, where it has no rule.
+    pub dates: Moments,
 }
