@@ -1,7 +1,6 @@
 -- The text of a calendar spells what was written.
-use Rattle.std.proofs.Common.{◌≡◌, ℕ, suc, ◌<◌, ◌-◌, Bool, true, false, not, ◌&&◌, refl, sym, ap, ◌∙◌, append_assoc, arith}
-use Rattle.std.proofs.Common.{ℤ, pos, ◌+ℤ◌, ◌-ℤ◌, Option, None, Some, List, [], ◌∷◌, ◌++◌, codes, length, take, drop}
-use Rattle.std.specs.Int.{int_rem_euclid}
+use Rattle.std.proofs.Common.{◌≡◌, ℕ, suc, ◌<◌, ◌-◌, Bool, true, false, not, ◌&&◌, refl, sym, ap, ◌∙◌, append_assoc, append-nil, arith}
+use Rattle.std.proofs.Common.{ℤ, Option, None, Some, List, [], ◌∷◌, ◌++◌, codes, length, map, take, drop}
 use Rattle.std.specs.List.{All, list_all, flat_map, AllByRecursion}
 use Rattle.std.specs.Option.{IfSome, option_map, option_and_then}
 use Rattle.std.specs.Result.{result_ok}
@@ -10,28 +9,34 @@ use Rattle.std.proofs.lemmas.Bool.{cond-true, and_from, and_parts}
 use Rattle.std.proofs.lemmas.Bool.Decides.{nat_tests}
 use Rattle.std.proofs.Math.Seq.{drop-append_seam}
 use Rattle.std.proofs.lemmas.List.{length-append, take_at, drop_at}
-use Rattle.jiff_core.proofs.SignedLemmas.{signed_arith}
+use Rattle.jiff_core.specs.Calendar.{IsWithin}
 use Rattle.td_civil.specs.declared.moment_type.Moment.{Moment}
-use Rattle.td_civil.specs.Bounds.{HasText, IsWithinBounds}
-use Rattle.td_civil.specs.Calendar.{stamp_of, local_text_of}
-use Rattle.td_civil.specs.Stamp.{moment_at}
-use Rattle.td_civil.proofs.lemmas.Shown.{bounds_text, elapsed_is, local_bounds_text, stamp_of_moment}
+use Rattle.td_civil.specs.Bounds.{IsWithinBounds}
+use Rattle.td_civil.specs.Calendar.{local_text_of}
+use Rattle.td_civil.proofs.lemmas.Shown.{bounds_text, local_bounds_text}
 use Rattle.ical_lines.specs.Unfolding.{is_feed}
 use Rattle.recurrence.specs.declared.part_types.Part.{Part}
 use Rattle.recurrence.specs.declared.rule_types.Rule.{Rule}
-use Rattle.vtimezone.specs.CalendarText.{line, kind_of, start_line, change_lines, rule_lines}
+use Rattle.recurrence.specs.AllRead.{all_read, put_before}
+use Rattle.recurrence.specs.PartFields.{Recur, part_with}
+use Rattle.recurrence.specs.Spellable.{is_safe, IsSafe, IsSpellable}
+use Rattle.recurrence.specs.Spelling.{spelling_with}
+use Rattle.recurrence.specs.Valid.{IsValidForm}
+use Rattle.recurrence.proofs.lemmas.AllRead.{read_more, read_append}
+use Rattle.recurrence.proofs.lemmas.PartFields.{local_at, recur_for, part_back}
+use Rattle.vtimezone.specs.CalendarText.{line, kind_of, start_line, change_lines, date_lines, rule_lines}
 use Rattle.vtimezone.specs.CalendarText.{part_lines, head_lines, alias_lines, end_lines, tail_lines}
 use Rattle.vtimezone.specs.CalendarText.{calendar_lines, calendar, IsLineText, IsReadable}
-use Rattle.vtimezone.specs.Cutting.{Named, cut_first, all_read, put_before}
-use Rattle.vtimezone.specs.ReadRules.{Recur, recur_in}
-use Rattle.vtimezone.specs.ReadValues.{is_safe, local_in, offset_in, text_value}
-use Rattle.vtimezone.specs.Spellable.{IsSafe, IsSpellable}
-use Rattle.vtimezone.specs.Spelled.{shown_at, second_of_day, part_with, part_of_lines, is_end}
-use Rattle.vtimezone.specs.Spelled.{parts_among, inside, spelling_with, zone_spelled}
+use Rattle.vtimezone.specs.Cutting.{Named, cut_first}
+use Rattle.vtimezone.specs.ReadRules.{recur_in}
+use Rattle.vtimezone.specs.ReadValues.{local_in, locals_in, offset_in, text_value}
+use Rattle.vtimezone.specs.Spelled.{dates_in, part_of_lines, is_end}
+use Rattle.vtimezone.specs.Spelled.{parts_among, inside, zone_spelled}
 use Rattle.vtimezone.specs.Spelled.{calendar_spelled, spelled_by, spelled}
-use Rattle.vtimezone.specs.Values.{offset_text, utc_basic, rule_text}
+use Rattle.vtimezone.specs.Values.{dates_text, offset_text, utc_basic, rule_text}
+use Rattle.vtimezone.proofs.NumbersBack.{local_texts, dates_cut}
 use Rattle.vtimezone.proofs.ReadBack.{calendar_read_back}
-use Rattle.vtimezone.proofs.RulesBack.{read_append, recur_back}
+use Rattle.vtimezone.proofs.RulesBack.{recur_back}
 use Rattle.vtimezone.proofs.ValuesBack.{local_back, utc_back, offset_back, text_back}
 
 abbrev pub named : List ℕ → List ℕ → Named
@@ -39,21 +44,34 @@ named name value = record { name = name; value = value }
 
 -- ---- the lines of a part, cut at their colons
 
-abbrev pub change_named : Moment → ℤ → ℤ → List ℕ → List Named
-change_named start from to name =
-    named (codes "DTSTART") (local_text_of start.seconds from) ∷ named (codes "TZOFFSETFROM") (offset_text from)
-    ∷ named (codes "TZOFFSETTO") (offset_text to) ∷ named (codes "TZNAME") name ∷ []
+abbrev pub change_named : Part → List Named
+change_named p =
+    named (codes "DTSTART") (local_text_of p.start.seconds p.from) ∷ named (codes "TZOFFSETFROM") (offset_text p.from)
+    ∷ named (codes "TZOFFSETTO") (offset_text p.to) ∷ named (codes "TZNAME") p.name ∷ []
+
+abbrev pub dates_named : List Moment → ℤ → List Named
+dates_named [] offset = []
+dates_named (first ∷ dates) offset = named (codes "RDATE") (dates_text first dates offset) ∷ []
 
 abbrev pub rule_named : Option Rule → Option Moment → List Named
 rule_named None until = []
 rule_named (Some rule) until = named (codes "RRULE") (rule_text rule until) ∷ []
 
-abbrev pub group_named : Bool → Moment → ℤ → ℤ → List ℕ → Option Rule → Option Moment → List Named
-group_named dst start from to name rule until =
-    named (codes "BEGIN") (kind_of dst) ∷ change_named start from to name ++ rule_named rule until ++ named (codes "END") (kind_of dst) ∷ []
+abbrev pub content_named : Part → List Moment → Option Rule → List Named
+content_named p dates rule = change_named p ++ dates_named dates p.from ++ rule_named rule p.until
+
+abbrev pub group_named : Part → Bool → List Moment → Option Rule → List Named
+group_named p dst dates rule =
+    named (codes "BEGIN") (kind_of dst) ∷ change_named p ++ dates_named dates p.from ++ rule_named rule p.until
+    ++ named (codes "END") (kind_of dst) ∷ []
 
 abbrev pub part_named : Part → List Named
-part_named p = group_named p.dst p.start p.from p.to p.name p.rule p.until
+part_named p = group_named p p.dst p.dates p.rule
+
+dates_are_cut : (dates : List Moment) (offset : ℤ) → all_read (cut_first 58) (date_lines dates offset) ≡ Some (dates_named dates offset)
+unfolding date_lines
+dates_are_cut [] offset = refl
+dates_are_cut (first ∷ dates) offset = refl
 
 rule_cut : (rule : Option Rule) (until : Option Moment) → all_read (cut_first 58) (rule_lines rule until) ≡ Some (rule_named rule until)
 unfolding rule_lines
@@ -63,12 +81,15 @@ rule_cut (Some rule) until = refl
 part_cut : (p : Part) → all_read (cut_first 58) (part_lines p) ≡ Some (part_named p)
 unfolding part_lines change_lines start_line
 part_cut p =
+    let f = cut_first 58 in
     let first = line (codes "BEGIN") (kind_of p.dst) ∷ change_lines p in
-    let begin = named (codes "BEGIN") (kind_of p.dst) ∷ change_named p.start p.from p.to p.name in
+    let begin = named (codes "BEGIN") (kind_of p.dst) ∷ change_named p in
+    let dates = date_lines p.dates p.from in
     let rule = rule_lines p.rule p.until in
-    read_append (cut_first 58) (first ++ rule) (line (codes "END") (kind_of p.dst) ∷ []) (begin ++ rule_named p.rule p.until)
-    (named (codes "END") (kind_of p.dst) ∷ [])
-    (read_append (cut_first 58) first rule begin (rule_named p.rule p.until) refl (rule_cut p.rule p.until)) refl
+    read_append f ((first ++ dates) ++ rule) (line (codes "END") (kind_of p.dst) ∷ [])
+    ((begin ++ dates_named p.dates p.from) ++ rule_named p.rule p.until) (named (codes "END") (kind_of p.dst) ∷ [])
+    (read_append f (first ++ dates) rule (begin ++ dates_named p.dates p.from) (rule_named p.rule p.until)
+    (read_append f first dates begin (dates_named p.dates p.from) refl (dates_are_cut p.dates p.from)) (rule_cut p.rule p.until)) refl
 
 parts_cut : (ps : List Part) → all_read (cut_first 58) (flat_map part_lines ps) ≡ Some (flat_map part_named ps)
 parts_cut [] = refl
@@ -76,63 +97,79 @@ parts_cut (p ∷ ps) = read_append (cut_first 58) (part_lines p) (flat_map part_
 
 -- ---- the lines of a group give its part
 
-second_back : (m : ℤ) → HasText m → pos (second_of_day (stamp_of m)) ≡ int_rem_euclid m (pos 86400)
-second_back m h = let e = elapsed_is m h in omega (arith, signed_arith, e.0)
+abbrev dates_read : List Moment → ℤ → Option (List ℤ)
+dates_read [] offset = dates_in []
+dates_read (first ∷ dates) offset = dates_in (dates_text first dates offset ∷ [])
 
-start_back : (start : Moment) (from : ℤ) → HasText (start.seconds +ℤ from) → shown_at (stamp_of (start.seconds +ℤ from)) from ≡ start
-start_back start from h =
-    let is = stamp_of_moment (start.seconds +ℤ from) h in
-    let same : moment_at (stamp_of (start.seconds +ℤ from)) -ℤ from ≡ start.seconds = omega (arith, signed_arith, is) in
-    ap (λ (t : ℤ). record { seconds = t }) same
+abbrev rule_read : Option Rule → Option Moment → Option (Option Recur)
+rule_read None until = Some None
+rule_read (Some rule) until = option_map Some (recur_in (rule_text rule until))
 
-abbrev part_by : Bool → Moment → ℤ → ℤ → List ℕ → Option Rule → Option Moment → Part
-part_by dst start from to name rule until = record { dst = dst; start = start; from = from; to = to; name = name; rule = rule; until = until }
+texts_back : (dates : List Moment) (offset : ℤ) → AllByRecursion (λ d. IsWithinBounds d.seconds) dates → IsWithin 86399 offset
+    → all_read local_in (local_texts dates offset) ≡ Some (map (local_at offset) dates)
+texts_back [] offset h within = refl
+texts_back (d ∷ ds) offset h within =
+    read_more local_in (local_text_of d.seconds offset) (local_texts ds offset) (local_at offset d) (map (local_at offset) ds)
+    (local_back d.seconds offset (local_bounds_text d.seconds offset h.0 within)) (texts_back ds offset h.1 within)
 
-same_number : (a b : ℕ) → pos a ≡ pos b → a ≡ b
-same_number a b e = cc
+dates_given : (dates : List Moment) (offset : ℤ) → AllByRecursion (λ d. IsWithinBounds d.seconds) dates → IsWithin 86399 offset
+    → dates_read dates offset ≡ Some (map (local_at offset) dates)
+unfolding locals_in
+dates_given [] offset h within = refl
+dates_given (first ∷ dates) offset h within =
+    let all = map (local_at offset) (first ∷ dates) in
+    ap (λ ts. option_map (flat_map (λ (l : List ℤ). l)) (put_before (all_read local_in ts) (Some []))) (dates_cut first dates offset)
+    ∙ ap (λ o. option_map (flat_map (λ (l : List ℤ). l)) (put_before o (Some []))) (texts_back (first ∷ dates) offset h within)
+    ∙ ap Some (append-nil all)
 
-change_back : (dst : Bool) (start : Moment) (from to : ℤ) (name : List ℕ) (o : Option (Option Recur)) (rule : Option Rule) (until : Option Moment)
-    → IsSpellable (part_by dst start from to name rule until)
-    → part_with dst (local_in (local_text_of start.seconds from)) (offset_in (offset_text from)) (offset_in (offset_text to)) (text_value name) o
-    ≡ part_with dst (Some (stamp_of (start.seconds +ℤ from))) (Some from) (Some to) (Some name) o
-change_back dst start from to name o rule until h =
-    let w = h.writable in
-    rw (
-      local_back start.seconds from (local_bounds_text start.seconds from w.start w.from),
-      offset_back from w.from,
-      offset_back to w.to,
-      text_back name h.name,
-    ) refl
+rule_given : (rule : Option Rule) (until : Option Moment) → IfSome rule (λ r. IsValidForm r.form) → IfSome until (λ m. IsWithinBounds m.seconds)
+    → rule_read rule until ≡ Some (recur_for rule until)
+rule_given None until h within = refl
+rule_given (Some rule) until h within = ap (option_map Some) (recur_back rule until h within)
 
-content_back : (dst : Bool) (start : Moment) (from to : ℤ) (name : List ℕ) (rule : Option Rule) (until : Option Moment)
-    → IsSpellable (part_by dst start from to name rule until)
-    → part_of_lines dst (change_named start from to name ++ rule_named rule until) ≡ Some (part_by dst start from to name rule until)
+content_read : (p : Part) (dates : List Moment) (rule : Option Rule)
+    → part_of_lines p.dst (content_named p dates rule)
+    ≡ part_with p.dst (local_in (local_text_of p.start.seconds p.from)) (offset_in (offset_text p.from)) (offset_in (offset_text p.to))
+    (text_value p.name) (dates_read dates p.from) (rule_read rule p.until)
 unfolding part_of_lines
-content_back dst start from to name None until h =
-    let w = h.writable in
-    let back = start_back start from (local_bounds_text start.seconds from w.start w.from) in
-    change_back dst start from to name (Some None) None until h
-    ∙ ap (λ s. Some (part_by dst s from to name None None)) back
-    ∙ ap (λ u. Some (part_by dst start from to name None u)) (sym h.time)
-content_back dst start from to name (Some rule) until h =
-    let w = h.writable in
-    let text = local_bounds_text start.seconds from w.start w.from in
-    let s = stamp_of (start.seconds +ℤ from) in
-    let back = start_back start from text in
-    let second : second_of_day s ≡ rule.second = same_number (second_of_day s) rule.second (second_back (start.seconds +ℤ from) text ∙ sym h.time) in
-    change_back dst start from to name (option_map Some (recur_in (rule_text rule until))) (Some rule) until h
-    ∙ ap (λ o. part_with dst (Some s) (Some from) (Some to) (Some name) (option_map Some o)) (recur_back rule until w.rule w.until)
-    ∙ ap (λ m. Some (part_by dst m from to name (Some (record { form = rule.form; second = second_of_day s })) until)) back
-    ∙ ap (λ (n : ℕ). Some (part_by dst start from to name (Some (record { form = rule.form; second = n })) until)) second
+content_read p [] None = refl
+content_read p [] (Some rule) = refl
+content_read p (first ∷ dates) None = refl
+content_read p (first ∷ dates) (Some rule) = refl
 
-group_read : (dst : Bool) (start : Moment) (from to : ℤ) (name : List ℕ) (rule : Option Rule) (until : Option Moment) (rest : List Named)
-    → parts_among None [] (group_named dst start from to name rule until ++ rest)
-    ≡ put_before (part_of_lines dst (change_named start from to name ++ rule_named rule until)) (parts_among None [] rest)
+each_within : (ds : List Moment) → All (λ d. IsWithinBounds d.seconds) ds → AllByRecursion (λ d. IsWithinBounds d.seconds) ds
+each_within [] h = tt
+each_within (d ∷ ds) h = (h 0 d (omega arith), each_within ds (λ i e lt. h (suc i) e (omega arith)))
+
+part_with_same : (dst : Bool) (s s₂ f f₂ t t₂ : Option ℤ) (n n₂ : Option (List ℕ)) (d d₂ : Option (List ℤ)) (r r₂ : Option (Option Recur))
+    → s ≡ s₂ → f ≡ f₂ → t ≡ t₂ → n ≡ n₂ → d ≡ d₂ → r ≡ r₂ → part_with dst s f t n d r ≡ part_with dst s₂ f₂ t₂ n₂ d₂ r₂
+part_with_same dst s s₂ f f₂ t t₂ n n₂ d d₂ r r₂ start from to name dates recur = rw (start, from, to, name, dates, recur) refl
+
+content_back : (p : Part) → IsSpellable p → part_of_lines p.dst (content_named p p.dates p.rule) ≡ Some p
+content_back p h =
+    let w = h.writable in
+    content_read p p.dates p.rule
+    ∙ part_with_same p.dst _ _ _ _ _ _ _ _ _ _ _ _
+    (local_back p.start.seconds p.from (local_bounds_text p.start.seconds p.from w.start w.from))
+    (offset_back p.from w.from)
+    (offset_back p.to w.to)
+    (text_back p.name h.name)
+    (dates_given p.dates p.from (each_within p.dates w.dates) w.from)
+    (rule_given p.rule p.until w.rule w.until)
+    ∙ part_back p h.time
+
+group_read : (p : Part) (dst : Bool) (dates : List Moment) (rule : Option Rule) (rest : List Named)
+    → parts_among None [] (group_named p dst dates rule ++ rest)
+    ≡ put_before (part_of_lines dst (content_named p dates rule)) (parts_among None [] rest)
 unfolding parts_among
-group_read true start from to name None until rest = refl
-group_read true start from to name (Some rule) until rest = refl
-group_read false start from to name None until rest = refl
-group_read false start from to name (Some rule) until rest = refl
+group_read p true [] None rest = refl
+group_read p true [] (Some rule) rest = refl
+group_read p true (first ∷ dates) None rest = refl
+group_read p true (first ∷ dates) (Some rule) rest = refl
+group_read p false [] None rest = refl
+group_read p false [] (Some rule) rest = refl
+group_read p false (first ∷ dates) None rest = refl
+group_read p false (first ∷ dates) (Some rule) rest = refl
 
 no_parts : parts_among None [] [] ≡ Some []
 unfolding parts_among
@@ -141,8 +178,8 @@ no_parts = refl
 parts_read : (ps : List Part) → AllByRecursion IsSpellable ps → parts_among None [] (flat_map part_named ps) ≡ Some ps
 parts_read [] h = no_parts
 parts_read (p ∷ ps) h =
-    group_read p.dst p.start p.from p.to p.name p.rule p.until (flat_map part_named ps)
-    ∙ ap (λ o. put_before o (parts_among None [] (flat_map part_named ps))) (content_back p.dst p.start p.from p.to p.name p.rule p.until h.0)
+    group_read p p.dst p.dates p.rule (flat_map part_named ps)
+    ∙ ap (λ o. put_before o (parts_among None [] (flat_map part_named ps))) (content_back p h.0)
     ∙ ap (put_before (Some p)) (parts_read ps h.1)
 
 -- ---- the lines around the parts

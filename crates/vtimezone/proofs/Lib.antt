@@ -1,7 +1,12 @@
 pub mod lemmas
+pub mod Alike
 pub mod CalendarBack
 pub mod CarriedPair
+pub mod DateLine
+pub mod Gathered
+pub mod Grouped
 pub mod InForce
+pub mod Joined
 pub mod LastBefore
 pub mod Meaning
 pub mod Newest
@@ -9,6 +14,7 @@ pub mod NumbersBack
 pub mod PartsMean
 pub mod ReadBack
 pub mod RuleParts
+pub mod Ruled
 pub mod RulesBack
 pub mod Singles
 pub mod Spellable

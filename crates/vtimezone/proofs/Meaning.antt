@@ -1,11 +1,12 @@
 -- The parts of a zone mean the zone.
 use Rattle.std.proofs.Common.{◌≡◌, ℕ, zero, suc, ◌⊎◌, inl, inr, refl, sym, subst, ap, ◌∙◌, arith, ℤ, pos, ◌+ℤ◌, ◌-ℤ◌, ◌*ℤ◌, ◌≤ℤ◌, ◌<ℤ◌, unsigned_abs, Option}
-use Rattle.std.proofs.Common.{List, ◌++◌}
+use Rattle.std.proofs.Common.{List, ◌∷◌, ◌++◌}
 use Rattle.std.specs.List.{Contains}
 use Rattle.std.proofs.lemmas.List.Elements.{Contains-append_left, Contains-append_right, Contains-append_cases}
 use Rattle.std.proofs.lemmas.Int.{by_lt_z}
 use Rattle.jiff_core.specs.Calendar.{days_from_civil}
 use Rattle.jiff_core.proofs.SignedLemmas.{signed_arith, one_part}
+use Rattle.td_civil.specs.declared.moment_type.Moment.{Moment}
 use Rattle.td_civil.specs.declared.local_time.Local.{Local}
 use Rattle.posix_footer.specs.declared.rule_types.DstRule.{DstRule}
 use Rattle.recurrence.specs.declared.rule_types.Rule.{Rule}
@@ -14,18 +15,22 @@ use Rattle.recurrence.specs.InForce.{state_of_part, IsOnsetBy, IsOnset, IsInForc
 use Rattle.vtimezone.proofs.Whole.{AreSingles, IsWhole}
 use Rattle.vtimezone.specs.Ranges.{IsBeforeEnd}
 use Rattle.vtimezone.proofs.InForce.{AreParts, means_from, single_before}
+use Rattle.vtimezone.proofs.Singles.{one_listed}
+use Rattle.zone_meaning.proofs.lemmas.Members.{member_first}
 use Rattle.td_civil.proofs.lemmas.Years.{some_year_lem}
 
 module _ (state : ℤ → Local) (a e : ℤ) (Single : Part → Type 0) (singles : AreSingles state a e Single) where
   single_onset : (p : Part) (m : ℤ) → Single p → IsOnset p m → m ≡ p.start.seconds
   single_onset p m there is =
       let P : Option Rule → Type 0 = λ r. IsOnsetBy r p m in
-      subst P (singles.each_is p there).0 is
+      let Q : List Moment → Type 0 = λ dates. Contains (p.start ∷ dates) (record { seconds = m }) in
+      let each = singles.each_is p there in
+      one_listed p.start m (subst Q each.3 (subst P each.0 is))
 
   starts : (p : Part) → Single p → IsOnset p p.start.seconds
   starts p there =
       let P : Option Rule → Type 0 = λ r. IsOnsetBy r p p.start.seconds in
-      subst P (sym (singles.each_is p there).0) refl
+      subst P (sym (singles.each_is p there).0) (member_first p.start p.dates)
 
   not_before : (p : Part) → Single p → a ≤ℤ p.start.seconds
   not_before p there = elim (singles.each_changes p there) [

@@ -2,7 +2,7 @@
 use Rattle.std.proofs.Common.{◌≡◌, ◌⊎◌, inl, inr, ℕ, zero, suc, ◌+◌, ◌-◌, ◌/◌, ◌%◌, ◌^◌, ◌<◌, ◌≤◌}
 use Rattle.std.proofs.Common.{◌==◌, Bool, true, false, not, refl, ap, subst, ◌∙◌, arith}
 use Rattle.std.proofs.Common.{append_assoc, append-nil, ℤ, pos, negsuc, ◌+ℤ◌, unsigned_abs, Option}
-use Rattle.std.proofs.Common.{None, Some, List, [], ◌∷◌, ◌++◌, codes, length, take, drop, decimal}
+use Rattle.std.proofs.Common.{None, Some, List, [], ◌∷◌, ◌++◌, codes, map, decimal}
 use Rattle.std.specs.Fmt.{signed_decimal}
 use Rattle.std.specs.List.{list_all, onto_first}
 use Rattle.std.specs.Option.{option_map}
@@ -17,11 +17,15 @@ use Rattle.std.proofs.lemmas.List.Folds.{list_all-append}
 use Rattle.jiff_core.proofs.SignedLemmas.{signed_arith}
 use Rattle.td_civil.specs.Calendar.{stamp_of, local_text_of}
 use Rattle.td_civil.specs.Stamp.{two_digits, four_digits}
-use Rattle.vtimezone.specs.Cutting.{cut_at, all_read, put_before}
-use Rattle.vtimezone.specs.ReadRules.{Day, number_in, numbers_in, are_in_a_row, week_from}
-use Rattle.vtimezone.specs.ReadRules.{weekday_in, day_of, nth_in, day_in, days_in}
-use Rattle.vtimezone.specs.Values.{utc_basic, weekday_name, next_number, seven_numbers}
-use Rattle.vtimezone.proofs.ValuesBack.{number_back, weekday_back}
+use Rattle.td_civil.specs.declared.moment_type.Moment.{Moment}
+use Rattle.recurrence.specs.AllRead.{all_read}
+use Rattle.recurrence.specs.Weekdays.{weekday_name, number_in, Day, day_in}
+use Rattle.recurrence.proofs.lemmas.AllRead.{read_more}
+use Rattle.recurrence.proofs.lemmas.FormFields.{numbers_after, next_numbers, AreShort}
+use Rattle.recurrence.proofs.lemmas.Weekdays.{IsShort, short_back}
+use Rattle.vtimezone.specs.Cutting.{cut_at}
+use Rattle.vtimezone.specs.ReadRules.{numbers_in, days_in}
+use Rattle.vtimezone.specs.Values.{dates_text, more_dates, utc_basic, next_number, seven_numbers}
 
 -- ---- texts without a separator, and where they are cut
 
@@ -159,36 +163,45 @@ unfolding utc_basic
 utc_uncut s m is =
     uncut-append s (local_text_of m (pos 0)) (codes "Z") (local_uncut s m (pos 0) is) (byte_uncut s 90 (letter_uncut s 90 is (omega arith)))
 
+-- ---- dates
+
+abbrev pub local_texts : List Moment → ℤ → List (List ℕ)
+local_texts dates offset = map (λ d. local_text_of d.seconds offset) dates
+
+dates_are : (dates : List Moment) (offset : ℤ) → more_dates dates offset ≡ after_each 44 (local_texts dates offset)
+dates_are [] offset = refl
+dates_are (d ∷ ds) offset = ap (λ t. (44 ∷ local_text_of d.seconds offset) ++ t) (dates_are ds offset)
+
+locals_uncut : (s : ℕ) (dates : List Moment) (offset : ℤ) → IsSeparator s → are_uncut s (local_texts dates offset) ≡ true
+locals_uncut s [] offset is = refl
+locals_uncut s (d ∷ ds) offset is =
+    and_from (uncut s (local_text_of d.seconds offset)) (are_uncut s (local_texts ds offset)) (local_uncut s d.seconds offset is)
+    (locals_uncut s ds offset is)
+
+-- dates are cut at their commas
+pub dates_cut : (first : Moment) (dates : List Moment) (offset : ℤ) → cut_at 44 (dates_text first dates offset) ≡ local_texts (first ∷ dates) offset
+unfolding dates_text
+dates_cut first dates offset =
+    ap (λ t. cut_at 44 (local_text_of first.seconds offset ++ t)) (dates_are dates offset)
+    ∙ cut_each 44 (local_text_of first.seconds offset) (local_texts dates offset) (local_uncut 44 first.seconds offset (inl refl))
+    (locals_uncut 44 dates offset (inl refl))
+
+-- and hold no line feed
+pub dates_uncut : (first : Moment) (dates : List Moment) (offset : ℤ) → uncut 10 (dates_text first dates offset) ≡ true
+unfolding dates_text
+dates_uncut first dates offset =
+    uncut-append 10 (local_text_of first.seconds offset) (more_dates dates offset) (local_uncut 10 first.seconds offset (inr (inl refl)))
+    (ap (uncut 10) (dates_are dates offset)
+    ∙ joined_uncut 10 44 (local_texts dates offset) refl (locals_uncut 10 dates offset (inr (inl refl))))
+
 -- ---- lists of numbers and of weekdays
-
-pub read_more : {A B : Type 0} (f : A → Option B) (x : A) (xs : List A) (y : B) (ys : List B) → f x ≡ Some y → all_read f xs ≡ Some ys
-    → all_read f (x ∷ xs) ≡ Some (y ∷ ys)
-read_more f x xs y ys e r = ap (λ o. put_before o (all_read f xs)) e ∙ ap (put_before (Some y)) r
-
--- a number of so many digits at most
-pub record IsShort (places most : ℕ) (z : ℤ) : Type 0 where
-  pub some : 0 < places
-  pub low : 1 ≤ unsigned_abs z
-  pub high : unsigned_abs z ≤ most
-  pub short : unsigned_abs z < 10 ^ places
-  pub small : unsigned_abs z ≤ 1000
-
-pub short_back : (places most : ℕ) (z : ℤ) → IsShort places most z → number_in places most (signed_decimal z) ≡ Some z
-short_back places most z h =
-    let low = h.low in
-    let small = h.small in
-    number_back places most z h.some h.low h.high h.short (omega arith)
 
 pub one_number_back : (places most : ℕ) (z : ℤ) → IsShort places most z → numbers_in places most (signed_decimal z) ≡ Some (z ∷ [])
 one_number_back places most z h =
     ap (all_read (number_in places most)) (cut_last 44 (signed_decimal z) (signed_uncut 44 z (inl refl) h.small))
     ∙ read_more (number_in places most) (signed_decimal z) [] z [] (short_back places most z h) refl
 
--- n numbers in a row from the kth after this one, and their texts
-abbrev numbers_after : ℤ → ℕ → ℕ → List ℤ
-numbers_after z k zero = []
-numbers_after z k (suc n) = (z +ℤ pos k) ∷ numbers_after z (suc k) n
-
+-- the texts of n numbers in a row from the kth after this one
 abbrev texts_after : ℤ → ℕ → ℕ → List (List ℕ)
 texts_after z k zero = []
 texts_after z k (suc n) = signed_decimal (z +ℤ pos k) ∷ texts_after z (suc k) n
@@ -196,16 +209,9 @@ texts_after z k (suc n) = signed_decimal (z +ℤ pos k) ∷ texts_after z (suc k
 abbrev next_texts : ℤ → List (List ℕ)
 next_texts z = texts_after z 1 6
 
-abbrev pub next_numbers : ℤ → List ℤ
-next_numbers z = numbers_after z 1 6
-
 seven_are : (z : ℤ) → seven_numbers z ≡ signed_decimal z ++ after_each 44 (next_texts z)
 unfolding seven_numbers next_number
 seven_are z = simp (append_assoc, append-nil)
-
--- seven numbers in a row, each short
-abbrev AreShort : ℕ → ℕ → ℤ → Type 0
-AreShort places most z = (k : ℕ) → k ≤ 6 → IsShort places most (z +ℤ pos k)
 
 texts_uncut : (s : ℕ) (z : ℤ) (k n : ℕ) (places most : ℕ) → IsSeparator s → AreShort places most z → k + n ≤ 7 → are_uncut s (texts_after z k n) ≡ true
 texts_uncut s z k zero places most is h le = refl
@@ -241,63 +247,6 @@ seven_uncut s z places most is h =
     ap (uncut s) (seven_are z)
     ∙ uncut-append s (signed_decimal z) (after_each 44 (next_texts z)) (signed_uncut s z (inr is) first.small)
     (joined_uncut s 44 (next_texts z) (comma_uncut s is) (texts_uncut s z 1 6 places most (inr is) h (omega arith)))
-
-one_later : (z : ℤ) (k : ℕ) → int_eq (z +ℤ pos (suc k)) ((z +ℤ pos k) +ℤ pos 1) ≡ true
-one_later z k = grind (arith, ints)
-
-same_next : (z : ℤ) → int_eq (z +ℤ pos 1) (z +ℤ pos 1) ≡ true
-same_next z = grind (arith, ints)
-
-pub row_back : (z : ℤ) → week_from (z ∷ next_numbers z) ≡ Some z
-unfolding week_from
-row_back z =
-    cond-true (are_in_a_row z (next_numbers z)) (Some z) None
-    (and_from _ _ (same_next z) (and_from _ _ (one_later z 1) (and_from _ _ (one_later z 2) (and_from _ _ (one_later z 3) (and_from _ _ (one_later z 4)
-    (and_from _ true (one_later z 5) refl))))))
-
-weekday_length : (w : ℕ) → w ≤ 6 → length (weekday_name w) ≡ 2
-unfolding weekday_name
-weekday_length zero h = refl
-weekday_length (suc zero) h = refl
-weekday_length (suc (suc zero)) h = refl
-weekday_length (suc (suc (suc zero))) h = refl
-weekday_length (suc (suc (suc (suc zero)))) h = refl
-weekday_length (suc (suc (suc (suc (suc zero))))) h = refl
-weekday_length (suc (suc (suc (suc (suc (suc zero)))))) h = refl
-weekday_length (suc (suc (suc (suc (suc (suc (suc w))))))) h = absurd (omega arith)
-
-pub weekday_alone : (w : ℕ) → w ≤ 6 → day_in (weekday_name w) ≡ Some (record { nth = None; weekday = w })
-unfolding day_in weekday_in weekday_name
-weekday_alone zero h = refl
-weekday_alone (suc zero) h = refl
-weekday_alone (suc (suc zero)) h = refl
-weekday_alone (suc (suc (suc zero))) h = refl
-weekday_alone (suc (suc (suc (suc zero)))) h = refl
-weekday_alone (suc (suc (suc (suc (suc zero))))) h = refl
-weekday_alone (suc (suc (suc (suc (suc (suc zero)))))) h = refl
-weekday_alone (suc (suc (suc (suc (suc (suc (suc w))))))) h = absurd (omega arith)
-
-nth_back : (t : List ℕ) (z : ℤ) → 0 < length t → number_in 2 53 t ≡ Some z → nth_in t ≡ Some (Some z)
-nth_back [] z some e = absurd (omega arith)
-nth_back (b ∷ bs) z some e = ap (option_map Some) e
-
-signed_nonempty : (z : ℤ) → IsShort 2 53 z → 0 < length (signed_decimal z)
-signed_nonempty (pos n) h = let small = h.small in decimal_nonempty n (omega (arith, signed_arith))
-signed_nonempty (negsuc n) h = omega arith
-
-pub nth_weekday : (z : ℤ) (w : ℕ) → IsShort 2 53 z → w ≤ 6 → day_in (signed_decimal z ++ weekday_name w) ≡ Some (record { nth = Some z; weekday = w })
-unfolding day_in
-nth_weekday z w h le =
-    let a = signed_decimal z in
-    let b = weekday_name w in
-    let two = weekday_length w le in
-    let long : length (a ++ b) - 2 ≡ length a = omega (arith, length-append a b) in
-    let front : take (length (a ++ b) - 2) (a ++ b) ≡ a = ap (λ n. take n (a ++ b)) long ∙ take-append_seam a b in
-    let back : drop (length (a ++ b) - 2) (a ++ b) ≡ b = ap (λ n. drop n (a ++ b)) long ∙ drop-append_seam a b in
-    ap (λ t. day_of (nth_in t) (weekday_in (drop (length (a ++ b) - 2) (a ++ b)))) front
-    ∙ ap (λ t. day_of (nth_in a) (weekday_in t)) back
-    ∙ ap (λ o. day_of o (weekday_in b)) (nth_back a z (signed_nonempty z h) (short_back 2 53 z h))
-    ∙ ap (day_of (Some (Some z))) (weekday_back w le)
 
 pub one_day : (t : List ℕ) (d : Day) → uncut 44 t ≡ true → day_in t ≡ Some d → days_in t ≡ Some (d ∷ [])
 one_day t d h e = ap (all_read day_in) (cut_last 44 t h) ∙ read_more day_in t [] d [] e refl

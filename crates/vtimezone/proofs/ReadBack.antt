@@ -13,11 +13,11 @@ use Rattle.ical_lines.proofs.lemmas.LawLemmas.{reads_back}
 use Rattle.recurrence.specs.declared.part_types.Part.{Part}
 use Rattle.recurrence.specs.declared.rule_types.Rule.{Rule}
 use Rattle.recurrence.specs.Valid.{IsValidForm}
-use Rattle.vtimezone.specs.CalendarText.{line, kind_of, start_line, change_lines, rule_lines}
+use Rattle.vtimezone.specs.CalendarText.{line, kind_of, start_line, change_lines, date_lines, rule_lines}
 use Rattle.vtimezone.specs.CalendarText.{part_lines, head_lines, alias_lines, end_lines, tail_lines}
 use Rattle.vtimezone.specs.CalendarText.{calendar_lines, calendar, IsLineText, IsReadable}
-use Rattle.vtimezone.specs.Values.{sign_of, seconds_text, offset_text, utc_basic, rule_text}
-use Rattle.vtimezone.proofs.NumbersBack.{uncut, uncut-append, IsSeparator, two_uncut, local_uncut, utc_uncut}
+use Rattle.vtimezone.specs.Values.{sign_of, seconds_text, dates_text, offset_text, utc_basic, rule_text}
+use Rattle.vtimezone.proofs.NumbersBack.{uncut, uncut-append, IsSeparator, two_uncut, local_uncut, dates_uncut, utc_uncut}
 use Rattle.vtimezone.proofs.RulesBack.{rule_on_a_line}
 
 sign_uncut : (z : ℤ) → not (sign_of z == 10) ≡ true
@@ -67,6 +67,12 @@ change_plain p name =
     (plain-cons to (named ∷ []) (line_plain (codes "TZOFFSETTO") (offset_text p.to) refl refl (offset_uncut p.to))
     (plain-cons named [] (line_plain (codes "TZNAME") p.name refl refl name) refl)))
 
+date_plain : (dates : List Moment) (offset : ℤ) → plain (date_lines dates offset) ≡ true
+unfolding date_lines
+date_plain [] offset = refl
+date_plain (first ∷ dates) offset = plain-cons (line (codes "RDATE") (dates_text first dates offset)) []
+    (line_plain (codes "RDATE") (dates_text first dates offset) refl refl (dates_uncut first dates offset)) refl
+
 rule_plain : (rule : Option Rule) (until : Option Moment) → IfSome rule (λ r. IsValidForm r.form) → plain (rule_lines rule until) ≡ true
 unfolding rule_lines
 rule_plain None until h = refl
@@ -78,9 +84,13 @@ unfolding part_lines
 part_plain p h =
     let begin = line (codes "BEGIN") (kind_of p.dst) in
     let end = line (codes "END") (kind_of p.dst) in
-    plain-append ((begin ∷ change_lines p) ++ rule_lines p.rule p.until) (end ∷ [])
-    (plain-append (begin ∷ change_lines p) (rule_lines p.rule p.until)
+    let change = begin ∷ change_lines p in
+    let dated = change ++ date_lines p.dates p.from in
+    plain-append (dated ++ rule_lines p.rule p.until) (end ∷ [])
+    (plain-append dated (rule_lines p.rule p.until)
+    (plain-append change (date_lines p.dates p.from)
     (plain-cons begin (change_lines p) (line_plain (codes "BEGIN") (kind_of p.dst) refl refl (kind_uncut p.dst)) (change_plain p h.name))
+    (date_plain p.dates p.from))
     (rule_plain p.rule p.until h.rule))
     (plain-cons end [] (line_plain (codes "END") (kind_of p.dst) refl refl (kind_uncut p.dst)) refl)
 

@@ -16,16 +16,22 @@ use Rattle.recurrence.specs.declared.rule_types.Form.TheVariants as form
 use Rattle.recurrence.specs.declared.rule_types.Rule.{Rule}
 use Rattle.recurrence.specs.Valid.{IsValidForm, IsFirstDay, IsMonth, IsOrdinal}
 use Rattle.jiff_core.specs.Calendar.{days_in_month}
-use Rattle.vtimezone.specs.Cutting.{Named, cut_at, cut_first, all_read, put_before}
-use Rattle.vtimezone.specs.ReadRules.{number_in, month_in, months_in, numbers_in, days_in, form_read, month_days_form, recur_with, recur_of, recur_in}
+use Rattle.recurrence.specs.AllRead.{all_read, put_before}
+use Rattle.recurrence.specs.FormFields.{form_read}
+use Rattle.recurrence.specs.PartFields.{recur_with}
+use Rattle.recurrence.specs.Weekdays.{weekday_name, number_in}
+use Rattle.recurrence.proofs.lemmas.AllRead.{read_more, read_append}
+use Rattle.recurrence.proofs.lemmas.FormFields.{next_numbers, first_small, small_number, place_short, month_short, month_days_short, fields_back}
+use Rattle.recurrence.proofs.lemmas.Weekdays.{all_digits, short_back, weekday_alone, nth_weekday}
+use Rattle.vtimezone.specs.Cutting.{Named, cut_at, cut_first}
+use Rattle.vtimezone.specs.ReadRules.{month_in, months_in, numbers_in, days_in, recur_of, recur_in}
 use Rattle.vtimezone.specs.ReadValues.{utc_in}
-use Rattle.vtimezone.specs.Values.{utc_basic, weekday_name, seven_numbers, by_month, by_weekday, by_nth_weekday, by_month_day, by_month_days, by_year_days}
+use Rattle.vtimezone.specs.Values.{utc_basic, seven_numbers, by_month, by_weekday, by_nth_weekday, by_month_day, by_month_days, by_year_days}
 use Rattle.vtimezone.specs.Values.{form_text, until_text, rule_text}
-use Rattle.vtimezone.proofs.ValuesBack.{all_digits, utc_back}
-use Rattle.vtimezone.proofs.NumbersBack.{cut_last, short_back, uncut, uncut-append, after_each, are_uncut, cut_each, joined_uncut, EndsWord, signed_uncut}
+use Rattle.vtimezone.proofs.ValuesBack.{utc_back}
+use Rattle.vtimezone.proofs.NumbersBack.{cut_last, uncut, uncut-append, after_each, are_uncut, cut_each, joined_uncut, EndsWord, signed_uncut}
 use Rattle.vtimezone.proofs.NumbersBack.{weekday_uncut, utc_uncut}
-use Rattle.vtimezone.proofs.NumbersBack.{read_more, IsShort, one_number_back, next_numbers, seven_back, seven_uncut, row_back, weekday_alone, nth_weekday}
-use Rattle.vtimezone.proofs.NumbersBack.{one_day}
+use Rattle.vtimezone.proofs.NumbersBack.{one_number_back, seven_back, seven_uncut, one_day}
 
 -- ---- the words of a rule
 
@@ -70,66 +76,7 @@ rule_joined rule until =
     (ap (λ t. t ++ until_text until) (form_joined rule.form) ∙ ap (λ t. after_each 59 (form_words rule.form) ++ t) (until_joined until)
     ∙ sym (joined-append 59 (form_words rule.form) (until_words until)))
 
-first_small : (z : ℤ) → IsFirstDay z → (k : ℕ) → k ≤ 6 → IsShort 3 366 (z +ℤ pos k)
-first_small (pos n) h k le = record {
-  some = omega arith;
-  low = omega (arith, signed_arith, h, one_part (pos n +ℤ pos k));
-  high = omega (arith, signed_arith, h, one_part (pos n +ℤ pos k));
-  short = omega (arith, signed_arith, h, one_part (pos n +ℤ pos k));
-  small = omega (arith, signed_arith, h, one_part (pos n +ℤ pos k));
-}
-first_small (negsuc n) h k le = record {
-  some = omega arith;
-  low = omega (arith, signed_arith, h, one_part (negsuc n +ℤ pos k));
-  high = omega (arith, signed_arith, h, one_part (negsuc n +ℤ pos k));
-  short = omega (arith, signed_arith, h, one_part (negsuc n +ℤ pos k));
-  small = omega (arith, signed_arith, h, one_part (negsuc n +ℤ pos k));
-}
-
--- a number of a month or of a day of a month
-small_number : (n most : ℕ) → 1 ≤ n → n ≤ most → most ≤ 31 → IsShort 2 most (pos n)
-small_number n most low high least = record {
-  some = omega arith;
-  low = low;
-  high = high;
-  short = omega arith;
-  small = omega arith;
-}
-
-place_short : (z : ℤ) → IsOrdinal z → IsShort 2 53 z
-place_short (pos n) h = record { some = omega arith; low = h.0; high = omega (arith, h); short = omega (arith, h); small = omega (arith, h) }
-place_short (negsuc n) h = record {
-  some = omega arith;
-  low = omega (arith, signed_arith);
-  high = omega (arith, signed_arith, h);
-  short = omega (arith, signed_arith, h);
-  small = omega (arith, signed_arith, h);
-}
-
-month_short : (m : ℕ) → IsMonth m → IsShort 2 12 (pos m)
-month_short m h = small_number m 12 h.0 h.1 (omega arith)
-
-month_days_short : (m first k : ℕ) → 1 ≤ first → first + 6 ≤ days_in_month (pos 2001) m → k ≤ 6 → IsShort 2 31 (pos first +ℤ pos k)
-month_days_short m first k low high le =
-    let long = days_in_month_bounds (pos 2001) m in
-    small_number (first + k) 31 (omega arith) (omega (arith, long)) (omega arith)
-
 -- ---- the words, cut and read
-
--- what is read of a list that is joined
-some_cons : {B : Type 0} (o : Option B) (r : Option (List B)) (us : List B) → put_before o r ≡ Some us
-    → (b : B) × (bs : List B) × (o ≡ Some b) × (r ≡ Some bs) × (us ≡ b ∷ bs)
-some_cons None r us e = absurd (cc)
-some_cons (Some b) None us e = absurd (cc)
-some_cons (Some b) (Some bs) us e = (b, bs, refl, refl, cc)
-
-pub read_append : {A B : Type 0} (f : A → Option B) (xs ys : List A) (us bs : List B) → all_read f xs ≡ Some us → all_read f ys ≡ Some bs
-    → all_read f (xs ++ ys) ≡ Some (us ++ bs)
-read_append f [] ys [] bs e r = r
-read_append f [] ys (a ∷ us) bs e r = absurd (cc)
-read_append f (x ∷ xs) ys us bs e r =
-    let parts = some_cons (f x) (all_read f xs) us e in
-    rw parts.4 (read_more f x (xs ++ ys) parts.0 (parts.1 ++ bs) parts.2 (read_append f xs ys parts.1 bs parts.3 r))
 
 abbrev named : List ℕ → List ℕ → Named
 named name value = record { name = name; value = value }
@@ -224,13 +171,13 @@ form_back (form.MonthDays month first weekday) h =
     ∙ ap (λ o. form_read (Some (Some (pos month ∷ []))) (option_map Some o) (Some None) (option_map Some (days_in (weekday_name weekday))))
     (seven_back (pos first) 2 31 (λ k le. month_days_short month first k h.1.0 h.1.1 le))
     ∙ ap (λ o. form_read (Some (Some (pos month ∷ []))) (Some (Some dates)) (Some None) (option_map Some o)) (alone_back weekday h.2)
-    ∙ ap (month_days_form month weekday) (row_back (pos first))
+    ∙ fields_back (form.MonthDays month first weekday)
 form_back (form.YearDays first weekday) h =
     let dates = first ∷ next_numbers first in
     ap (λ o. form_read (Some None) (Some None) (option_map Some o) (option_map Some (days_in (weekday_name weekday))))
     (seven_back first 3 366 (first_small first h.0))
     ∙ ap (λ o. form_read (Some None) (Some None) (Some (Some dates)) (option_map Some o)) (alone_back weekday h.1)
-    ∙ ap (option_map (λ z. form.YearDays z weekday)) (row_back first)
+    ∙ fields_back (form.YearDays first weekday)
 form_back (form.FixedDate month day) h =
     let long = days_in_month_bounds (pos 2001) month in
     let date = small_number day 31 h.1.0 (omega (arith, h.1, long)) (omega arith) in

@@ -1,8 +1,9 @@
--- The single parts of a range are those of its observances.
+-- The single parts of a range, one for each of its observances.
 use Rattle.std.proofs.Common.{◌≡◌, ◌≢◌, ◌⊎◌, true, false, inl, inr, refl, sym, subst, ap, ◌∙◌, arith, ℤ, pos, ◌-ℤ◌, ◌≤ℤ◌, ◌<ℤ◌, None, List, [], ◌∷◌, map}
 use Rattle.std.specs.List.{Contains}
 use Rattle.jiff_core.proofs.SignedLemmas.{signed_arith}
 use Rattle.td_civil.specs.SameLocal.{same_local}
+use Rattle.td_civil.specs.declared.moment_type.Moment.{Moment}
 use Rattle.td_civil.specs.declared.local_time.Local.{Local}
 use Rattle.td_civil.specs.declared.local_time.Observance.{Observance}
 use Rattle.td_civil.proofs.lemmas.SameStates.{same_local_is, other_local}
@@ -11,18 +12,45 @@ use Rattle.zone_meaning.specs.RangeLaws.{IsChangeBetween, AreObserved, state_tol
 use Rattle.zone_meaning.proofs.lemmas.Members.{member_first, member_later, member_cases, no_member}
 use Rattle.zone_meaning.proofs.lemmas.RangeLemmas.{change_onset, first_onset, change_told, first_told, one_onset, are_observed}
 use Rattle.recurrence.specs.declared.part_types.Part.{Part}
-use Rattle.recurrence.specs.InForce.{state_of_part}
+use Rattle.recurrence.specs.InForce.{state_of_part, IsOnset}
 use Rattle.vtimezone.proofs.Whole.{AreSingles}
-use Rattle.vtimezone.specs.PartsOf.{single_of}
 
-member_mapped : {X Y : Type 0} (f : X → Y) (xs : List X) (y : Y) → Contains (map f xs) y → (x : X) × (Contains xs x × (f x ≡ y))
+-- the part of one change alone
+abbrev pub single_of : Observance → Part
+single_of o = record {
+  dst = o.dst;
+  start = o.onset;
+  from = o.from;
+  to = o.to;
+  name = o.name;
+  rule = None;
+  until = None;
+  dates = [];
+}
+
+-- a start without dates lists itself alone
+pub one_listed : (start : Moment) (m : ℤ) → Contains (start ∷ []) (record { seconds = m }) → m ≡ start.seconds
+one_listed start m h = elim (member_cases start (record { seconds = m }) [] h) [
+  | inl is ↦ sym (ap (λ (t : Moment). t.seconds) is)
+  | inr later ↦ absurd (no_member (record { seconds = m }) later)
+]
+
+pub single_onset_is : (o : Observance) (m : ℤ) → IsOnset (single_of o) m → m ≡ o.onset.seconds
+single_onset_is o m h = one_listed o.onset m h
+
+pub single_starts : (o : Observance) (m : ℤ) → m ≡ o.onset.seconds → IsOnset (single_of o) m
+single_starts o m is =
+    let P : ℤ → Type 0 = λ t. IsOnset (single_of o) t in
+    subst P (sym is) (member_first o.onset [])
+
+pub member_mapped : {X Y : Type 0} (f : X → Y) (xs : List X) (y : Y) → Contains (map f xs) y → (x : X) × (Contains xs x × (f x ≡ y))
 member_mapped f [] y h = absurd (no_member y h)
 member_mapped f (x ∷ xs) y h = elim (member_cases (f x) y (map f xs) h) [
   | inl is ↦ (x, (member_first x xs, is))
   | inr later ↦ let found = member_mapped f xs y later in (found.0, (member_later x found.0 xs found.1.0, found.1.1))
 ]
 
-mapped_member : {X Y : Type 0} (f : X → Y) (xs : List X) (x : X) → Contains xs x → Contains (map f xs) (f x)
+pub mapped_member : {X Y : Type 0} (f : X → Y) (xs : List X) (x : X) → Contains xs x → Contains (map f xs) (f x)
 mapped_member f [] x h = absurd (no_member x h)
 mapped_member f (y ∷ ys) x h = elim (member_cases y x ys h) [
   | inl is ↦ subst (λ z. Contains (f y ∷ map f ys) (f z)) is (member_first (f y) (map f ys))
@@ -61,8 +89,9 @@ are_singles state a e lt =
       each_is = λ p there.
           let found = member_mapped single_of os p there in
           let told = each_told state a e found.0 lt (is.each found.0 found.1.0) in
-          let P : Part → Type 0 = λ q. (q.rule ≡ None) × (q.start.seconds <ℤ e) × (state_of_part q ≡ state q.start.seconds) in
-          subst P found.1.1 (refl, told.before, told.told);
+          let P : Part → Type 0 =
+          λ q. (q.rule ≡ None) × (q.start.seconds <ℤ e) × (state_of_part q ≡ state q.start.seconds) × (q.dates ≡ []) in
+          subst P found.1.1 (refl, told.before, told.told, refl);
       each_changes = λ p there.
           let found = member_mapped single_of os p there in
           let told = each_told state a e found.0 lt (is.each found.0 found.1.0) in

@@ -1,8 +1,8 @@
 -- The parts of a zone can be spelled, and so the calendar of a zone spells them.
-use Rattle.std.proofs.Common.{◌≡◌, ◌⊎◌, ℕ, zero, suc, ◌<◌, true, false, ◌&&◌, IsTrue, inl, inr, refl, sym, subst, ◌∙◌, arith, ℤ, pos, neg_ℤ, ◌+ℤ◌, ◌-ℤ◌, ◌*ℤ◌}
-use Rattle.std.proofs.Common.{◌≤ℤ◌, ◌<ℤ◌, int_lt, unsigned_abs, Option, None, Some, List, [], ◌∷◌, ◌++◌, length, map, slice_index_or}
+use Rattle.std.proofs.Common.{◌≡◌, ◌⊎◌, ℕ, zero, suc, ◌<◌, Bool, true, false, ◌&&◌, IsTrue, inl, inr, refl, sym, subst, ◌∙◌, arith, ℤ, pos, neg_ℤ, ◌+ℤ◌, ◌-ℤ◌, ◌*ℤ◌}
+use Rattle.std.proofs.Common.{◌≤ℤ◌, ◌<ℤ◌, int_lt, unsigned_abs, Option, None, Some, List, [], ◌∷◌, ◌++◌, length, map, filter, drop, cond, slice_index_or}
 use Rattle.std.specs.Int.{int_rem_euclid}
-use Rattle.std.specs.List.{All, Contains, list_all}
+use Rattle.std.specs.List.{All, AllByRecursion, Contains, list_all}
 use Rattle.std.specs.Option.{IfSome}
 use Rattle.std.proofs.lemmas.Bool.{cond_both, and_from, and_parts}
 use Rattle.std.proofs.lemmas.Bool.Decides.{nat_tests}
@@ -43,12 +43,13 @@ use Rattle.recurrence.specs.declared.rule_types.Rule.{Rule}
 use Rattle.recurrence.proofs.lemmas.InYear.{onset_in_year}
 use Rattle.recurrence.proofs.lemmas.Onsets.{keeps_onsets}
 use Rattle.vtimezone.specs.CalendarText.{calendar}
-use Rattle.vtimezone.specs.PartsOf.{single_of, last_before, rule_part, part_until, rule_part_if, rule_parts, rules_if_any, rules_of, singles_end, parts_from}
+use Rattle.vtimezone.specs.Grouping.{is_alike, first_ones, dates_among, part_among, grouped}
+use Rattle.vtimezone.specs.PartsOf.{last_before, rule_part, part_until, rule_part_if, rule_parts, rules_if_any, rules_of, changes_end, parts_from}
 use Rattle.vtimezone.specs.Ranges.{IsEndOf, end_in, seconds_if_any}
-use Rattle.vtimezone.specs.ReadValues.{is_safe}
-use Rattle.vtimezone.specs.Spellable.{IsSafe, IsSpellable}
+use Rattle.recurrence.specs.Spellable.{is_safe, IsSafe, IsSpellable}
 use Rattle.vtimezone.specs.Spelled.{spelled}
 use Rattle.vtimezone.specs.ZoneParts.{rule_year, range_parts}
+use Rattle.vtimezone.proofs.Alike.{first_there}
 use Rattle.vtimezone.proofs.CalendarBack.{calendar_back}
 use Rattle.vtimezone.proofs.InForce.{first_not_later}
 use Rattle.vtimezone.proofs.LastBefore.{lt_is}
@@ -62,6 +63,9 @@ all_none = λ k d lt. absurd (omega arith)
 all_one : (p : Part) → IsSpellable p → (k : ℕ) (d : Part) → k < 1 → IsSpellable (slice_index_or (p ∷ []) k d)
 all_one p h zero d lt = h
 all_one p h (suc k) d lt = absurd (omega arith)
+
+no_dates : All (λ (m : Moment). IsWithinBounds m.seconds) []
+no_dates = λ k d lt. absurd (omega arith)
 
 -- ---- names
 
@@ -78,7 +82,7 @@ name_safe : (name : List ℕ) → is_printable_name name ≡ true → IsSafe nam
 name_safe [] h = refl
 name_safe (b ∷ bs) h = bytes_safe (b ∷ bs) h
 
--- ---- single parts
+-- ---- parts of changes
 
 -- an observance whose moment and offsets have texts
 record IsTold (o : Observance) : Type 0 where
@@ -102,20 +106,58 @@ module _ (state : ℤ → Local) (a e : ℤ) (ok : (t : ℤ) → IsLawfulOffset 
       let within : IsWithinBounds m = (from, most) in
       subst IsTold (sym change.change_is) (record { onset = within; from = ok (m -ℤ pos 1); to = ok m })
 
-single_spellable : (o : Observance) → IsTold o → is_printable_name o.name ≡ true → IsSpellable (single_of o)
-single_spellable o told name = record {
-  writable = record { start = told.onset; from = told.from; to = told.to; rule = tt; until = tt };
-  name = name_safe o.name name;
+-- the onsets of changes that are kept of a list
+onsets_within : (keeps : Observance → Bool) (os : List Observance) → ((o : Observance) → Contains os o → IsTold o)
+    → AllByRecursion (λ m. IsWithinBounds m.seconds) (map (λ (o : Observance). o.onset) (filter keeps os))
+onsets_within keeps [] told = tt
+onsets_within keeps (o ∷ os) told =
+    let rest = onsets_within keeps os (λ x later. told x (member_later o x os later)) in
+    elim (keeps o) as (λ b. AllByRecursion (λ m. IsWithinBounds m.seconds) (map (λ (p : Observance). p.onset) (cond b (o ∷ filter keeps os) (filter keeps os)))) [
+      | true ↦ ((told o (member_first o os)).onset, rest)
+      | false ↦ rest
+    ]
+
+but_first : (ms : List Moment) → AllByRecursion (λ m. IsWithinBounds m.seconds) ms → AllByRecursion (λ m. IsWithinBounds m.seconds) (drop 1 ms)
+but_first [] h = tt
+but_first (m ∷ ms) h = h.1
+
+within_at : (ms : List Moment) → AllByRecursion (λ m. IsWithinBounds m.seconds) ms → (k : ℕ) (d : Moment) → k < length ms
+    → IsWithinBounds (slice_index_or ms k d).seconds
+within_at [] h k d lt = absurd (omega arith)
+within_at (m ∷ ms) h zero d lt = h.0
+within_at (m ∷ ms) h (suc k) d lt = within_at ms h.1 k d (omega arith)
+
+all_within : (ms : List Moment) → AllByRecursion (λ m. IsWithinBounds m.seconds) ms → All (λ m. IsWithinBounds m.seconds) ms
+all_within ms h = λ k d lt. within_at ms h k d lt
+
+dates_within : (os : List Observance) (f : Observance) → ((o : Observance) → Contains os o → IsTold o)
+    → All (λ m. IsWithinBounds m.seconds) (dates_among os f)
+dates_within os f told =
+    all_within (dates_among os f)
+    (but_first (map (λ (o : Observance). o.onset) (filter (is_alike f) os)) (onsets_within (is_alike f) os told))
+
+group_spellable : (os : List Observance) (f : Observance) → ((o : Observance) → Contains os o → IsTold o) → IsTold f → is_printable_name f.name ≡ true
+    → IsSpellable (part_among os f)
+group_spellable os f each told name = record {
+  writable = record { start = told.onset; from = told.from; to = told.to; rule = tt; until = tt; dates = dates_within os f each };
+  name = name_safe f.name name;
   time = refl;
 }
 
-singles_spellable : (os : List Observance) → ((o : Observance) → Contains os o → IsTold o)
-    → ((o : Observance) → Contains os o → is_printable_name o.name ≡ true) → All IsSpellable (map single_of os)
-singles_spellable [] told named = all_none
-singles_spellable (o ∷ os) told named =
-    let there = member_first o os in
-    All-append IsSpellable (single_of o ∷ []) (map single_of os) (all_one (single_of o) (single_spellable o (told o there) (named o there)))
-    (singles_spellable os (λ x later. told x (member_later o x os later)) (λ x later. named x (member_later o x os later)))
+groups_spellable : (os fs : List Observance) → ((o : Observance) → Contains os o → IsTold o)
+    → ((o : Observance) → Contains os o → is_printable_name o.name ≡ true) → ((f : Observance) → Contains fs f → Contains os f)
+    → All IsSpellable (map (part_among os) fs)
+groups_spellable os [] told named inside = all_none
+groups_spellable os (f ∷ fs) told named inside =
+    let there = inside f (member_first f fs) in
+    All-append IsSpellable (part_among os f ∷ []) (map (part_among os) fs)
+    (all_one (part_among os f) (group_spellable os f told (told f there) (named f there)))
+    (groups_spellable os fs told named (λ g later. inside g (member_later f g fs later)))
+
+grouped_spellable : (os : List Observance) → ((o : Observance) → Contains os o → IsTold o)
+    → ((o : Observance) → Contains os o → is_printable_name o.name ≡ true) → All IsSpellable (grouped os)
+unfolding grouped
+grouped_spellable os told named = groups_spellable os (first_ones os) told named (first_there os)
 
 -- ---- parts with rules
 
@@ -155,6 +197,7 @@ module _ (std : Local) (rule : DstRule) (y0 : ℤ) (h : IsLawfulRule std.offset 
           to = h.daylight_offset;
           rule = rules.start_valid.form;
           until = within;
+          dates = no_dates;
         };
         name = dst_name;
         time = time_left _ _ y0 _ rules.start_valid.second year.start_falls;
@@ -169,6 +212,7 @@ module _ (std : Local) (rule : DstRule) (y0 : ℤ) (h : IsLawfulRule std.offset 
           to = h.offset;
           rule = rules.end_valid.form;
           until = within;
+          dates = no_dates;
         };
         name = std_name;
         time = time_left _ _ y0 _ rules.end_valid.second year.end_falls;
@@ -267,7 +311,7 @@ parts_spellable file range h names carried meaning end =
     let is = zone_range file a b h meaning end in
     let year0 = is.year0 in
     let turn = days_from_civil (rule_year file a) 1 1 *ℤ pos 86400 in
-    let e = singles_end turn b in
+    let e = changes_end turn b in
     let from = is.from in
     let before = is.turn in
     let after : a <ℤ e = end_after turn a b (omega (arith, signed_arith)) end in
@@ -276,15 +320,15 @@ parts_spellable file range h names carried meaning end =
     let low : neg_ℤ (pos 5364662400) ≤ℤ a = meaning.0 in
     let os = observed (zone_state file) a e in
     let are = are_observed (zone_state file) a e after in
-    All-append IsSpellable (map single_of os) (rules_of (footer_meant (lists_of file).footer) (rule_year file a) b)
-    (singles_spellable os
+    All-append IsSpellable (grouped os) (rules_of (footer_meant (lists_of file).footer) (rule_year file a) b)
+    (grouped_spellable os
     (λ o there. each_told (zone_state file) a e (λ t. zone_offsets file t h lawful) low after (omega (arith, signed_arith, most, meant)) o (are.each o there))
     (λ o there. observance_name file a e o h names after there))
     (rules_spellable (footer_meant (lists_of file).footer) (rule_year file a) a b lawful year0 end (names_of_footer file names))
 
 -- the state at the start has a part
 pub some_parts : (file : List ℕ) (range : Range) → 0 < length (range_parts file range)
-unfolding range_parts parts_from observed
+unfolding range_parts parts_from grouped first_ones observed
 some_parts file range = omega arith
 
 pub end_within : (range : Range) → HasMeaning range.from.seconds → IsEndOf range.from.seconds (end_in range)

@@ -28,12 +28,11 @@ use Rattle.td_civil.specs.Stamp.{Stamp, IsStamp, two_digits, basic_spelling, mom
 use Rattle.td_civil.proofs.lemmas.ReadBack.{two_back, four_back, same_fields}
 use Rattle.td_civil.proofs.lemmas.Shown.{stamp_of_valid, stamp_of_moment}
 use Rattle.td_civil.proofs.lemmas.Spelled.{stamp_from}
-use Rattle.vtimezone.specs.Cutting.{put_before}
-use Rattle.vtimezone.specs.ReadRules.{is_number, number_in, weekday_in}
+use Rattle.recurrence.specs.AllRead.{put_before}
+use Rattle.recurrence.specs.Spellable.{is_safe, IsSafe}
 use Rattle.vtimezone.specs.ReadValues.{fields_in, is_date_time, local_in, utc_in, is_hours, size_in}
-use Rattle.vtimezone.specs.ReadValues.{signed_by, offset_in, is_safe, text_after, text_value}
-use Rattle.vtimezone.specs.Spellable.{IsSafe}
-use Rattle.vtimezone.specs.Values.{sign_of, seconds_text, offset_text, utc_basic, weekday_name}
+use Rattle.vtimezone.specs.ReadValues.{signed_by, offset_in, text_after, text_value}
+use Rattle.vtimezone.specs.Values.{sign_of, seconds_text, offset_text, utc_basic}
 
 -- ---- local times and moments
 
@@ -68,19 +67,19 @@ fields_back s h =
     same_fields (fields_in (basic_spelling s)) s (four_back s.year h.year) (two_back s.month (omega (arith, h.month))) (two_back s.day (omega arith))
     (two_back s.hour (omega (arith, h.hour))) (two_back s.minute (omega (arith, h.minute))) (two_back s.second (omega (arith, h.second)))
 
-stamp_back : (s : Stamp) → IsStamp s → local_in (basic_spelling s) ≡ Some s
+stamp_back : (s : Stamp) → IsStamp s → local_in (basic_spelling s) ≡ Some (moment_at s)
 unfolding local_in
 stamp_back s h =
     let text = basic_spelling s in
     let back = fields_back s h in
     let valid : is_stamp (fields_in text) ≡ true = ap is_stamp back ∙ stamp_from s h in
-    cond-true (is_date_time text && is_stamp (fields_in text)) (Some (fields_in text)) None
+    cond-true (is_date_time text && is_stamp (fields_in text)) (Some (moment_at (fields_in text))) None
     (and_from (is_date_time text) (is_stamp (fields_in text)) (is_written s) valid)
-    ∙ ap Some back
+    ∙ ap (λ t. Some (moment_at t)) back
 
-pub local_back : (m o : ℤ) → HasText (m +ℤ o) → local_in (local_text_of m o) ≡ Some (stamp_of (m +ℤ o))
+pub local_back : (m o : ℤ) → HasText (m +ℤ o) → local_in (local_text_of m o) ≡ Some (m +ℤ o)
 unfolding local_text_of
-local_back m o h = stamp_back (stamp_of (m +ℤ o)) (stamp_of_valid (m +ℤ o) h)
+local_back m o h = stamp_back (stamp_of (m +ℤ o)) (stamp_of_valid (m +ℤ o) h) ∙ ap Some (sym (stamp_of_moment (m +ℤ o) h))
 
 no_offset : (m : ℤ) → m +ℤ pos 0 ≡ m
 no_offset m = omega (arith, signed_arith)
@@ -88,9 +87,9 @@ no_offset m = omega (arith, signed_arith)
 pub utc_back : (m : Moment) → HasText m.seconds → utc_in (utc_basic m.seconds) ≡ Some m
 unfolding utc_in utc_basic local_text_of
 utc_back m h =
-    let s = stamp_of (m.seconds +ℤ pos 0) in
     let P : ℤ → Type 0 = λ t. HasText t in
     let within : HasText (m.seconds +ℤ pos 0) = subst P (sym (no_offset m.seconds)) h in
+    let s = stamp_of (m.seconds +ℤ pos 0) in
     let is : moment_at s ≡ m.seconds = sym (stamp_of_moment (m.seconds +ℤ pos 0) within) ∙ no_offset m.seconds in
     rw (stamp_back s (stamp_of_valid (m.seconds +ℤ pos 0) within)) (ap (λ (t : ℤ). Some (record { seconds = t })) is)
 
@@ -160,65 +159,3 @@ text_back (b ∷ bs) h =
     cond-false (b == 92) (text_after true bs) (put_before (if is_safe b then Some b else None) (text_after false bs)) (safe_clean b both.0)
     ∙ ap (λ o. put_before o (text_after false bs)) (cond-true (is_safe b) (Some b) None both.0)
     ∙ ap (put_before (Some b)) (text_back bs both.1)
-
--- ---- weekdays and numbers
-
-pub weekday_back : (w : ℕ) → w ≤ 6 → weekday_in (weekday_name w) ≡ Some w
-unfolding weekday_in weekday_name
-weekday_back zero h = refl
-weekday_back (suc zero) h = refl
-weekday_back (suc (suc zero)) h = refl
-weekday_back (suc (suc (suc zero))) h = refl
-weekday_back (suc (suc (suc (suc zero)))) h = refl
-weekday_back (suc (suc (suc (suc (suc zero))))) h = refl
-weekday_back (suc (suc (suc (suc (suc (suc zero)))))) h = refl
-weekday_back (suc (suc (suc (suc (suc (suc (suc w))))))) h = absurd (omega arith)
-
-own : IsNumeralModel (λ ds. all_ascii_digits ds ≡ true) (digits_value 10)
-own = numerals_by_value (λ ds. all_ascii_digits ds ≡ true) tells_all_ascii_digits
-
-pub all_digits : (n : ℕ) → n < 2 ^ 64 → all_ascii_digits (decimal n) ≡ true
-all_digits n h = digits_decimal own n h
-
-value_is : (n : ℕ) → n < 2 ^ 64 → digits_value 10 (decimal n) ≡ n
-value_is n h = digits_value-decimal own n h
-
-first_digit : (n b : ℕ) → n < 2 ^ 64 → (b < 48) → get_or (decimal n) 0 0 ≢ b
-first_digit n b h below =
-    not_in_digits own (decimal n) b (all_digits n h) (λ range. let low = range.0 in omega arith) 0 (decimal_nonempty n h)
-
-no_minus : (n : ℕ) → n < 2 ^ 64 → starts_with_minus (decimal n) ≡ false
-no_minus n h = let other = first_digit n 45 h (omega arith) in grind (arith, nat_tests)
-
-no_sign : (n : ℕ) → n < 2 ^ 64 → without_leading_sign (decimal n) ≡ decimal n
-no_sign n h =
-    cond-false (starts_with_minus (decimal n)) (drop 1 (decimal n)) (without_leading_plus (decimal n)) (no_minus n h)
-    ∙ without_leading_plus_none (decimal n) (first_digit n 43 h (omega arith))
-
-signed_value : (n : ℕ) → n < 2 ^ 64 → signed_digits_value 10 (decimal n) ≡ pos n
-signed_value n h =
-    cond-false (starts_with_minus (decimal n)) (neg_ℤ (pos (digits_value 10 (without_leading_sign (decimal n)))))
-    (pos (digits_value 10 (without_leading_sign (decimal n)))) (no_minus n h)
-    ∙ ap (λ ds. pos (digits_value 10 ds)) (no_sign n h) ∙ ap pos (value_is n h)
-
--- a number that is told by its digits and its value is read
-told : (places most : ℕ) (text : List ℕ) (n : ℕ) (z : ℤ) → without_leading_sign text ≡ decimal n → signed_digits_value 10 text ≡ z → unsigned_abs z ≡ n
-    → 0 < places → 1 ≤ n → n ≤ most → n < 10 ^ places → n < 2 ^ 64 → number_in places most text ≡ Some z
-unfolding number_in
-told places most text n z digits value size some low high short fits =
-    let all : all_ascii_digits (without_leading_sign text) ≡ true = ap all_ascii_digits digits ∙ all_digits n fits in
-    let long : length (without_leading_sign text) ≡ length (decimal n) = ap length digits in
-    let is : unsigned_abs (signed_digits_value 10 text) ≡ n = ap unsigned_abs value ∙ size in
-    let first = decimal_nonempty n fits in
-    let last = length-decimal-le places n some short fits in
-    cond-true (is_number places most text) (Some (signed_digits_value 10 text)) None
-    (and_from _ _ (and_from _ _ (and_from _ _ (and_from _ _ all (le-leb _ _ (omega arith))) (le-leb _ _ (omega arith))) (le-leb _ _ (omega arith)))
-    (le-leb _ _ (omega arith)))
-    ∙ ap Some value
-
-pub number_back : (places most : ℕ) (z : ℤ) → 0 < places → 1 ≤ unsigned_abs z → unsigned_abs z ≤ most → unsigned_abs z < 10 ^ places
-    → unsigned_abs z < 2 ^ 64 → number_in places most (signed_decimal z) ≡ Some z
-number_back places most (pos n) some low high short fits =
-    told places most (decimal n) n (pos n) (no_sign n fits) (signed_value n fits) refl some low high short fits
-number_back places most (negsuc n) some low high short fits =
-    told places most (45 ∷ decimal (suc n)) (suc n) (negsuc n) refl (ap (λ k. neg_ℤ (pos k)) (value_is (suc n) fits)) refl some low high short fits

@@ -1,5 +1,5 @@
 -- What the parts of a range are: those of the changes, and those of the rules.
-use Rattle.std.proofs.Common.{◌≡◌, ◌≢◌, ◌⊎◌, ℤ, pos, ◌-ℤ◌, ◌*ℤ◌, true, false, ◌≤ℤ◌, ◌<ℤ◌, Option, None, Some, List}
+use Rattle.std.proofs.Common.{◌≡◌, ◌≢◌, ◌⊎◌, ℤ, pos, ◌-ℤ◌, ◌*ℤ◌, true, false, ◌≤ℤ◌, ◌<ℤ◌, Option, None, Some, List, []}
 use Rattle.jiff_core.specs.Calendar.{days_from_civil, IsYear, IsBetween}
 use Rattle.td_civil.specs.Bounds.{HasMeaning}
 use Rattle.td_civil.specs.declared.moment_type.Moment.{Moment}
@@ -43,7 +43,7 @@ pub record AreRuleParts (std : Local) (rule : DstRule) (y0 : ℤ) (b : Option �
 -- a part at each change of a state from a on and before e, with the state after it; the state at a counts as one
 pub record AreSingles (state : ℤ → Local) (a e : ℤ) (In : Part → Type 0) : Type 0 where
   pub first : (p : Part) × (In p × (p.start.seconds ≡ a))
-  pub each_is : (p : Part) → In p → (p.rule ≡ None) × (p.start.seconds <ℤ e) × (state_of_part p ≡ state p.start.seconds)
+  pub each_is : (p : Part) → In p → (p.rule ≡ None) × (p.start.seconds <ℤ e) × (state_of_part p ≡ state p.start.seconds) × (p.dates ≡ [])
   pub each_changes : (p : Part) → In p → (p.start.seconds ≡ a) ⊎ ((a <ℤ p.start.seconds) × (state p.start.seconds ≢ state (p.start.seconds -ℤ pos 1)))
   pub some : (t : ℤ) → a <ℤ t → t <ℤ e → (state t ≡ state (t -ℤ pos 1)) ⊎ ((p : Part) × (In p × (p.start.seconds ≡ t)))
   pub one : (p q : Part) → In p → In q → p.start.seconds ≡ q.start.seconds → p ≡ q

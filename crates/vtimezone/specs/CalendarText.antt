@@ -4,8 +4,6 @@ use Rattle.std.specs.Prelude.{◌≡◌, true, not, ℕ, List, [], ◌∷◌, �
 use Rattle.std.specs.Prelude.{Option, None, Some}
 use Rattle.std.specs.List.{flat_map, list_all}
 use Rattle.std.specs.Option.{IfSome}
-use Rattle.jiff_core.specs.Calendar.{IsWithin}
-use Rattle.td_civil.specs.Bounds.{IsWithinBounds}
 use Rattle.td_civil.specs.declared.moment_type.Moment.{Moment}
 use Rattle.td_civil.specs.Calendar.{local_text_of}
 use Rattle.ical_lines.specs.Lines.{written}
@@ -13,7 +11,7 @@ use Rattle.ical_lines.specs.Unfolding.{is_feed}
 use Rattle.recurrence.specs.declared.part_types.Part.{Part}
 use Rattle.recurrence.specs.declared.rule_types.Rule.{Rule}
 use Rattle.recurrence.specs.Valid.{IsValidForm}
-use Rattle.vtimezone.specs.Values.{offset_text, utc_basic, rule_text}
+use Rattle.vtimezone.specs.Values.{dates_text, offset_text, utc_basic, rule_text}
 
 -- a name, a colon and a value
 abbrev pub line : List ℕ → List ℕ → List ℕ
@@ -34,6 +32,11 @@ change_lines p =
     ∷ line (codes "TZOFFSETTO") (offset_text p.to)
     ∷ line (codes "TZNAME") p.name ∷ []
 
+-- the other onsets, by the same clocks
+unfoldable pub date_lines : List Moment → ℤ → List (List ℕ)
+date_lines [] offset = []
+date_lines (first ∷ dates) offset = line (codes "RDATE") (dates_text first dates offset) ∷ []
+
 unfoldable pub rule_lines : Option Rule → Option Moment → List (List ℕ)
 rule_lines None until = []
 rule_lines (Some rule) until = line (codes "RRULE") (rule_text rule until) ∷ []
@@ -41,7 +44,8 @@ rule_lines (Some rule) until = line (codes "RRULE") (rule_text rule until) ∷ [
 unfoldable pub part_lines : Part → List (List ℕ)
 part_lines p =
     line (codes "BEGIN") (kind_of p.dst)
-    ∷ change_lines p ++ rule_lines p.rule p.until ++ line (codes "END") (kind_of p.dst) ∷ []
+    ∷ change_lines p ++ date_lines p.dates p.from ++ rule_lines p.rule p.until
+    ++ line (codes "END") (kind_of p.dst) ∷ []
 
 -- the lines before the parts
 unfoldable pub head_lines : List ℕ → List (List ℕ)
@@ -72,14 +76,6 @@ calendar_lines tzid alias_of parts until =
 -- the text of the lines
 abbrev pub calendar : List ℕ → Option (List ℕ) → List Part → Option Moment → List ℕ
 calendar tzid alias_of parts until = written (calendar_lines tzid alias_of parts until)
-
--- the moments and offsets of a part have texts, and its rule has days in each year
-pub record IsWritable (p : Part) : Type 0 where
-  pub start : IsWithinBounds p.start.seconds
-  pub from : IsWithin 86399 p.from
-  pub to : IsWithin 86399 p.to
-  pub rule : IfSome p.rule (λ r. IsValidForm r.form)
-  pub until : IfSome p.until (λ m. IsWithinBounds m.seconds)
 
 -- a text that stands in one line
 abbrev pub IsLineText : List ℕ → Type 0

@@ -23,15 +23,6 @@ cut_first separator (b ∷ bs) =
     if b == separator then Some (record { name = []; value = bs })
     else option_map (begun_with b) (cut_first separator bs)
 
-abbrev pub put_before : {A : Type 0} → Option A → Option (List A) → Option (List A)
-put_before (Some x) (Some xs) = Some (x ∷ xs)
-put_before x xs = None
-
--- what is read of each, if each can be read
-abbrev pub all_read : {A B : Type 0} → (A → Option B) → List A → Option (List B)
-all_read read [] = Some []
-all_read read (x ∷ xs) = put_before (read x) (all_read read xs)
-
 -- the values of that name
 abbrev pub values_of : List ℕ → List Named → List (List ℕ)
 values_of name [] = []

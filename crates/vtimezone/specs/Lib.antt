@@ -1,11 +1,12 @@
 pub mod CalendarText
 pub mod Cutting
+pub mod Gathering
+pub mod Grouping
 pub mod LastYear
 pub mod PartsOf
 pub mod Ranges
 pub mod ReadRules
 pub mod ReadValues
-pub mod Spellable
 pub mod Spelled
 pub mod Values
 pub mod ZoneParts

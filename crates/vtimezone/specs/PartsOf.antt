@@ -1,11 +1,10 @@
--- The parts of a VTIMEZONE (RFC 5545, section 3.6.5): one for each change before a year, and from
--- that year on the rules of a footer.
-use Rattle.std.specs.Prelude.{ℕ, zero, suc, List, [], ◌∷◌, ◌++◌, map, if◌then◌else◌, ℤ, pos, ◌+ℤ◌}
+-- The parts of a VTIMEZONE (RFC 5545, section 3.6.5): those of the changes before a year, alike ones
+-- in one part, and from that year on the rules of a footer.
+use Rattle.std.specs.Prelude.{ℕ, zero, suc, List, [], ◌∷◌, ◌++◌, if◌then◌else◌, ℤ, pos, ◌+ℤ◌}
 use Rattle.std.specs.Prelude.{◌-ℤ◌, ◌*ℤ◌, int_lt, unsigned_abs, Option, None, Some}
 use Rattle.jiff_core.specs.Calendar.{days_from_civil}
 use Rattle.td_civil.specs.declared.moment_type.Moment.{Moment}
 use Rattle.td_civil.specs.declared.local_time.Local.{Local}
-use Rattle.td_civil.specs.declared.local_time.Observance.{Observance}
 use Rattle.posix_footer.specs.declared.rule_types.Edge.{Edge}
 use Rattle.posix_footer.specs.declared.rule_types.Edge.TheVariants as edge
 use Rattle.posix_footer.specs.declared.rule_types.Date.{Date}
@@ -17,22 +16,11 @@ use Rattle.posix_footer.specs.StateAt.{state_after}
 use Rattle.zone_meaning.specs.Observed.{observed}
 use Rattle.recurrence.specs.declared.part_types.Part.{Part}
 use Rattle.recurrence.specs.RuleOfDate.{rule_of}
+use Rattle.vtimezone.specs.Grouping.{grouped}
 
 -- the moment at which a year begins in UTC
 abbrev pub year_begin : ℤ → ℤ
 year_begin year = days_from_civil year 1 1 *ℤ pos 86400
-
--- the part of one change
-abbrev pub single_of : Observance → Part
-single_of o = record {
-  dst = o.dst;
-  start = o.onset;
-  from = o.from;
-  to = o.to;
-  name = o.name;
-  rule = None;
-  until = None;
-}
 
 -- the offset before a change of each year, and its date
 abbrev pub offset_before : Local → DstRule → Edge → ℤ
@@ -60,6 +48,7 @@ rule_part std rule y0 at until = record {
   name = (state_after std rule at).name;
   rule = Some (rule_of (date_of_edge rule at));
   until = until;
+  dates = [];
 }
 
 abbrev pub part_until : Local → DstRule → ℤ → Edge → Option Moment → List Part
@@ -92,13 +81,14 @@ abbrev pub rules_of : Option Footer → ℤ → Option ℤ → List Part
 rules_of None y0 b = []
 rules_of (Some footer) y0 b = rules_if_any footer.std footer.dst y0 b
 
--- where the single parts end: at the turn of a year, or at the end of the range where that comes
+-- where the parts of the changes end: at the turn of a year, or at the end of the range where that comes
 -- first
-abbrev pub singles_end : ℤ → Option ℤ → ℤ
-singles_end turn None = turn
-singles_end turn (Some b) = if int_lt b turn then b else turn
+abbrev pub changes_end : ℤ → Option ℤ → ℤ
+changes_end turn None = turn
+changes_end turn (Some b) = if int_lt b turn then b else turn
 
--- the parts for a range from a to b: single ones before the year y0, and rules from that year on
+-- the parts for a range from a to b: those of the changes before the year y0, and rules from that
+-- year on
 unfoldable pub parts_from : (ℤ → Local) → Option Footer → ℤ → Option ℤ → ℤ → List Part
 parts_from state footer a b y0 =
-    map single_of (observed state a (singles_end (year_begin y0) b)) ++ rules_of footer y0 b
+    grouped (observed state a (changes_end (year_begin y0) b)) ++ rules_of footer y0 b

@@ -5,10 +5,12 @@ use Rattle.std.specs.Prelude.{codes, Bool, true, false, not, ◌&&◌, ◌||◌,
 use Rattle.std.specs.Prelude.{neg_ℤ, Option, None, Some, slice_index}
 use Rattle.std.specs.Option.{option_map}
 use Rattle.std.specs.Str.{all_ascii_digits, bytes_eq}
-use Rattle.vtimezone.specs.Cutting.{put_before}
+use Rattle.vtimezone.specs.Cutting.{cut_at}
 use Rattle.td_civil.specs.declared.moment_type.Moment.{Moment}
 use Rattle.td_civil.specs.Stamp.{Stamp, moment_at}
 use Rattle.td_civil.specs.Reading.{two_at, four_at, is_stamp}
+use Rattle.recurrence.specs.AllRead.{put_before, all_read}
+use Rattle.recurrence.specs.Spellable.{is_safe}
 
 -- the fields at their places in YYYYMMDDTHHMMSS
 abbrev pub fields_in : List ℕ → Stamp
@@ -27,16 +29,21 @@ is_date_time text =
     length text == 15 && all_ascii_digits (take 8 text) && slice_index text 8 == 84
     && all_ascii_digits (drop 9 text)
 
--- a local date and time of day that there are
-unfoldable pub local_in : List ℕ → Option Stamp
+-- A local date and time of day that there are, told by the moment at which UTC shows them
+unfoldable pub local_in : List ℕ → Option ℤ
 local_in text =
-    if is_date_time text && is_stamp (fields_in text) then Some (fields_in text) else None
+    if is_date_time text && is_stamp (fields_in text) then Some (moment_at (fields_in text))
+    else None
+
+-- local times with commas between them
+unfoldable pub locals_in : List ℕ → Option (List ℤ)
+locals_in text = all_read local_in (cut_at 44 text)
 
 -- a moment: the same in UTC, with a Z at its end
 unfoldable pub utc_in : List ℕ → Option Moment
 utc_in text =
     if bytes_eq (drop 15 text) (codes "Z")
-    then option_map (λ s. record { seconds = moment_at s }) (local_in (take 15 text)) else None
+    then option_map (λ m. record { seconds = m }) (local_in (take 15 text)) else None
 
 -- HHMM or HHMMSS
 abbrev pub seconds_in : List ℕ → ℕ
@@ -60,11 +67,6 @@ signed_by sign size =
 unfoldable pub offset_in : List ℕ → Option ℤ
 offset_in [] = None
 offset_in (sign ∷ digits) = if is_hours digits then signed_by sign (size_in digits) else None
-
--- a byte of a text that stands for itself: no control, semicolon, comma or backslash
-abbrev pub is_safe : ℕ → Bool
-is_safe b =
-    (nat_le 32 b || b == 9) && not (b == 127) && not (b == 44) && not (b == 59) && not (b == 92)
 
 -- the byte that one after a backslash stands for: itself, or a line feed for N
 abbrev pub escaped : ℕ → Option ℕ

@@ -6,27 +6,19 @@
 use Rattle.std.specs.Prelude.{ℕ, ◌+◌, ◌-◌, ◌*◌, ◌==◌, List, [], ◌∷◌, ◌++◌, codes, length, take}
 use Rattle.std.specs.Prelude.{drop, Bool, true, false, not, ◌&&◌, ◌||◌, if◌then◌else◌, ℤ, ◌-ℤ◌}
 use Rattle.std.specs.Prelude.{Option, None, Some}
-use Rattle.std.specs.List.{list_all, take_while}
+use Rattle.std.specs.List.{list_all, flat_map, take_while}
 use Rattle.std.specs.Option.{option_map, option_and_then}
 use Rattle.std.specs.Result.{result_ok}
 use Rattle.std.specs.Str.{bytes_eq}
 use Rattle.td_civil.specs.declared.moment_type.Moment.{Moment}
-use Rattle.td_civil.specs.Stamp.{Stamp, moment_at}
 use Rattle.ical_lines.specs.Unfolding.{unfolded}
 use Rattle.recurrence.specs.declared.part_types.Part.{Part}
-use Rattle.recurrence.specs.declared.rule_types.Rule.{Rule}
-use Rattle.vtimezone.specs.Cutting.{Named, cut_first, put_before, all_read, values_of, one_read}
-use Rattle.vtimezone.specs.Cutting.{one_if_any, only_is}
-use Rattle.vtimezone.specs.ReadRules.{Recur, recur_in}
-use Rattle.vtimezone.specs.ReadValues.{local_in, offset_in, text_value, utc_in}
-
--- a time zone for a range: its identifier, the zone of which that is an alias, the end of the
--- range, and its parts
-pub record Spelling : Type 0 where
-  pub tzid : List ℕ
-  pub alias_of : Option (List ℕ)
-  pub until : Option Moment
-  pub parts : List Part
+use Rattle.recurrence.specs.AllRead.{put_before, all_read}
+use Rattle.recurrence.specs.PartFields.{part_with}
+use Rattle.recurrence.specs.Spelling.{Spelling, spelling_with}
+use Rattle.vtimezone.specs.Cutting.{Named, cut_first, values_of, one_read, one_if_any, only_is}
+use Rattle.vtimezone.specs.ReadRules.{recur_in}
+use Rattle.vtimezone.specs.ReadValues.{local_in, locals_in, offset_in, text_value, utc_in}
 
 -- ---- parts
 
@@ -35,34 +27,14 @@ abbrev pub is_part_line : Named → Bool
 is_part_line l =
     bytes_eq l.name (codes "DTSTART") || bytes_eq l.name (codes "TZOFFSETFROM")
     || bytes_eq l.name (codes "TZOFFSETTO") || bytes_eq l.name (codes "TZNAME")
-    || bytes_eq l.name (codes "RRULE")
+    || bytes_eq l.name (codes "RDATE") || bytes_eq l.name (codes "RRULE")
 
--- the moment at which clocks so many seconds east of UTC show these fields
-abbrev pub shown_at : Stamp → ℤ → Moment
-shown_at s offset = record { seconds = moment_at s -ℤ offset }
+-- the local times of any number of lines
+abbrev pub dates_in : List (List ℕ) → Option (List ℤ)
+dates_in values = option_map (flat_map (λ dates. dates)) (all_read locals_in values)
 
--- and the second of their day
-abbrev pub second_of_day : Stamp → ℕ
-second_of_day s = 3600 * s.hour + 60 * s.minute + s.second
-
-abbrev pub rule_spelled_at : Stamp → Recur → Rule
-rule_spelled_at s r = record { form = r.form; second = second_of_day s }
-
--- the start is shown by the clocks before it, and a rule has its time of day from it
-abbrev pub part_with : Bool → Option Stamp → Option ℤ → Option ℤ → Option (List ℕ)
-    → Option (Option Recur) → Option Part
-part_with dst (Some start) (Some from) (Some to) (Some name) (Some recur) = Some (record {
-  dst = dst;
-  start = shown_at start from;
-  from = from;
-  to = to;
-  name = name;
-  rule = option_map (rule_spelled_at start) recur;
-  until = option_and_then (λ r. r.until) recur;
-})
-part_with dst start from to name recur = None
-
--- the part of a group's lines: one of each name, a rule or none, and no others
+-- the part of a group's lines: one of each name, any number of dates, a rule or none, and no
+-- others
 unfoldable pub part_of_lines : Bool → List Named → Option Part
 part_of_lines dst lines =
     if list_all is_part_line lines
@@ -70,6 +42,7 @@ part_of_lines dst lines =
     (one_read offset_in (values_of (codes "TZOFFSETFROM") lines))
     (one_read offset_in (values_of (codes "TZOFFSETTO") lines))
     (one_read text_value (values_of (codes "TZNAME") lines))
+    (dates_in (values_of (codes "RDATE") lines))
     (one_if_any recur_in (values_of (codes "RRULE") lines))
     else None
 
@@ -125,17 +98,6 @@ abbrev pub is_zone_line : Named → Bool
 is_zone_line l =
     bytes_eq l.name (codes "TZID") || bytes_eq l.name (codes "TZID-ALIAS-OF")
     || bytes_eq l.name (codes "TZUNTIL")
-
--- a zone has one part or more
-abbrev pub spelling_with : Option (List ℕ) → Option (Option (List ℕ)) → Option (Option Moment)
-    → Option (List Part) → Option Spelling
-spelling_with (Some tzid) (Some alias_of) (Some until) (Some (p ∷ ps)) = Some (record {
-  tzid = tzid;
-  alias_of = alias_of;
-  until = until;
-  parts = p ∷ ps;
-})
-spelling_with tzid alias_of until parts = None
 
 -- one identifier, one zone of which it is an alias or none, one end or none, and parts
 unfoldable pub zone_spelled : List Named → Option Spelling

@@ -1,21 +1,22 @@
 //! The text of a calendar with one time zone.
-ghost use Rattle.std.specs.Prelude.{◌≡◌, ◌<◌, ◌++◌, length, take, drop, All, IfSome, Some, OnOk};
-ghost use Rattle.std.specs.Prelude.{OnErr};
+ghost use Rattle.std.specs.Prelude.{◌≡◌, ◌<◌, ◌∷◌, ◌++◌, ℕ, List, length, take, drop, All, IfSome, Some, OnOk};
+ghost use Rattle.std.specs.Prelude.{IfOk, OnErr, codes};
 ghost use Rattle.std.specs.List.{flat_map};
 ghost use Rattle.std.specs.Option.{option_copied};
 ghost use Rattle.jiff_core.specs.Calendar.{IsWithin};
 ghost use Rattle.td_civil.specs.Bounds.{IsWithinBounds};
-ghost use Rattle.ical_lines.specs.Lines.{content_line, written};
+ghost use Rattle.td_civil.specs.Calendar.{local_text_of};
+ghost use Rattle.ical_lines.specs.Lines.{content_line, folded, written};
+ghost use Rattle.recurrence.specs.Spellable.{IsSafe, IsSpellable, IsWritable};
 ghost use Rattle.recurrence.specs.Valid.{IsValidForm};
 ghost use Rattle.vtimezone.specs.CalendarText as text;
-ghost use Rattle.vtimezone.specs.Spellable.{IsSafe, IsSpellable};
 ghost use Rattle.vtimezone.specs.Spelled.{spelled};
-ghost use Rattle.vtimezone.specs.Values.{offset_text};
+ghost use Rattle.vtimezone.specs.Values.{dates_text, more_dates, offset_text};
 
 use crate::Part;
 use crate::values::{offset_value, rule_value, utc_value};
-use ical_lines::line;
-use recurrence::Rule;
+use ical_lines::{MOST_OCTETS, append_folded, line};
+use recurrence::{Moments, Rule};
 use td_base::{Bytes, NoMemory};
 use td_civil::{Moment, local_stamp};
 
@@ -63,7 +64,7 @@ fn append_calendar(
     parts: &[Part],
     until: Option<Moment>,
 ) -> Result<(), NoMemory>
-    requires parts { All text.IsWritable parts.now }
+    requires parts { All IsWritable parts.now }
     requires until { IfSome until (λ m. IsWithinBounds m.seconds) }
     ensures ok { OnOk result (out.new ≡ out.old
         ++ text.calendar tzid.now (option_copied alias_of.entry) parts.now until) }
@@ -125,7 +126,7 @@ fn append_tail(out: &mut Bytes) -> Result<(), NoMemory>
 }
 
 fn append_parts(out: &mut Bytes, parts: &[Part]) -> Result<(), NoMemory>
-    requires { All text.IsWritable parts.now }
+    requires { All IsWritable parts.now }
     ensures ok { OnOk result (out.new
         ≡ out.old ++ written (flat_map text.part_lines parts.now)) }
     ensures kept { take (length out.old) out.new ≡ out.old }
@@ -144,12 +145,13 @@ fn kind(dst: bool) -> &'static [u8]
 
 #[tactic(auto, unfolding(crate::specs::CalendarText::part_lines))]
 fn append_part(out: &mut Bytes, part: &Part) -> Result<(), NoMemory>
-    requires { text.IsWritable part.now }
+    requires { IsWritable part.now }
     ensures ok { OnOk result (out.new ≡ out.old ++ written (text.part_lines part.now)) }
     ensures kept { take (length out.old) out.new ≡ out.old }
 {
     line(out, b"BEGIN", kind(part.dst))?;
     append_change(out, part)?;
+    append_dates(out, &part.dates, part.from)?;
     append_rule(out, &part.rule, part.until)?;
     line(out, b"END", kind(part.dst))?;
     Ok(())
@@ -157,7 +159,7 @@ fn append_part(out: &mut Bytes, part: &Part) -> Result<(), NoMemory>
 
 #[tactic(auto, unfolding(crate::specs::CalendarText::change_lines))]
 fn append_change(out: &mut Bytes, part: &Part) -> Result<(), NoMemory>
-    requires { text.IsWritable part.now }
+    requires { IsWritable part.now }
     ensures ok { OnOk result (out.new ≡ out.old ++ written (text.change_lines part.now)) }
     ensures kept { take (length out.old) out.new ≡ out.old }
 {
@@ -185,6 +187,75 @@ fn append_offset(out: &mut Bytes, name: &[u8], offset: i32) -> Result<(), NoMemo
     ensures err { OnErr result (out.new ≡ out.old) }
 {
     line(out, name, offset_value(offset).as_slice())
+}
+
+#[tactic(auto, unfolding(crate::specs::CalendarText::date_lines))]
+fn append_dates(out: &mut Bytes, dates: &Moments, offset: i32) -> Result<(), NoMemory>
+    requires dates { All (λ d. IsWithinBounds d.seconds) dates.now }
+    requires offset { IsWithin 86_399 offset }
+    ensures ok { OnOk result (out.new ≡ out.old ++ written (text.date_lines dates.now offset)) }
+    ensures kept { take (length out.old) out.new ≡ out.old }
+{
+    match dates.as_slice() {
+        [] => Ok(()),
+        [first, rest @ ..] => append_date_line(out, *first, rest, offset),
+    }
+}
+
+/// Appends the line of dates piece by piece, since there may be any number of them.
+#[tactic(auto, unfolding(crate::specs::Values::dates_text))]
+fn append_date_line(
+    out: &mut Bytes,
+    first: Moment,
+    dates: &[Moment],
+    offset: i32,
+) -> Result<(), NoMemory>
+    requires first { IsWithinBounds first.seconds }
+    requires dates { All (λ d. IsWithinBounds d.seconds) dates.now }
+    requires offset { IsWithin 86_399 offset }
+    ensures ok { OnOk result (out.new ≡ out.old
+        ++ content_line (text.line (codes "RDATE") (dates_text first dates.now offset))) }
+    ensures kept { take (length out.old) out.new ≡ out.old }
+{
+    let after_name = append_folded(out, MOST_OCTETS, b"RDATE:")?;
+    let after_first = append_folded(out, after_name, &local_stamp(first, offset))?;
+    append_more_dates(out, after_first, dates, offset)?;
+    out.append(b"\r\n")?;
+    Ok(())
+}
+
+/// Appends dates, each after a comma, to a line that has room for so many more octets, and answers
+/// the room after them.
+fn append_more_dates(
+    out: &mut Bytes,
+    room: usize,
+    dates: &[Moment],
+    offset: i32,
+) -> Result<usize, NoMemory>
+    requires dates { All (λ d. IsWithinBounds d.seconds) dates.now }
+    requires offset { IsWithin 86_399 offset }
+    ensures ok { IfOk result (λ left. (rest : List ℕ)
+        → out.new ++ folded left rest
+        ≡ out.old ++ folded room (more_dates dates.now offset ++ rest)) }
+    ensures kept { take (length out.old) out.new ≡ out.old }
+{
+    let mut room = room;
+    for date in dates {
+        room = append_date(out, room, *date, offset)?;
+    }
+    Ok(room)
+}
+
+fn append_date(out: &mut Bytes, room: usize, date: Moment, offset: i32) -> Result<usize, NoMemory>
+    requires date { IsWithinBounds date.seconds }
+    requires offset { IsWithin 86_399 offset }
+    ensures ok { IfOk result (λ left. (rest : List ℕ)
+        → out.new ++ folded left rest
+        ≡ out.old ++ folded room ((codes "," ++ local_text_of date.seconds offset) ++ rest)) }
+    ensures kept { take (length out.old) out.new ≡ out.old }
+{
+    let after_comma = append_folded(out, room, b",")?;
+    append_folded(out, after_comma, &local_stamp(date, offset))
 }
 
 #[tactic(auto, unfolding(crate::specs::CalendarText::rule_lines))]

@@ -9,13 +9,13 @@ ghost use Rattle.zone_meaning.specs.Faults.{zone_fault};
 ghost use Rattle.zone_meaning.specs.Names.{has_printable_names};
 ghost use Rattle.zone_meaning.specs.State.{zone_state, footer_meant};
 ghost use Rattle.recurrence.specs.InForce.{GivesState, IsInForce};
+ghost use Rattle.recurrence.specs.Spellable.{IsSafe, IsSpellable};
 ghost use Rattle.recurrence.specs.declared.part_types.Part.{Part};
 ghost use Rattle.recurrence.specs.declared.part_types.Range.{Range};
 ghost use Rattle.ical_lines.specs.Unfolding.{unfolded};
 ghost use Rattle.td_civil.specs.declared.moment_type.Moment.{Moment};
 ghost use Rattle.vtimezone.specs.CalendarText.{calendar, calendar_lines, IsLineText, IsReadable};
 ghost use Rattle.vtimezone.specs.Ranges.{IsEndOf, IsAmong, end_in};
-ghost use Rattle.vtimezone.specs.Spellable.{IsSafe, IsSpellable};
 ghost use Rattle.vtimezone.specs.Spelled.{spelled};
 ghost use Rattle.vtimezone.specs.ZoneParts.{range_parts};
 
@@ -69,4 +69,15 @@ pub fn zone_calendar_spells()
           until = range.until;
           parts = range_parts file range;
         }) }
+{}
+
+/// The parts of a zone for a range, of which there is one at least, and the end of the range can be
+/// spelled in any text of a calendar, where the names of the zone can be printed.
+pub fn zone_parts_are_spellable()
+    ensures { (file : List ℕ) (range : Range) → zone_fault file ≡ None
+        → IsTrue (has_printable_names file)
+        → IsCarriedIfAny (footer_meant (lists_of file).footer)
+        → HasMeaning range.from.seconds → IsEndOf range.from.seconds (end_in range)
+        → (0 < length (range_parts file range)) × (All IsSpellable (range_parts file range)
+        × IfSome range.until (λ m. IsWithinBounds m.seconds)) }
 {}

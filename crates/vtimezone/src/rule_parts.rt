@@ -14,7 +14,8 @@ ghost use Rattle.vtimezone.specs.Ranges.{seconds_if_any};
 
 use crate::Part;
 use posix_footer::{DstRule, Edge, Footer, onset};
-use recurrence::{Carried, Rule, carry};
+use recurrence::{Carried, Moments, Rule, carry};
+use std::alloc::Global;
 use td_base::{Items, NoMemory};
 use td_civil::{Local, Moment, year_of};
 
@@ -58,6 +59,7 @@ pub(crate) fn comes_before(moment: Moment, end: Moment) -> bool
 /// The part of a change of each year, whose rule is known.
 #[tactic(auto, unfolding(crate::specs::PartsOf::rule_part))]
 fn rule_part(
+    alloc: Global,
     std: &Local,
     rule: &DstRule,
     days: Rule,
@@ -82,11 +84,13 @@ fn rule_part(
         name: after.name.copy(),
         rule: Some(days),
         until,
+        dates: Moments::new(alloc),
     }
 }
 
 /// The same up to its last onset before the end of a range, if it has one.
 fn part_before(
+    alloc: Global,
     std: &Local,
     rule: &DstRule,
     days: Rule,
@@ -103,10 +107,10 @@ fn part_before(
         ≡ spec.rule_part_if std.now rule.now year (seconds_if_any until) edge }
 {
     match until {
-        None => Some(rule_part(std, rule, days, edge, year, None)),
+        None => Some(rule_part(alloc, std, rule, days, edge, year, None)),
         Some(end) => match last_onset(rule, std.offset, edge, year, end) {
             None => None,
-            Some(last) => Some(rule_part(std, rule, days, edge, year, Some(last))),
+            Some(last) => Some(rule_part(alloc, std, rule, days, edge, year, Some(last))),
         },
     }
 }
@@ -152,6 +156,7 @@ fn starts_first(rule: &DstRule, std: i32, year: i32) -> bool
 /// The parts of both changes of each year, by their first onsets.
 #[tactic(auto, unfolding(crate::specs::PartsOf::rule_parts))]
 fn push_both(
+    alloc: Global,
     parts: &mut Items<Part>,
     std: &Local,
     rule: &DstRule,
@@ -168,8 +173,8 @@ fn push_both(
     ensures { OnOk result (parts.new
         ≡ parts.old ++ spec.rule_parts std.now rule.now year (seconds_if_any until)) }
 {
-    let start = part_before(std, rule, days.0, Edge::Start, year, until);
-    let end = part_before(std, rule, days.1, Edge::End, year, until);
+    let start = part_before(alloc, std, rule, days.0, Edge::Start, year, until);
+    let end = part_before(alloc, std, rule, days.1, Edge::End, year, until);
     if starts_first(rule, std.offset, year) {
         push_two(parts, start, end)
     } else {
@@ -179,6 +184,7 @@ fn push_both(
 
 /// The parts of a footer's rule.
 fn push_rule(
+    alloc: Global,
     parts: &mut Items<Part>,
     footer: &Footer,
     rule: &DstRule,
@@ -198,7 +204,7 @@ fn push_rule(
     }
     match carry(footer) {
         Ok(Carried::Pair { start, end, .. }) => {
-            push_both(parts, &footer.std, rule, (start, end), year, until)
+            push_both(alloc, parts, &footer.std, rule, (start, end), year, until)
         }
         _ => Ok(()),
     }
@@ -206,6 +212,7 @@ fn push_rule(
 
 /// The parts of a footer's rules from a year on, as far as it has a meaning.
 pub(crate) fn push_rules(
+    alloc: Global,
     parts: &mut Items<Part>,
     footer: &Option<Footer>,
     year: i32,
@@ -222,7 +229,7 @@ pub(crate) fn push_rules(
         None => Ok(()),
         Some(footer) => match &footer.dst {
             None => Ok(()),
-            Some(rule) => push_rule(parts, footer, rule, year, until),
+            Some(rule) => push_rule(alloc, parts, footer, rule, year, until),
         },
     }
 }

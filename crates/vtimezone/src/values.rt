@@ -5,6 +5,7 @@ ghost use Rattle.jiff_core.specs.Calendar.{IsWithin};
 ghost use Rattle.td_civil.specs.Bounds.{IsWithinBounds};
 ghost use Rattle.td_civil.specs.Stamp.{two_digits};
 ghost use Rattle.recurrence.specs.Valid.{IsValidForm};
+ghost use Rattle.recurrence.specs.Weekdays as weekdays;
 ghost use Rattle.vtimezone.specs.Values as values;
 
 use itoa::Buffer;
@@ -106,9 +107,9 @@ fn append_seven(text: &mut Value, first: i16)
     append_next(text, first, 6);
 }
 
-#[tactic(auto, unfolding(crate::specs::Values::weekday_name))]
+#[tactic(auto, unfolding(recurrence::specs::Weekdays::weekday_name))]
 fn weekday_name(weekday: u8) -> [u8; 2]
-    ensures { result ≡ values.weekday_name weekday }
+    ensures { result ≡ weekdays.weekday_name weekday }
 {
     if weekday == 0 {
         *b"SU"

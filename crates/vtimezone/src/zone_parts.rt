@@ -1,29 +1,30 @@
 //! The parts of a zone for a range.
-ghost use Rattle.std.specs.Prelude.{◌≡◌, ◌<◌, ◌<ℤ◌, length, map, pos, None, All, IfOk, OnOk};
+ghost use Rattle.std.specs.Prelude.{◌≡◌, ◌<◌, ◌<ℤ◌, length, pos, None, All, IfOk, OnOk};
 ghost use Rattle.std.specs.Prelude.{IsTrue};
 ghost use Rattle.jiff_core.specs.Calendar.{IsBetween};
 ghost use Rattle.td_civil.specs.Bounds.{HasMeaning};
 ghost use Rattle.posix_footer.specs.Carried.{IsCarriedIfAny};
 ghost use Rattle.tzif_reader.specs.Cut as cut;
 ghost use Rattle.zone_meaning.specs.Faults.{zone_fault};
-ghost use Rattle.zone_meaning.specs.Observed.{observed, IsRange};
 ghost use Rattle.zone_meaning.specs.Names.{has_printable_names};
-ghost use Rattle.zone_meaning.specs.State.{zone_state, footer_meant};
+ghost use Rattle.zone_meaning.specs.State.{footer_meant};
+ghost use Rattle.recurrence.specs.Spellable.{IsSpellable};
 ghost use Rattle.vtimezone.specs.PartsOf as spec;
 ghost use Rattle.vtimezone.specs.Ranges as ranges;
-ghost use Rattle.vtimezone.specs.Spellable.{IsSpellable};
 ghost use Rattle.vtimezone.specs.ZoneParts as zone_spec;
 
+use crate::change_parts::change_parts;
 use crate::rule_parts::{comes_before, push_rules};
 use crate::{Part, Range};
 use std::alloc::Global;
 use td_base::{Items, NoMemory};
-use td_civil::{Moment, Observance, new_year_day, year_of};
-use zone_meaning::{Changes, Zone, footer, lists};
+use td_civil::{Moment, new_year_day, year_of};
+use zone_meaning::{Zone, footer, lists};
 
 /// The parts of a zone for a range (RFC 5545, section 3.6.5), in rising order of their first
 /// onsets: the first has its onset at the beginning of the range, and those with rules come after
-/// all others. They take the memory of the list.
+/// all others. Changes that are alike stand in one part. They take the memory of the list and of
+/// the dates of its parts.
 pub fn parts(alloc: Global, zone: &Zone, range: Range) -> Result<Items<Part>, NoMemory>
     requires from { HasMeaning range.from.seconds }
     requires until { ranges.IsEndOf range.from.seconds (ranges.end_in range) }
@@ -48,8 +49,8 @@ fn listed(alloc: Global, zone: &Zone, range: Range) -> Result<Items<Part>, NoMem
     ensures no_fault { OnOk result (zone_fault zone.now ≡ None) }
 {
     let year = rule_year(zone, range.from);
-    let mut parts = single_parts(alloc, zone, range.from, single_end(year, range.until))?;
-    push_rules(&mut parts, footer(zone), year, range.until)?;
+    let mut parts = change_parts(alloc, zone, range.from, changes_end(year, range.until))?;
+    push_rules(alloc, &mut parts, footer(zone), year, range.until)?;
     Ok(parts)
 }
 
@@ -90,11 +91,11 @@ fn latest(moments: &[Moment], from: Moment) -> Moment
     }
 }
 
-/// Where the parts without rules end: where a year begins, or at the end of the range.
-fn single_end(year: i32, until: Option<Moment>) -> Moment
+/// Where the parts of the changes end: where a year begins, or at the end of the range.
+fn changes_end(year: i32, until: Option<Moment>) -> Moment
     requires { IsBetween (pos 1801) (pos 9999) year }
     ensures { result.seconds
-        ≡ spec.singles_end (spec.year_begin year) (ranges.seconds_if_any until) }
+        ≡ spec.changes_end (spec.year_begin year) (ranges.seconds_if_any until) }
 {
     let turn = begin_of(year);
     match until {
@@ -110,39 +111,5 @@ fn begin_of(year: i32) -> Moment
 {
     Moment {
         seconds: new_year_day(year as i16) * 86_400,
-    }
-}
-
-/// The parts of the changes from a moment to before another.
-fn single_parts(
-    alloc: Global,
-    zone: &Zone,
-    from: Moment,
-    end: Moment,
-) -> Result<Items<Part>, NoMemory>
-    requires { IsRange from.seconds end.seconds }
-    ensures { IfOk result (λ parts. parts
-        ≡ map spec.single_of (observed (zone_state zone.now) from.seconds end.seconds)) }
-{
-    let mut rest = Changes::new(zone, from, end);
-    let mut parts = Items::new(alloc);
-    while let Some(change) = rest.next() {
-        parts.push(single_part(change))?;
-    }
-    Ok(parts)
-}
-
-/// The part of one change.
-fn single_part(change: Observance) -> Part
-    ensures { result ≡ spec.single_of change }
-{
-    Part {
-        dst: change.dst,
-        start: change.onset,
-        from: change.from,
-        to: change.to,
-        name: change.name,
-        rule: None,
-        until: None,
     }
 }

@@ -4,8 +4,7 @@ use Rattle.std.proofs.lemmas.Bool.{and_parts}
 use Rattle.std.proofs.lemmas.Bool.Decides.{nat_tests}
 use Rattle.std.specs.List.{list_all}
 use Rattle.td_base.specs.Names.{with_first, segments, is_name_byte, is_segment, is_path, is_identifier}
-use Rattle.vtimezone.specs.ReadValues.{is_safe}
-use Rattle.vtimezone.specs.Spellable.{IsSafe}
+use Rattle.recurrence.specs.Spellable.{is_safe, IsSafe}
 
 name_byte_safe : (b : ℕ) → is_name_byte b ≡ true → is_safe b ≡ true
 name_byte_safe b h = grind (arith, nat_tests)

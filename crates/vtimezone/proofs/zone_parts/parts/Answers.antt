@@ -3,7 +3,7 @@ use Rattle.std.specs.List.{All}
 use Rattle.recurrence.specs.declared.part_types.Part.{Part}
 use Rattle.recurrence.specs.InForce.{GivesState}
 use Rattle.zone_meaning.specs.State.{zone_state}
-use Rattle.vtimezone.specs.Spellable.{IsSpellable}
+use Rattle.recurrence.specs.Spellable.{IsSpellable}
 use Rattle.vtimezone.proofs.Spellable.{some_parts, parts_spellable}
 use Rattle.vtimezone.proofs.ZoneRange.{zone_parts_mean}
 use Rattle.vtimezone.proofs.zone_parts.parts.Goals as goal
