@@ -1,0 +1,4 @@
+pub mod Reading
+pub mod Tree
+pub mod TreeTokens
+pub mod Values
