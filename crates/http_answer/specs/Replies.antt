@@ -28,6 +28,7 @@ media_type kind.Json = codes "application/json"
 media_type kind.Problem = codes "application/problem+json"
 media_type kind.Calendar = codes "text/calendar; charset=utf-8"
 media_type kind.Tzif = codes "application/tzif"
+media_type kind.CalendarJson = codes "application/calendar+json"
 
 -- a line where it applies
 abbrev pub line_if : Bool → List ℕ → List (List ℕ)

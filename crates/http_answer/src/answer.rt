@@ -27,4 +27,6 @@ pub enum Kind {
     Calendar,
     /// `application/tzif` (RFC 9636).
     Tzif,
+    /// `application/calendar+json` (RFC 7265).
+    CalendarJson,
 }

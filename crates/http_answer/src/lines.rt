@@ -15,6 +15,7 @@ pub fn type_line(kind: Option<Kind>) -> &'static [u8]
         Some(Kind::Problem) => b"Content-Type: application/problem+json\r\n",
         Some(Kind::Calendar) => b"Content-Type: text/calendar; charset=utf-8\r\n",
         Some(Kind::Tzif) => b"Content-Type: application/tzif\r\n",
+        Some(Kind::CalendarJson) => b"Content-Type: application/calendar+json\r\n",
     }
 }
 

@@ -64,7 +64,8 @@ actions_data true =
 unfoldable pub info_with : List ℕ → List ℕ → Data
 info_with name source =
     object (member (codes "formats")
-    (strings (codes "text/calendar" ∷ codes "application/tzif" ∷ []))
+    (strings (codes "text/calendar" ∷ codes "application/tzif"
+    ∷ codes "application/calendar+json" ∷ []))
     (member name (string source)
     (member (codes "truncated")
     (object (member (codes "any") (boolean true)

@@ -182,7 +182,7 @@ fn primary_info(alloc: Global, publisher: &str) -> Result<Value, NoMemory>
         (λ v. view v ≡ document.info_with (codes "primary-source") publisher.now) }
 {
     Ok(json!(in alloc; {
-        "formats": ["text/calendar", "application/tzif"],
+        "formats": ["text/calendar", "application/tzif", "application/calendar+json"],
         "primary-source": publisher,
         "truncated": {"any": true, "untruncated": true}
     })?)
@@ -194,7 +194,7 @@ fn secondary_info(alloc: Global, url: &str) -> Result<Value, NoMemory>
         (λ v. view v ≡ document.info_with (codes "secondary-source") url.now) }
 {
     Ok(json!(in alloc; {
-        "formats": ["text/calendar", "application/tzif"],
+        "formats": ["text/calendar", "application/tzif", "application/calendar+json"],
         "secondary-source": url,
         "truncated": {"any": true, "untruncated": true}
     })?)

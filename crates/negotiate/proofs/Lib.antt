@@ -1,2 +1,3 @@
 pub mod BestLemmas
 pub mod LargerLemmas
+pub mod lemmas

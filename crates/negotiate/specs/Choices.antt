@@ -1,9 +1,9 @@
 -- The format that an Accept field chooses.
-use Rattle.std.specs.Prelude.{ℕ, List, [], ◌∷◌, find, max, ◌==◌, if◌then◌else◌, Option, Some, None}
+use Rattle.std.specs.Prelude.{◌≡◌, ℕ, List, [], ◌∷◌, find, max, ◌==◌, if◌then◌else◌, Option, Some, None}
 use Rattle.std.specs.Prelude.{option_map, codes}
 use Rattle.negotiate.specs.Qualities.{quality_of_range}
 use Rattle.negotiate.specs.declared.choosing.Format.{Format}
-use Rattle.negotiate.specs.declared.choosing.Format.TheVariants.{Calendar, Tzif}
+use Rattle.negotiate.specs.declared.choosing.Format.TheVariants.{Calendar, Tzif, CalendarJson}
 use Rattle.negotiate.specs.declared.choosing.Offer.{Offer}
 
 -- the first of the qualities that there is, or none at all
@@ -25,12 +25,23 @@ pub record NamedFormat : Type 0 where
   pub exact : List ℕ
   pub group : List ℕ
 
+abbrev pub calendar_format : NamedFormat
+calendar_format =
+    record { format = Calendar; exact = codes "text/calendar"; group = codes "text/*" }
+
+abbrev pub file_format : NamedFormat
+file_format = record { format = Tzif; exact = codes "application/tzif"; group = codes "application/*" }
+
+abbrev pub json_format : NamedFormat
+json_format = record {
+  format = CalendarJson;
+  exact = codes "application/calendar+json";
+  group = codes "application/*";
+}
+
 -- the formats, in the order in which they are preferred
 abbrev pub formats : List NamedFormat
-formats =
-    record { format = Calendar; exact = codes "text/calendar"; group = codes "text/*" }
-    ∷ record { format = Tzif; exact = codes "application/tzif"; group = codes "application/*" }
-    ∷ []
+formats = calendar_format ∷ file_format ∷ json_format ∷ []
 
 abbrev pub format_quality : List ℕ → NamedFormat → ℕ
 format_quality field f = quality_of f.exact f.group field
@@ -46,10 +57,20 @@ best_format field fs =
     else option_map (λ f. f.format)
     (find (λ f. format_quality field f == largest_quality field fs) fs)
 
--- without a field calendars are chosen
+-- the format that a field chooses among some; without a field calendars are chosen
+abbrev pub chosen_among : List NamedFormat → Option (List ℕ) → Option Format
+chosen_among fs None = Some Calendar
+chosen_among fs (Some field) = best_format field fs
+
+-- among all formats
 unfoldable pub chosen_format : Option (List ℕ) → Option Format
-chosen_format None = Some Calendar
-chosen_format (Some field) = best_format field formats
+chosen_format accept = chosen_among formats accept
+
+-- no element of the field names the format, by a range with a well-formed quality
+pub record IsUnnamed (field : List ℕ) (f : NamedFormat) : Type 0 where
+  pub exact : quality_of_range f.exact field ≡ None
+  pub group : quality_of_range f.group field ≡ None
+  pub any : quality_of_range (codes "*/*") field ≡ None
 
 -- the format as the code offers it
 abbrev pub named_offer : Offer → NamedFormat

@@ -11,6 +11,8 @@ pub enum Format {
     Calendar,
     /// `application/tzif` (RFC 9636).
     Tzif,
+    /// `application/calendar+json` (RFC 7265).
+    CalendarJson,
 }
 
 /// A format, and the ranges of an Accept field that name it.
@@ -23,7 +25,7 @@ struct Offer {
 }
 
 /// The formats, in the order in which they are preferred.
-const OFFERS: [Offer; 2] = [
+const OFFERS: [Offer; 3] = [
     Offer {
         format: Format::Calendar,
         exact: b"text/calendar",
@@ -32,6 +34,11 @@ const OFFERS: [Offer; 2] = [
     Offer {
         format: Format::Tzif,
         exact: b"application/tzif",
+        group: b"application/*",
+    },
+    Offer {
+        format: Format::CalendarJson,
+        exact: b"application/calendar+json",
         group: b"application/*",
     },
 ];
