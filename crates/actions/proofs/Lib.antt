@@ -5,3 +5,5 @@ pub mod LastRelease
 pub mod Named
 pub mod ChangedZones
 pub mod TextNames
+pub mod Offered
+pub mod Aliases

@@ -4,10 +4,12 @@ use Rattle.std.specs.Str.{bytes_eq}
 use Rattle.catalogue.specs.Releases.{ContentData}
 use Rattle.http_answer.specs.declared.answer.Kind.{Kind}
 use Rattle.http_answer.specs.declared.answer.Kind.TheVariants as kind
+use Rattle.jcal.specs.Tree.{calendar as json_calendar}
 use Rattle.negotiate.specs.declared.choosing.Format.{Format}
 use Rattle.negotiate.specs.declared.choosing.Format.TheVariants as format
 use Rattle.vtimezone.specs.CalendarText.{calendar}
-use Rattle.vtimezone.specs.Spellable.{IsSafe}
+use Rattle.recurrence.specs.Spellable.{IsSafe}
+use Rattle.recurrence.specs.Spelling.{Spelling}
 use Rattle.vtimezone.specs.ZoneParts.{range_parts}
 use Rattle.actions.specs.declared.bounds.Bounds.{Bounds}
 use Rattle.actions.specs.declared.bounds.BoundRule.{BoundRule}
@@ -36,6 +38,20 @@ calendar_text name c bounds =
     calendar name (alias_of name c.tzid) (range_parts c.file (range_between bounds))
     (end_if_any bounds.end)
 
+unfoldable pub json_text : List ℕ → ContentData → Bounds → List ℕ
+json_text name c bounds =
+    json_calendar name (alias_of name c.tzid) (range_parts c.file (range_between bounds))
+    (end_if_any bounds.end)
+
+-- what calendars of a zone between two bounds are to spell, in lines and as JSON
+abbrev pub zone_spelling : List ℕ → ContentData → Bounds → Spelling
+zone_spelling name c bounds = record {
+  tzid = name;
+  alias_of = alias_of name c.tzid;
+  until = end_if_any bounds.end;
+  parts = range_parts c.file (range_between bounds);
+}
+
 -- a file is whole, and names no zone
 abbrev pub file_text : List ℕ → ContentData → Bounds → List ℕ
 file_text name c bounds = c.file
@@ -44,7 +60,7 @@ abbrev pub form_of : Format → FormData
 form_of format.Calendar = record {
   bounds = rule.Optional;
   kind = kind.Calendar;
-  mark = codes "c";
+  mark = codes "c2";
   text = calendar_text;
 }
 form_of format.Tzif = record {
@@ -52,4 +68,10 @@ form_of format.Tzif = record {
   kind = kind.Tzif;
   mark = codes "t";
   text = file_text;
+}
+form_of format.CalendarJson = record {
+  bounds = rule.Optional;
+  kind = kind.CalendarJson;
+  mark = codes "j";
+  text = json_text;
 }

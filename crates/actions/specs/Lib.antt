@@ -10,3 +10,4 @@ pub mod LeapSeconds
 pub mod Listing
 pub mod Moments
 pub mod Tags
+pub mod Offering

@@ -35,7 +35,7 @@ abbrev pub changes_since : List ReleaseData → Option ℕ → Answer
 changes_since H (Some n) = with_document (change_list H n)
 changes_since H None = with_problem problem.InvalidChangedsince
 
--- all zones, or those that changed since the place of which this is the token
+-- all zones, or those that changed since the one of the last places of which this is the token
 unfoldable pub list_answer : List ReleaseData → Param → Answer
 list_answer H param.Absent = with_document (list_body H (λ _. true))
 list_answer H (param.Once token) = changes_since H (place_of H token)

@@ -4,7 +4,7 @@ ghost use Rattle.catalogue.specs.Releases.{content_as_is};
 ghost use Rattle.zone_meaning.specs.Sound.{IsSoundFile};
 ghost use Rattle.actions.specs.Bounds.{AreBounds};
 ghost use Rattle.actions.specs.Formats as formats;
-ghost use Rattle.vtimezone.specs.Spellable.{IsSafe};
+ghost use Rattle.recurrence.specs.Spellable.{IsSafe};
 
 use crate::bounds::{BoundRule, Bounds, range_between};
 use catalogue::Content;
@@ -34,12 +34,17 @@ pub fn form_of(format: Format) -> Form
         Format::Calendar => Form {
             bounds: BoundRule::Optional,
             kind: Kind::Calendar,
-            mark: b"c",
+            mark: b"c2",
         },
         Format::Tzif => Form {
             bounds: BoundRule::Refused,
             kind: Kind::Tzif,
             mark: b"t",
+        },
+        Format::CalendarJson => Form {
+            bounds: BoundRule::Optional,
+            kind: Kind::CalendarJson,
+            mark: b"j",
         },
     }
 }
@@ -61,6 +66,7 @@ pub fn text_in(
     match format {
         Format::Calendar => calendar_text(alloc, name, content, bounds),
         Format::Tzif => file_text(alloc, content),
+        Format::CalendarJson => json_text(alloc, name, content, bounds),
     }
 }
 
@@ -82,6 +88,34 @@ fn calendar_text(
     let parts = parts(alloc, &content.zone, range)?;
     let mut text = Bytes::new(alloc);
     write(
+        &mut text,
+        name.as_slice(),
+        alias_of(name, &content.tzid),
+        parts.as_slice(),
+        range.until,
+    )?;
+    Ok(text)
+}
+
+/// The calendar of a zone between two bounds, as JSON.
+#[tactic(auto, unfolding(crate::specs::Formats::json_text))]
+fn json_text(
+    alloc: Global,
+    name: &Bytes,
+    content: &Content<Zone>,
+    bounds: Bounds,
+) -> Result<Bytes, NoMemory>
+    requires sound { IsSoundFile content.now.zone }
+    requires names { formats.AreTexts name.now content.now.tzid }
+    requires bounds { AreBounds bounds }
+    ensures { IfOk result (λ text. text ≡ formats.json_text name.now
+        (content_as_is (λ z. z) content.now) bounds) }
+{
+    let range = range_between(bounds);
+    let parts = parts(alloc, &content.zone, range)?;
+    let mut text = Bytes::new(alloc);
+    jcal::write(
+        alloc,
         &mut text,
         name.as_slice(),
         alias_of(name, &content.tzid),

@@ -35,7 +35,7 @@ pub fn list(alloc: Global, catalogue: &Catalogue<Zone>, since: &Param) -> Result
     }
 }
 
-/// Answers with the changes since the place of which this is the token.
+/// Answers with the changes since the one of the last places of which this is the token.
 fn changes_since(
     alloc: Global,
     catalogue: &Catalogue<Zone>,
