@@ -122,6 +122,17 @@ impl<V: Value, T: Sets<V>> PublisherOf<V, T> {
         &self.last.value
     }
 
+    /// A receipt of all that was published so far. It takes no memory, and is refused where the
+    /// last value has too many owners.
+    pub fn receipt(&self) -> Result<Receipt<V>, NoMemory>
+        ensures { IfOk result (λ r. (r.list ≡ self.now.list) × (r.pair ≡ self.now.pair)) }
+    {
+        match self.last.again() {
+            Ok(edition) => Ok(Receipt { edition }),
+            Err(_) => Err(NoMemory),
+        }
+    }
+
     /// Shows the last value once more, with the mark of the end. After `Err` the publisher is gone.
     /// It may wait for desks that are entering.
     pub fn end<R: Wait>(self, rt: &R) -> Result<EndedOf<V, T>, NoMemory>
