@@ -1,0 +1,5 @@
+pub mod Naming
+pub mod Changes
+pub mod Ordered
+pub mod Asked
+pub mod lemmas

@@ -1,0 +1,147 @@
+//! What a release changes of the one before it.
+ghost use Rattle.std.specs.Prelude.{◌≡◌, IfOk, OnOk, map};
+ghost use Rattle.std.specs.Cmp.Lexicographic.{pointwise};
+ghost use Rattle.std.specs.Str.{bytes_eq};
+ghost use Rattle.std.specs.Option.{option_map};
+ghost use Rattle.catalogue.specs.Lookups.{named, zones_of};
+ghost use Rattle.catalogue.specs.Releases.{content_as_is, content_data, release_data, same_content};
+ghost use Rattle.zone_meaning.specs.ZoneHistories.{ForEachZoneHistory, zone_bytes};
+ghost use Rattle.admission.specs.Differences as spec;
+
+use crate::sorting::rising;
+use crate::{Changed, Delta};
+use catalogue::{Catalogue, Content, Release};
+use std::alloc::Global;
+use td_base::{Bytes, Items, NoMemory};
+use zone_meaning::{Zone, file, first_difference};
+
+/// What a release changes of the last one of a history. Its zones and their aliases may stand in
+/// any order.
+pub fn delta_of(
+    alloc: Global,
+    last: &Catalogue<Zone>,
+    next: &Release<Zone>,
+) -> Result<Delta, NoMemory>
+    ensures { IfOk result (λ delta. ForEachZoneHistory last.now (λ H.
+        delta ≡ spec.difference H (release_data zone_bytes next.now))) }
+{
+    let zones = rising(alloc, next.zones.as_slice())?;
+    let changed = changes_in(alloc, last, zones.as_slice())?;
+    Ok(Delta { changed })
+}
+
+/// What becomes of zones that are changed, in their order.
+fn changes_in(
+    alloc: Global,
+    last: &Catalogue<Zone>,
+    zones: &[&Content<Zone>],
+) -> Result<Items<Changed>, NoMemory>
+    ensures { IfOk result (λ changed. ForEachZoneHistory last.now (λ H.
+        changed ≡ spec.changes_of (zones_of H)
+        (map (λ z. content_data zone_bytes z.now) zones.now))) }
+{
+    let mut changed = Items::new(alloc);
+    for at in 0..zones.len() {
+        let change = change_of(alloc, last, zones[at])?;
+        put_if_any(&mut changed, change)?;
+    }
+    Ok(changed)
+}
+
+/// Appends a change, if there is one.
+fn put_if_any(changed: &mut Items<Changed>, change: Option<Changed>) -> Result<(), NoMemory>
+    ensures { OnOk result (changed.new ≡ spec.with_last_if_any changed.old change) }
+{
+    match change {
+        None => Ok(()),
+        Some(change) => {
+            changed.push(change)?;
+            Ok(())
+        }
+    }
+}
+
+/// What becomes of a zone with the next release, if it changes.
+fn change_of(
+    alloc: Global,
+    last: &Catalogue<Zone>,
+    zone: &Content<Zone>,
+) -> Result<Option<Changed>, NoMemory>
+    ensures { IfOk result (λ change. ForEachZoneHistory last.now (λ H.
+        change ≡ spec.change_if_any (zones_of H) (content_data zone_bytes zone.now))) }
+{
+    match zone_named(last, zone.tzid.as_slice()) {
+        None => {
+            let tzid = Bytes::from_slice(alloc, zone.tzid.as_slice())?;
+            Ok(Some(Changed { tzid, first: None }))
+        }
+        Some(had) => {
+            let change = change_from(alloc, had, zone)?;
+            Ok(change)
+        }
+    }
+}
+
+/// The zone of the last release that has a name.
+fn zone_named<'a>(last: &'a Catalogue<Zone>, name: &[u8]) -> Option<&'a Content<Zone>>
+    ensures { ForEachZoneHistory last.now (λ H.
+        option_map (λ c. content_as_is zone_bytes c.now) result ≡ named (zones_of H) name.now) }
+{
+    match last.find_name(name) {
+        None => None,
+        Some(at) => Some(&last.entry(at).content),
+    }
+}
+
+/// What becomes of a zone whose identifier this one had, if it changes.
+fn change_from(
+    alloc: Global,
+    had: &Content<Zone>,
+    zone: &Content<Zone>,
+) -> Result<Option<Changed>, NoMemory>
+    ensures { IfOk result (λ change. change ≡ spec.change_from_one
+        (content_as_is zone_bytes had.now) (content_data zone_bytes zone.now)) }
+{
+    let same = is_same(alloc, zone, had)?;
+    if same {
+        return Ok(None);
+    }
+    let tzid = Bytes::from_slice(alloc, zone.tzid.as_slice())?;
+    let first = first_difference(&had.zone, &zone.zone);
+    Ok(Some(Changed { tzid, first }))
+}
+
+/// Whether a zone whose aliases stand in any order is one whose aliases rise.
+fn is_same(alloc: Global, zone: &Content<Zone>, had: &Content<Zone>) -> Result<bool, NoMemory>
+    ensures { IfOk result (λ same. same ≡ same_content (content_data zone_bytes zone.now)
+        (content_as_is zone_bytes had.now)) }
+{
+    let aliases = rising(alloc, zone.aliases.as_slice())?;
+    Ok(
+        is_text(&zone.tzid, &had.tzid)
+            && are_texts(aliases.as_slice(), had.aliases.as_slice())
+            && file(&zone.zone) == file(&had.zone),
+    )
+}
+
+/// Whether texts that are lent are these, one for one.
+fn are_texts(lent: &[&Bytes], texts: &[Bytes]) -> bool
+    ensures { result ≡ pointwise bytes_eq (map (λ a. a.now) lent.now) texts.now }
+{
+    if lent.len() != texts.len() {
+        return false;
+    }
+    for at in 0..lent.len() {
+        if !is_text(lent[at], &texts[at]) {
+            return false;
+        }
+    }
+    true
+}
+
+/// Whether two texts are one.
+fn is_text(a: &Bytes, b: &Bytes) -> bool
+    ensures { result ≡ bytes_eq a.now b.now }
+{
+    a.as_slice() == b.as_slice()
+}

@@ -1,0 +1,31 @@
+//! Admission rules: what a release changes, and whether chosen rules allow it.
+//!
+//! [`delta_of`] gives what a release changes of the one before it, which is `difference` of
+//! `specs/Differences.antt`. [`ask`] gives the first of some chosen rules that refuses it, by tests
+//! that are kept as closures: a [`Kept`] test says yes exactly where `allows` of
+//! `specs/Rules.antt` does, and whoever makes one shows that. [`Rules`] has chosen rules beside the
+//! tests of their kinds.
+#![tactic(auto)]
+
+// What a release changes.
+mod delta;
+mod differing;
+mod sorting;
+
+// The rules: their kinds, what each allows, their tests, and what they say of a release.
+mod allowing;
+mod asking;
+mod chosen_rules;
+mod kept;
+mod rules;
+
+// What may cross threads.
+mod send_sync;
+
+pub use allowing::{changes_at_most, changes_no_past};
+pub use asking::ask;
+pub use chosen_rules::Rules;
+pub use delta::{Changed, Delta};
+pub use differing::delta_of;
+pub use kept::{Kept, Test};
+pub use rules::{Chosen, RuleKind};

@@ -1,0 +1,15 @@
+/// The kinds of rules for a release that is to join a history.
+#[derive(Clone, Copy, Debug, PartialEq, Eq)]
+pub enum RuleKind {
+    /// At most so many zones may change.
+    MaxChanged,
+    /// No zone may change before the moment of so many seconds from 1970-01-01T00:00:00Z.
+    NoPastChange,
+}
+
+/// A rule with its number.
+#[derive(Clone, Copy, Debug, PartialEq, Eq)]
+pub struct Chosen {
+    pub kind: RuleKind,
+    pub number: i64,
+}

@@ -1,0 +1,62 @@
+//! Rising order by a text, of what is lent.
+ghost use Rattle.std.specs.Prelude.{◌≡◌, ℕ, List, IfOk, map};
+ghost use Rattle.std.specs.Cmp.Lexicographic.{slice_cmp};
+ghost use Rattle.std.specs.Ordering.{nat_cmp};
+ghost use Rattle.catalogue.specs.Order.{rising_by};
+
+use catalogue::Content;
+use std::alloc::Global;
+use std::cmp::Ordering;
+use td_base::{Bytes, NoMemory};
+
+/// What has its place in an order by a text.
+pub trait Ranked {
+    ghost text: { Self → List ℕ };
+
+    /// The text.
+    fn text(&self) -> &[u8]
+        ensures { result.now ≡ text self.now };
+}
+
+impl Ranked for Bytes {
+    ghost text = { λ b. b };
+
+    fn text(&self) -> &[u8] {
+        self.as_slice()
+    }
+}
+
+impl<Z> Ranked for Content<Z> {
+    ghost text = { λ c. c.tzid };
+
+    fn text(&self) -> &[u8] {
+        self.tzid.as_slice()
+    }
+}
+
+/// How two items compare by their texts.
+fn compare<T: Ranked>(a: &T, b: &T) -> Ordering
+    ensures { result ≡ slice_cmp nat_cmp (T.text a.now) (T.text b.now) }
+{
+    a.text().cmp(b.text())
+}
+
+/// The items, lent one by one.
+fn lent<T>(alloc: Global, items: &[T]) -> Result<Vec<&T>, NoMemory>
+    ensures { IfOk result (λ lent. map (λ x. x.now) lent.items ≡ items.now) }
+{
+    let mut lent = Vec::with_capacity(alloc, items.len())?;
+    for item in items {
+        lent.push(item)?;
+    }
+    Ok(lent)
+}
+
+/// The items in rising order. Items of the same text keep their order.
+pub fn rising<T: Ranked>(alloc: Global, items: &[T]) -> Result<Vec<&T>, NoMemory>
+    ensures { IfOk result (λ sorted. map (λ x. x.now) sorted.items ≡ rising_by T.text items.now) }
+{
+    let mut sorted = lent(alloc, items)?;
+    sorted.sort_by(|a, b| compare(*a, *b))?;
+    Ok(sorted)
+}
