@@ -1,8 +1,13 @@
 -- How a history grows by a release that is given.
 use Rattle.std.proofs.Common.{◌≡◌, ℕ, List, [], ◌∷◌, ◌++◌, Option, None, Some, Result, Ok, Err, IfSome, IsErrOf, refl, sym, ap, ◌∙◌, subst}
 use Rattle.std.proofs.lemmas.List.{map-append}
+use Rattle.admission.specs.Differences.{difference}
+use Rattle.admission.specs.Rules.{first_refusing}
+use Rattle.admission.specs.declared.delta.Delta.{Delta}
+use Rattle.admission.specs.declared.rules.Chosen.{Chosen}
 use Rattle.td_base.specs.Views.{File, StoreView}
 use Rattle.catalogue.proofs.lemmas.Growing.{last_added}
+use Rattle.catalogue.specs.Histories.{Fits}
 use Rattle.catalogue.specs.Holdings.{StandsFor, release_held, history_of}
 use Rattle.catalogue.specs.Releases.{ReleaseData, release_data}
 use Rattle.catalogue.specs.declared.holding.Catalogue.{Catalogue}
@@ -13,7 +18,8 @@ use Rattle.release_check.specs.Before.{Before, ForEachBefore, before_of}
 use Rattle.release_check.specs.Found.{FindsIn}
 use Rattle.release_check.specs.declared.check_fault.CheckFault.{CheckFault}
 use Rattle.release_check.specs.declared.check_fault.CheckFault.TheVariants as check
-use Rattle.installer.specs.Installing.{GrowsBy, InstallsBy}
+use Rattle.installer.specs.Installing.{GrowsBy, InstallsBy, IsPolicyOf, refusal}
+use Rattle.installer.proofs.lemmas.Refusals.{none_refuses, refusal_is}
 use Rattle.installer.specs.declared.install_fault.InstallFault.{InstallFault}
 use Rattle.installer.specs.declared.install_fault.InstallFault.TheVariants as fault
 
@@ -35,31 +41,70 @@ same_last c H r s = let e : Some r ≡ Some (held c) = sym (last_added None H r)
 pub stands_held : (c : Catalogue (List ℕ)) (H : List ReleaseData) (r : ReleaseData) → Stands c (H ++ r ∷ []) → Stands c (H ++ held c ∷ [])
 stands_held c H r s = subst (λ x. Stands c (H ++ x ∷ [])) (same_last c H r s) s
 
+pub allowed_held : (c : Catalogue (List ℕ)) (H : List ReleaseData) (r : ReleaseData) (rules : List Chosen) → Stands c (H ++ r ∷ [])
+    → refusal rules H r ≡ None → refusal rules H (held c) ≡ None
+allowed_held c H r rules s allowed = subst (λ x. refusal rules H x ≡ None) (same_last c H r s) allowed
+
+-- ---- what rules say after the history that a catalogue stands for
+
+pub asked : (c : Catalogue (List ℕ)) (H : List ReleaseData) (r : ReleaseData) (rules : List Chosen) (delta : Delta) (answer : Option ℕ) → Stands c H
+    → delta ≡ difference H r → answer ≡ first_refusing rules delta → refusal rules H r ≡ answer
+asked c H r rules delta answer s is e = refusal_is rules H r (held c) s.last ∙ ap (first_refusing rules) (sym is) ∙ sym e
+
+pub not_asked : (rules : List Chosen) (H : List ReleaseData) (r : ReleaseData) → rules ≡ [] → refusal rules H r ≡ None
+not_asked rules H r e = ap (λ xs. refusal xs H r) e ∙ none_refuses H r
+
 -- ---- an install
 
-pub grew : (gives : List File → Before → Result ReleaseData CheckFault → Type 0) (old new : StoreView) (c : Catalogue (List ℕ)) (H : List ReleaseData)
-    (r : Release (List ℕ)) (next : Catalogue (List ℕ)) → Stands c H
+pub grew : (gives : List File → Before → Result ReleaseData CheckFault → Type 0) (rules : List Chosen) (old new : StoreView) (c : Catalogue (List ℕ))
+    (H : List ReleaseData) (r : Release (List ℕ)) (next : Catalogue (List ℕ)) → Stands c H
     → FindsIn {T = Release (List ℕ)} old new (Ok r) (λ files. ForEachBefore (Some c) (λ G. gives files (before_of G) (Ok (release_data zone_bytes r))))
+    → refusal rules H (release_data zone_bytes r) ≡ None
     → Stands next (H ++ release_data zone_bytes r ∷ [])
-    → InstallsBy gives old new H (λ c'. H ++ held c' ∷ []) (Ok next)
-grew gives old new c H r next s f n = record {
+    → InstallsBy gives rules old new H (λ c'. H ++ held c' ∷ []) (Ok next)
+grew gives rules old new c H r next s f allowed n = record {
   later = f.later;
   told = some_map old.files (λ files t. (
     release_data zone_bytes r,
     t H s,
+    allowed,
     ap (λ x. H ++ x ∷ []) (sym (same_last next H (release_data zone_bytes r) n)),
   )) f.told;
+  policy = λ k e. absurd (cc e);
   failed = λ e. absurd (cc e);
   memory = λ e. cc e;
 }
 
+-- a release that a rule refuses, or of which it was not found out
+pub not_grew : {A : Type 0} (gives : List File → Before → Result ReleaseData CheckFault → Type 0) (rules : List Chosen) (old new : StoreView)
+    (c : Catalogue (List ℕ)) (H : List ReleaseData) (f : A → List ReleaseData) (r : Release (List ℕ)) (e : InstallFault) → Stands c H
+    → FindsIn {T = Release (List ℕ)} old new (Ok r) (λ files. ForEachBefore (Some c) (λ G. gives files (before_of G) (Ok (release_data zone_bytes r))))
+    → IsSound (release_data zone_bytes r) → Fits H (release_data zone_bytes r) → IsPolicyOf rules H (release_data zone_bytes r) e
+    → InstallsBy {A = A} gives rules old new H f (Err e)
+not_grew gives rules old new c H f r fault.NoMemory s found sound fits why = record {
+  later = found.later;
+  told = some_map old.files (λ files t. tt) found.told;
+  policy = λ k h. absurd (cc h);
+  failed = λ h. absurd (cc h);
+  memory = λ h. absurd (cc h);
+}
+not_grew gives rules old new c H f r (fault.Check x) s found sound fits why = absurd why
+not_grew gives rules old new c H f r (fault.Policy k) s found sound fits why = record {
+  later = found.later;
+  told = some_map old.files (λ files t. (release_data zone_bytes r, t H s, why)) found.told;
+  policy = λ j h. let same : k ≡ j = cc h in record { release = release_data zone_bytes r; sound = sound; fits = fits; refused = why ∙ ap Some same };
+  failed = λ h. absurd (cc h);
+  memory = λ h. absurd (cc h);
+}
+
 -- the same install, seen by another value
-pub seen_as : {A B : Type 0} (gives : List File → Before → Result ReleaseData CheckFault → Type 0) (old new : StoreView) (H : List ReleaseData)
-    (f : A → List ReleaseData) (g : B → List ReleaseData) (a : A) (b : B)
-    → InstallsBy gives old new H f (Ok a) → g b ≡ f a → InstallsBy gives old new H g (Ok b)
-seen_as gives old new H f g a b p e = record {
+pub seen_as : {A B : Type 0} (gives : List File → Before → Result ReleaseData CheckFault → Type 0) (rules : List Chosen) (old new : StoreView)
+    (H : List ReleaseData) (f : A → List ReleaseData) (g : B → List ReleaseData) (a : A) (b : B)
+    → InstallsBy gives rules old new H f (Ok a) → g b ≡ f a → InstallsBy gives rules old new H g (Ok b)
+seen_as gives rules old new H f g a b p e = record {
   later = p.later;
-  told = some_map old.files (λ files t. (t.0, t.1, e ∙ t.2)) p.told;
+  told = some_map old.files (λ files t. (t.0, t.1, t.2, e ∙ t.3)) p.told;
+  policy = λ k h. absurd (cc h);
   failed = λ h. absurd (cc h);
   memory = λ h. cc h;
 }
@@ -69,12 +114,13 @@ err_as : {A B : Type 0} (e x : InstallFault) → IsErrOf {T = A} (Err e) x → I
 err_as e x h = let same : e ≡ x = cc in ap Err same
 
 -- the same refusal
-pub refused_as : {A B : Type 0} (gives : List File → Before → Result ReleaseData CheckFault → Type 0) (old new : StoreView) (H : List ReleaseData)
-    (f : A → List ReleaseData) (g : B → List ReleaseData) (e : InstallFault)
-    → InstallsBy {A = A} gives old new H f (Err e) → InstallsBy {A = B} gives old new H g (Err e)
-refused_as {A = A} {B = B} gives old new H f g e p = record {
+pub refused_as : {A B : Type 0} (gives : List File → Before → Result ReleaseData CheckFault → Type 0) (rules : List Chosen) (old new : StoreView)
+    (H : List ReleaseData) (f : A → List ReleaseData) (g : B → List ReleaseData) (e : InstallFault)
+    → InstallsBy {A = A} gives rules old new H f (Err e) → InstallsBy {A = B} gives rules old new H g (Err e)
+refused_as {A = A} {B = B} gives rules old new H f g e p = record {
   later = p.later;
   told = some_map old.files (λ files t. t) p.told;
+  policy = λ k h. p.policy k (err_as {A = B} {B = A} e (fault.Policy k) h);
   failed = λ h. p.failed (err_as {A = B} {B = A} e (fault.Check check.ReadFault) h);
   memory = λ h. p.memory (err_as {A = B} {B = A} e (fault.Check check.NoMemory) h);
 }
@@ -88,7 +134,8 @@ pub published_stands : (list : List (Catalogue (List ℕ))) (c : Catalogue (List
     → Stands c (history_of (list ++ c ∷ []))
 published_stands list c s = subst (Stands c) (sym (history_more list c)) s
 
-pub grows : (c : Catalogue (List ℕ)) (H now : List ReleaseData) → Stands c (H ++ held c ∷ []) → now ≡ H ++ held c ∷ [] → GrowsBy H now
-grows c H now s e =
+pub grows : (rules : List Chosen) (c : Catalogue (List ℕ)) (H now : List ReleaseData) → Stands c (H ++ held c ∷ []) → refusal rules H (held c) ≡ None
+    → now ≡ H ++ held c ∷ [] → GrowsBy rules H now
+grows rules c H now s allowed e =
     let is = s.history H (held c) [] refl in
-    record { release = held c; now_is = e; sound = is.is_sound; fits = is.fits }
+    record { release = held c; now_is = e; sound = is.is_sound; fits = is.fits; allowed = allowed }

@@ -1,4 +1,5 @@
 pub mod Given
 pub mod InstallLemmas
+pub mod lemmas
 pub mod Stated
 pub mod Whether

@@ -4,7 +4,9 @@ ghost use Rattle.zone_meaning.specs.Sound.{IsSound};
 ghost use Rattle.zone_meaning.specs.ZoneHistories.{ForEachZoneHistory, zone_bytes};
 ghost use Rattle.installer.specs.Installing.{Installs, InstallsStated};
 
+use crate::admitting::{admitted_in, admitted_stated};
 use crate::install_fault::InstallFault;
+use admission::Rules;
 use catalogue::Catalogue;
 use release_check::{check, examine};
 use release_manifest::Manifest;
@@ -18,7 +20,7 @@ pub fn first_in<S: Store>(
     dir: &[u8],
     store: &mut S,
 ) -> Result<Catalogue<Zone>, InstallFault>
-    ensures found { Installs (S.seen store.old) (S.seen store.new) dir.now []
+    ensures found { Installs (S.seen store.old) (S.seen store.new) dir.now [] []
         (λ c. release_held zone_bytes c ∷ []) result }
     ensures stands { IfOk result (λ c.
         StandsFor zone_bytes IsSound c (release_held zone_bytes c ∷ [])) }
@@ -36,14 +38,12 @@ pub fn next_in<S: Store>(
     last: &Catalogue<Zone>,
 ) -> Result<Catalogue<Zone>, InstallFault>
     ensures found { ForEachZoneHistory last.now (λ H.
-        Installs (S.seen store.old) (S.seen store.new) dir.now H
+        Installs (S.seen store.old) (S.seen store.new) dir.now [] H
         (λ c. H ++ release_held zone_bytes c ∷ []) result) }
     ensures stands { IfOk result (λ c. ForEachZoneHistory last.now (λ H.
         StandsFor zone_bytes IsSound c (H ++ release_held zone_bytes c ∷ []))) }
 {
-    let release = check(alloc, dir, store, Some(last))?;
-    let catalogue = last.next(alloc, release)?;
-    Ok(catalogue)
+    admitted_in(alloc, dir, store, last, &Rules::none(alloc))
 }
 
 /// The catalogue of a history that begins with the release of a manifest, whose files stand in the
@@ -53,7 +53,7 @@ pub fn first_stated<S: Store>(
     manifest: &Manifest,
     store: &mut S,
 ) -> Result<Catalogue<Zone>, InstallFault>
-    ensures found { InstallsStated (S.seen store.old) (S.seen store.new) manifest.now []
+    ensures found { InstallsStated (S.seen store.old) (S.seen store.new) manifest.now [] []
         (λ c. release_held zone_bytes c ∷ []) result }
     ensures stands { IfOk result (λ c.
         StandsFor zone_bytes IsSound c (release_held zone_bytes c ∷ [])) }
@@ -71,12 +71,10 @@ pub fn next_stated<S: Store>(
     last: &Catalogue<Zone>,
 ) -> Result<Catalogue<Zone>, InstallFault>
     ensures found { ForEachZoneHistory last.now (λ H.
-        InstallsStated (S.seen store.old) (S.seen store.new) manifest.now H
+        InstallsStated (S.seen store.old) (S.seen store.new) manifest.now [] H
         (λ c. H ++ release_held zone_bytes c ∷ []) result) }
     ensures stands { IfOk result (λ c. ForEachZoneHistory last.now (λ H.
         StandsFor zone_bytes IsSound c (H ++ release_held zone_bytes c ∷ []))) }
 {
-    let release = examine(alloc, manifest, b"", store, Some(last))?;
-    let catalogue = last.next(alloc, release)?;
-    Ok(catalogue)
+    admitted_stated(alloc, manifest, store, last, &Rules::none(alloc))
 }

@@ -1,4 +1,5 @@
 ghost use Rattle.std.specs.Prelude.{◌≡◌, ◌++◌, OnErr, OnOk};
+ghost use Rattle.installer.specs.FaultText.{shown_text};
 
 use release_check::CheckFault;
 use std::alloc::Global;
@@ -12,6 +13,9 @@ pub enum InstallFault {
     NoMemory,
     /// The folder is refused, or the store failed.
     Check(CheckFault),
+    /// The folder gives a release that the chosen rule at this position, counted from 1, is the
+    /// first to refuse.
+    Policy(u32),
 }
 
 impl From<NoMemory> for InstallFault {
@@ -49,6 +53,7 @@ impl fmt::Display for InstallFault {
         match self {
             InstallFault::NoMemory => write!(f, "0 NoMemory"),
             InstallFault::Check(fault) => write!(f, "{fault}"),
+            InstallFault::Policy(rule) => write!(f, "17 Policy {rule}"),
         }
     }
 }
@@ -58,7 +63,7 @@ impl Error for InstallFault {}
 impl InstallFault {
     ghost use Rattle.installer.specs.FaultText.{fault_text};
 
-    /// Appends the fault as it is printed, which is that of the folder. Where memory runs out
+    /// Appends the fault as it is printed. Where memory runs out
     /// nothing is appended.
     pub fn put(&self, alloc: Global, out: &mut Bytes) -> Result<(), NoMemory>
         ensures ok { OnOk result (out.new ≡ out.old ++ fault_text self.now) }
@@ -67,6 +72,16 @@ impl InstallFault {
         match self {
             InstallFault::NoMemory => out.append(b"0 NoMemory"),
             InstallFault::Check(fault) => fault.put(alloc, out),
+            InstallFault::Policy(_) => put_shown(alloc, out, self),
         }
     }
+}
+
+/// Appends the text of a fault that has no name and no path.
+fn put_shown(alloc: Global, out: &mut Bytes, fault: &InstallFault) -> Result<(), NoMemory>
+    ensures ok { OnOk result (out.new ≡ out.old ++ shown_text fault.now) }
+    ensures err { OnErr result (out.new ≡ out.old) }
+{
+    let text = fault.to_string(alloc)?;
+    out.append(text.as_bytes())
 }

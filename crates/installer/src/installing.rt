@@ -9,9 +9,11 @@ ghost use Rattle.zone_meaning.specs.ZoneHistories.{zone_bytes};
 ghost use Rattle.installer.specs.Installing.{GrowsBy, Installs, InstallsStated};
 ghost use Rattle.installer.specs.Serving.{FindsWhether, IsServed};
 
-use crate::growing::{first_in, first_stated, next_in, next_stated};
+use crate::admitting::{admitted_in, admitted_stated};
+use crate::growing::{first_in, first_stated};
 use crate::install_fault::InstallFault;
 use crate::serving::is_stated;
+use admission::Rules;
 use catalogue::Catalogue;
 use publication::{Desk, Ended, Publisher, Receipt, make};
 use release_manifest::Manifest;
@@ -42,8 +44,8 @@ impl Model for Installer {
 }
 
 impl Installer {
-    /// Publishes the release of a first folder, for so many desks. An empty `dir` stands for the
-    /// store's own top. Nothing is published after a fault.
+    /// Publishes the release of a first folder, for so many desks. No rule is asked of it. An empty
+    /// `dir` stands for the store's own top. Nothing is published after a fault.
     pub fn open<R: Wait, S: Store>(
         rt: &R,
         alloc: Global,
@@ -52,9 +54,9 @@ impl Installer {
         desks: u32,
     ) -> Result<(Installer, Vec<Desk<Catalogue<Zone>>>), InstallFault>
         requires { 0 < desks }
-        ensures found { Installs (S.seen store.old) (S.seen store.new) dir.now []
+        ensures found { Installs (S.seen store.old) (S.seen store.new) dir.now [] []
             (λ p. history_of p.0.list) result }
-        ensures grown { IfOk result (λ p. GrowsBy [] (history_of p.0.list)) }
+        ensures grown { IfOk result (λ p. GrowsBy [] [] (history_of p.0.list)) }
         ensures free { IfOk result (λ p. p.0.stuck ≡ false) }
         ensures number { IfOk result (λ p. length p.1.items ≡ desks) }
         ensures each { IfOk result (λ p. All (IsNewDesk p.0.pair p.0.list false) p.1.items) }
@@ -73,9 +75,9 @@ impl Installer {
         desks: u32,
     ) -> Result<(Installer, Vec<Desk<Catalogue<Zone>>>), InstallFault>
         requires { 0 < desks }
-        ensures found { InstallsStated (S.seen store.old) (S.seen store.new) manifest.now []
+        ensures found { InstallsStated (S.seen store.old) (S.seen store.new) manifest.now [] []
             (λ p. history_of p.0.list) result }
-        ensures grown { IfOk result (λ p. GrowsBy [] (history_of p.0.list)) }
+        ensures grown { IfOk result (λ p. GrowsBy [] [] (history_of p.0.list)) }
         ensures free { IfOk result (λ p. p.0.stuck ≡ false) }
         ensures number { IfOk result (λ p. length p.1.items ≡ desks) }
         ensures each { IfOk result (λ p. All (IsNewDesk p.0.pair p.0.list false) p.1.items) }
@@ -86,19 +88,22 @@ impl Installer {
     }
 
     /// Publishes the release of one more folder, where the folder gives one after the history so
-    /// far. The next catalogue is made before the publish, which is the last that may be refused,
-    /// for want of memory alone. Where the publish is refused at its last step, the installer is
-    /// stuck: no later release is published. It may wait for desks that are entering.
+    /// far and no rule refuses it. The rules are asked before the next catalogue is made, and this
+    /// before the publish, which is the last that may be refused, for want of memory alone. Where
+    /// the publish is refused at its last step, the installer is stuck: no later release is
+    /// published. It may wait for desks that are entering.
     pub fn install<R: Wait, S: Store>(
         &mut self,
         rt: &R,
         alloc: Global,
         dir: &[u8],
         store: &mut S,
+        rules: &Rules<'_>,
     ) -> Result<Receipt<Catalogue<Zone>>, InstallFault>
         ensures found { Installs (S.seen store.old) (S.seen store.new) dir.now
-            (history_of self.old.list) (λ r. history_of r.list) result }
-        ensures grown { IfOk result (λ r. GrowsBy (history_of self.old.list) (history_of r.list)) }
+            rules.now.chosen (history_of self.old.list) (λ r. history_of r.list) result }
+        ensures grown { IfOk result (λ r. GrowsBy rules.now.chosen (history_of self.old.list)
+            (history_of r.list)) }
         ensures longer { IfOk result (λ r. IsPrefix self.old.list r.list) }
         ensures receipt { IfOk result (λ r. (r.pair ≡ self.old.pair) × (r.list ≡ self.new.list)
             × (r.ended ≡ false)) }
@@ -108,7 +113,7 @@ impl Installer {
         ensures blocked { self.old.stuck ≡ true → IsErr result }
     {
         let last = self.publisher.last();
-        let catalogue = next_in(alloc, dir, store, last)?;
+        let catalogue = admitted_in(alloc, dir, store, last, rules)?;
         let receipt = self.publish(rt, catalogue)?;
         Ok(receipt)
     }
@@ -120,10 +125,12 @@ impl Installer {
         alloc: Global,
         manifest: &Manifest,
         store: &mut S,
+        rules: &Rules<'_>,
     ) -> Result<Receipt<Catalogue<Zone>>, InstallFault>
         ensures found { InstallsStated (S.seen store.old) (S.seen store.new) manifest.now
-            (history_of self.old.list) (λ r. history_of r.list) result }
-        ensures grown { IfOk result (λ r. GrowsBy (history_of self.old.list) (history_of r.list)) }
+            rules.now.chosen (history_of self.old.list) (λ r. history_of r.list) result }
+        ensures grown { IfOk result (λ r. GrowsBy rules.now.chosen (history_of self.old.list)
+            (history_of r.list)) }
         ensures longer { IfOk result (λ r. IsPrefix self.old.list r.list) }
         ensures receipt { IfOk result (λ r. (r.pair ≡ self.old.pair) × (r.list ≡ self.new.list)
             × (r.ended ≡ false)) }
@@ -133,7 +140,7 @@ impl Installer {
         ensures blocked { self.old.stuck ≡ true → IsErr result }
     {
         let last = self.publisher.last();
-        let catalogue = next_stated(alloc, manifest, store, last)?;
+        let catalogue = admitted_stated(alloc, manifest, store, last, rules)?;
         let receipt = self.publish(rt, catalogue)?;
         Ok(receipt)
     }
@@ -170,6 +177,14 @@ impl Installer {
             (λ files. IsServed files manifest.now (history_of self.now.list)) result }
     {
         is_stated(alloc, manifest, store, self.last())
+    }
+
+    /// A receipt of all that was published so far. It takes no memory, and is refused where the
+    /// last catalogue has too many owners.
+    pub fn receipt(&self) -> Result<Receipt<Catalogue<Zone>>, NoMemory>
+        ensures { IfOk result (λ r. (r.list ≡ self.now.list) × (r.pair ≡ self.now.pair)) }
+    {
+        self.publisher.receipt()
     }
 
     /// The catalogue published last, which stands for the whole history.

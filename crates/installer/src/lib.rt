@@ -16,7 +16,8 @@
 mod install_fault;
 mod installing;
 
-// The catalogues that they publish.
+// The catalogues that they publish, and what is asked before.
+mod admitting;
 mod growing;
 
 // Whether a release is published already.

@@ -12,7 +12,7 @@ pub returns-clause-found : goal.returns-clause-found
 returns-clause-found g c =
     let listed = rw (← c.self.view_is) at c.in_ok-receipt.ensures.ok.0 in
     rw (← c.self.view_is)
-    (seen_as (λ files. FolderGives files c.args.dir.now) _ _ (history_of c.self.inside.publisher.list) _ _ c.in_ok-catalogue.catalogue _
+    (seen_as (λ files. FolderGives files c.args.dir.now) c.args.rules.now.chosen _ _ (history_of c.self.inside.publisher.list) _ _ c.in_ok-catalogue.catalogue _
     (c.in_ok-catalogue.ensures.found (history_of c.self.inside.publisher.list) c.last-last.ensures.stands)
     (ap history_of listed ∙ history_more c.self.inside.publisher.list c.in_ok-catalogue.catalogue))
 
@@ -20,8 +20,9 @@ pub returns-clause-grown : goal.returns-clause-grown
 returns-clause-grown g c =
     let listed = rw (← c.self.view_is) at c.in_ok-receipt.ensures.ok.0 in
     rw (← c.self.view_is)
-    (grows c.in_ok-catalogue.catalogue (history_of c.self.inside.publisher.list) _
+    (grows c.args.rules.now.chosen c.in_ok-catalogue.catalogue (history_of c.self.inside.publisher.list) _
     (c.in_ok-catalogue.ensures.stands (history_of c.self.inside.publisher.list) c.last-last.ensures.stands)
+    (c.in_ok-catalogue.ensures.allowed (history_of c.self.inside.publisher.list) c.last-last.ensures.stands)
     (ap history_of listed ∙ history_more c.self.inside.publisher.list c.in_ok-catalogue.catalogue))
 
 pub returns-clause-longer : goal.returns-clause-longer

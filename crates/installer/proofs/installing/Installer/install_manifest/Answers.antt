@@ -13,14 +13,14 @@ pub returns-in_err-catalogue-clause-found : goal.returns-in_err-catalogue-clause
 returns-in_err-catalogue-clause-found g c =
     let p = err_from_is_err_and c.from_residual.result c.from_residual.ensures.1 in
     rw (p.1, p.2) (rw (← c.self.view_is)
-    (refused_as (ManifestGives c.args.manifest.now) _ _ (history_of c.self.inside.publisher.list) _ _ _
+    (refused_as (ManifestGives c.args.manifest.now) c.args.rules.now.chosen _ _ (history_of c.self.inside.publisher.list) _ _ _
     (c.in_err-catalogue.ensures.found (history_of c.self.inside.publisher.list) c.last-last.ensures.stands)))
 
 pub returns-clause-found : goal.returns-clause-found
 returns-clause-found g c =
     let listed = rw (← c.self.view_is) at c.in_ok-receipt.ensures.ok.0 in
     rw (← c.self.view_is)
-    (seen_as (ManifestGives c.args.manifest.now) _ _ (history_of c.self.inside.publisher.list) _ _ c.in_ok-catalogue.catalogue _
+    (seen_as (ManifestGives c.args.manifest.now) c.args.rules.now.chosen _ _ (history_of c.self.inside.publisher.list) _ _ c.in_ok-catalogue.catalogue _
     (c.in_ok-catalogue.ensures.found (history_of c.self.inside.publisher.list) c.last-last.ensures.stands)
     (ap history_of listed ∙ history_more c.self.inside.publisher.list c.in_ok-catalogue.catalogue))
 
@@ -28,8 +28,9 @@ pub returns-clause-grown : goal.returns-clause-grown
 returns-clause-grown g c =
     let listed = rw (← c.self.view_is) at c.in_ok-receipt.ensures.ok.0 in
     rw (← c.self.view_is)
-    (grows c.in_ok-catalogue.catalogue (history_of c.self.inside.publisher.list) _
+    (grows c.args.rules.now.chosen c.in_ok-catalogue.catalogue (history_of c.self.inside.publisher.list) _
     (c.in_ok-catalogue.ensures.stands (history_of c.self.inside.publisher.list) c.last-last.ensures.stands)
+    (c.in_ok-catalogue.ensures.allowed (history_of c.self.inside.publisher.list) c.last-last.ensures.stands)
     (ap history_of listed ∙ history_more c.self.inside.publisher.list c.in_ok-catalogue.catalogue))
 
 pub returns-clause-longer : goal.returns-clause-longer

@@ -1,9 +1,0 @@
-use Rattle.release_check.specs.Folder.{FolderGives}
-use Rattle.installer.proofs.InstallLemmas.{grew, stands_held}
-use Rattle.installer.proofs.growing.next_in.Goals as goal
-
-pub returns-clause-found : goal.returns-clause-found
-returns-clause-found g c = λ H s. grew (λ files. FolderGives files c.args.dir.now) _ _ _ H _ _ s c.in_ok-release.ensures.found (c.in_ok-catalogue.ensures H s)
-
-pub returns-clause-stands : goal.returns-clause-stands
-returns-clause-stands g c = λ H s. stands_held _ H _ (c.in_ok-catalogue.ensures H s)
