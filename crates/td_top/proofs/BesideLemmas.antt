@@ -1,5 +1,5 @@
 -- What serving doors beside a talk comes to, by how the pool of workers ended.
-use Rattle.std.proofs.Common.{◌≡◌, ℕ, ◌≤◌, List, [], map, inl, inr, All, Some, refl, sym, subst}
+use Rattle.std.proofs.Common.{◌≡◌, ℕ, ◌≤◌, List, [], length, map, inl, inr, All, Some, refl, sym, subst}
 use Rattle.std.specs.List.{list_any}
 use Rattle.td_base.specs.Views.{Rose}
 use Rattle.td_base.specs.DoorViews.{DoorView, NetworkView}
@@ -19,6 +19,7 @@ use Rattle.td_top.specs.declared.status.Status.{Status}
 use Rattle.td_top.specs.declared.status.Status.TheVariants as status
 use Rattle.td_top.specs.declared.talking.TalkEnd.{TalkEnd}
 use Rattle.td_top.proofs.RunLemmas.{console_refl, given_up}
+use Rattle.catalogue.proofs.lemmas.HistoryLemmas.{history_length}
 use Rattle.td_top.proofs.ServerLemmas.{Does, all_served, came, comes_later, operated, same_pairs}
 
 module _ {D : Type 0} (seen : D → DoorView) where
@@ -64,16 +65,19 @@ module _ {D C : Type 0} (seen : D → DoorView) where
   concluded : (server : Role) (address : List ℕ) (workers : ℕ) (given : List DoorView) (asked n : NetworkView) (r q : ℕ) (before now : Scene) (ended : TalkEnd)
       (works : List WorkView) (dones : List (DoorDone D C)) (doors : List D) (is : Status)
       → LaterSite (site before.console asked r) (site now.console n q) → OpensDoors asked n address workers given
-      → AreWorks server before.session.installer.pair given works → DoesEach (Does seen) works dones
+      → AreWorks server before.session.installer.pair (length before.session.installer.list) given works → DoesEach (Does seen) works dones
       → Talked before now ended → Concludes now.session dones ended doors is
       → ServesOpened server address workers (history_of before.session.installer.list) (site before.console asked r) (site now.console n q) (map seen doors) is
   concluded server address workers given asked n r q before now ended works dones doors is later opens are does talked (inl learnt) =
       let opening = history_of before.session.installer.list in
       let list = now.session.installer.list in
       let worn = list_any (λ d. d.worn) dones in
-      let all : ServesDoors server (history_of list) given (map seen doors) worn =
-      subst (λ ds. ServesDoors server (history_of list) given (map seen ds) worn) (sym learnt.workers.doors_are)
-      (all_served seen server list before.session.installer.pair given works dones are learnt.workers.seen does) in
+      let served_so = all_served seen server (length before.session.installer.list) list before.session.installer.pair given works dones are
+      learnt.workers.seen does in
+      let all : ServesDoors server (length opening) (history_of list) given (map seen doors) worn =
+      subst (λ n. ServesDoors server n (history_of list) given (map seen doors) worn) (sym (history_length before.session.installer.list))
+      (subst (λ ds. ServesDoors server (length before.session.installer.list) (history_of list) given (map seen ds) worn) (sym learnt.workers.doors_are)
+      served_so) in
       record {
         later = later;
         history = history_of list;
@@ -106,4 +110,4 @@ module _ {D C : Type 0} (seen : D → DoorView) where
   pairs_now before mid now works dones ran halted has does =
       subst (λ p. All (λ d. d.desk.pair ≡ p) dones)
       (sym (comes_later before.scene now.scene now.end (came before mid now ran halted).0).session.installer)
-      (same_pairs seen has.0 before.scene.session.installer.pair has.1 works dones has.2 does)
+      (same_pairs seen has.0 before.scene.session.installer.pair has.1 has.2 works dones has.3 does)

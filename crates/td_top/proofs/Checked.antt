@@ -23,7 +23,7 @@ use Rattle.zone_meaning.specs.Sound.{IsSound}
 use Rattle.zone_meaning.specs.ZoneHistories.{HasZoneHistory}
 use Rattle.td_top.specs.Checking.{Checks, all, refused, cut, unread, out_of_memory}
 use Rattle.td_top.specs.Tells.{ChecksFolders}
-use Rattle.td_top.specs.Folders.{FoldersBegin, FoldersGive, GivesAfter, IsOfFiles, none, more}
+use Rattle.td_top.specs.Folders.{FoldersBegin, FoldersGive, GivesAfter, IsRefusal, none, more}
 use Rattle.td_top.specs.Checking.{ok_line, ok_lines, ok_lines_after}
 use Rattle.td_top.specs.Printing.{refused_line}
 use Rattle.td_top.specs.Outside.{outside}
@@ -33,7 +33,7 @@ use Rattle.td_top.specs.CheckingSteps.{grown}
 use Rattle.td_top.specs.Tells.{EndsLater, TellsRefused, RefusesInstall}
 use Rattle.td_top.specs.declared.status.Status.{Status}
 use Rattle.td_top.specs.declared.status.Status.TheVariants as status
-use Rattle.td_top.proofs.Installing.{gives_fault, kept_gives, parted, stops_here, taken_more}
+use Rattle.td_top.proofs.Installing.{gives_fault, kept_gives, no_refusal, parted, stops_here, taken_more}
 
 -- ---- lines
 
@@ -85,7 +85,7 @@ some_history (Some c) h = h
 -- the release that was told
 pub comes_told : (H : List ReleaseData) (dir : List ℕ) (s t : StoreView) (old new : SinkView) (c : Catalogue (List ℕ))
     (result : Result (Catalogue (List ℕ)) Status) → LaterStore s t → StandsFor (λ file. file) IsSound c (grown H c)
-    → GivesAfter s.files H dir (Ok (release_held (λ file. file) c)) → TellsRelease c old new result → ChecksNext H dir s t old new result
+    → GivesAfter s.files [] H dir (Ok (release_held (λ file. file) c)) → TellsRelease c old new result → ChecksNext H dir s t old new result
 comes_told H dir s t old new c (Ok next) store stands give h = record {
   store = store;
   output = writes_all_later old new (ok_line (grown H c)) written.Whole (h.1 (grown H c) stands);
@@ -115,29 +115,31 @@ left old new e = subst (λ (v : SinkView). LaterSink old v) (sym e) (sink_refl o
 
 -- the line of a fault
 told_refused : (H : List ReleaseData) (dir : List ℕ) (s t : StoreView) (old new : SinkView) (f : InstallFault) (end : Status) → LaterStore s t
-    → IsOfFiles f → GivesAfter s.files H dir (Err f) → Printed status.Refused (refused_line (fault_text f)) old new end
+    → IsRefusal f → GivesAfter s.files [] H dir (Err f) → Printed status.Refused (refused_line (fault_text f)) old new end
     → ChecksNext H dir s t old new (Err end)
 told_refused H dir s t old new f status.Refused store of give h = record {
   store = store;
   output = prints_later old new (refused_line (fault_text f)) h;
-  comes = record { why = f; of_files = of; gives = give; line = h };
+  comes = record { why = f; is_refusal = of; gives = give; line = h };
 }
 told_refused H dir s t old new f end store of give h = absurd h
 
 refused_by : (H : List ReleaseData) (dir : List ℕ) (s t : StoreView) (old new : SinkView) (f : InstallFault) (end : Status) → LaterStore s t
-    → IsOfFiles f → GivesAfter s.files H dir (Err f) → TellsRefused (fault_text f) old new end
+    → IsRefusal f → GivesAfter s.files [] H dir (Err f) → TellsRefused (fault_text f) old new end
     → ChecksNext H dir s t old new (Err end)
 refused_by H dir s t old new f end store of give (inl h) = told_refused H dir s t old new f end store of give h
 refused_by H dir s t old new f end store of give (inr h) = ended H dir s t old new status.NoMemory end h.0 store (left old new h.1) h.1
 
 pub comes_refused : {A : Type 0} (H : List ReleaseData) (dir : List ℕ) (s t : StoreView) (old new : SinkView) (history : A → List ReleaseData)
-    (e : InstallFault) (end : Status) → Installs s t dir H history (Err e) → RefusesInstall e old new end → ChecksNext H dir s t old new (Err end)
+    (e : InstallFault) (end : Status) → Installs {A = A} s t dir [] H history (Err e) → RefusesInstall e old new end → ChecksNext H dir s t old new (Err end)
 comes_refused H dir s t old new history install.NoMemory end h r = ended H dir s t old new status.NoMemory end r.0 h.later (left old new r.1) r.1
 comes_refused H dir s t old new history (install.Check fault.NoMemory) end h r = absurd (h.memory refl)
 comes_refused H dir s t old new history (install.Check fault.ReadFault) end h r =
     ended H dir s t old new status.NotRead end r.0 h.later (left old new r.1) (h.failed refl, r.1)
 comes_refused H dir s t old new history (install.Check f) end h r =
-    refused_by H dir s t old new (install.Check f) end h.later ((λ e. cc), (λ e. cc)) (gives_fault s t dir H history (install.Check f) h) r
+    refused_by H dir s t old new (install.Check f) end h.later ((λ e. cc), (λ e. cc)) (gives_fault s t dir [] H history (install.Check f) h) r
+comes_refused H dir s t old new history (install.Policy k) end h r =
+    let barred = h.policy k refl in absurd (cc (sym (no_refusal H barred.release) ∙ barred.refused))
 
 -- ---- all folders
 
@@ -155,12 +157,12 @@ pub checked_more : (dirs : List (List ℕ)) (i : ℕ) (d : List ℕ) (last : Opt
     → ChecksNext so.history d t u middle new (Ok next) → IsCheckedTo (take (i + 1) dirs) (Some next) s u old new
 checked_more dirs i d last next s t u old middle new less is so h =
     let r : ReleaseData = release_held (λ file. file) next in
-    let give : FoldersGive s.files (take i dirs ++ d ∷ []) (so.history ++ r ∷ []) =
-    more (take i dirs) so.history d r so.give (kept_gives s t so.history d (Ok r) so.store h.comes.gives) in
+    let give : FoldersGive s.files [] (take i dirs ++ d ∷ []) (so.history ++ r ∷ []) =
+    more (take i dirs) so.history d r so.give (kept_gives s t [] so.history d (Ok r) so.store h.comes.gives) in
     record {
       history = grown so.history next;
       stands = h.comes.stands;
-      give = subst (λ (front : List (List ℕ)). FoldersGive s.files front (so.history ++ r ∷ [])) (sym (taken_more dirs i d less is)) give;
+      give = subst (λ (front : List (List ℕ)). FoldersGive s.files [] front (so.history ++ r ∷ [])) (sym (taken_more dirs i d less is)) give;
       lines = subst (λ (text : List ℕ). WritesAll old new text written.Whole) (sym (ok_lines_more so.history r))
           (written_more old middle new (ok_lines so.history) (ok_line (so.history ++ r ∷ [])) so.lines h.comes.line);
       store = store_trans s t u so.store h.store;
@@ -178,10 +180,10 @@ pub ends_checked : (dirs row : List (List ℕ)) (last : Option (Catalogue (List 
     → row ≡ dirs → IsCheckedTo row last s t old new → EndsLater (ChecksFolders dirs) (outside s i old) (outside t i new) status.Done
 ends_checked dirs row last s t i old new same so =
     checks dirs s t i old new status.Done so.store (writes_all_later old new (ok_lines so.history) written.Whole so.lines)
-    (all so.history (subst (λ (front : List (List ℕ)). FoldersGive s.files front so.history) same so.give) so.lines)
+    (all so.history (subst (λ (front : List (List ℕ)). FoldersGive s.files [] front so.history) same so.give) so.lines)
 
 -- the first of the folders
-begun : (files : Option (List File)) (dirs : List (List ℕ)) (i : ℕ) (H : List ReleaseData) → FoldersGive files (take i dirs) H → FoldersBegin files dirs H
+begun : (files : Option (List File)) (dirs : List (List ℕ)) (i : ℕ) (H : List ReleaseData) → FoldersGive files [] (take i dirs) H → FoldersBegin files [] dirs H
 begun files dirs i H give = record { first = take i dirs; rest = drop i dirs; dirs_are = sym (take-append-drop i dirs); give = give }
 
 -- a cut line after whole ones
@@ -199,21 +201,21 @@ cut_more a b c one two p q = record {
 }
 
 stopped : (dirs : List (List ℕ)) (i : ℕ) (d : List ℕ) (s t u : StoreView) (old middle new : SinkView) (H : List ReleaseData) (end : Status)
-    → i < length dirs → d ≡ get_or dirs i d → LaterStore s t → LaterStore t u → FoldersGive s.files (take i dirs) H
+    → i < length dirs → d ≡ get_or dirs i d → LaterStore s t → LaterStore t u → FoldersGive s.files [] (take i dirs) H
     → WritesAll old middle (ok_lines H) written.Whole → EndsAt H d t u middle new end → Checks dirs s u old new end
 stopped dirs i d s t u old middle new H status.Refused less is store next give lines h =
     refused H h.why middle
-    (stops_here s.files (take i dirs) d (drop (i + 1) dirs) dirs H h.why (parted dirs i d less is) give (kept_gives s t H d (Err h.why) store h.gives)
-    h.of_files) lines h.line
+    (stops_here s.files [] (take i dirs) d (drop (i + 1) dirs) dirs H h.why (parted dirs i d less is) give (kept_gives s t [] H d (Err h.why) store h.gives)
+    h.is_refusal) lines h.line
 stopped dirs i d s t u old middle new H status.NotRead less is store next give lines h =
     unread H (begun s.files dirs i H give) (subst (λ (v : SinkView). WritesAll old v (ok_lines H) written.Whole) (sym h.1) lines)
     (omega (arith, store.later, h.0))
 stopped dirs i d s t u old middle new H status.NotWritten less is store next give lines h =
-    let both : FoldersGive s.files (take i dirs ++ d ∷ []) (H ++ h.release ∷ []) =
-    more (take i dirs) H d h.release give (kept_gives s t H d (Ok h.release) store h.gives) in
+    let both : FoldersGive s.files [] (take i dirs ++ d ∷ []) (H ++ h.release ∷ []) =
+    more (take i dirs) H d h.release give (kept_gives s t [] H d (Ok h.release) store h.gives) in
     cut (H ++ h.release ∷ [])
     (begun s.files dirs (i + 1) (H ++ h.release ∷ [])
-    (subst (λ (front : List (List ℕ)). FoldersGive s.files front (H ++ h.release ∷ [])) (sym (taken_more dirs i d less is)) both))
+    (subst (λ (front : List (List ℕ)). FoldersGive s.files [] front (H ++ h.release ∷ [])) (sym (taken_more dirs i d less is)) both))
     (subst (λ (text : List ℕ). WritesAll old new text written.Cut) (sym (ok_lines_more H h.release))
     (cut_more old middle new (ok_lines H) (ok_line (H ++ h.release ∷ [])) lines h.line))
 stopped dirs i d s t u old middle new H status.NoMemory less is store next give lines h =

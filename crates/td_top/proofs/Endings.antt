@@ -1,7 +1,8 @@
 -- From what a call does to the end of a run.
-use Rattle.std.proofs.Common.{◌≡◌, ℕ, List, ◌++◌, Option, None, Some, IfSome, Ok, Err, inl, inr}
+use Rattle.std.proofs.Common.{◌≡◌, ℕ, List, [], ◌++◌, Option, None, Some, IfSome, Ok, Err, inl, inr}
 use Rattle.std.proofs.Common.{refl, sym, subst}
 use Rattle.std.specs.Prelude.{ℤ, codes}
+use Rattle.admission.specs.declared.rules.Chosen.{Chosen}
 use Rattle.td_base.specs.Views.{StoreFailed, File, file_at, LaterStore, LaterSink, StoreView}
 use Rattle.td_base.specs.Views.{SourceView, SinkView}
 use Rattle.td_base.specs.Outside.{FileTells, Looks}
@@ -94,25 +95,30 @@ ends_told ends_so s t i old new called text end store row empty (inr h) = ends_e
 -- ---- folders
 
 -- a folder that was not installed
-pub ends_nothing : (dirs : List (List ℕ)) (e : InstallFault) (s t : StoreView) (i : SourceView) (old new : SinkView) (end : Status)
-    → InstallsAll dirs s t (Err e) → RefusesInstall e old new end → EndsLater (ServesNothing dirs) (outside s i old) (outside t i new) end
-ends_nothing dirs install.NoMemory s t i old new end h r = ends_empty (ServesNothing dirs) s t i old new end h.later (λ left. out_of_memory left) r.0 r.1
-ends_nothing dirs (install.Check fault.NoMemory) s t i old new end h r = absurd (h.memory refl)
-ends_nothing dirs (install.Check fault.ReadFault) s t i old new end h r =
-    ends_unread (ServesNothing dirs) s t i old new end h.later (λ left. unread (h.failed refl) left) r.0 r.1
-ends_nothing dirs (install.Check f) s t i old new end h r =
-    let stops : (H : List ReleaseData) × StopsAtFault s.files dirs H (install.Check f) = h.came ((λ e. cc), (λ e. cc)) in
-    ends_told (ServesNothing dirs) s t i old new status.Refused (refused_line (fault_text (install.Check f))) end h.later
+pub ends_nothing : (rules : List Chosen) (dirs : List (List ℕ)) (e : InstallFault) (s t : StoreView) (i : SourceView) (old new : SinkView) (end : Status)
+    → InstallsAll rules dirs s t (Err e) → RefusesInstall e old new end
+    → EndsLater (ServesNothing rules dirs) (outside s i old) (outside t i new) end
+ends_nothing rules dirs install.NoMemory s t i old new end h r = ends_empty (ServesNothing rules dirs) s t i old new end h.later (λ left. out_of_memory left) r.0 r.1
+ends_nothing rules dirs (install.Check fault.NoMemory) s t i old new end h r = absurd (h.memory refl)
+ends_nothing rules dirs (install.Check fault.ReadFault) s t i old new end h r =
+    ends_unread (ServesNothing rules dirs) s t i old new end h.later (λ left. unread (h.failed refl) left) r.0 r.1
+ends_nothing rules dirs (install.Check f) s t i old new end h r =
+    let stops : (H : List ReleaseData) × StopsAtFault s.files rules dirs H (install.Check f) = h.came ((λ e. cc), (λ e. cc)) in
+    ends_told (ServesNothing rules dirs) s t i old new status.Refused (refused_line (fault_text (install.Check f))) end h.later
     (λ printed. refused stops.0 (install.Check f) end stops.1 printed refl) (λ left. out_of_memory left) r
+ends_nothing rules dirs (install.Policy k) s t i old new end h r =
+    let stops : (H : List ReleaseData) × StopsAtFault s.files rules dirs H (install.Policy k) = h.came tt in
+    ends_told (ServesNothing rules dirs) s t i old new status.Refused (refused_line (fault_text (install.Policy k))) end h.later
+    (λ printed. refused stops.0 (install.Policy k) end stops.1 printed refl) (λ left. out_of_memory left) r
 
 pub ends_unanswered : (dirs : List (List ℕ)) (e : InstallFault) (s t : StoreView) (i : SourceView) (old new : SinkView) (end : Status)
-    → InstallsAll dirs s t (Err e) → RefusesInstall e old new end → EndsLater (Answers dirs) (outside s i old) (outside t i new) end
+    → InstallsAll [] dirs s t (Err e) → RefusesInstall e old new end → EndsLater (Answers dirs) (outside s i old) (outside t i new) end
 ends_unanswered dirs e s t i old new end h r =
-    let so = ends_nothing dirs e s t i old new end h r in record { ends = nothing end so.ends; later = so.later }
+    let so = ends_nothing [] dirs e s t i old new end h r in record { ends = nothing end so.ends; later = so.later }
 
 -- a history that is served, or for which there is no memory
 pub ends_served : (dirs : List (List ℕ)) (list : List (Catalogue (List ℕ))) (s t : StoreView) (i j : SourceView)
-    (old new : SinkView) (is : Status) → InstallsAll dirs s t (Ok list)
+    (old new : SinkView) (is : Status) → InstallsAll [] dirs s t (Ok list)
     → ServesLast (history_of list) i j old new is → EndsLater (Answers dirs) (outside s i old) (outside t j new) is
 ends_served dirs list s t i j old new is h (inl so) =
     subst (λ (e : Status). EndsLater (Answers dirs) (outside s i old) (outside t j new) e) (sym so.1) (record {

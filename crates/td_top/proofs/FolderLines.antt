@@ -1,5 +1,6 @@
 -- What the line that installs a folder makes of a talk.
 use Rattle.std.proofs.Common.{◌≡◌, ◌≢◌, ℕ, ◌≤◌, List, length, inl, inr, Option, None, Some, Ok, Err, refl, sym, ap, ◌∙◌, subst}
+use Rattle.admission.specs.declared.rules.Chosen.{Chosen}
 use Rattle.td_base.specs.Views.{LaterStore, StoreView}
 use Rattle.catalogue.specs.Holdings.{history_of}
 use Rattle.catalogue.specs.Releases.{ReleaseData}
@@ -21,46 +22,50 @@ use Rattle.td_top.proofs.Installing.{gives, gives_fault}
 use Rattle.td_top.proofs.LineLemmas.{is_done}
 
 -- a folder was looked into
-looked : (s t : StoreView) (old new : Session) (dir answer : List ℕ) (joined : Option ReleaseData)
-    → LaterStore s t → InstallsFolder s t (history_of old.installer.list) dir answer joined → LaterSession old new
+looked : (rules : List Chosen) (s t : StoreView) (old new : Session) (dir answer : List ℕ) (joined : Option ReleaseData)
+    → LaterStore s t → InstallsFolder s t rules (history_of old.installer.list) dir answer joined → LaterSession old new
     → history_of new.installer.list ≡ with_joined (history_of old.installer.list) joined → length new.installer.list ≤ length new.desk.seen
-    → AnswersLine (folders s) (folders t) old new (line.Install dir) answer
-looked s t old new dir answer joined store installs later grows knows =
-    is_done (folders s) (folders t) old new (line.Install dir) answer joined store later (by_folder s t dir answer joined store installs) grows knows
+    → AnswersLine (folders rules s) (folders rules t) old new (line.Install dir) answer
+looked rules s t old new dir answer joined store installs later grows knows =
+    is_done (folders rules s) (folders rules t) old new (line.Install dir) answer joined (refl, store) later
+    (by_folder rules s t dir answer joined store installs) grows knows
 
 -- a release joined the history
-pub is_installed : {A : Type 0} (s t : StoreView) (old new : Session) (dir answer : List ℕ) (history : A → List ReleaseData) (a : A)
-    → Installs s t dir (history_of old.installer.list) history (Ok a) → history a ≡ history_of new.installer.list
-    → GrowsBy (history_of old.installer.list) (history_of new.installer.list)
+pub is_installed : {A : Type 0} (rules : List Chosen) (s t : StoreView) (old new : Session) (dir answer : List ℕ) (history : A → List ReleaseData) (a : A)
+    → Installs s t dir rules (history_of old.installer.list) history (Ok a) → history a ≡ history_of new.installer.list
+    → GrowsBy rules (history_of old.installer.list) (history_of new.installer.list)
     → LaterSession old new → length new.installer.list ≤ length new.desk.seen
     → answer ≡ reply_text (said.Installed (last_token (history_of new.installer.list)))
-    → AnswersLine (folders s) (folders t) old new (line.Install dir) answer
-is_installed s t old new dir answer history a installs same grows later knows said_is =
+    → AnswersLine (folders rules s) (folders rules t) old new (line.Install dir) answer
+is_installed rules s t old new dir answer history a installs same grows later knows said_is =
     let H : List ReleaseData = history_of old.installer.list in
-    looked s t old new dir answer (Some grows.release) installs.later
-    (installed grows.release (gives s t dir H history a grows.release (same ∙ grows.now_is) installs)
+    looked rules s t old new dir answer (Some grows.release) installs.later
+    (installed grows.release (gives s t dir rules H history a grows.release (same ∙ grows.now_is) grows.allowed installs)
     (said_is ∙ ap (λ (K : List ReleaseData). reply_text (said.Installed (last_token K))) grows.now_is))
     later grows.now_is knows
 
 -- why a folder was not installed
-why : {A : Type 0} (s t : StoreView) (H : List ReleaseData) (dir : List ℕ) (e : InstallFault) (history : A → List ReleaseData)
-    → Installs {A = A} s t dir H history (Err e) → e ≢ install.NoMemory → InstallsFolder s t H dir (reply_text (said.Refused (fault_text e))) None
-why s t H dir install.NoMemory history installs memory = absurd (memory refl)
-why s t H dir (install.Check fault.NoMemory) history installs memory = absurd (installs.memory refl)
-why s t H dir (install.Check fault.ReadFault) history installs memory = unread (installs.failed refl) refl
-why s t H dir (install.Check f) history installs memory =
-    refused (install.Check f) (gives_fault s t dir H history (install.Check f) installs) ((λ e. cc), (λ e. cc)) refl
+why : {A : Type 0} (s t : StoreView) (rules : List Chosen) (H : List ReleaseData) (dir : List ℕ) (e : InstallFault) (history : A → List ReleaseData)
+    → Installs {A = A} s t dir rules H history (Err e) → e ≢ install.NoMemory
+    → InstallsFolder s t rules H dir (reply_text (said.Refused (fault_text e))) None
+why s t rules H dir install.NoMemory history installs memory = absurd (memory refl)
+why s t rules H dir (install.Check fault.NoMemory) history installs memory = absurd (installs.memory refl)
+why s t rules H dir (install.Check fault.ReadFault) history installs memory = unread (installs.failed refl) refl
+why s t rules H dir (install.Check f) history installs memory =
+    refused (install.Check f) (gives_fault s t dir rules H history (install.Check f) installs) ((λ e. cc), (λ e. cc)) refl
+why s t rules H dir (install.Policy k) history installs memory =
+    refused (install.Policy k) (gives_fault s t dir rules H history (install.Policy k) installs) tt refl
 
-not_installed : {A : Type 0} (s t : StoreView) (H : List ReleaseData) (dir : List ℕ) (e : InstallFault) (answer : List ℕ) (history : A → List ReleaseData)
-    → Installs {A = A} s t dir H history (Err e) → SaysRefused e answer → InstallsFolder s t H dir answer None
-not_installed s t H dir e answer history installs (inl none) = starved none
-not_installed s t H dir e answer history installs (inr said_so) =
-    subst (λ a. InstallsFolder s t H dir a None) (sym said_so.1) (why s t H dir e history installs said_so.0)
+not_installed : {A : Type 0} (s t : StoreView) (rules : List Chosen) (H : List ReleaseData) (dir : List ℕ) (e : InstallFault) (answer : List ℕ)
+    (history : A → List ReleaseData) → Installs {A = A} s t dir rules H history (Err e) → SaysRefused e answer → InstallsFolder s t rules H dir answer None
+not_installed s t rules H dir e answer history installs (inl none) = starved none
+not_installed s t rules H dir e answer history installs (inr said_so) =
+    subst (λ a. InstallsFolder s t rules H dir a None) (sym said_so.1) (why s t rules H dir e history installs said_so.0)
 
-pub is_refused : {A : Type 0} (s t : StoreView) (old new : Session) (dir : List ℕ) (e : InstallFault) (answer : List ℕ) (history : A → List ReleaseData)
-    → Installs {A = A} s t dir (history_of old.installer.list) history (Err e) → new.installer.list ≡ old.installer.list
-    → LaterSession old new → length new.installer.list ≤ length new.desk.seen → SaysRefused e answer
-    → AnswersLine (folders s) (folders t) old new (line.Install dir) answer
-is_refused s t old new dir e answer history installs same later knows says =
-    looked s t old new dir answer None installs.later (not_installed s t (history_of old.installer.list) dir e answer history installs says) later
+pub is_refused : {A : Type 0} (rules : List Chosen) (s t : StoreView) (old new : Session) (dir : List ℕ) (e : InstallFault) (answer : List ℕ)
+    (history : A → List ReleaseData) → Installs {A = A} s t dir rules (history_of old.installer.list) history (Err e)
+    → new.installer.list ≡ old.installer.list → LaterSession old new → length new.installer.list ≤ length new.desk.seen → SaysRefused e answer
+    → AnswersLine (folders rules s) (folders rules t) old new (line.Install dir) answer
+is_refused rules s t old new dir e answer history installs same later knows says =
+    looked rules s t old new dir answer None installs.later (not_installed s t rules (history_of old.installer.list) dir e answer history installs says) later
     (ap history_of same) knows

@@ -25,13 +25,14 @@ use Rattle.release_manifest.specs.declared.manifest_type.Manifest.{Manifest}
 use Rattle.release_manifest.specs.declared.manifest_type.ManifestZone.{ManifestZone}
 use Rattle.sync_core.specs.Mirrors.{MirrorState, ZoneFile}
 use Rattle.sync_core.specs.Published.{HasFiles, manifest_of}
-use Rattle.td_top.specs.Folders.{IsOfFiles}
+use Rattle.td_top.specs.Folders.{IsRefusal}
 use Rattle.td_top.specs.Following.{StatesAfter, StatesLast, SyncsAs, faulted, faulted_starved, installed, refused, settled, starved, unchanged}
 use Rattle.td_top.specs.FollowingSteps.{OpensStated, PublishesStated}
 use Rattle.td_top.specs.Growth.{LaterGrowth, by_sync, following}
 use Rattle.td_top.specs.Replies.{SaysFaulted, SaysRefused, last_token}
 use Rattle.td_top.specs.Sessions.{AnswersLine, LaterSession}
 use Rattle.td_top.specs.declared.session.Session.{Session}
+use Rattle.td_top.proofs.Installing.{no_refusal}
 use Rattle.td_top.proofs.LineLemmas.{is_done, session_refl}
 
 -- ---- a line
@@ -106,11 +107,13 @@ module _ (stored : List File) (m : Manifest) (s : MirrorState) (is : m ≡ manif
 
   -- why a manifest and its files were not installed
   faults : {A : Type 0} (left : List File) (history : A → List ReleaseData) (e : InstallFault)
-      → InstallsStated {A = A} (memory stored) (memory left) m H history (Err e) → e ≢ install.NoMemory
-      → (e ≢ install.Check fault.ReadFault) × (e ≢ install.Check fault.NoMemory) × IsOfFiles e × StatesAfter H s (Err e)
+      → InstallsStated {A = A} (memory stored) (memory left) m [] H history (Err e) → e ≢ install.NoMemory
+      → (e ≢ install.Check fault.ReadFault) × (e ≢ install.Check fault.NoMemory) × IsRefusal e × StatesAfter H s (Err e)
   faults left history install.NoMemory h some = absurd (some refl)
   faults left history (install.Check fault.NoMemory) h some = absurd (h.memory refl)
   faults left history (install.Check fault.ReadFault) h some = absurd (never_fails stored left (h.failed refl))
+  faults left history (install.Policy k) h some =
+      let barred = h.policy k refl in absurd (cc (sym (no_refusal H barred.release) ∙ barred.refused))
   faults left history (install.Check f) h some = (
     (λ e. cc),
     (λ e. cc),
@@ -150,10 +153,10 @@ module _ (stored : List File) (m : Manifest) (s : MirrorState) (is : m ≡ manif
   is_not_compared left e answer h (inr why) = unread left e (PublishesStated s x x answer) h why.0 h.causes
 
   pub is_joined : {A : Type 0} (left : List File) (y : Session) (answer : List ℕ) (history : A → List ReleaseData) (a : A)
-      → InstallsStated (memory stored) (memory left) m H history (Ok a) → history a ≡ history_of y.installer.list → (StatesLast H s → ⊥)
+      → InstallsStated (memory stored) (memory left) m [] H history (Ok a) → history a ≡ history_of y.installer.list → (StatesLast H s → ⊥)
       → LaterSession x y → answer ≡ reply_text (said.Installed (last_token (history_of y.installer.list))) → PublishesStated s x y answer
   is_joined left y answer history a h same other later says =
-      let now : history_of y.installer.list ≡ H ++ h.told.0 ∷ [] = sym same ∙ h.told.2 in
+      let now : history_of y.installer.list ≡ H ++ h.told.0 ∷ [] = sym same ∙ h.told.3 in
       record {
         later = later;
         joined = Some h.told.0;
@@ -163,7 +166,7 @@ module _ (stored : List File) (m : Manifest) (s : MirrorState) (is : m ≡ manif
       }
 
   pub is_not_joined : {A : Type 0} (left : List File) (y : Session) (e : InstallFault) (answer : List ℕ) (history : A → List ReleaseData)
-      → InstallsStated {A = A} (memory stored) (memory left) m H history (Err e) → y.installer.list ≡ x.installer.list → (StatesLast H s → ⊥)
+      → InstallsStated {A = A} (memory stored) (memory left) m [] H history (Err e) → y.installer.list ≡ x.installer.list → (StatesLast H s → ⊥)
       → LaterSession x y → SaysRefused e answer → PublishesStated s x y answer
   is_not_joined left y e answer history h same other later (inl none) =
       record { later = later; joined = None; says = starved none; grown = ap history_of same }
@@ -175,15 +178,16 @@ module _ (stored : List File) (m : Manifest) (s : MirrorState) (is : m ≡ manif
 
 module _ (stored : List File) (m : Manifest) (s : MirrorState) (is : m ≡ manifest_of s) (has : HasFiles stored s.files) where
   pub opens : {A : Type 0} (left : List File) (history : A → List ReleaseData) (a : A) (list : List (Catalogue (List ℕ)))
-      → InstallsStated (memory stored) (memory left) m [] history (Ok a) → history a ≡ history_of list → OpensStated s (Ok list)
-  opens left history a list h same = (h.told.0, states stored m s is has [] h.told.0 h.told.1, sym same ∙ h.told.2)
+      → InstallsStated (memory stored) (memory left) m [] [] history (Ok a) → history a ≡ history_of list → OpensStated s (Ok list)
+  opens left history a list h same = (h.told.0, states stored m s is has [] h.told.0 h.told.1, sym same ∙ h.told.3)
 
   opens_not : {A : Type 0} (left : List File) (history : A → List ReleaseData) (e : InstallFault)
-      → InstallsStated {A = A} (memory stored) (memory left) m [] history (Err e) → OpensStated s (Err e)
+      → InstallsStated {A = A} (memory stored) (memory left) m [] [] history (Err e) → OpensStated s (Err e)
   opens_not left history install.NoMemory h = ((λ e. cc), (λ e. cc), (λ of. absurd of))
+  opens_not left history (install.Policy k) h = absurd (cc (h.policy k refl).refused)
   opens_not left history (install.Check f) h =
       let cause = faults stored m s is has [] left history (install.Check f) h (λ e. cc) in (cause.0, cause.1, (λ of. cause.3))
 
   pub opens_none : {A : Type 0} (left : List File) (history : A → List ReleaseData) (e f : InstallFault) → f ≡ e
-      → InstallsStated {A = A} (memory stored) (memory left) m [] history (Err e) → OpensStated s (Err f)
+      → InstallsStated {A = A} (memory stored) (memory left) m [] [] history (Err e) → OpensStated s (Err f)
   opens_none left history e f same h = subst (λ x. OpensStated s (Err x)) (sym same) (opens_not left history e h)

@@ -17,13 +17,13 @@ upstream_trans a b c p q = record {
 }
 
 pub growth_refl : (g : GrowthView) → LaterGrowth g g
-growth_refl (folders store) = store_refl store
+growth_refl (folders rules store) = (refl, store_refl store)
 growth_refl (following host s upstream) = (refl, upstream_refl upstream)
 
 pub growth_trans : (a b c : GrowthView) → LaterGrowth a b → LaterGrowth b c → LaterGrowth a c
-growth_trans (folders a) (folders b) (folders c) p q = store_trans a b c p q
-growth_trans (folders a) (folders b) (following h s c) p q = absurd q
-growth_trans (folders a) (following h s b) c p q = absurd p
-growth_trans (following h s a) (folders b) c p q = absurd p
-growth_trans (following h s a) (following i t b) (folders c) p q = absurd q
+growth_trans (folders r a) (folders q b) (folders o c) x y = (y.0 ∙ x.0, store_trans a b c x.1 y.1)
+growth_trans (folders r a) (folders q b) (following h s c) x y = absurd y
+growth_trans (folders r a) (following h s b) c x y = absurd x
+growth_trans (following h s a) (folders q b) c x y = absurd x
+growth_trans (following h s a) (following i t b) (folders o c) x y = absurd y
 growth_trans (following h s a) (following i t b) (following j u c) p q = (q.0 ∙ p.0, upstream_trans a b c p.1 q.1)

@@ -18,5 +18,6 @@ pub mod ServerLemmas
 pub mod WorkLemmas
 pub mod RunLemmas
 pub mod NumberLemmas
+pub mod RuleLemmas
 pub mod LoadLemmas
 pub mod BesideLemmas

@@ -7,6 +7,7 @@ use Rattle.catalogue.specs.Histories.{meta}
 use Rattle.catalogue.specs.Holdings.{release_held, zone_count, history_of}
 use Rattle.catalogue.specs.Releases.{ReleaseData}
 use Rattle.catalogue.specs.declared.holding.Catalogue.{Catalogue}
+use Rattle.catalogue.specs.declared.limits.TheConstants.{MOST_ZONES}
 use Rattle.catalogue.proofs.lemmas.HistoryLemmas.{history_length}
 use Rattle.catalogue.proofs.lemmas.LastRelease.{last_of}
 use Rattle.console.specs.Replies.{reply_text}
@@ -36,7 +37,7 @@ session_trans a b c p q = record {
 }
 
 -- a release has at most so many zones
-pub few_zones : (c : Catalogue (List ℕ)) → HasZoneHistory c → zone_count c ≤ 1024
+pub few_zones : (c : Catalogue (List ℕ)) → HasZoneHistory c → zone_count c ≤ MOST_ZONES
 few_zones c h =
     let last = last_of IsSound h.0 (release_held (λ f. f) c) h.1.history h.1.last in
     omega (arith, last.release.fits.zones, length-map c.held (held_content (λ f. f)))

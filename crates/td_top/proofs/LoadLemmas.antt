@@ -1,8 +1,9 @@
 -- How the counts of a load follow from what is served and published.
-use Rattle.std.proofs.Common.{◌≡◌, ℕ, ◌+◌, ◌≤◌, List, [], ◌∷◌, ◌++◌, length, drop, max, Some, Ok, refl, sym, ap, ◌∙◌, subst, arith, append-nil, length-append}
+use Rattle.std.proofs.Common.{◌≡◌, ℕ, ◌+◌, ◌≤◌, List, [], ◌∷◌, ◌++◌, length, drop, max, None, Some, Ok, refl, sym, ap, ◌∙◌, subst, arith, append-nil, length-append}
 use Rattle.std.specs.List.{AllByRecursion}
 use Rattle.std.proofs.Math.Seq.{drop-append_seam}
 use mathlib.Core.List.{IsPrefix}
+use Rattle.admission.specs.declared.rules.Chosen.{Chosen}
 use Rattle.td_base.specs.MemoryDoors.{memory_conn}
 use Rattle.td_base.specs.Views.{ConnView, File}
 use Rattle.td_base.specs.declared.memory_conn.MemoryConn.{MemoryConn}
@@ -14,6 +15,7 @@ use Rattle.catalogue.specs.Holdings.{history_of}
 use Rattle.catalogue.specs.Releases.{ReleaseData}
 use Rattle.catalogue.specs.declared.holding.Catalogue.{Catalogue}
 use Rattle.catalogue.proofs.lemmas.HistoryLemmas.{history_length}
+use Rattle.installer.specs.Installing.{refusal}
 use Rattle.publication.specs.Views.{DeskView}
 use Rattle.release_manifest.specs.declared.manifest_type.Manifest.{Manifest}
 use Rattle.release_check.specs.Before.{before_of}
@@ -131,11 +133,12 @@ counted_all H rest now is = subst (λ (l : List ℕ). AreCounted H l now now) (s
 -- ---- releases
 
 -- a made release was published
-pub joins_made : (old told now : List (Catalogue (List ℕ))) (files : List File) (m : Manifest) (r : ℕ) → told ≡ now → r ≡ length old + 1
+pub joins_made : (rules : List Chosen) (old told now : List (Catalogue (List ℕ))) (files : List File) (m : Manifest) (r : ℕ) → told ≡ now → r ≡ length old + 1
     → m ≡ made_manifest r → HasFiles r files
-    → (release : ReleaseData) × (examined_in files [] (before_of (history_of old)) m ≡ Ok release) × (history_of told ≡ history_of old ++ release ∷ [])
+    → (release : ReleaseData) × (examined_in files [] (before_of (history_of old)) m ≡ Ok release)
+    × (refusal rules (history_of old) release ≡ None) × (history_of told ≡ history_of old ++ release ∷ [])
     → JoinsMade old now
-joins_made old told now files m r same number_is is has joined =
+joins_made rules old told now files m r same number_is is has joined =
     let number : r ≡ length (history_of old) + 1 = number_is ∙ ap (λ n. n + 1) (sym (history_length old)) in
     record {
       release = joined.0;
@@ -144,7 +147,7 @@ joins_made old told now files m r same number_is is has joined =
         has = subst (λ n. HasFiles n files) number has;
         gives = subst (λ (k : Manifest). examined_in files [] (before_of (history_of old)) k ≡ Ok joined.0) (is ∙ ap made_manifest number) joined.1;
       };
-      now_is = ap history_of (sym same) ∙ joined.2;
+      now_is = ap history_of (sym same) ∙ joined.3;
     }
 
 -- and so there is one more

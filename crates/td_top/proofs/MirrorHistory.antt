@@ -134,7 +134,7 @@ module _ (host : List ℕ) (first : UpstreamView) where
   handled_so : (u v : Talk) (so : SoFar host first u) (g h : GrowthView) (asked : Line) (answer : List ℕ) (r : Option ReleaseData)
       → Handles u.published g asked answer r h → g ≡ following host so.after so.upstream → v.growth ≡ h
       → v.published ≡ with_joined u.published r → SoFar host first v
-  handled_so u v so g h asked answer r (by_folder old new dir said which store installs) is growth published = absurd (cc is)
+  handled_so u v so g h asked answer r (by_folder rules old new dir said which store installs) is growth published = absurd (cc is)
   handled_so u v so g h asked answer r (by_sync name s t old new said which syncs) is growth published =
       let asks : name ≡ host = cc is in
       let from : s ≡ so.after = cc is in

@@ -94,6 +94,7 @@ module _ (host address : List ℕ) (workers : ℕ) (s : MirrorState) where
   why_stated (install.Check f) g i o p n r is opens (inr left) =
       subst (λ x. ServesStated host address workers s (site (console g i o) n r) (site (console g i p) n r) [] x) (sym left.0)
       (record { later = later_output g i o p n r (left_sink o p left.1); ends = steps.out_of_memory })
+  why_stated (install.Policy k) g i o p n r is opens h = absurd (opens.2 tt)
 
   pub stated_refused : (e : InstallFault) (g : GrowthView) (i : SourceView) (o p : SinkView) (n : NetworkView) (r : ℕ) (doors : List DoorView)
       (is told : Status) → OpensStated s (Err e) → RefusesInstall e o p told → is ≡ told → doors ≡ []

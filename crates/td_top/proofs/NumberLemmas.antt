@@ -1,5 +1,5 @@
 -- Which number a word writes.
-use Rattle.std.proofs.Common.{◌≡◌, ◌≢◌, ℕ, zero, suc, ◌+◌, ◌^◌, ◌<◌, ◌≤◌, List, Bool, true, false, Option, None, Some, refl, sym, ap, ◌∙◌, arith, cond}
+use Rattle.std.proofs.Common.{◌≡◌, ◌≢◌, ℕ, zero, suc, ◌+◌, ◌-◌, ◌^◌, ◌<◌, ◌≤◌, List, Bool, true, false, Option, None, Some, refl, sym, ap, ◌∙◌, arith, cond}
 use Rattle.std.specs.Prelude.{decimal}
 use Rattle.std.specs.List.{find, range_with_len}
 use Rattle.std.specs.Str.{bytes_eq}
@@ -34,21 +34,22 @@ missed word a (suc n) not =
     none_or word a (find (writes word) (range_with_len (a + 1) n)) (writes word a) refl (not a (omega arith) (omega arith))
     (missed word (a + 1) n (λ m least less. not m (omega (arith, least)) (omega (arith, less))))
 
--- a number from 1 to the most
-pub some_number : (most : ℕ) (word : List ℕ) (k : ℕ) → most < 2 ^ 32 → word ≡ decimal k → 1 ≤ k → k ≤ most → number_in most word ≡ Some k
+-- a number from the least to the most
+pub some_number : (least most : ℕ) (word : List ℕ) (k : ℕ) → most < 2 ^ 32 → word ≡ decimal k → least ≤ k → k ≤ most
+    → number_in least most word ≡ Some k
 unfolding number_in
-some_number most word k small is least within = found word k 1 most is least (omega (arith, within)) (omega (arith, small))
+some_number least most word k small is low within = found word k least (most + 1 - least) is low (omega (arith, within, low)) (omega (arith, small, low, within))
 
 -- another number
-pub other_number : (most : ℕ) (word : List ℕ) (k : ℕ) → most < 2 ^ 32 → k < 2 ^ 64 → word ≡ decimal k → (1 ≤ k → k ≤ most → ⊥)
-    → number_in most word ≡ None
+pub other_number : (least most : ℕ) (word : List ℕ) (k : ℕ) → most < 2 ^ 32 → k < 2 ^ 64 → word ≡ decimal k → (least ≤ k → k ≤ most → ⊥)
+    → number_in least most word ≡ None
 unfolding number_in
-other_number most word k small fits is not =
-    missed word 1 most (λ m least less same.
-    let one : k ≡ m = decimal_injective k m fits (omega (arith, small, less)) (sym is ∙ same) in
-    not (omega (arith, least, one)) (omega (arith, less, one)))
+other_number least most word k small fits is not =
+    missed word least (most + 1 - least) (λ m low less same.
+    let one : k ≡ m = decimal_injective k m fits (omega (arith, small, low, less)) (sym is ∙ same) in
+    not (omega (arith, low, one)) (omega (arith, low, less, one)))
 
 -- no number
-pub no_number : (most : ℕ) (word : List ℕ) → most < 2 ^ 32 → ((n : ℕ) → n < 2 ^ 64 → word ≢ decimal n) → number_in most word ≡ None
+pub no_number : (least most : ℕ) (word : List ℕ) → most < 2 ^ 32 → ((n : ℕ) → n < 2 ^ 64 → word ≢ decimal n) → number_in least most word ≡ None
 unfolding number_in
-no_number most word small not = missed word 1 most (λ m least less. not m (omega (arith, small, less)))
+no_number least most word small not = missed word least (most + 1 - least) (λ m low less. not m (omega (arith, small, low, less)))

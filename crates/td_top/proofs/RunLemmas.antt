@@ -1,6 +1,7 @@
 -- How a run ends over all that is outside it.
 use Rattle.std.proofs.Common.{◌≡◌, ℕ, ◌≤◌, List, [], map, Option, None, Some, Ok, refl, sym, subst, arith}
 use Rattle.std.specs.Option.{option_map}
+use Rattle.admission.specs.declared.rules.Chosen.{Chosen}
 use Rattle.td_base.specs.Views.{SinkView, SourceView, StoreView}
 use Rattle.td_base.specs.DoorViews.{DoorView, NetworkView}
 use Rattle.td_base.specs.Upstreams.{UpstreamView}
@@ -67,16 +68,22 @@ module _ {D U : Type 0} (seen : D → DoorView) (told : U → UpstreamView) wher
 -- ---- from the start of a run
 
 -- the doors of an address were served, once the folders had given their releases
-pub ran_doors : (address : List ℕ) (workers : ℕ) (dirs : List (List ℕ)) (list : List (Catalogue (List ℕ))) (s t u : StoreView) (i j : SourceView)
-    (o p : SinkView) (n m : NetworkView) (r q : ℕ) (doors : List DoorView) (up : Option UpstreamView) (is : Status) → up ≡ None → InstallsAll dirs s t (Ok list)
-    → ServesOpened role.Primary address workers (history_of list) (site (console (folders t) i o) n r) (site (console (folders u) j p) m q) doors is
-    → RunEndsLater (Some (serve address workers dirs)) (world (outside s i o) n r) (world (outside u j p) m q) doors up is
-ran_doors address workers dirs list s t u i j o p n m r q doors up is none all h =
-    subst (λ x. RunEndsLater (Some (serve address workers dirs)) (world (outside s i o) n r) (world (outside u j p) m q) doors x is) (sym none) (record {
-      ends = served_run address workers dirs doors is refl (opened (history_of list) h.history t doors is all.came all.later h.ends);
+pub ran_doors : (address : List ℕ) (workers : ℕ) (rules rules' : List Chosen) (dirs : List (List ℕ)) (list : List (Catalogue (List ℕ)))
+    (s t u : StoreView) (i j : SourceView) (o p : SinkView) (n m : NetworkView) (r q : ℕ) (doors : List DoorView) (up : Option UpstreamView) (is : Status)
+    → up ≡ None → InstallsAll rules dirs s t (Ok list)
+    → ServesOpened role.Primary address workers (history_of list) (site (console (folders rules t) i o) n r) (site (console (folders rules' u) j p) m q)
+    doors is
+    → RunEndsLater (Some (serve address workers rules dirs)) (world (outside s i o) n r) (world (outside u j p) m q) doors up is
+ran_doors address workers rules rules' dirs list s t u i j o p n m r q doors up is none all h =
+    let grew = h.later.console.growth in
+    let ends = subst
+    (λ x. OpenedEnds role.Primary address workers (history_of list) (site (console (folders rules t) i o) n r) (site (console (folders x u) j p) m q)
+    h.history doors is) grew.0 h.ends in
+    subst (λ x. RunEndsLater (Some (serve address workers rules dirs)) (world (outside s i o) n r) (world (outside u j p) m q) doors x is) (sym none) (record {
+      ends = served_run address workers rules dirs doors is refl (opened (history_of list) h.history t doors is all.came all.later ends);
       later = record {
         outside = record {
-          store = store_trans s t u all.later h.later.console.growth;
+          store = store_trans s t u all.later grew.1;
           input = h.later.console.input;
           output = h.later.console.output;
         };

@@ -1,5 +1,5 @@
 -- What doors that were served beside a talk come to, over the history of the run.
-use Rattle.std.proofs.Common.{◌≡◌, ℕ, List, [], ◌∷◌, length, map, Bool, true, false, All, Option}
+use Rattle.std.proofs.Common.{◌≡◌, ℕ, ◌≤◌, List, [], ◌∷◌, length, map, Bool, true, false, All, Option, arith}
 use Rattle.std.proofs.Common.{None, Some, IfSome, inl, inr, sym, subst, ap, ◌∙◌}
 use Rattle.std.specs.List.{list_any}
 use Rattle.std.specs.Global.{Vec}
@@ -15,7 +15,8 @@ use Rattle.td_base.specs.declared.report.Role.{Role}
 use Rattle.catalogue.specs.Releases.{ReleaseData}
 use Rattle.catalogue.specs.declared.holding.Catalogue.{Catalogue}
 use Rattle.connection.specs.DoorWorks.{DoesDoor, NoneOut, ServesTold, Stops, WorkView, at_end}
-use Rattle.connection.specs.DoorWorks.{at_flag, by_faults}
+use Rattle.connection.specs.DoorWorks.{at_flag, by_faults, places_of}
+use Rattle.connection.proofs.PlaceLemmas.{all_weaker}
 use Rattle.connection.specs.FaultCounts.{RoseTimes}
 use Rattle.connection.specs.declared.door_work.TheConstants.{MOST_FAILURES}
 use Rattle.connection.specs.declared.door_work.DoorDone.{DoorDone}
@@ -29,7 +30,7 @@ use Rattle.td_top.specs.ConsoleBeside.{BesideView, Halted, Ran}
 use Rattle.td_top.specs.Server.{CalledTold, ConnsTold, IsDone, OpensDoors, OpenedTold}
 use Rattle.td_top.specs.Server.{ServesDoor, ServesDoors, no_door, one_more}
 use Rattle.td_top.specs.Talking.{AnswersOperator, ComesTo, LaterScene, Scene, Talked}
-use Rattle.td_top.specs.Works.{AreWorks}
+use Rattle.td_top.specs.Works.{AreWorks, HasSeen}
 use Rattle.td_top.specs.declared.talking.TalkEnd.{TalkEnd}
 use Rattle.catalogue.proofs.lemmas.HistoryLemmas.{history_longer}
 
@@ -61,21 +62,22 @@ operated before now ended seen t =
 
 -- ---- doors
 
-told_over : (server : Role) (list : List (Catalogue (List ℕ))) (before now : Option DoorContent) (desk desk' : DeskView (Catalogue (List ℕ)))
-    → IsPrefix desk'.seen list
-    → ServesTold server before now desk desk' → ConnsTold server (history_of list) before now
-told_over server list (Some before) (Some now) desk desk' seen h = record {
+told_over : (server : Role) (least : ℕ) (list : List (Catalogue (List ℕ))) (before now : Option DoorContent) (desk desk' : DeskView (Catalogue (List ℕ)))
+    → least ≤ length desk.seen → IsPrefix desk'.seen list
+    → ServesTold server before now desk desk' → ConnsTold server least (history_of list) before now
+told_over server least list (Some before) (Some now) desk desk' many seen h = record {
   inputs = h.inputs;
   finished = h.finished;
   given = h.given;
   coming = h.coming;
   finished_is = h.finished_is;
   served = h.served (history_of list) (history_longer desk'.seen list seen);
+  first = all_weaker (λ p. length desk.seen ≤ p) (λ p. least ≤ p) (places_of h.finished) (λ p from. omega (arith, many, from)) h.first;
   rising = h.rising;
 }
-told_over server list (Some before) None desk desk' seen h = absurd h
-told_over server list None (Some now) desk desk' seen h = absurd h
-told_over server list None None desk desk' seen h = tt
+told_over server least list (Some before) None desk desk' many seen h = absurd h
+told_over server least list None (Some now) desk desk' many seen h = absurd h
+told_over server least list None None desk desk' many seen h = tt
 
 done_by : (before now : DoorView) (raised worn : Bool) → Stops before now raised worn → worn ≡ false → IsDone now
 done_by before now raised worn (at_end last none few is) e = inl (last, none)
@@ -87,11 +89,11 @@ worn_by before now raised worn (at_end last none few is) e = absurd (true≢fals
 worn_by before now raised worn (at_flag last up few is) e = absurd (true≢false (sym e ∙ is))
 worn_by before now raised worn (by_faults last rose is) e = rose
 
-door_served : (server : Role) (list : List (Catalogue (List ℕ))) (before now : DoorView) (desk desk' : DeskView (Catalogue (List ℕ))) (sign sign' : Sight)
-    (worn : Bool)
-    → IsPrefix desk'.seen list → DoesDoor server before now desk desk' sign sign' worn → ServesDoor server (history_of list) before now worn
-door_served server list before now desk desk' sign sign' worn seen h = record {
-  told = told_over server list before.content now.content desk desk' seen h.serves;
+door_served : (server : Role) (least : ℕ) (list : List (Catalogue (List ℕ))) (before now : DoorView) (desk desk' : DeskView (Catalogue (List ℕ)))
+    (sign sign' : Sight) (worn : Bool) → least ≤ length desk.seen
+    → IsPrefix desk'.seen list → DoesDoor server before now desk desk' sign sign' worn → ServesDoor server least (history_of list) before now worn
+door_served server least list before now desk desk' sign sign' worn many seen h = record {
+  told = told_over server least list before.content now.content desk desk' many seen h.serves;
   done = done_by before now sign'.raised worn h.stops;
   failed = worn_by before now sign'.raised worn h.stops;
 }
@@ -103,38 +105,38 @@ module _ {D C : Type 0} (seen : D → DoorView) where
   abbrev pub Does : WorkView → DoorDone D C → Type 0
   Does w d = DoesDoor w.role w.door (seen d.door) w.desk d.desk w.stop d.sign d.worn
 
-  one_served : (server : Role) (list : List (Catalogue (List ℕ))) (pair : Book) (given : DoorView) (w : WorkView) (d : DoorDone D C)
-      → (w.role ≡ server) × (w.door ≡ given) × (w.desk.pair ≡ pair) → IsPrefix d.desk.seen list → Does w d
-      → ServesDoor server (history_of list) given (seen d.door) d.worn
-  one_served server list pair given w d is held does =
-      door_served server list given (seen d.door) w.desk d.desk w.stop d.sign d.worn held
+  one_served : (server : Role) (least : ℕ) (list : List (Catalogue (List ℕ))) (pair : Book) (given : DoorView) (w : WorkView) (d : DoorDone D C)
+      → (w.role ≡ server) × (w.door ≡ given) × HasSeen pair least w.desk → IsPrefix d.desk.seen list → Does w d
+      → ServesDoor server least (history_of list) given (seen d.door) d.worn
+  one_served server least list pair given w d is held does =
+      door_served server least list given (seen d.door) w.desk d.desk w.stop d.sign d.worn is.2.many held
       (subst (λ b. DoesDoor server b (seen d.door) w.desk d.desk w.stop d.sign d.worn) is.1
       (subst (λ r. DoesDoor r w.door (seen d.door) w.desk d.desk w.stop d.sign d.worn) is.0 does))
 
-  pub all_served : (server : Role) (list : List (Catalogue (List ℕ))) (pair : Book) (given : List DoorView) (works : List WorkView)
+  pub all_served : (server : Role) (least : ℕ) (list : List (Catalogue (List ℕ))) (pair : Book) (given : List DoorView) (works : List WorkView)
       (dones : List (DoorDone D C))
-      → AreWorks server pair given works → All (λ d. IsPrefix d.desk.seen list) dones → DoesEach Does works dones
-      → ServesDoors server (history_of list) given (map seen (map (λ d. d.door) dones)) (list_any (λ d. d.worn) dones)
-  all_served server list pair [] [] [] are held does = no_door
-  all_served server list pair [] (w ∷ ws) dones are held does = absurd are
-  all_served server list pair (g ∷ gs) [] dones are held does = absurd are
-  all_served server list pair [] [] (d ∷ ds) are held does = absurd does
-  all_served server list pair (g ∷ gs) (w ∷ ws) [] are held does = absurd does
-  all_served server list pair (g ∷ gs) (w ∷ ws) (d ∷ ds) are held does =
+      → AreWorks server pair least given works → All (λ d. IsPrefix d.desk.seen list) dones → DoesEach Does works dones
+      → ServesDoors server least (history_of list) given (map seen (map (λ d. d.door) dones)) (list_any (λ d. d.worn) dones)
+  all_served server least list pair [] [] [] are held does = no_door
+  all_served server least list pair [] (w ∷ ws) dones are held does = absurd are
+  all_served server least list pair (g ∷ gs) [] dones are held does = absurd are
+  all_served server least list pair [] [] (d ∷ ds) are held does = absurd does
+  all_served server least list pair (g ∷ gs) (w ∷ ws) [] are held does = absurd does
+  all_served server least list pair (g ∷ gs) (w ∷ ws) (d ∷ ds) are held does =
       one_more g (seen d.door) gs (map seen (map (λ d. d.door) ds)) d.worn (list_any (λ d. d.worn) ds)
-      (one_served server list pair g w d are.0 (All-head (λ d. IsPrefix d.desk.seen list) d ds held) does.0)
-      (all_served server list pair gs ws ds are.1 (All-tail (λ d. IsPrefix d.desk.seen list) d ds held) does.1)
+      (one_served server least list pair g w d are.0 (All-head (λ d. IsPrefix d.desk.seen list) d ds held) does.0)
+      (all_served server least list pair gs ws ds are.1 (All-tail (λ d. IsPrefix d.desk.seen list) d ds held) does.1)
 
   -- the desks of the workers are of their pair
-  pub same_pairs : (server : Role) (pair : Book) (given : List DoorView) (works : List WorkView) (dones : List (DoorDone D C))
-      → AreWorks server pair given works → DoesEach Does works dones → All (λ d. d.desk.pair ≡ pair) dones
-  same_pairs server pair [] [] [] are does = All-nil (λ d. d.desk.pair ≡ pair)
-  same_pairs server pair [] (w ∷ ws) dones are does = absurd are
-  same_pairs server pair (g ∷ gs) [] dones are does = absurd are
-  same_pairs server pair [] [] (d ∷ ds) are does = absurd does
-  same_pairs server pair (g ∷ gs) (w ∷ ws) [] are does = absurd does
-  same_pairs server pair (g ∷ gs) (w ∷ ws) (d ∷ ds) are does =
-      All-cons (λ d. d.desk.pair ≡ pair) d ds (does.0.desk_goes_on.pair ∙ are.0.2) (same_pairs server pair gs ws ds are.1 does.1)
+  pub same_pairs : (server : Role) (pair : Book) (least : ℕ) (given : List DoorView) (works : List WorkView) (dones : List (DoorDone D C))
+      → AreWorks server pair least given works → DoesEach Does works dones → All (λ d. d.desk.pair ≡ pair) dones
+  same_pairs server pair least [] [] [] are does = All-nil (λ d. d.desk.pair ≡ pair)
+  same_pairs server pair least [] (w ∷ ws) dones are does = absurd are
+  same_pairs server pair least (g ∷ gs) [] dones are does = absurd are
+  same_pairs server pair least [] [] (d ∷ ds) are does = absurd does
+  same_pairs server pair least (g ∷ gs) (w ∷ ws) [] are does = absurd does
+  same_pairs server pair least (g ∷ gs) (w ∷ ws) (d ∷ ds) are does =
+      All-cons (λ d. d.desk.pair ≡ pair) d ds (does.0.desk_goes_on.pair ∙ are.0.2.pair_is) (same_pairs server pair least gs ws ds are.1 does.1)
 
 -- ---- the talk beside the works
 
@@ -142,6 +144,9 @@ module _ {D C : Type 0} (seen : D → DoorView) where
 pub came : (before mid now : BesideView) → Ran before mid → Halted mid now → (ComesTo before.scene now.scene now.end) × (now.lent ≡ before.lent)
 came before mid now ran halted =
     (subst (λ v. ComesTo before.scene v.scene v.end) (sym halted) ran.talk, ap (λ v. v.lent) halted ∙ ran.lent)
+
+pub same_rules : (before mid now : BesideView) → Ran before mid → Halted mid now → now.rules ≡ before.rules
+same_rules before mid now ran halted = ap (λ v. v.rules) halted ∙ ran.rules
 
 -- any calls were made meanwhile
 pub comes_later : (before now : Scene) (ended : Option TalkEnd) → ComesTo before now ended → LaterScene before now

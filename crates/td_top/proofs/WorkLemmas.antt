@@ -7,6 +7,7 @@ use Rattle.std.proofs.lemmas.List.{map-append, length-append}
 use Rattle.std.proofs.lemmas.List.Elements.{All-pop, All-push}
 use Rattle.std.proofs.lemmas.List.Folds.{list_any-append}
 use mathlib.Core.List.{IsPrefix}
+use Rattle.td_base.proofs.lemmas.Beginnings.{prefix_length}
 use Rattle.td_base.specs.DoorViews.{DoorView}
 use Rattle.td_base.specs.declared.report.Role.{Role}
 use Rattle.catalogue.specs.declared.holding.Catalogue.{Catalogue}
@@ -15,7 +16,7 @@ use Rattle.connection.specs.declared.door_work.DoorDone.{DoorDone}
 use Rattle.logbook.specs.Pages.{Book}
 use Rattle.desk_pool.specs.Flag.{Sight}
 use Rattle.publication.specs.Views.{DeskView}
-use Rattle.td_top.specs.Works.{AreWorks, HasWorks, Learnt}
+use Rattle.td_top.specs.Works.{AreWorks, HasSeen, HasWorks, Learnt}
 
 -- what was taken off a list, with one more, and what is left of it
 pub takes_more : {T : Type 0} (done left : List T) (t : T) (rest all : List T) → done ++ left ≡ all → left ≡ t ∷ rest → done ++ t ∷ [] ++ rest ≡ all
@@ -33,32 +34,35 @@ still_as_many xs xs' x ys ys' r y many one other some =
 
 -- ---- works
 
-abbrev pub IsWork : Role → Book → DoorView → WorkView → Type 0
-IsWork server pair door w = (w.role ≡ server) × (w.door ≡ door) × (w.desk.pair ≡ pair)
+abbrev pub IsWork : Role → Book → ℕ → DoorView → WorkView → Type 0
+IsWork server pair least door w = (w.role ≡ server) × (w.door ≡ door) × HasSeen pair least w.desk
 
-works_after : (server : Role) (pair : Book) (doors : List DoorView) (works : List WorkView) (door : DoorView) (w : WorkView) → AreWorks server pair doors works
-    → IsWork server pair door w → AreWorks server pair (doors ++ door ∷ []) (works ++ w ∷ [])
-works_after server pair [] [] door w h is = (is, tt)
-works_after server pair [] (v ∷ vs) door w h is = absurd h
-works_after server pair (d ∷ ds) [] door w h is = absurd h
-works_after server pair (d ∷ ds) (v ∷ vs) door w h is = (h.0, works_after server pair ds vs door w h.1 is)
+works_after : (server : Role) (pair : Book) (least : ℕ) (doors : List DoorView) (works : List WorkView) (door : DoorView) (w : WorkView)
+    → AreWorks server pair least doors works
+    → IsWork server pair least door w → AreWorks server pair least (doors ++ door ∷ []) (works ++ w ∷ [])
+works_after server pair least [] [] door w h is = (is, tt)
+works_after server pair least [] (v ∷ vs) door w h is = absurd h
+works_after server pair least (d ∷ ds) [] door w h is = absurd h
+works_after server pair least (d ∷ ds) (v ∷ vs) door w h is = (h.0, works_after server pair least ds vs door w h.1 is)
 
-pub works_more : {D : Type 0} (seen : D → DoorView) (server : Role) (pair : Book) (doors : List D) (works works' : List WorkView) (door : D) (w : WorkView)
-    → AreWorks server pair (map seen doors) works → works' ≡ works ++ w ∷ [] → IsWork server pair (seen door) w
-    → AreWorks server pair (map seen (doors ++ door ∷ [])) works'
-works_more seen server pair doors works works' door w h e is =
-    subst (λ ds. AreWorks server pair ds works') (sym (map-append seen doors (door ∷ [])))
-    (subst (λ ws. AreWorks server pair (map seen doors ++ seen door ∷ []) ws) (sym e) (works_after server pair (map seen doors) works (seen door) w h is))
+pub works_more : {D : Type 0} (seen : D → DoorView) (server : Role) (pair : Book) (least : ℕ) (doors : List D) (works works' : List WorkView) (door : D)
+    (w : WorkView)
+    → AreWorks server pair least (map seen doors) works → works' ≡ works ++ w ∷ [] → IsWork server pair least (seen door) w
+    → AreWorks server pair least (map seen (doors ++ door ∷ [])) works'
+works_more seen server pair least doors works works' door w h e is =
+    subst (λ ds. AreWorks server pair least ds works') (sym (map-append seen doors (door ∷ [])))
+    (subst (λ ws. AreWorks server pair least (map seen doors ++ seen door ∷ []) ws) (sym e)
+    (works_after server pair least (map seen doors) works (seen door) w h is))
 
--- a work of a desk that was one of a pair's
-pub is_work : (server : Role) (pair : Book) (door : DoorView) (w v : WorkView) (all left : List (DeskView (Catalogue (List ℕ))))
+-- a work of a desk that was one of such desks
+pub is_work : (server : Role) (pair : Book) (least : ℕ) (door : DoorView) (w v : WorkView) (all left : List (DeskView (Catalogue (List ℕ))))
     (r : Option (DeskView (Catalogue (List ℕ))))
     (desk : DeskView (Catalogue (List ℕ))) → w ≡ v → v.role ≡ server → v.door ≡ door → v.desk ≡ desk → all ≡ left ++ option_to_list r → r ≡ Some desk
-    → All (λ d. d.pair ≡ pair) all → IsWork server pair door w
-is_work server pair door w v all left r desk e role_is door_is desk_is popped some h =
-    let held : IfSome r (λ d. d.pair ≡ pair) = (All-pop (λ d. d.pair ≡ pair) all left r popped h).1 in
-    let of_pair : desk.pair ≡ pair = subst (λ o. IfSome o (λ d. d.pair ≡ pair)) some held in
-    (ap (λ u. u.role) e ∙ role_is, ap (λ u. u.door) e ∙ door_is, ap (λ u. u.desk.pair) e ∙ (ap (λ d. d.pair) desk_is ∙ of_pair))
+    → All (HasSeen pair least) all → IsWork server pair least door w
+is_work server pair least door w v all left r desk e role_is door_is desk_is popped some h =
+    let held : IfSome r (HasSeen pair least) = (All-pop (HasSeen pair least) all left r popped h).1 in
+    let has : HasSeen pair least desk = subst (λ o. IfSome o (HasSeen pair least)) some held in
+    (ap (λ u. u.role) e ∙ role_is, ap (λ u. u.door) e ∙ door_is, subst (HasSeen pair least) (sym (ap (λ u. u.desk) e ∙ desk_is)) has)
 
 -- every work has the flag's sign, also with one more, as the flag stays
 pub signs_more : (flag flag' sign : Sight) (works works' : List WorkView) (w : WorkView) → All (λ v. v.stop ≡ flag) works → works' ≡ works ++ w ∷ []
@@ -67,8 +71,21 @@ signs_more flag flag' sign works works' w h more same is of =
     subst (λ f. All (λ (v : WorkView). v.stop ≡ f) works') (sym same)
     (subst (λ vs. All (λ (v : WorkView). v.stop ≡ flag) vs) (sym more) (All-push (λ v. v.stop ≡ flag) works w h (is ∙ of)))
 
-pub has_works : (server : Role) (pair : Book) (doors : List DoorView) (works : List WorkView) → AreWorks server pair doors works → HasWorks pair works
-has_works server pair doors works are = (server, doors, are)
+pub has_works : (server : Role) (pair : Book) (least : ℕ) (doors : List DoorView) (works : List WorkView) → AreWorks server pair least doors works
+    → HasWorks pair works
+has_works server pair least doors works are = (server, least, doors, are)
+
+-- ---- desks that learn what was published before
+
+pub seen_more : (pair : Book) (list : List (Catalogue (List ℕ))) (desks desks' : List (DeskView (Catalogue (List ℕ)))) (d : DeskView (Catalogue (List ℕ)))
+    → All (HasSeen pair (length list)) desks → desks' ≡ desks ++ d ∷ [] → d.pair ≡ pair → IsPrefix list d.seen → All (HasSeen pair (length list)) desks'
+seen_more pair list desks desks' d h e is longer =
+    subst (All (HasSeen pair (length list))) (sym e)
+    (All-push (HasSeen pair (length list)) desks d h (record { pair_is = is; many = prefix_length list d.seen longer }))
+
+-- as many were taken as are there, with one more
+pub as_many : {A B : Type 0} (xs : List A) (x : A) (ys ys' : List B) (y : B) → length ys ≡ length xs → ys' ≡ ys ++ y ∷ [] → length ys' ≡ length (xs ++ x ∷ [])
+as_many xs x ys ys' y same e = omega (arith, same, ap length e, length-append ys (y ∷ []), length-append xs (x ∷ []))
 
 -- ---- workers that learn
 

@@ -1,5 +1,5 @@
 -- How `answer` ends: the input and the output are served as one connection, over a history.
-use Rattle.std.specs.Prelude.{◌≡◌, ℕ, List, length}
+use Rattle.std.specs.Prelude.{◌≡◌, ℕ, List, [], length}
 use Rattle.std.specs.Io.KnownBytes.{Appends, Consumes}
 use Rattle.std.specs.List.{AllByRecursion}
 use Rattle.td_base.specs.declared.report.End.{End}
@@ -38,9 +38,9 @@ end_status ended.ReadFault = status.NotRead
 end_status ended.WriteFault = status.NotWritten
 end_status ended.NoMemory = status.NoMemory
 
--- how `answer` ends
+-- how `answer` ends, which asks no rules
 pub data Answers (dirs : List (List ℕ)) (before after : Outside) : Status → Type 0 where
   -- by the end of the one connection that the input and the output are, over the releases
-  served : (H : List ReleaseData) (end : End) → FoldersGive before.store.files dirs H
+  served : (H : List ReleaseData) (end : End) → FoldersGive before.store.files [] dirs H
       → ServesStreams H before after end → Answers dirs before after (end_status end)
-  nothing : (end : Status) → ServesNothing dirs before after end → Answers dirs before after end
+  nothing : (end : Status) → ServesNothing [] dirs before after end → Answers dirs before after end

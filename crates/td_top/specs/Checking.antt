@@ -29,22 +29,22 @@ ok_lines_after before (r ∷ rest) =
 abbrev pub ok_lines : List ReleaseData → List ℕ
 ok_lines H = ok_lines_after [] H
 
--- how checking folders ends, by what became of the store and the output
+-- how checking folders ends, which asks no rules, by what became of the store and the output
 pub data Checks (dirs : List (List ℕ)) (s t : StoreView) (old new : SinkView) : Status
     → Type 0 where
   -- each folder gave a release
-  all : (H : List ReleaseData) → FoldersGive s.files dirs H
+  all : (H : List ReleaseData) → FoldersGive s.files [] dirs H
       → WritesAll old new (ok_lines H) written.Whole → Checks dirs s t old new status.Done
   -- one folder is refused; a failed write may have cut the line that says so
   refused : (H : List ReleaseData) (f : InstallFault) (middle : SinkView)
-      → StopsAtFault s.files dirs H f → WritesAll old middle (ok_lines H) written.Whole
+      → StopsAtFault s.files [] dirs H f → WritesAll old middle (ok_lines H) written.Whole
       → Prints middle new (refused_line (fault_text f)) → Checks dirs s t old new status.Refused
   -- a failed write cut the lines of the first folders
-  cut : (H : List ReleaseData) → FoldersBegin s.files dirs H
+  cut : (H : List ReleaseData) → FoldersBegin s.files [] dirs H
       → WritesAll old new (ok_lines H) written.Cut → Checks dirs s t old new status.NotWritten
   -- a file was not read, or memory ran out, after the lines of the first folders
-  unread : (H : List ReleaseData) → FoldersBegin s.files dirs H
+  unread : (H : List ReleaseData) → FoldersBegin s.files [] dirs H
       → WritesAll old new (ok_lines H) written.Whole → StoreFailed s t
       → Checks dirs s t old new status.NotRead
-  out_of_memory : (H : List ReleaseData) → FoldersBegin s.files dirs H
+  out_of_memory : (H : List ReleaseData) → FoldersBegin s.files [] dirs H
       → WritesAll old new (ok_lines H) written.Whole → Checks dirs s t old new status.NoMemory

@@ -10,7 +10,7 @@ use Rattle.installer.specs.FaultText.{fault_text}
 use Rattle.installer.specs.declared.install_fault.InstallFault.{InstallFault}
 use Rattle.zone_meaning.specs.Sound.{IsSound}
 use Rattle.zone_meaning.specs.ZoneHistories.{ForEachZoneHistory}
-use Rattle.td_top.specs.Folders.{FoldersGive, GivesAfter, IsOfFiles}
+use Rattle.td_top.specs.Folders.{FoldersGive, GivesAfter, IsRefusal}
 use Rattle.td_top.specs.Checking.{ok_line, ok_lines}
 use Rattle.td_top.specs.Printing.{refused_line}
 use Rattle.td_top.specs.declared.status.Status.{Status}
@@ -47,7 +47,7 @@ TellsRelease c old new (Err end) = ⊥
 -- the folder gave the release that the catalogue holds, and its line was printed
 pub record PrintsRelease (files : Option (List File)) (H : List ReleaseData) (dir : List ℕ)
     (old new : SinkView) (c : Catalogue (List ℕ)) : Type 0 where
-  pub gives : GivesAfter files H dir (Ok (release_held (λ file. file) c))
+  pub gives : GivesAfter files [] H dir (Ok (release_held (λ file. file) c))
   pub stands : StandsFor (λ file. file) IsSound c (grown H c)
   pub line : WritesAll old new (ok_line (grown H c)) written.Whole
 
@@ -55,15 +55,15 @@ pub record PrintsRelease (files : Option (List File)) (H : List ReleaseData) (di
 pub record PrintsRefusal (files : Option (List File)) (H : List ReleaseData) (dir : List ℕ)
     (old new : SinkView) : Type 0 where
   pub why : InstallFault
-  pub of_files : IsOfFiles why
-  pub gives : GivesAfter files H dir (Err why)
+  pub is_refusal : IsRefusal why
+  pub gives : GivesAfter files [] H dir (Err why)
   pub line : Prints old new (refused_line (fault_text why))
 
 -- the folder gave a release, and a failed write cut its line
 pub record CutsRelease (files : Option (List File)) (H : List ReleaseData) (dir : List ℕ)
     (old new : SinkView) : Type 0 where
   pub release : ReleaseData
-  pub gives : GivesAfter files H dir (Ok release)
+  pub gives : GivesAfter files [] H dir (Ok release)
   pub line : WritesAll old new (ok_line (H ++ release ∷ [])) written.Cut
 
 -- the status with which a run ends at a folder
@@ -92,6 +92,6 @@ pub record IsCheckedTo (first : List (List ℕ)) (last : Option (Catalogue (List
     (s t : StoreView) (old new : SinkView) : Type 0 where
   pub history : List ReleaseData
   pub stands : Stands last history
-  pub give : FoldersGive s.files first history
+  pub give : FoldersGive s.files [] first history
   pub lines : WritesAll old new (ok_lines history) written.Whole
   pub store : LaterStore s t

@@ -21,7 +21,7 @@ use Rattle.release_check.specs.Before.{before_of}
 use Rattle.release_check.specs.Folder.{examined_in}
 use Rattle.sync_core.specs.Mirrors.{MirrorState}
 use Rattle.sync_core.specs.Published.{HasFiles, manifest_of}
-use Rattle.td_top.specs.Folders.{IsOfFiles}
+use Rattle.td_top.specs.Folders.{IsRefusal}
 use Rattle.td_top.specs.Replies.{last_token}
 
 -- any calls were made: what is told was told before, and no count of faults fell
@@ -38,12 +38,13 @@ SyncsAs host s t old new result = Syncs (request_text host) Means s t old new re
 -- ---- what a mirror states
 
 -- What the mirror states comes after these releases, as a release or with a fault: a manifest of
--- the zones that it knows, and the files that it got.
+-- the zones that it knows, and the files that it got. No rule is asked of it.
 abbrev pub StatesAfter : List ReleaseData → MirrorState → Result ReleaseData InstallFault → Type 0
 StatesAfter H s (Ok r) =
     (files : List File) × HasFiles files s.files
     × (examined_in files [] (before_of H) (manifest_of s) ≡ Ok r)
 StatesAfter H s (Err install.NoMemory) = ⊥
+StatesAfter H s (Err (install.Policy k)) = ⊥
 StatesAfter H s (Err (install.Check f)) =
     (files : List File) × HasFiles files s.files
     × (examined_in files [] (before_of H) (manifest_of s) ≡ Err f)
@@ -64,7 +65,7 @@ pub data SaysStated (s : MirrorState) (H : List ReleaseData) (answer : List ℕ)
   -- it is the last
   unchanged : StatesLast H s → answer ≡ reply_text (said.Unchanged (last_token H))
       → SaysStated s H answer None
-  refused : (e : InstallFault) → (StatesLast H s → ⊥) → StatesAfter H s (Err e) → IsOfFiles e
+  refused : (e : InstallFault) → (StatesLast H s → ⊥) → StatesAfter H s (Err e) → IsRefusal e
       → answer ≡ reply_text (said.Refused (fault_text e)) → SaysStated s H answer None
   -- memory ran out
   starved : answer ≡ reply_text said.NoMemory → SaysStated s H answer None

@@ -8,7 +8,7 @@ use Rattle.installer.specs.declared.install_fault.InstallFault.{InstallFault}
 use Rattle.installer.specs.declared.install_fault.InstallFault.TheVariants as install
 use Rattle.release_check.specs.declared.check_fault.CheckFault.TheVariants as fault
 use Rattle.sync_core.specs.Mirrors.{MirrorState}
-use Rattle.td_top.specs.Folders.{IsOfFiles}
+use Rattle.td_top.specs.Folders.{IsRefusal}
 use Rattle.td_top.specs.Following.{SaysStated, StatesAfter}
 use Rattle.td_top.specs.Growth.{GrowthView, following}
 use Rattle.td_top.specs.Sessions.{LaterSession}
@@ -26,7 +26,7 @@ OpensStated s (Ok list) =
     (r : ReleaseData) × StatesAfter [] s (Ok r) × (history_of list ≡ r ∷ [])
 OpensStated s (Err e) =
     (e ≢ install.Check fault.ReadFault) × (e ≢ install.Check fault.NoMemory)
-    × (IsOfFiles e → StatesAfter [] s (Err e))
+    × (IsRefusal e → StatesAfter [] s (Err e))
 
 -- what the mirror states was published after what was published before, or it was not, and this is
 -- what is said of it

@@ -1,5 +1,6 @@
 pub mod Grammar
 pub mod Command
+pub mod RuleSteps
 pub mod Outside
 pub mod Folders
 pub mod Checking

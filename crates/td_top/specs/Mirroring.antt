@@ -12,7 +12,7 @@ use Rattle.mirror.specs.FaultText.{fault_text as sync_text}
 use Rattle.mirror.specs.declared.sync_fault.SyncFault.{SyncFault}
 use Rattle.mirror.specs.declared.sync_fault.SyncFault.TheVariants as sync
 use Rattle.sync_core.specs.Mirrors.{MirrorState, empty_mirror}
-use Rattle.td_top.specs.Folders.{IsOfFiles}
+use Rattle.td_top.specs.Folders.{IsRefusal}
 use Rattle.td_top.specs.Following.{StatesAfter, SyncsAs}
 use Rattle.td_top.specs.Growth.{following}
 use Rattle.td_top.specs.MirrorHistory.{FollowsPrimary}
@@ -64,7 +64,7 @@ pub data Mirrors (address : List ℕ) (workers : ℕ) (upstream : List ℕ) (bef
   refused : (first last : UpstreamView) (s : MirrorState) (e : InstallFault) (end : Status)
       → ReachesServer before.network after.network upstream first
       → SyncsAs upstream empty_mirror s first last (Ok tt) → StatesAfter [] s (Err e)
-      → IsOfFiles e → EndsWith status.Refused (fault_text e) before after end
+      → IsRefusal e → EndsWith status.Refused (fault_text e) before after end
       → Mirrors address workers upstream before after [] (Some last) end
   -- the first sync ended by a fault
   not_synced : (first last : UpstreamView) (s : MirrorState) (e : SyncFault) (end : Status)

@@ -10,7 +10,7 @@ use Rattle.mirror.specs.FaultText.{fault_text as sync_text}
 use Rattle.mirror.specs.declared.sync_fault.SyncFault.{SyncFault}
 use Rattle.mirror.specs.declared.sync_fault.SyncFault.TheVariants as sync
 use Rattle.sync_core.specs.Mirrors.{MirrorState}
-use Rattle.td_top.specs.Folders.{IsOfFiles}
+use Rattle.td_top.specs.Folders.{IsRefusal}
 use Rattle.td_top.specs.Following.{StatesAfter, SyncsAs}
 use Rattle.td_top.specs.Growth.{following}
 use Rattle.td_top.specs.Printing.{Printed, refused_line}
@@ -35,7 +35,7 @@ pub data StatedEnds (host address : List ℕ) (workers : ℕ) (s : MirrorState)
       → StatesAfter [] s (Ok r)
       → OpenedEnds (role.Secondary host) address workers (r ∷ []) before after history doors end
       → StatedEnds host address workers s before after doors end
-  refused : (e : InstallFault) (end : Status) → StatesAfter [] s (Err e) → IsOfFiles e
+  refused : (e : InstallFault) (end : Status) → StatesAfter [] s (Err e) → IsRefusal e
       → TellsWhy status.Refused (fault_text e) before after end
       → StatedEnds host address workers s before after [] end
   out_of_memory : StatedEnds host address workers s before after [] status.NoMemory

@@ -1,5 +1,6 @@
 -- How a run ends, command by command, over all that is outside it.
 use Rattle.std.specs.Prelude.{◌≡◌, ℕ, ℤ, List, [], Option, None, Some}
+use Rattle.admission.specs.declared.rules.Chosen.{Chosen}
 use Rattle.td_base.specs.DoorViews.{DoorView}
 use Rattle.td_base.specs.Upstreams.{UpstreamView}
 use Rattle.td_top.specs.Answering.{Answers}
@@ -45,9 +46,9 @@ pub data RunEnds (asked : Option Asked) (before after : World) : List DoorView
   shown : (path : List ℕ) (m : ℤ) (end : Status) → asked ≡ Some (at path m)
       → ShowsState path m before.outside after.outside end
       → IsAlone before after → RunEnds asked before after [] None end
-  served : (address : List ℕ) (workers : ℕ) (dirs : List (List ℕ)) (doors : List DoorView)
-      (end : Status) → asked ≡ Some (serve address workers dirs)
-      → Serves address workers dirs before after doors end
+  served : (address : List ℕ) (workers : ℕ) (rules : List Chosen) (dirs : List (List ℕ))
+      (doors : List DoorView) (end : Status) → asked ≡ Some (serve address workers rules dirs)
+      → Serves address workers rules dirs before after doors end
       → RunEnds asked before after doors None end
   mirrored : (address : List ℕ) (workers : ℕ) (upstream : List ℕ) (doors : List DoorView)
       (up : Option UpstreamView) (end : Status) → asked ≡ Some (mirror address workers upstream)

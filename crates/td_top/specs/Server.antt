@@ -1,6 +1,8 @@
 -- How doors are served beside a talk with an operator, who installs further releases meanwhile.
-use Rattle.std.specs.Prelude.{◌≡◌, ℕ, ◌⊎◌, List, [], ◌∷◌, ◌++◌, length, map, take, All, Bool}
+use Rattle.std.specs.Prelude.{◌≡◌, ℕ, ◌≤◌, ◌⊎◌, List, [], ◌∷◌, ◌++◌, length, map, take, All, Bool}
 use Rattle.std.specs.Prelude.{true, false, ◌||◌, ⊤, Option, None, Some, if◌then◌else◌}
+use Rattle.admission.specs.declared.rules.Chosen.{Chosen}
+use Rattle.std.specs.List.{AllByRecursion}
 use Rattle.td_base.specs.Views.{LaterStore, Rose, StoreView}
 use Rattle.td_base.specs.DoorViews.{DoorContent, DoorView, Finished, NetworkContent, NetworkView}
 use Rattle.td_base.specs.Doors.{IsNewDoor, called, new_content, opened_at}
@@ -25,22 +27,24 @@ use Rattle.td_top.specs.declared.talking.TalkEnd.TheVariants as talk
 -- ---- doors
 
 -- Of a door that tells its connections: those that it gave were handed back, all of them and in
--- order, and each was served over the history. Places never fall, also from one connection to the
--- next.
-pub record ServesInputs (server : Role) (H : List ReleaseData) (before now : DoorContent)
-    : Type 0 where
+-- order, and each was served over the history. No place comes before so many releases, and places
+-- never fall, also from one connection to the next.
+pub record ServesInputs (server : Role) (least : ℕ) (H : List ReleaseData)
+    (before now : DoorContent) : Type 0 where
   pub inputs : List (List ℕ)
   pub finished : List Finished
   pub given : now.given ≡ before.given ++ inputs
   pub coming : before.coming ≡ inputs ++ now.coming
   pub finished_is : now.finished ≡ before.finished ++ finished
   pub served : ServedConns H server inputs finished
+  pub first : AllByRecursion (λ p. least ≤ p) (places_of finished)
   pub rising : NeverFall (places_of finished)
 
-abbrev pub ConnsTold : Role → List ReleaseData → Option DoorContent → Option DoorContent → Type 0
-ConnsTold server H (Some before) (Some now) = ServesInputs server H before now
-ConnsTold server H None None = ⊤
-ConnsTold server H before now = ⊥
+abbrev pub ConnsTold : Role → ℕ → List ReleaseData → Option DoorContent → Option DoorContent
+    → Type 0
+ConnsTold server least H (Some before) (Some now) = ServesInputs server least H before now
+ConnsTold server least H None None = ⊤
+ConnsTold server least H before now = ⊥
 
 -- no connection is still to come, or none waited
 abbrev pub IsDone : DoorView → Type 0
@@ -49,19 +53,19 @@ IsDone door =
 
 -- a door was served until it was done, or until it had failed so many times, of all its calls, that
 -- it is worn
-pub record ServesDoor (server : Role) (H : List ReleaseData) (before now : DoorView) (worn : Bool)
-    : Type 0 where
-  pub told : ConnsTold server H before.content now.content
+pub record ServesDoor (server : Role) (least : ℕ) (H : List ReleaseData) (before now : DoorView)
+    (worn : Bool) : Type 0 where
+  pub told : ConnsTold server least H before.content now.content
   pub done : worn ≡ false → IsDone now
   pub failed : worn ≡ true → RoseTimes MOST_FAILURES before.faults now.faults
 
 -- each door, in order; whether one of them is worn
-pub data ServesDoors (server : Role) (H : List ReleaseData)
+pub data ServesDoors (server : Role) (least : ℕ) (H : List ReleaseData)
     : List DoorView → List DoorView → Bool → Type 0 where
-  no_door : ServesDoors server H [] [] false
+  no_door : ServesDoors server least H [] [] false
   one_more : (before now : DoorView) (bs ns : List DoorView) (one others : Bool)
-      → ServesDoor server H before now one → ServesDoors server H bs ns others
-      → ServesDoors server H (before ∷ bs) (now ∷ ns) (one || others)
+      → ServesDoor server least H before now one → ServesDoors server least H bs ns others
+      → ServesDoors server least H (before ∷ bs) (now ∷ ns) (one || others)
 
 -- ---- the network
 
@@ -101,12 +105,12 @@ pub data OpenedEnds (server : Role) (address : List ℕ) (workers : ℕ) (openin
     (before after : SiteView) : List ReleaseData → List DoorView → Status → Type 0 where
   -- with the end of the talk, once the workers were done: the doors that the network gave were
   -- served over the history of the run, which grows by the releases that came of the operator's
-  -- lines
+  -- lines, and none was answered from before the opening's last
   served : (history : List ReleaseData) (given doors : List DoorView) (ended : TalkEnd)
       (worn : Bool)
       → AnswersOperator opening history before.console after.console ended
       → OpensDoors before.network after.network address workers given
-      → ServesDoors server history given doors worn
+      → ServesDoors server (length opening) history given doors worn
       → OpenedEnds server address workers opening before after history doors
       (status_for ended worn)
   -- before anything was read or written, because the network failed
@@ -123,15 +127,15 @@ pub data OpenedEnds (server : Role) (address : List ℕ) (workers : ℕ) (openin
   out_of_memory : OpenedEnds server address workers opening before after opening [] status.NoMemory
 
 -- how `serve` ends
-pub data Serves (address : List ℕ) (workers : ℕ) (dirs : List (List ℕ)) (before after : World)
-    : List DoorView → Status → Type 0 where
+pub data Serves (address : List ℕ) (workers : ℕ) (rules : List Chosen) (dirs : List (List ℕ))
+    (before after : World) : List DoorView → Status → Type 0 where
   -- over the doors of an address, once the folders have given their releases
   opened : (opening history : List ReleaseData) (ready : StoreView) (doors : List DoorView)
       (end : Status)
-      → FoldersGive before.outside.store.files dirs opening
+      → FoldersGive before.outside.store.files rules dirs opening
       → LaterStore before.outside.store ready
-      → OpenedEnds role.Primary address workers opening (site_in (folders ready) before)
-      (site_in (folders after.outside.store) after) history doors end
-      → Serves address workers dirs before after doors end
-  nothing : (end : Status) → ServesNothing dirs before.outside after.outside end
-      → IsAlone before after → Serves address workers dirs before after [] end
+      → OpenedEnds role.Primary address workers opening (site_in (folders rules ready) before)
+      (site_in (folders rules after.outside.store) after) history doors end
+      → Serves address workers rules dirs before after doors end
+  nothing : (end : Status) → ServesNothing rules dirs before.outside after.outside end
+      → IsAlone before after → Serves address workers rules dirs before after [] end

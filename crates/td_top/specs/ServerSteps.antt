@@ -1,5 +1,5 @@
 -- What the calls below a server's run come to.
-use Rattle.std.specs.Prelude.{◌≡◌, ℕ, ◌≤◌, List, [], ◌⊎◌}
+use Rattle.std.specs.Prelude.{◌≡◌, ℕ, ◌≤◌, List, [], length, ◌⊎◌}
 use Rattle.std.specs.List.{list_any}
 use mathlib.Core.List.{IsPrefix}
 use Rattle.td_base.specs.DoorViews.{DoorView, NetworkView}
@@ -43,6 +43,7 @@ pub record ServesBeside (session : Session) (works : List WorkView) (before afte
     (refusals refusals' : ℕ) (doors : List DoorView) (is : Status) : Type 0 where
   pub serves : (server : Role) (address : List ℕ) (workers : ℕ) (given : List DoorView)
       (asked called : NetworkView) → OpensDoors asked called address workers given
-      → asked.faults ≤ called.faults → AreWorks server session.installer.pair given works
+      → asked.faults ≤ called.faults
+      → AreWorks server session.installer.pair (length session.installer.list) given works
       → ServesOpened server address workers (history_of session.installer.list)
       (site before asked refusals) (site after called refusals') doors is

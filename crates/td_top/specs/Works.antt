@@ -1,5 +1,5 @@
 -- The works of a server's workers, and what comes of them.
-use Rattle.std.specs.Prelude.{◌≡◌, ℕ, List, [], ◌∷◌, map, All, Bool, ⊤}
+use Rattle.std.specs.Prelude.{◌≡◌, ℕ, ◌≤◌, List, [], ◌∷◌, length, map, All, Bool, ⊤}
 use Rattle.std.specs.List.{list_any}
 use mathlib.Core.List.{IsPrefix}
 use Rattle.td_base.specs.DoorViews.{DoorView}
@@ -8,18 +8,27 @@ use Rattle.catalogue.specs.declared.holding.Catalogue.{Catalogue}
 use Rattle.connection.specs.DoorWorks.{WorkView}
 use Rattle.connection.specs.declared.door_work.DoorDone.{DoorDone}
 use Rattle.logbook.specs.Pages.{Book}
+use Rattle.publication.specs.Views.{DeskView}
 
--- the works of such a server serve these doors, in order, by desks of a pair
-abbrev pub AreWorks : Role → Book → List DoorView → List WorkView → Type 0
-AreWorks server pair [] [] = ⊤
-AreWorks server pair (door ∷ doors) (w ∷ ws) =
-    ((w.role ≡ server) × (w.door ≡ door) × (w.desk.pair ≡ pair)) × AreWorks server pair doors ws
-AreWorks server pair doors works = ⊥
+-- a desk of a pair has seen so many published values, or more
+pub record HasSeen (pair : Book) (least : ℕ) (desk : DeskView (Catalogue (List ℕ)))
+    : Type 0 where
+  pub pair_is : desk.pair ≡ pair
+  pub many : least ≤ length desk.seen
+
+-- the works of such a server serve these doors, in order, by such desks
+abbrev pub AreWorks : Role → Book → ℕ → List DoorView → List WorkView → Type 0
+AreWorks server pair least [] [] = ⊤
+AreWorks server pair least (door ∷ doors) (w ∷ ws) =
+    ((w.role ≡ server) × (w.door ≡ door) × HasSeen pair least w.desk)
+    × AreWorks server pair least doors ws
+AreWorks server pair least doors works = ⊥
 
 -- the works serve some doors
 abbrev pub HasWorks : Book → List WorkView → Type 0
 HasWorks pair works =
-    (server : Role) × (doors : List DoorView) × AreWorks server pair doors works
+    (server : Role) × (least : ℕ) × (doors : List DoorView)
+    × AreWorks server pair least doors works
 
 -- the doors of workers that learnt all of a list that was published, and whether one is worn
 pub record Learnt {D C : Type 0} (list : List (Catalogue (List ℕ))) (dones : List (DoorDone D C))

@@ -8,6 +8,7 @@ use crate::opening::{Opened, open_all};
 use crate::refusing::refuse_install;
 use crate::session::Session;
 use crate::status::{Status, status_of};
+use admission::Rules;
 use catalogue::Catalogue;
 use publication::{Desk, Ended};
 use std::alloc::Global;
@@ -30,7 +31,8 @@ pub fn answer<R: Wait, S: Store, C: Source, K: Sink>(
         (outside (S.seen store.old) (C.seen input.old) (K.seen output.old))
         (outside (S.seen store.new) (C.seen input.new) (K.seen output.new)) result }
 {
-    match open_all(rt, alloc, folders, store, 0) {
+    let rules = Rules::none(alloc);
+    match open_all(rt, alloc, folders, &rules, store, 0) {
         Ok(Opened { session, desks: _ }) => serve_last(rt, alloc, session, input, output),
         Err(fault) => refuse_install(alloc, &fault, output),
     }

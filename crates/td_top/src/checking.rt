@@ -1,4 +1,4 @@
-ghost use Rattle.std.specs.Prelude.{List, IfOk, IfSome};
+ghost use Rattle.std.specs.Prelude.{List, [], IfOk, IfSome};
 ghost use Rattle.td_base.specs.Views.{SourceView};
 ghost use Rattle.catalogue.specs.Releases.{ReleaseData};
 ghost use Rattle.installer.specs.Installing.{Installs};
@@ -69,7 +69,7 @@ fn follow<S: Store>(
 ) -> Result<Catalogue<Zone>, InstallFault>
     requires { IfSome last.now HasZoneHistory }
     ensures found { (H : List ReleaseData) → Stands last.now H
-        → Installs (S.seen store.old) (S.seen store.new) folder.now H (grown H) result }
+        → Installs (S.seen store.old) (S.seen store.new) folder.now [] H (grown H) result }
     ensures stands { IfOk result (AddsRelease last.now) }
 {
     match last {

@@ -9,6 +9,7 @@ ghost use Rattle.td_top.specs.Grammar.{is_address, is_address_byte, load_of, mir
 ghost use Rattle.td_top.specs.Grammar.{number_in, serve_of};
 ghost use Rattle.td_top.specs.Command.{plain_command, IsMeantCommand};
 
+use crate::rules::{Choice, read_rules};
 use td_base::{Bytes, is_path_word, read_decimal};
 use td_civil::{HI, LO, Moment, moment_of};
 
@@ -40,10 +41,12 @@ pub enum Command<'a> {
         file: &'a [u8],
         moment: Moment,
     },
-    /// Serve an address by so many workers, over the releases of folders.
+    /// Serve an address by so many workers, over the releases of folders. Each release but the
+    /// first is asked these rules.
     Serve {
         address: &'a [u8],
         workers: u32,
+        rules: Choice,
         folders: &'a [Bytes],
     },
     /// Follow the server at an address, and serve another address by so many workers.
@@ -154,37 +157,39 @@ fn at_moment<'a>(file: &'a [u8], moment: &[u8]) -> Option<Command<'a>>
     Some(Command::At { file, moment })
 }
 
-/// `serve ADDRESS WORKERS DIR..`
+/// `serve ADDRESS WORKERS RULES DIR..`
 fn read_serve(words: &[Bytes]) -> Option<Command<'_>>
     ensures spelled { option_map plain_command result ≡ serve_of words.now }
     ensures meant { IfSome result IsMeantCommand }
 {
     match words {
-        [address, workers, folders @ ..] => {
-            serve_at(address.as_slice(), workers.as_slice(), folders)
+        [address, workers, words @ ..] => {
+            serve_at(address.as_slice(), workers.as_slice(), words)
         }
         _ => None,
     }
 }
 
-/// The command that serves an address, if the words may name one, some workers and folders.
-fn serve_at<'a>(address: &'a [u8], workers: &[u8], folders: &'a [Bytes]) -> Option<Command<'a>>
+/// The command that serves an address, if the words may name one, some workers, and then rules and
+/// folders.
+fn serve_at<'a>(address: &'a [u8], workers: &[u8], words: &'a [Bytes]) -> Option<Command<'a>>
     ensures spelled { option_map plain_command result
-        ≡ serve_of (address.now ∷ workers.now ∷ folders.now) }
+        ≡ serve_of (address.now ∷ workers.now ∷ words.now) }
     ensures meant { IfSome result IsMeantCommand }
 {
     if !is_address(address) {
         return None;
     }
-    let workers = read_number(workers, MOST_WORKERS)?;
-    if !are_folders(folders) {
-        return None;
+    let workers = read_number(workers, 1, MOST_WORKERS)?;
+    match read_rules(words) {
+        Some((rules, folders)) if are_folders(folders) => Some(Command::Serve {
+            address,
+            workers,
+            rules,
+            folders,
+        }),
+        _ => None,
     }
-    Some(Command::Serve {
-        address,
-        workers,
-        folders,
-    })
 }
 
 /// `mirror ADDRESS WORKERS UPSTREAM`
@@ -210,7 +215,7 @@ fn mirror_at<'a>(address: &'a [u8], workers: &[u8], upstream: &'a [u8]) -> Optio
     if !is_address(address) || !is_address(upstream) {
         return None;
     }
-    let workers = read_number(workers, MOST_WORKERS)?;
+    let workers = read_number(workers, 1, MOST_WORKERS)?;
     Some(Command::Mirror {
         address,
         workers,
@@ -250,28 +255,28 @@ fn read_load(words: &[Bytes]) -> Option<Command<'_>>
 {
     match words {
         [number] => {
-            let number = read_number(number.as_slice(), MOST_RELEASES)?;
+            let number = read_number(number.as_slice(), 1, MOST_RELEASES)?;
             Some(Command::Load { number })
         }
         _ => None,
     }
 }
 
-/// The number that a word writes in decimal, from 1 to the most.
-fn read_number(word: &[u8], most: u64) -> Option<u32>
+/// The number that a word writes in decimal, from the least to the most.
+pub fn read_number(word: &[u8], least: u64, most: u64) -> Option<u32>
     requires { most < 2 ^ 32 }
-    ensures value { result ≡ number_in most word.now }
-    ensures some { IfSome result (λ n. 1 ≤ n) }
+    ensures value { result ≡ number_in least most word.now }
+    ensures some { IfSome result (λ n. least ≤ n) }
     ensures few { IfSome result (λ n. n ≤ most) }
 {
     match read_decimal(word) {
-        Some(number) if 1 <= number && number <= most => Some(number as u32),
+        Some(number) if least <= number && number <= most => Some(number as u32),
         _ => None,
     }
 }
 
 /// The moment that a word spells, if it has a meaning.
-fn meant_moment(word: &[u8]) -> Option<Moment>
+pub fn meant_moment(word: &[u8]) -> Option<Moment>
     ensures value { option_map (λ m. m.seconds) result ≡ meant_moment word.now }
     ensures meant { IfSome result (λ m. HasMeaning m.seconds) }
 {

@@ -7,28 +7,42 @@ use crate::growth::Growth;
 use crate::operator::newest;
 use crate::replies::Reply;
 use crate::session::Session;
+use admission::Rules;
 use console::{Line, Said};
 use std::sync::Wait;
 use td_base::{Bytes, Store};
 
 /// A server's history grows by the folders of its store.
 impl<S: Store> Growth for S {
-    ghost seen = { λ store. folders (S.seen store) };
+    ghost seen = { λ store rules. folders rules (S.seen store) };
 
-    fn grow<R: Wait>(&mut self, rt: &R, session: &mut Session, line: &Line) -> Option<Reply> {
+    fn grow<R: Wait>(
+        &mut self,
+        rt: &R,
+        session: &mut Session,
+        rules: &Rules<'_>,
+        line: &Line,
+    ) -> Option<Reply> {
         match line {
-            Line::Install(dir) => Some(install(rt, session, self, dir)),
+            Line::Install(dir) => Some(install(rt, session, rules, self, dir)),
             Line::Sync | Line::Status | Line::Quit | Line::Strange => None,
         }
     }
 }
 
-/// Installs the release of a folder.
-fn install<R: Wait, S: Store>(rt: &R, session: &mut Session, store: &mut S, dir: &Bytes) -> Reply
-    ensures { AnswersLine (folders (S.seen store.old)) (folders (S.seen store.new)) session.old
-        session.new (Line.Install dir.now) (reply_bytes result) }
+/// Installs the release of a folder, where no rule refuses it.
+fn install<R: Wait, S: Store>(
+    rt: &R,
+    session: &mut Session,
+    rules: &Rules<'_>,
+    store: &mut S,
+    dir: &Bytes,
+) -> Reply
+    ensures { AnswersLine (folders rules.now.chosen (S.seen store.old))
+        (folders rules.now.chosen (S.seen store.new)) session.old session.new
+        (Line.Install dir.now) (reply_bytes result) }
 {
-    match session.install(rt, dir.as_slice(), store) {
+    match session.install(rt, dir.as_slice(), store, rules) {
         Ok(()) => Reply::brief(&Said::Installed(newest(&session.installer))),
         Err(fault) => Reply::refusal(session.alloc, &fault),
     }

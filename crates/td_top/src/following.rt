@@ -13,6 +13,7 @@ use crate::opening::Opened;
 use crate::operator::newest;
 use crate::replies::Reply;
 use crate::session::Session;
+use admission::Rules;
 use console::{Line, Said};
 use installer::{InstallFault, Installer};
 use mirror::sync;
@@ -29,11 +30,17 @@ pub struct Follow<'h, U: Upstream> {
     pub upstream: U,
 }
 
-/// A mirror's history grows by what the other server is heard to have.
+/// A mirror's history grows by what the other server is heard to have, of which no rule is asked.
 impl<'h, U: Upstream> Growth for Follow<'h, U> {
-    ghost seen = { follow_of U.seen };
+    ghost seen = { λ follow _. follow_of U.seen follow };
 
-    fn grow<R: Wait>(&mut self, rt: &R, session: &mut Session, line: &Line) -> Option<Reply> {
+    fn grow<R: Wait>(
+        &mut self,
+        rt: &R,
+        session: &mut Session,
+        _rules: &Rules<'_>,
+        line: &Line,
+    ) -> Option<Reply> {
         match line {
             Line::Sync => Some(sync_once(rt, session, self)),
             Line::Install(_) | Line::Status | Line::Quit | Line::Strange => None,

@@ -1,23 +1,34 @@
-ghost use Rattle.std.specs.Prelude.{◌≡◌, IfSome, None};
+ghost use Rattle.std.specs.Prelude.{◌≡◌, List, IfSome, None};
+ghost use Rattle.admission.specs.declared.rules.Chosen.{Chosen};
 ghost use Rattle.td_top.specs.Growth.{GrowthView, Grows};
 ghost use Rattle.td_top.specs.Replies.{reply_bytes};
 ghost use Rattle.td_top.specs.Sessions.{AnswersLine};
 
 use crate::replies::Reply;
 use crate::session::Session;
+use admission::Rules;
 use console::Line;
 use std::sync::Wait;
 
 /// What a history grows by while it is served: the folders of a store, or a mirror.
 pub trait Growth {
-    ghost seen: { Self → GrowthView };
+    /// Under these rules.
+    ghost seen: { Self → List Chosen → GrowthView };
 
     /// Does what a line asks for, where it is one that makes the history grow, and gives the reply
     /// to it.
-    fn grow<R: Wait>(&mut self, rt: &R, session: &mut Session, line: &Line) -> Option<Reply>
-        ensures done { IfSome result (λ reply. AnswersLine (seen self.old) (seen self.new)
-            session.old session.new line.now (reply_bytes reply)) }
-        ensures other { result ≡ None → Grows (seen self.old) line.now → ⊥ }
-        ensures left { result ≡ None → (seen self.new ≡ seen self.old)
+    fn grow<R: Wait>(
+        &mut self,
+        rt: &R,
+        session: &mut Session,
+        rules: &Rules<'_>,
+        line: &Line,
+    ) -> Option<Reply>
+        ensures done { IfSome result (λ reply. AnswersLine (seen self.old rules.now.chosen)
+            (seen self.new rules.now.chosen) session.old session.new line.now
+            (reply_bytes reply)) }
+        ensures other { result ≡ None → Grows (seen self.old rules.now.chosen) line.now → ⊥ }
+        ensures left { result ≡ None
+            → (seen self.new rules.now.chosen ≡ seen self.old rules.now.chosen)
             × (session.new ≡ session.old) };
 }

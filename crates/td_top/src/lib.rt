@@ -6,6 +6,7 @@
 // A run: its words, what it is lent, and how it ends.
 mod command;
 mod outcome;
+mod rules;
 mod running;
 mod site;
 mod status;

@@ -9,6 +9,7 @@ ghost use Rattle.td_top.specs.Tells.{EndsLater};
 use crate::load_turns::serve_release;
 use crate::printing::print;
 use crate::status::Status;
+use admission::Rules;
 use catalogue::Catalogue;
 use installer::Installer;
 use made_load::{LoadCounts, release, summary};
@@ -128,7 +129,8 @@ fn publish<R: Wait>(
     ensures seen { OnOk result (desk.new.seen ≡ installer.new.list) }
 {
     let (manifest, mut store) = release(alloc, number, made)?;
-    match installer.install_manifest(rt, alloc, &manifest, &mut store) {
+    let rules = Rules::none(alloc);
+    match installer.install_manifest(rt, alloc, &manifest, &mut store, &rules) {
         Ok(receipt) => {
             desk.learn(receipt);
             Ok(())

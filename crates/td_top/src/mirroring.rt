@@ -16,6 +16,7 @@ use crate::refusing::refuse_install;
 use crate::server::{Serving, serve_opened};
 use crate::site::Site;
 use crate::status::Status;
+use admission::Rules;
 use mirror::{SyncFault, sync};
 use mirror_world::{histories_go_on, mirrors_hold_in_turn, releases_are_held};
 use std::alloc::Global;
@@ -146,7 +147,7 @@ where
                 address,
                 workers,
             };
-            serve_opened(rt, alloc, &serving, opened, follow, site)
+            serve_opened(rt, &serving, opened, &Rules::none(alloc), follow, site)
         }
         Err(fault) => Served::closed(alloc, refuse_install(alloc, &fault, site.output)),
     }

@@ -1,14 +1,26 @@
-ghost use Rattle.std.specs.Prelude.{◌≡◌, ◌<◌, ◌≤◌, length, IfOk};
+ghost use Rattle.std.specs.Prelude.{◌≡◌, ◌<◌, ◌≤◌, length, All, IfOk};
 ghost use Rattle.td_top.specs.Opening.{HasDesks, InstallsAll, InstallsRest, published_in};
+ghost use Rattle.td_top.specs.Works.{HasSeen};
 
+use crate::rules::Choice;
 use crate::session::Session;
+use admission::{Kept, Rules};
 use catalogue::Catalogue;
 use installer::{InstallFault, Installer};
 use publication::Desk;
 use std::alloc::Global;
 use std::sync::Wait;
-use td_base::{Bytes, Store};
+use td_base::{Bytes, NoMemory, Store};
 use zone_meaning::Zone;
+
+/// Folders whose releases are to be installed, in their order, the rules that each of them but the
+/// first is asked, and a test for each kind of rule.
+#[derive(Clone, Copy)]
+pub struct Plan<'w> {
+    pub folders: &'w [Bytes],
+    pub rules: Choice,
+    pub kept: &'w [Kept],
+}
 
 /// What the releases of folders were installed for: a session, and the desks of its workers.
 pub struct Opened {
@@ -16,17 +28,19 @@ pub struct Opened {
     pub desks: Vec<Desk<Catalogue<Zone>>>,
 }
 
-/// Installs the releases of folders, for a session and the desks of so many workers.
+/// Installs the releases of folders, each but the first where no rule refuses it, for a session and
+/// the desks of so many workers.
 pub fn open_all<R: Wait, S: Store>(
     rt: &R,
     alloc: Global,
     folders: &[Bytes],
+    rules: &Rules<'_>,
     store: &mut S,
     workers: u32,
 ) -> Result<Opened, InstallFault>
     requires folders { 0 < length folders.now }
     requires workers { workers ≤ 64 }
-    ensures all { InstallsAll folders.now (S.seen store.old) (S.seen store.new)
+    ensures all { InstallsAll rules.now.chosen folders.now (S.seen store.old) (S.seen store.new)
         (published_in result) }
     ensures desks { IfOk result (HasDesks workers) }
 {
@@ -38,26 +52,53 @@ pub fn open_all<R: Wait, S: Store>(
         installer,
         desk,
     };
-    if let Err(fault) = install_rest(rt, &folders[1..], store, &mut session) {
+    if let Err(fault) = install_rest(rt, &folders[1..], rules, store, &mut session) {
         session.close(rt);
         return Err(fault);
     }
-    Ok(Opened { session, desks })
+    match learn_opening(alloc, &session.installer, desks) {
+        Ok(desks) => Ok(Opened { session, desks }),
+        Err(NoMemory) => {
+            session.close(rt);
+            Err(InstallFault::NoMemory)
+        }
+    }
+}
+
+/// Lets desks learn all that was published so far.
+fn learn_opening(
+    alloc: Global,
+    installer: &Installer,
+    desks: Vec<Desk<Catalogue<Zone>>>,
+) -> Result<Vec<Desk<Catalogue<Zone>>>, NoMemory>
+    requires { All (λ d. d.pair ≡ installer.now.pair) desks.items }
+    ensures number { IfOk result (λ r. length r.items ≡ length desks.items) }
+    ensures seen { IfOk result (λ r.
+        All (HasSeen installer.now.pair (length installer.now.list)) r.items) }
+{
+    let mut learnt = Vec::new(alloc);
+    for one in desks {
+        let mut desk = one;
+        desk.learn(installer.receipt()?);
+        learnt.push(desk)?;
+    }
+    Ok(learnt)
 }
 
 /// Installs the releases of further folders, each after those before it.
 fn install_rest<R: Wait, S: Store>(
     rt: &R,
     folders: &[Bytes],
+    rules: &Rules<'_>,
     store: &mut S,
     session: &mut Session,
 ) -> Result<(), InstallFault>
-    ensures rest { InstallsRest folders.now (S.seen store.old) (S.seen store.new)
+    ensures rest { InstallsRest rules.now.chosen folders.now (S.seen store.old) (S.seen store.new)
         session.old.installer.list session.new.installer.list result }
     ensures pair { session.new.installer.pair ≡ session.old.installer.pair }
 {
     for folder in folders {
-        session.install(rt, folder.as_slice(), store)?;
+        session.install(rt, folder.as_slice(), store, rules)?;
     }
     Ok(())
 }

@@ -11,6 +11,7 @@ ghost use Rattle.td_top.specs.Sessions.{AnswersLine};
 use crate::growth::Growth;
 use crate::replies::Reply;
 use crate::session::Session;
+use admission::Rules;
 use catalogue::Catalogue;
 use console::{Line, Said};
 use installer::Installer;
@@ -22,17 +23,18 @@ use zone_meaning::Zone;
 pub fn answer_line<R: Wait, G: Growth>(
     rt: &R,
     session: &mut Session,
+    rules: &Rules<'_>,
     growth: &mut G,
     line: &Line,
 ) -> Reply
-    ensures { AnswersLine (G.seen growth.old) (G.seen growth.new) session.old session.new line.now
-        (reply_bytes result) }
+    ensures { AnswersLine (G.seen growth.old rules.now.chosen) (G.seen growth.new rules.now.chosen)
+        session.old session.new line.now (reply_bytes result) }
 {
     match line {
         Line::Status => show(session),
         Line::Quit => Reply::brief(&Said::Bye),
         Line::Install(_) | Line::Sync | Line::Strange => {
-            match growth.grow(rt, session, line) {
+            match growth.grow(rt, session, rules, line) {
                 Some(reply) => reply,
                 None => Reply::brief(&Said::Unknown),
             }

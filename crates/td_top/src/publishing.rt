@@ -1,51 +1,54 @@
-ghost use Rattle.std.specs.Prelude.{◌≡◌, OnOk, OnErr};
+ghost use Rattle.std.specs.Prelude.{◌≡◌, [], OnOk, OnErr};
 ghost use Rattle.catalogue.specs.Holdings.{history_of};
 ghost use Rattle.installer.specs.Installing.{GrowsBy, Installs, InstallsStated};
 ghost use Rattle.td_top.specs.Sessions.{LaterSession};
 
 use crate::session::Session;
+use admission::Rules;
 use installer::InstallFault;
 use release_manifest::Manifest;
 use std::sync::Wait;
 use td_base::Store;
 
 impl Session {
-    /// Installs the release of a folder, and lets the desk learn of it.
+    /// Installs the release of a folder, where no rule refuses it, and lets the desk learn of it.
     pub fn install<R: Wait, S: Store>(
         &mut self,
         rt: &R,
         dir: &[u8],
         store: &mut S,
+        rules: &Rules<'_>,
     ) -> Result<(), InstallFault>
-        ensures found { Installs (S.seen store.old) (S.seen store.new) dir.now
+        ensures found { Installs (S.seen store.old) (S.seen store.new) dir.now rules.now.chosen
             (history_of self.old.installer.list) (λ u. history_of self.new.installer.list) result }
-        ensures grown { OnOk result (GrowsBy (history_of self.old.installer.list)
+        ensures grown { OnOk result (GrowsBy rules.now.chosen (history_of self.old.installer.list)
             (history_of self.new.installer.list)) }
         ensures refused { OnErr result (self.new.installer.list ≡ self.old.installer.list) }
         ensures later { LaterSession self.old self.new }
     {
-        let receipt = self.installer.install(rt, self.alloc, dir, store)?;
+        let receipt = self.installer.install(rt, self.alloc, dir, store, rules)?;
         self.desk.learn(receipt);
         Ok(())
     }
 
-    /// Installs the release of a manifest and its files, and lets the desk learn of it.
+    /// Installs the release of a manifest and its files, of which no rule is asked, and lets the desk learn of it.
     pub fn install_stated<R: Wait, S: Store>(
         &mut self,
         rt: &R,
         manifest: &Manifest,
         store: &mut S,
     ) -> Result<(), InstallFault>
-        ensures found { InstallsStated (S.seen store.old) (S.seen store.new) manifest.now
+        ensures found { InstallsStated (S.seen store.old) (S.seen store.new) manifest.now []
             (history_of self.old.installer.list) (λ u. history_of self.new.installer.list) result }
-        ensures grown { OnOk result (GrowsBy (history_of self.old.installer.list)
+        ensures grown { OnOk result (GrowsBy [] (history_of self.old.installer.list)
             (history_of self.new.installer.list)) }
         ensures refused { OnErr result (self.new.installer.list ≡ self.old.installer.list) }
         ensures later { LaterSession self.old self.new }
     {
+        let rules = Rules::none(self.alloc);
         let receipt = self
             .installer
-            .install_manifest(rt, self.alloc, manifest, store)?;
+            .install_manifest(rt, self.alloc, manifest, store, &rules)?;
         self.desk.learn(receipt);
         Ok(())
     }

@@ -2,6 +2,7 @@ ghost use Rattle.std.specs.Prelude.{◌≡◌, map};
 ghost use Rattle.std.specs.Option.{option_map};
 ghost use Rattle.td_base.specs.Views.{SourceView, StoreView};
 ghost use Rattle.td_top.specs.Grammar.{command_of};
+ghost use Rattle.admission.specs.Rules.{KeepsAll};
 ghost use Rattle.td_top.specs.Site.{site_names, world_of};
 ghost use Rattle.td_top.specs.Outside.{LaterWorld, outside, world};
 ghost use Rattle.td_top.specs.Running.{RunEnds, RunEndsLater, number_of};
@@ -13,12 +14,14 @@ use crate::checking::check_folders;
 use crate::command::{Command, read_words};
 use crate::loading::load;
 use crate::mirroring::mirror_server;
+use crate::opening::Plan;
 use crate::outcome::{Ending, Outcome};
 use crate::printing::print;
 use crate::server::{Serving, serve_doors};
 use crate::site::Site;
 use crate::state_line::state_at;
 use crate::status::Status;
+use admission::Kept;
 use std::alloc::Global;
 use std::sync::Wait;
 use std::thread::Threads;
@@ -32,16 +35,22 @@ const USAGE: &[u8] = b"usage: tzdistd answer|serve|mirror|check|at|load\n";
 /// which the process ends, the doors that were served, and the server that was followed.
 ///
 /// `answer DIR..` installs the releases of folders, in their order, and serves the input and the
-/// output, as one connection, over the last. `serve ADDRESS WORKERS DIR..` serves the connections
-/// of an address by so many workers, while an operator talks over the input and the output. `mirror
-/// ADDRESS WORKERS UPSTREAM` does so over what another server has, with which it syncs first and
-/// whenever the operator asks for that. `check DIR..` checks folders as one history, with a line
-/// for each. `at FILE MOMENT` prints the state of a zone file at a moment. `load NUMBER` makes so
-/// many releases, serves requests after each in memory, and prints what was counted.
+/// output, as one connection, over the last. `serve ADDRESS WORKERS RULES DIR..` serves the
+/// connections of an address by so many workers, while an operator talks over the input and the
+/// output. Of its releases each but the first is asked the rules `--max-changed N` and
+/// `--no-past-change MOMENT`, in their order, and refused by the first that does not allow what it
+/// changes. `mirror ADDRESS WORKERS UPSTREAM` does so over what another server has, with which it
+/// syncs first and whenever the operator asks for that, and without rules. `check DIR..` checks
+/// folders as one history, with a line for each. `at FILE MOMENT` prints the state of a zone file
+/// at a moment. `load NUMBER` makes so many releases, serves requests after each in memory, and
+/// prints what was counted.
+///
+/// The tests of the rules, one for each kind at least, are kept by the caller.
 pub fn run<R, S, C, K, N, W>(
     rt: &R,
     alloc: Global,
     words: &[Bytes],
+    kept: &[Kept],
     store: &mut S,
     input: &mut C,
     output: &mut K,
@@ -57,6 +66,7 @@ where
     N::Door: Send + Drop + 'static,
     <N::Door as Door>::Conn: Send + 'static,
     W: Spawner,
+    requires rules { KeepsAll (map (λ k. k.kind) kept.now) }
     // The status stands for one of the ends, and each is tied to what the words call for and to
     // what became of all that is outside: no file changed, the input was only read, the output only
     // written, and no count of faults fell. Memory may run out at any time.
@@ -72,7 +82,7 @@ where
         × LaterWorld before after }
 {
     let mut site = Site::new(input, output, net, spawner);
-    do_words(rt, alloc, words, store, &mut site).outcome()
+    do_words(rt, alloc, words, kept, store, &mut site).outcome()
 }
 
 /// Does what the words ask for.
@@ -80,6 +90,7 @@ fn do_words<R, S, C, K, N, W>(
     rt: &R,
     alloc: Global,
     words: &[Bytes],
+    kept: &[Kept],
     store: &mut S,
     site: &mut Site<'_, C, K, N, W>,
 ) -> Ending<N::Door, N::Up>
@@ -92,6 +103,7 @@ where
     N::Door: Send + Drop + 'static,
     <N::Door as Door>::Conn: Send + 'static,
     W: Spawner,
+    requires rules { KeepsAll (map (λ k. k.kind) kept.now) }
     ensures kept { site_names site.new ≡ site_names site.old }
     ensures ends { RunEndsLater (command_of words.now)
         (world_of (S.seen store.old) C.seen K.seen N.seen W.faults site.old)
@@ -103,15 +115,21 @@ where
             Command::Serve {
                 address,
                 workers,
+                rules,
                 folders,
             },
         ) => {
+            let plan = Plan {
+                folders,
+                rules,
+                kept,
+            };
             let serving = Serving {
                 role: &Role::Primary,
                 address,
                 workers,
             };
-            serve_doors(rt, alloc, &serving, folders, store, site)
+            serve_doors(rt, alloc, &serving, &plan, store, site)
         }
         Some(
             Command::Mirror {

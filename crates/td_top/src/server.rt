@@ -1,9 +1,12 @@
-ghost use Rattle.std.specs.Prelude.{◌≡◌, ◌<◌, ◌≤◌, [], length, map, All, IfOk, OnOk, Some, false};
+ghost use Rattle.std.specs.Prelude.{◌≡◌, ◌<◌, ◌≤◌, List, [], length, map, All, IfOk, OnOk, Some};
+ghost use Rattle.std.specs.Prelude.{false};
 ghost use Rattle.std.specs.Option.{option_map};
 ghost use mathlib.Core.List.{IsPrefix};
 ghost use Rattle.catalogue.specs.Holdings.{history_of};
 ghost use Rattle.json_forms.specs.PlainTexts.{IsPlainRole};
 ghost use Rattle.td_top.specs.Grammar.{serve};
+ghost use Rattle.td_top.specs.Command.{rule_list};
+ghost use Rattle.admission.specs.Rules.{KeepsAll};
 ghost use Rattle.td_top.specs.Opening.{HasDesks};
 ghost use Rattle.td_top.specs.Site.{console, site_names, site_of, world_of};
 ghost use Rattle.td_top.specs.Running.{RunEndsLater};
@@ -12,7 +15,7 @@ ghost use Rattle.td_top.specs.Works.{HasWorks, Learnt};
 
 use crate::console_beside::Console;
 use crate::growth::Growth;
-use crate::opening::{Opened, open_all};
+use crate::opening::{Opened, Plan, open_all};
 use crate::outcome::{Ending, Served};
 use crate::refusing::refuse_install;
 use crate::session::Session;
@@ -20,6 +23,7 @@ use crate::site::Site;
 use crate::status::{Status, status_for};
 use crate::talking::TalkEnd;
 use crate::works::{learn_all, works_for};
+use admission::Rules;
 use catalogue::Catalogue;
 use connection::{DoorDone, DoorWork};
 use desk_pool::{PoolEnd, StopFlag, run_beside};
@@ -38,13 +42,13 @@ pub struct Serving<'d> {
     pub workers: u32,
 }
 
-/// Installs the releases of folders, and serves such doors, while an operator talks over the input
-/// and the output and installs further releases.
+/// Installs the releases of folders under rules, and serves such doors, while an operator talks over
+/// the input and the output and installs further releases.
 pub fn serve_doors<R, S, C, K, N, W>(
     rt: &R,
     alloc: Global,
     serving: &Serving<'_>,
-    folders: &[Bytes],
+    plan: &Plan<'_>,
     store: &mut S,
     site: &mut Site<'_, C, K, N, W>,
 ) -> Ending<N::Door, N::Up>
@@ -58,17 +62,22 @@ where
     <N::Door as Door>::Conn: Send + 'static,
     W: Spawner,
     requires role { serving.now.role.now ≡ Role.Primary }
-    requires folders { 0 < length folders.now }
+    requires folders { 0 < length plan.now.folders.now }
     requires workers { serving.now.workers ≤ 64 }
+    requires rules { KeepsAll (map (λ k. k.kind) plan.now.kept.now) }
     ensures kept { site_names site.new ≡ site_names site.old }
     ensures ends { RunEndsLater
-        (Some (serve serving.now.address.now serving.now.workers folders.now))
+        (Some (serve serving.now.address.now serving.now.workers
+        (rule_list plan.now.rules) plan.now.folders.now))
         (world_of (S.seen store.old) C.seen K.seen N.seen W.faults site.old)
         (world_of (S.seen store.new) C.seen K.seen N.seen W.faults site.new)
         (map N.Door.seen result.doors.items) (option_map N.Up.seen result.up) result.status }
 {
-    match open_all(rt, alloc, folders, store, serving.workers) {
-        Ok(opened) => serve_opened(rt, alloc, serving, opened, store, site).after(None),
+    let Ok(rules) = plan.rules.rules(alloc, plan.kept) else {
+        return Ending::closed(alloc, Status::NoMemory);
+    };
+    match open_all(rt, alloc, plan.folders, &rules, store, serving.workers) {
+        Ok(opened) => serve_opened(rt, serving, opened, &rules, store, site).after(None),
         Err(fault) => Ending::closed(alloc, refuse_install(alloc, &fault, site.output)),
     }
 }
@@ -77,9 +86,9 @@ where
 /// the output.
 pub fn serve_opened<R, G, C, K, N, W>(
     rt: &R,
-    alloc: Global,
     serving: &Serving<'_>,
     opened: Opened,
+    rules: &Rules<'_>,
     growth: &mut G,
     site: &mut Site<'_, C, K, N, W>,
 ) -> Served<N::Door>
@@ -97,16 +106,18 @@ where
     ensures kept { site_names site.new ≡ site_names site.old }
     ensures ends { ServesOpened serving.now.role.now serving.now.address.now serving.now.workers
         (history_of opened.session.installer.list)
-        (site_of (G.seen growth.old) C.seen K.seen N.seen W.faults site.old)
-        (site_of (G.seen growth.new) C.seen K.seen N.seen W.faults site.new)
+        (site_of (G.seen growth.old rules.now.chosen) C.seen K.seen N.seen W.faults site.old)
+        (site_of (G.seen growth.new rules.now.chosen) C.seen K.seen N.seen W.faults site.new)
         (map N.Door.seen result.doors.items) result.status }
 {
     let Opened { session, desks } = opened;
+    let alloc = session.alloc;
     match site.net.doors(alloc, serving.address, serving.workers) {
         Made::Given(doors) => match works_for(alloc, serving.role, doors, desks) {
             Ok((works, flag)) => {
                 let staff = Staff {
                     session,
+                    rules,
                     works,
                     flag,
                 };
@@ -119,9 +130,10 @@ where
     }
 }
 
-/// Who serves: a session, and the works of workers, of such a flag.
-struct Staff<D: Door> {
+/// Who serves: a session with its rules, and the works of workers, of such a flag.
+struct Staff<'s, 'k, D: Door> {
     session: Session,
+    rules: &'s Rules<'k>,
     works: Vec<DoorWork<D>>,
     flag: StopFlag,
 }
@@ -129,7 +141,7 @@ struct Staff<D: Door> {
 /// Serves doors by their works, beside a talk with the operator.
 fn serve_beside<R, G, C, K, D, W>(
     rt: &R,
-    staff: Staff<D>,
+    staff: Staff<'_, '_, D>,
     growth: &mut G,
     input: &mut C,
     output: &mut K,
@@ -145,20 +157,31 @@ where
     W: Spawner,
     requires flag { staff.flag.raised ≡ false }
     requires works { HasWorks staff.session.installer.pair staff.works.items }
-    ensures { ServesBeside staff.session staff.works.items
-        (console (G.seen growth.old) (C.seen input.old) (K.seen output.old))
-        (console (G.seen growth.new) (C.seen input.new) (K.seen output.new))
+    ensures { ServesBeside staff.entry.session staff.entry.works.items
+        (console (G.seen growth.old staff.entry.rules.now.chosen) (C.seen input.old)
+        (K.seen output.old))
+        (console (G.seen growth.new staff.entry.rules.now.chosen) (C.seen input.new)
+        (K.seen output.new))
         (W.faults spawner.old) (W.faults spawner.new)
         (map D.seen result.doors.items) result.status }
 {
     let Staff {
         mut session,
+        rules,
         works,
         mut flag,
     } = staff;
     let alloc = session.alloc;
     let mut end = None;
-    let mut console = Console::new(&mut session, &mut flag, &mut end, growth, input, output);
+    let mut console = Console::new(
+        &mut session,
+        rules,
+        &mut flag,
+        &mut end,
+        growth,
+        input,
+        output,
+    );
     let pool = run_beside(rt, alloc, spawner, works, &mut console);
     match pool {
         PoolEnd::All(dones) => match end {

@@ -10,6 +10,7 @@ ghost use Rattle.td_top.specs.TalkingSteps.{Turns, most_waiting};
 use crate::growth::Growth;
 use crate::operator::{answer_line, newest};
 use crate::session::Session;
+use admission::Rules;
 use console::{Line, Lines, Said, short};
 use std::sync::Wait;
 use td_base::{NoMemory, ReadStep, Sink, Source, Written, write_whole};
@@ -57,18 +58,21 @@ pub enum Taken {
 pub fn talk<R: Wait, G: Growth, C: Source, K: Sink>(
     rt: &R,
     session: &mut Session,
+    rules: &Rules<'_>,
     growth: &mut G,
     input: &mut C,
     output: &mut K,
 ) -> Option<TalkEnd>
     ensures { ComesTo
-        (scene (console (G.seen growth.old) (C.seen input.old) (K.seen output.old)) session.old)
-        (scene (console (G.seen growth.new) (C.seen input.new) (K.seen output.new)) session.new)
+        (scene (console (G.seen growth.old rules.now.chosen) (C.seen input.old)
+        (K.seen output.old)) session.old)
+        (scene (console (G.seen growth.new rules.now.chosen) (C.seen input.new)
+        (K.seen output.new)) session.new)
         result }
 {
     let ready = short(&Said::Ready(newest(&session.installer)));
     match write_whole(output, ready.as_slice()) {
-        Written::Whole => answer_lines(rt, session, growth, input, output),
+        Written::Whole => answer_lines(rt, session, rules, growth, input, output),
         Written::Cut => Some(TalkEnd::NotWritten),
     }
 }
@@ -77,18 +81,21 @@ pub fn talk<R: Wait, G: Growth, C: Source, K: Sink>(
 fn answer_lines<R: Wait, G: Growth, C: Source, K: Sink>(
     rt: &R,
     session: &mut Session,
+    rules: &Rules<'_>,
     growth: &mut G,
     input: &mut C,
     output: &mut K,
 ) -> Option<TalkEnd>
     ensures { TalksOn
-        (scene (console (G.seen growth.old) (C.seen input.old) (K.seen output.old)) session.old)
-        (scene (console (G.seen growth.new) (C.seen input.new) (K.seen output.new)) session.new)
+        (scene (console (G.seen growth.old rules.now.chosen) (C.seen input.old)
+        (K.seen output.old)) session.old)
+        (scene (console (G.seen growth.new rules.now.chosen) (C.seen input.new)
+        (K.seen output.new)) session.new)
         result }
 {
     let mut lines = Lines::new(session.alloc);
     for _ in rt.forever() {
-        match take_turn(rt, session, growth, input, output, &mut lines) {
+        match take_turn(rt, session, rules, growth, input, output, &mut lines) {
             Turn::On => {}
             Turn::End(end) => return Some(end),
             Turn::NoMemory => return None,
@@ -101,6 +108,7 @@ fn answer_lines<R: Wait, G: Growth, C: Source, K: Sink>(
 fn take_turn<R: Wait, G: Growth, C: Source, K: Sink>(
     rt: &R,
     session: &mut Session,
+    rules: &Rules<'_>,
     growth: &mut G,
     input: &mut C,
     output: &mut K,
@@ -108,8 +116,10 @@ fn take_turn<R: Wait, G: Growth, C: Source, K: Sink>(
 ) -> Turn
     requires { length lines.old ≤ most_waiting }
     ensures turns { Turns
-        (scene (console (G.seen growth.old) (C.seen input.old) (K.seen output.old)) session.old)
-        (scene (console (G.seen growth.new) (C.seen input.new) (K.seen output.new)) session.new)
+        (scene (console (G.seen growth.old rules.now.chosen) (C.seen input.old)
+        (K.seen output.old)) session.old)
+        (scene (console (G.seen growth.new rules.now.chosen) (C.seen input.new)
+        (K.seen output.new)) session.new)
         lines.old lines.new result }
     ensures held { length lines.new ≤ most_waiting }
 {
@@ -120,7 +130,7 @@ fn take_turn<R: Wait, G: Growth, C: Source, K: Sink>(
             if is_quit(&line) {
                 return Turn::End(quit(output));
             }
-            let reply = answer_line(rt, session, growth, &line);
+            let reply = answer_line(rt, session, rules, growth, &line);
             say(output, reply.as_slice())
         }
     }

@@ -1,8 +1,8 @@
-ghost use Rattle.std.specs.Prelude.{◌≡◌, length, map, All, IfOk, false, ◌||◌};
+ghost use Rattle.std.specs.Prelude.{◌≡◌, ℕ, length, map, All, IfOk, false, ◌||◌};
 ghost use Rattle.connection.specs.DoorWorks.{NoneOut};
 ghost use Rattle.json_forms.specs.PlainTexts.{IsPlainRole};
 ghost use Rattle.logbook.specs.Pages.{Book};
-ghost use Rattle.td_top.specs.Works.{AreWorks, Learnt};
+ghost use Rattle.td_top.specs.Works.{AreWorks, HasSeen, Learnt};
 
 use catalogue::Catalogue;
 use connection::{DoorDone, DoorWork};
@@ -23,8 +23,8 @@ pub fn works_for<D: Door + Drop>(
     requires role { IsPlainRole role.now }
     requires many { length doors.items ≡ length desks.items }
     requires new { All (λ d. NoneOut (D.seen d)) doors.items }
-    ensures works { IfOk result (λ r. (pair : Book) → All (λ d. d.pair ≡ pair) desks.items
-        → AreWorks role.now pair (map D.seen doors.items) r.0.items) }
+    ensures works { IfOk result (λ r. (pair : Book) (least : ℕ) → All (HasSeen pair least) desks.items
+        → AreWorks role.now pair least (map D.seen doors.items) r.0.items) }
     ensures flag { IfOk result (λ r. r.1.raised ≡ false) }
     ensures signs { IfOk result (λ r. All (λ w. w.stop ≡ r.1) r.0.items) }
 {

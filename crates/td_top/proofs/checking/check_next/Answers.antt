@@ -1,7 +1,7 @@
 use Rattle.std.proofs.Common.{refl}
 use Rattle.td_top.specs.CheckingSteps.{grown}
 use Rattle.td_top.proofs.Checked.{comes_refused, comes_told, some_history}
-use Rattle.td_top.proofs.Installing.{gives}
+use Rattle.td_top.proofs.Installing.{gives, no_refusal}
 use Rattle.td_top.proofs.checking.check_next.Goals as goal
 
 pub tell-requires : goal.tell-requires
@@ -13,7 +13,7 @@ pub returns-in-Ok : goal.returns-in-Ok
 returns-in-Ok g c = λ H stands.
     let found = c.in-Ok.ensures.found H stands in
     comes_told H c.args.folder.now _ _ _ _ c.in-Ok.next _ found.later (c.in-Ok.ensures.stands H stands)
-    (gives _ _ c.args.folder.now H (grown H) c.in-Ok.next _ refl found) c.tell.ensures
+    (gives _ _ c.args.folder.now _ H (grown H) c.in-Ok.next _ refl (no_refusal H _) found) c.tell.ensures
 
 pub returns-in-Err : goal.returns-in-Err
 returns-in-Err g c = λ H stands.

@@ -4,15 +4,15 @@ use Rattle.td_top.proofs.command.read_number.Goals as goal
 
 pub returns-in-Some-clause-value : goal.returns-in-Some-clause-value
 returns-in-Some-clause-value c =
-    sym (some_number c.args.most c.args.word.now c.in-Some.number c.requires c.in-Some.ensures.some (search rules) (search rules))
+    sym (some_number c.args.least c.args.most c.args.word.now c.in-Some.number c.requires c.in-Some.ensures.some (search rules) (search rules))
 
 pub returns-in_default-clause-value : goal.returns-in_default-clause-value
 returns-in_default-clause-value c =
-    sym (other_number c.args.most c.args.word.now c.in-Some.number c.requires (search rules) c.in-Some.ensures.some (λ least most. search rules))
+    sym (other_number c.args.least c.args.most c.args.word.now c.in-Some.number c.requires (search rules) c.in-Some.ensures.some (λ least most. search rules))
 
 pub returns-in_default-2-clause-value : goal.returns-in_default-2-clause-value
 returns-in_default-2-clause-value c =
-    sym (other_number c.args.most c.args.word.now c.in-Some.number c.requires (search rules) c.in-Some.ensures.some (λ least most. search rules))
+    sym (other_number c.args.least c.args.most c.args.word.now c.in-Some.number c.requires (search rules) c.in-Some.ensures.some (λ least most. search rules))
 
 pub returns-in_default-3-clause-value : goal.returns-in_default-3-clause-value
-returns-in_default-3-clause-value c = sym (no_number c.args.most c.args.word.now c.requires (search rules))
+returns-in_default-3-clause-value c = sym (no_number c.args.least c.args.most c.args.word.now c.requires (search rules))

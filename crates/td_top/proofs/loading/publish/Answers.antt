@@ -3,13 +3,13 @@ use Rattle.td_top.proofs.loading.publish.Goals as goal
 
 pub returns-in-Ok-clause-joins : goal.returns-in-Ok-clause-joins
 returns-in-Ok-clause-joins g c =
-    joins_made c.args.installer.now.list c.in-Ok.receipt.list c.install_manifest.new.self.list c.in_ok-manifest.store c.in_ok-manifest.manifest c.args.made
+    joins_made _ c.args.installer.now.list c.in-Ok.receipt.list c.install_manifest.new.self.list c.in_ok-manifest.store c.in_ok-manifest.manifest c.args.made
     c.in-Ok.ensures.receipt.1 c.requires.next c.in_ok-manifest.ensures.manifest c.in_ok-manifest.ensures.files c.in-Ok.ensures.found.told
 
 pub returns-in-Ok-clause-longer : goal.returns-in-Ok-clause-longer
 returns-in-Ok-clause-longer g c =
     joins_longer c.args.installer.now.list c.install_manifest.new.self.list
-    (joins_made c.args.installer.now.list c.in-Ok.receipt.list c.install_manifest.new.self.list c.in_ok-manifest.store c.in_ok-manifest.manifest c.args.made
+    (joins_made _ c.args.installer.now.list c.in-Ok.receipt.list c.install_manifest.new.self.list c.in_ok-manifest.store c.in_ok-manifest.manifest c.args.made
     c.in-Ok.ensures.receipt.1 c.requires.next c.in_ok-manifest.ensures.manifest c.in_ok-manifest.ensures.files c.in-Ok.ensures.found.told)
 
 pub returns-in-Ok-clause-seen : goal.returns-in-Ok-clause-seen

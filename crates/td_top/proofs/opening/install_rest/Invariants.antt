@@ -9,6 +9,6 @@ abbrev pub invariant-loop-folder : goal.invariant-loop-folder
 invariant-loop-folder g l = record {
   later : LaterStore (g.S.Store.seen l.fn.store) (g.S.Store.seen l.store);
   session : LaterSession l.fn.session l.session;
-  extends : Extends (g.S.Store.seen l.fn.store).files (take l.folder-index l.folders) (history_of l.fn.session.installer.list)
+  extends : Extends (g.S.Store.seen l.fn.store).files l.rules.chosen (take l.folder-index l.folders) (history_of l.fn.session.installer.list)
       (history_of l.session.installer.list);
 }

@@ -3,7 +3,7 @@ use Rattle.td_top.specs.ServerSteps.{Concludes}
 use Rattle.td_top.specs.Works.{HasWorks}
 use Rattle.td_top.specs.ConsoleBeside.{beside_of}
 use Rattle.td_top.proofs.BesideLemmas.{beside_done, beside_left, beside_starved, beside_unstarted, pairs_now}
-use Rattle.td_top.proofs.ServerLemmas.{came}
+use Rattle.td_top.proofs.ServerLemmas.{came, same_rules}
 use Rattle.td_top.proofs.server.serve_beside.Goals as goal
 
 pub conclude-requires : goal.conclude-requires
@@ -25,7 +25,7 @@ returns-in-Some g c =
     search (c.conclude.ensures, ap (λ l. l.0) names, rules) in
     let done = beside_done g.D.Door.seen _ _ _ c.in-Some.end c.args.staff.works.items c.in-All.dones.items _ _ _ _ told.1 told.2 ended
     c.run_beside-pool.ensures.later c.in-All.ensures.results concluded in
-    search (done, ap (λ l. l.2) names, ap (λ l. l.3) names, ap (λ l. l.4) names, ap (λ l. l.0) names, rules)
+    search (done, same_rules _ _ _ told.1 told.2, ap (λ l. l.2) names, ap (λ l. l.3) names, ap (λ l. l.4) names, ap (λ l. l.0) names, rules)
 
 pub returns-in-All : goal.returns-in-All
 returns-in-All g c =
@@ -33,18 +33,18 @@ returns-in-All g c =
     let names = (came _ _ _ told.1 told.2).1 in
     let starved = beside_starved g.D.Door.seen _ _ _ c.args.staff.works.items _ _ _ _ told.1 told.2 c.run_beside-pool.ensures.later c.give_up.ensures.status
     c.give_up.ensures.doors in
-    search (starved, ap (λ l. l.2) names, ap (λ l. l.3) names, ap (λ l. l.4) names, ap (λ l. l.0) names, rules)
+    search (starved, same_rules _ _ _ told.1 told.2, ap (λ l. l.2) names, ap (λ l. l.3) names, ap (λ l. l.4) names, ap (λ l. l.0) names, rules)
 
 pub returns-in-NotStarted : goal.returns-in-NotStarted
 returns-in-NotStarted g c =
     let halted = c.in-NotStarted.ensures.beside in
     let unstarted = beside_unstarted g.D.Door.seen _ _ c.args.staff.works.items _ _ _ _ halted c.in-NotStarted.ensures.refusal c.run_beside-pool.ensures.later
     c.give_up-in-NotStarted.ensures.status c.give_up-in-NotStarted.ensures.doors in
-    search (unstarted, ap (λ v. v.lent.2) halted, ap (λ v. v.lent.3) halted, ap (λ v. v.lent.4) halted, ap (λ v. v.lent.0) halted, rules)
+    search (unstarted, ap (λ v. v.rules) halted, ap (λ v. v.lent.2) halted, ap (λ v. v.lent.3) halted, ap (λ v. v.lent.4) halted, ap (λ v. v.lent.0) halted, rules)
 
 pub returns : goal.returns
 returns g c =
-    let same = ap (beside_of g.G.Growth.seen g.C.Source.seen g.K.Sink.seen) c.in-NoMemory.ensures.beside in
+    let same = ap (beside_of (λ r. r.chosen) g.G.Growth.seen g.C.Source.seen g.K.Sink.seen) c.in-NoMemory.ensures.beside in
     let left = beside_left g.D.Door.seen _ _ c.args.staff.works.items _ _ _ _ same c.run_beside-pool.ensures.later c.give_up-in-NoMemory.ensures.status
     c.give_up-in-NoMemory.ensures.doors in
-    search (left, ap (λ v. v.lent.2) same, ap (λ v. v.lent.3) same, ap (λ v. v.lent.4) same, ap (λ v. v.lent.0) same, rules)
+    search (left, ap (λ v. v.rules) same, ap (λ v. v.lent.2) same, ap (λ v. v.lent.3) same, ap (λ v. v.lent.4) same, ap (λ v. v.lent.0) same, rules)

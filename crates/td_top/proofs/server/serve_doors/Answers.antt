@@ -1,22 +1,40 @@
 use Rattle.std.proofs.Common.{Some, refl}
+use Rattle.installer.specs.declared.install_fault.InstallFault.TheVariants as install
+use Rattle.td_top.specs.Command.{rule_list}
 use Rattle.td_top.specs.Grammar.{serve}
 use Rattle.td_top.specs.Folders.{ServesNothing}
 use Rattle.td_top.specs.Running.{served}
 use Rattle.td_top.specs.Server.{nothing}
 use Rattle.td_top.proofs.Endings.{ends_nothing}
+use Rattle.td_top.proofs.Installing.{all_kept, all_starved}
 use Rattle.td_top.proofs.RunLemmas.{ran_alone, ran_doors, served_as}
 use Rattle.td_top.proofs.server.serve_doors.Goals as goal
 
-pub returns-in-Ok-clause-ends : goal.returns-in-Ok-clause-ends
-returns-in-Ok-clause-ends g c =
-    rw (c.after.ensures.doors, c.after.ensures.status, c.after.ensures.up)
-    (ran_doors c.args.serving.now.address.now c.args.serving.now.workers c.args.folders.now _ _ _ _ _ _ _ _ _ _ _ _ _ _ _ refl c.in-Ok.ensures.all
-    (served_as _ _ _ _ _ _ _ _ _ c.requires.role c.serve_opened.ensures.ends))
+pub rules-requires : goal.rules-requires
+rules-requires g c = all_kept _ c.args.plan.now.rules c.requires.rules
 
-pub returns-in-Err-clause-ends : goal.returns-in-Err-clause-ends
-returns-in-Err-clause-ends g c =
-    ran_alone g.N.Door.Door.seen g.N.Up.Upstream.seen (ServesNothing c.args.folders.now)
-    (Some (serve c.args.serving.now.address.now c.args.serving.now.workers c.args.folders.now)) _ _ _ _ _ _ _ _
+pub returns-in-Ok-open_all-clause-ends : goal.returns-in-Ok-open_all-clause-ends
+returns-in-Ok-open_all-clause-ends g c =
+    let plan = c.args.plan.now in
+    rw (c.after.ensures.doors, c.after.ensures.status, c.after.ensures.up)
+    (ran_doors c.args.serving.now.address.now c.args.serving.now.workers (rule_list plan.rules) _ plan.folders.now _ _ _ _ _ _ _ _ _ _ _ _ _ _ _ refl
+    (rw c.in-Ok.ensures at c.in-Ok-open_all.ensures.all)
+    (served_as _ _ _ _ _ _ _ _ _ c.requires.role (rw c.in-Ok.ensures at c.serve_opened.ensures.ends)))
+
+pub returns-clause-ends : goal.returns-clause-ends
+returns-clause-ends g c =
+    let plan = c.args.plan.now in
+    ran_alone g.N.Door.Door.seen g.N.Up.Upstream.seen (ServesNothing (rule_list plan.rules) plan.folders.now)
+    (Some (serve c.args.serving.now.address.now c.args.serving.now.workers (rule_list plan.rules) plan.folders.now)) _ _ _ _ _ _ _ _
+    c.closed-in-Err.ensures.status c.closed-in-Err.ensures.doors c.closed-in-Err.ensures.up
+    (ends_nothing (rule_list plan.rules) plan.folders.now c.in-Err.fault _ _ _ _ _ _ (rw c.in-Ok.ensures at c.in-Err.ensures.all) c.refuse_install.ensures)
+    (λ none alone. served c.args.serving.now.address.now c.args.serving.now.workers (rule_list plan.rules) plan.folders.now _ _ refl (nothing _ none alone))
+
+pub returns-in_default-clause-ends : goal.returns-in_default-clause-ends
+returns-in_default-clause-ends g c =
+    let plan = c.args.plan.now in
+    ran_alone g.N.Door.Door.seen g.N.Up.Upstream.seen (ServesNothing (rule_list plan.rules) plan.folders.now)
+    (Some (serve c.args.serving.now.address.now c.args.serving.now.workers (rule_list plan.rules) plan.folders.now)) _ _ _ _ _ _ _ _
     c.closed.ensures.status c.closed.ensures.doors c.closed.ensures.up
-    (ends_nothing c.args.folders.now c.in-Err.fault _ _ _ _ _ _ c.in-Err.ensures.all c.refuse_install.ensures)
-    (λ none alone. served c.args.serving.now.address.now c.args.serving.now.workers c.args.folders.now _ _ refl (nothing _ none alone))
+    (ends_nothing (rule_list plan.rules) plan.folders.now install.NoMemory _ _ _ _ _ _ (all_starved _ _ _) (refl, refl))
+    (λ none alone. served c.args.serving.now.address.now c.args.serving.now.workers (rule_list plan.rules) plan.folders.now _ _ refl (nothing _ none alone))

@@ -13,7 +13,7 @@ returns-in-Ok-clause-ends g c =
     let to = c.args.serving.now in
     c.serve_beside.ensures.serves to.role.now to.address.now to.workers _ _ _
     (opens_doors g.N.Door.Door.seen _ _ to.address.now to.workers c.in-Given.doors c.in-Given.ensures.opens) c.in-Given.ensures.opens.later
-    (c.in-Ok.ensures.works c.args.opened.session.installer.pair c.requires.desks.pairs)
+    (c.in-Ok.ensures.works c.args.opened.session.installer.pair _ c.requires.desks.seen)
 
 pub returns-in-Err-clause-ends : goal.returns-in-Err-clause-ends
 returns-in-Err-clause-ends g c =
@@ -36,6 +36,6 @@ returns-in-NoMemory-clause-ends g c =
 
 pub serve_beside-requires-clause-works : goal.serve_beside-requires-clause-works
 serve_beside-requires-clause-works g c =
-    let has = has_works _ c.args.opened.session.installer.pair _ c.in-Ok.works.items
-    (c.in-Ok.ensures.works c.args.opened.session.installer.pair c.requires.desks.pairs) in
+    let has = has_works _ c.args.opened.session.installer.pair _ _ c.in-Ok.works.items
+    (c.in-Ok.ensures.works c.args.opened.session.installer.pair _ c.requires.desks.seen) in
     search (has, rules)

@@ -6,7 +6,7 @@ use Rattle.td_top.proofs.talking.answer_lines.Given as goal
 
 abbrev pub invariant-loop : goal.invariant-loop
 invariant-loop g l = record {
-  at : (start : Scene) → IsAt start (scene (console (g.G.Growth.seen l.fn.growth) (g.C.Source.seen l.fn.input) (g.K.Sink.seen l.fn.output)) l.fn.session) []
-      → IsAt start (scene (console (g.G.Growth.seen l.growth) (g.C.Source.seen l.input) (g.K.Sink.seen l.output)) l.session) l.lines;
+  at : (start : Scene) → IsAt start (scene (console (g.G.Growth.seen l.fn.growth l.fn.rules.chosen) (g.C.Source.seen l.fn.input) (g.K.Sink.seen l.fn.output)) l.fn.session) []
+      → IsAt start (scene (console (g.G.Growth.seen l.growth l.fn.rules.chosen) (g.C.Source.seen l.input) (g.K.Sink.seen l.output)) l.session) l.lines;
   held : length l.lines ≤ most_waiting;
 }
