@@ -4,6 +4,10 @@
 //! is told comes first, and then how each connection ended.
 #![tactic(auto)]
 
+ghost use Rattle.std.specs.Prelude.{◌≡◌};
+ghost use Rattle.admission.specs.Rules.{allows};
+
+use admission::{Delta, Kept, RuleKind, Test, changes_at_most, changes_no_past};
 use devices::{GateDoor, RealSink, RealSource, RealSpawner, RealStore, gate_pair};
 use std::alloc::Global;
 use std::io;
@@ -13,7 +17,20 @@ use td_base::{Bytes, End, MemoryNetwork, MemoryUpstream, NoMemory};
 /// For how many turns a read waits for the other connection.
 const TURNS: u32 = 1_000_000;
 
+#[tactic(auto, using(admission::proofs::lemmas::Keeping::both_kept))]
 fn main(rt: HostRuntime) -> io::Result<()> {
+    let at_most = |delta: &Delta, most: i64| -> bool
+        ensures { result ≡ allows RuleKind.MaxChanged most delta.now }
+    { changes_at_most(delta, most) };
+    let no_past = |delta: &Delta, moment: i64| -> bool
+        ensures { result ≡ allows RuleKind.NoPastChange moment delta.now }
+    { changes_no_past(delta, moment) };
+    let at_most: Test = Box::new(rt.alloc(), at_most)?;
+    let no_past: Test = Box::new(rt.alloc(), no_past)?;
+    let kept = [
+        Kept::new(RuleKind::MaxChanged, at_most),
+        Kept::new(RuleKind::NoPastChange, no_past),
+    ];
     let mut network = gates(rt.alloc()).map_err(out_of_memory)?;
     let words = words(rt.alloc()).map_err(out_of_memory)?;
     let mut store = RealStore::new(&rt);
@@ -24,6 +41,7 @@ fn main(rt: HostRuntime) -> io::Result<()> {
         &rt,
         rt.alloc(),
         words.as_slice(),
+        &kept,
         &mut store,
         &mut input,
         &mut output,

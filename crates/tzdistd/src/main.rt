@@ -4,12 +4,14 @@
 #![tactic(auto)]
 
 ghost use Rattle.std.specs.Prelude.{◌≡◌};
+ghost use Rattle.admission.specs.Rules.{allows};
 ghost use Rattle.std.specs.Process.{exit_status};
 
 // The words of the command line, and what is said of a failure.
 mod complaint;
 mod words;
 
+use admission::{Delta, Kept, RuleKind, Test, changes_at_most, changes_no_past};
 use complaint::{Failures, complain};
 use devices::{
     RealDoor, RealNetwork, RealSink, RealSource, RealSpawner, RealStore, RealUpstream, drain,
@@ -23,10 +25,27 @@ const OUT_OF_MEMORY: u8 = 70;
 /// For how many milliseconds what is owed to peers may still go out before the program ends.
 const OWED_MILLIS: u64 = 2_000;
 
+#[tactic(auto, using(admission::proofs::lemmas::Keeping::both_kept))]
 fn main(rt: HostRuntime) -> ExitCode {
+    let at_most = |delta: &Delta, most: i64| -> bool
+        ensures { result ≡ allows RuleKind.MaxChanged most delta.now }
+    { changes_at_most(delta, most) };
+    let no_past = |delta: &Delta, moment: i64| -> bool
+        ensures { result ≡ allows RuleKind.NoPastChange moment delta.now }
+    { changes_no_past(delta, moment) };
+    let Ok(at_most) = Box::new(rt.alloc(), at_most) else {
+        return out_of_memory(&rt);
+    };
+    let Ok(no_past) = Box::new(rt.alloc(), no_past) else {
+        return out_of_memory(&rt);
+    };
+    let (at_most, no_past): (Test, Test) = (at_most, no_past);
+    let kept = [
+        Kept::new(RuleKind::MaxChanged, at_most),
+        Kept::new(RuleKind::NoPastChange, no_past),
+    ];
     let Ok(words) = words::collect(rt.alloc(), &rt) else {
-        complain(&rt, OUT_OF_MEMORY, Failures::NONE);
-        return exit_code(OUT_OF_MEMORY);
+        return out_of_memory(&rt);
     };
     let mut store = RealStore::new(&rt);
     let mut input = RealSource::new(rt.stdin());
@@ -37,6 +56,7 @@ fn main(rt: HostRuntime) -> ExitCode {
         &rt,
         rt.alloc(),
         words.as_slice(),
+        &kept,
         &mut store,
         &mut input,
         &mut output,
@@ -54,6 +74,12 @@ fn main(rt: HostRuntime) -> ExitCode {
     };
     complain(&rt, outcome.status, failures);
     exit_code(outcome.status)
+}
+
+/// Says that memory ran out.
+fn out_of_memory(rt: &HostRuntime) -> ExitCode {
+    complain(rt, OUT_OF_MEMORY, Failures::NONE);
+    exit_code(OUT_OF_MEMORY)
 }
 
 /// Why one of the doors failed last, if one did.
