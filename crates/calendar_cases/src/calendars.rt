@@ -7,8 +7,7 @@ ghost use Rattle.td_civil.specs.Bounds.{HasMeaning};
 ghost use Rattle.td_civil.specs.declared.moment_type.TheConstants.{HI};
 ghost use Rattle.tzif_reader.specs.Cut.{lists_of};
 ghost use Rattle.vtimezone.specs.Ranges.{IsEndOf, end_in};
-ghost use Rattle.vtimezone.specs.ReadValues.{is_safe};
-ghost use Rattle.vtimezone.specs.Spellable.{IsSafe};
+ghost use Rattle.recurrence.specs.Spellable.{is_safe, IsSafe};
 ghost use Rattle.zone_meaning.specs.Names.{has_printable_names};
 ghost use Rattle.zone_meaning.specs.State.{footer_meant};
 
@@ -21,9 +20,18 @@ use td_civil::{HI, Moment};
 use vtimezone::{Range, parts, write};
 use zone_meaning::{Zone, footer, has_printable_names};
 
+/// How a calendar is written.
+#[derive(Clone, Copy)]
+pub enum Written {
+    /// In lines (RFC 5545).
+    Lines,
+    /// As JSON (RFC 7265).
+    Json,
+}
+
 /// `calendar HEX FROM END TZID ALIAS-OF`: the text of the calendar, where `-` is no end and no zone
-/// of which the identifier is an alias.
-pub fn calendar(alloc: Global, row: &Row) -> Answer {
+/// of which the identifier is an alias. `json-calendar` and the same words: that as JSON.
+pub fn calendar(alloc: Global, row: &Row, written: Written) -> Answer {
     let zone = zone_at(alloc, row, 0)?;
     let range = range_in(row)?;
     let tzid = text_word(row.word(3)?)?;
@@ -31,7 +39,7 @@ pub fn calendar(alloc: Global, row: &Row) -> Answer {
     if !is_carried(&zone) || !has_printable_names(&zone) {
         return Err(CaseFault::Strange);
     }
-    let text = text(alloc, &zone, range, tzid, alias_of)?;
+    let text = text(alloc, &zone, range, tzid, alias_of, written)?;
     Ok(text.into_vec())
 }
 
@@ -101,7 +109,7 @@ fn is_text(text: &[u8]) -> bool
 fn is_text_byte(byte: u8) -> bool
     ensures { result ≡ is_safe byte }
 {
-    (byte >= 32 || byte == b'\t') && byte != 127 && byte != b',' && byte != b';' && byte != b'\\'
+    (byte >= 32 && byte <= 126 || byte == b'\t') && byte != b',' && byte != b';' && byte != b'\\'
 }
 
 /// The text of the calendar of a zone for a range.
@@ -111,6 +119,7 @@ fn text(
     range: Range,
     tzid: &[u8],
     alias_of: Option<&[u8]>,
+    written: Written,
 ) -> Result<Bytes, NoMemory>
     requires from { HasMeaning range.from.seconds }
     requires until { IsEndOf range.from.seconds (end_in range) }
@@ -121,6 +130,18 @@ fn text(
 {
     let parts = parts(alloc, zone, range)?;
     let mut text = Bytes::new(alloc);
-    write(&mut text, tzid, alias_of, parts.as_slice(), range.until)?;
+    match written {
+        Written::Lines => write(&mut text, tzid, alias_of, parts.as_slice(), range.until)?,
+        Written::Json => {
+            jcal::write(
+                alloc,
+                &mut text,
+                tzid,
+                alias_of,
+                parts.as_slice(),
+                range.until,
+            )?
+        }
+    }
     Ok(text)
 }

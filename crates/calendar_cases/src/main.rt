@@ -11,6 +11,7 @@ mod zones;
 mod lines;
 mod rules;
 
+use calendars::Written;
 use case_lines::{Answer, CaseFault, Row, Table};
 use std::alloc::Global;
 use std::io;
@@ -42,9 +43,11 @@ fn answer(alloc: Global, row: &Row) -> Answer {
         "zone" => zones::zone(alloc, row),
         "printed" => zones::printed(alloc, row),
         "state" => zones::state(alloc, row),
+        "differ" => zones::differ(alloc, row),
         "observances" => observances::observances(alloc, row),
         "same-observances" => observances::same(alloc, row),
-        "calendar" => calendars::calendar(alloc, row),
+        "calendar" => calendars::calendar(alloc, row, Written::Lines),
+        "json-calendar" => calendars::calendar(alloc, row, Written::Json),
         _ => Err(CaseFault::Strange),
     }
 }

@@ -10,8 +10,8 @@ use td_base::Bytes;
 use td_civil::{HI, LO, Local, Moment};
 use tzif_reader::TzifFault;
 use zone_meaning::{
-    Zone, ZoneFault, at, file, footer_agrees, has_printable_names, leap_count, zone_from_lists,
-    zone_of,
+    Zone, ZoneFault, at, file, first_difference, footer_agrees, has_printable_names, leap_count,
+    zone_from_lists, zone_of,
 };
 
 /// The bytes that the hex digits at a place write.
@@ -98,4 +98,17 @@ pub fn state_text(alloc: Global, state: &Local) -> Answer {
     out.append(format!(in alloc; "{offset} {dst} ")?.as_bytes())?;
     out.append(state.name.as_slice())?;
     Ok(out.into_vec())
+}
+
+/// `differ HEX HEX`: the first moment at which two zones differ, or none.
+pub fn differ(alloc: Global, row: &Row) -> Answer {
+    let one = zone_at(alloc, row, 0)?;
+    let two = zone_at(alloc, row, 1)?;
+    match first_difference(&one, &two) {
+        None => Ok(Vec::from_slice(alloc, b"none")?),
+        Some(moment) => {
+            let seconds = moment.seconds;
+            Ok(format!(in alloc; "{seconds}")?.into_bytes())
+        }
+    }
 }

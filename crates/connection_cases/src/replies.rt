@@ -51,6 +51,7 @@ fn kind_of(word: &str) -> Option<Kind> {
         "problem" => Some(Kind::Problem),
         "calendar" => Some(Kind::Calendar),
         "tzif" => Some(Kind::Tzif),
+        "json-calendar" => Some(Kind::CalendarJson),
         _ => None,
     }
 }

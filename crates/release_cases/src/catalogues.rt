@@ -1,11 +1,12 @@
 //! The catalogue of a history of folders. Each row begins with the folders, with a comma between
 //! two.
 use crate::histories::catalogue_of;
+use crate::indexes;
 use crate::leap_tables::steps;
 use case_lines::{Answer, CaseFault, Row, shown};
 use catalogue::{
-    Catalogue, Entry, entries_are_plain, fits_what_is_held, histories_grow, order_is_free,
-    tokens_are_apart, tokens_are_plain, tokens_find_places,
+    Catalogue, Entry, KEPT_TOKENS, entries_are_plain, fits_what_is_held, histories_grow,
+    order_is_free, tokens_are_apart, tokens_are_plain, tokens_find_places,
 };
 use std::alloc::{AllocError, Global};
 use td_base::MemoryStore;
@@ -49,11 +50,7 @@ fn leaps(alloc: Global, catalogue: &Catalogue<Zone>) -> Answer {
 
 /// The place that a row names.
 fn place(row: &Row) -> Result<u32, CaseFault> {
-    let place = row.number(1)?;
-    if place > u32::MAX as u64 {
-        return Err(CaseFault::Strange);
-    }
-    Ok(place as u32)
+    indexes::place(row.number(1)?)
 }
 
 /// `changed-since DIRS PLACE`: the positions of the zones that changed after a place.
@@ -65,7 +62,7 @@ fn changed(alloc: Global, row: &Row, catalogue: &Catalogue<Zone>) -> Answer {
 /// `token DIRS PLACE`.
 fn token(alloc: Global, row: &Row, catalogue: &Catalogue<Zone>) -> Answer {
     let place = place(row)?;
-    if place == 0 || catalogue.count() < place {
+    if place == 0 || catalogue.count() < place || catalogue.count() - place >= KEPT_TOKENS {
         return crate::strange();
     }
     Ok(Vec::from_slice(alloc, catalogue.token(place).as_slice())?)

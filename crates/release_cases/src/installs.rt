@@ -1,6 +1,7 @@
 //! Folders that are installed, for desks.
 ghost use Rattle.std.specs.Prelude.{◌≡◌};
 
+use admission::Rules;
 use case_lines::{Answer, CaseFault, Row};
 use catalogue::Catalogue;
 use installer::{InstallFault, Installer};
@@ -40,7 +41,7 @@ pub fn install<R: Wait>(rt: &R, alloc: Global, row: &Row, store: &mut MemoryStor
     let (steps, ended) = match run(rt, alloc, row, store) {
         Ok(run) => run,
         Err(InstallFault::NoMemory) => return Err(CaseFault::NoMemory),
-        Err(InstallFault::Check(_fault)) => return crate::strange(),
+        Err(_fault) => return crate::strange(),
     };
     let (opened, told) = (steps.opened, steps.told);
     let (grown, refused) = (steps.grown, steps.refused);
@@ -94,11 +95,12 @@ fn grow<R: Wait>(
     ensures two { two.new.pair ≡ two.old.pair }
 {
     let opened = (entered(one), entered(two));
-    let receipt = installer.install(rt, alloc, dirs.0, store)?;
+    let rules = Rules::none(alloc);
+    let receipt = installer.install(rt, alloc, dirs.0, store, &rules)?;
     one.learn(receipt);
     let told = (one.value().count(), two.value().count());
     let grown = (entered(one), entered(two));
-    let fault = text_of(alloc, installer.install(rt, alloc, dirs.1, store))?;
+    let fault = text_of(alloc, installer.install(rt, alloc, dirs.1, store, &rules))?;
     let refused = (entered(one), entered(two));
     Ok(Steps {
         opened,

@@ -1,5 +1,6 @@
 //! Whether a folder joins a history whole or not at all.
 use crate::installs::entered;
+use admission::Rules;
 use case_lines::{Answer, CaseFault, Row};
 use catalogue::Catalogue;
 use installer::{InstallFault, Installer};
@@ -33,7 +34,7 @@ pub fn joins<R: Wait>(rt: &R, alloc: Global, row: &Row, store: &mut MemoryStore)
     let (first, second) = match installed(rt, alloc, dirs, store) {
         Ok(both) => both,
         Err(InstallFault::NoMemory) => return Err(CaseFault::NoMemory),
-        Err(InstallFault::Check(_fault)) => return crate::strange(),
+        Err(_fault) => return crate::strange(),
     };
     let mut out = Vec::new(alloc);
     put_between(alloc, &mut out, first, row.word(2)?)?;
@@ -94,13 +95,13 @@ fn joined<R: Wait>(
     installer: &mut Installer,
     desk: &mut Desk<Catalogue<Zone>>,
 ) -> Joining {
-    let joined = match installer.install(rt, alloc, dir, store) {
+    let joined = match installer.install(rt, alloc, dir, store, &Rules::none(alloc)) {
         Ok(receipt) => {
             drop(receipt);
             true
         }
         Err(InstallFault::NoMemory) => false,
-        Err(InstallFault::Check(_fault)) => return None,
+        Err(_fault) => return None,
     };
     Some((joined, stand_of(installer, desk)))
 }

@@ -1,6 +1,6 @@
 //! The made load: its releases, its requests and the line that tells its counts.
 use crate::manifests::said;
-use case_lines::{Answer, CaseFault, Row};
+use case_lines::{Answer, CaseFault, Row, shown};
 use catalogue::Catalogue;
 use installer::{InstallFault, first_stated, next_stated};
 use made_load::{LoadCounts, release, requests, summary};
@@ -18,6 +18,7 @@ pub fn told(alloc: Global, row: &Row) -> Answer {
         "load-manifest" => manifest(alloc, row),
         "load-file" => file(alloc, row),
         "load-requests" => asked(alloc, row),
+        "load-place-of" => places(alloc, row),
         "load-summary" => line(alloc, row),
         _ => crate::strange(),
     }
@@ -47,6 +48,17 @@ fn asked(alloc: Global, row: &Row) -> Answer {
     let catalogue = last_made(alloc, small(row, 0)?)?;
     let asked = requests(alloc, &catalogue, catalogue.count())?;
     Ok(asked.into_vec())
+}
+
+/// `load-place-of NUMBER TEXT ..`: the places of which the texts are the tokens after so many
+/// releases.
+fn places(alloc: Global, row: &Row) -> Answer {
+    let catalogue = last_made(alloc, small(row, 0)?)?;
+    let mut places = Vec::new(alloc);
+    for at in 1..row.words().len() {
+        places.push(catalogue.place_of(row.word(at)?))?;
+    }
+    shown(alloc, &places.as_slice())
 }
 
 /// `load-summary RELEASES REQUESTS FINE UNCHANGED ENTRIES`: the line that tells these counts.
@@ -79,7 +91,7 @@ fn stated(made: Result<Catalogue<Zone>, InstallFault>) -> Result<Catalogue<Zone>
     match made {
         Ok(catalogue) => Ok(catalogue),
         Err(InstallFault::NoMemory) => Err(CaseFault::NoMemory),
-        Err(InstallFault::Check(_fault)) => crate::strange(),
+        Err(_fault) => crate::strange(),
     }
 }
 

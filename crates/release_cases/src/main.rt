@@ -1,40 +1,59 @@
-//! Tries what `release_manifest`, `leap_table`, `release_check`, `catalogue`, `installer` and
-//! `made_load` offer over the cases of a table on standard input, and tells of each whose answer is
-//! not the expected one. The table explains its own lines.
+//! Tries what `release_manifest`, `leap_table`, `release_check`, `change_index`, `catalogue`,
+//! `admission`, `installer` and `made_load` offer over the cases of a table on standard input, and
+//! tells of each whose answer is not the expected one. The table explains its own lines.
 #![tactic(auto)]
+
+ghost use Rattle.std.specs.Prelude.{◌≡◌, map};
+ghost use Rattle.admission.specs.Rules.{KeepsAll, allows};
 
 // Manifests and tables of leap seconds.
 mod leap_tables;
 mod manifests;
 mod printed;
 
-// Folders, histories of them, and the catalogue of a history.
+// Folders, histories of them, the catalogue of a history, and indexes of numbers.
 mod catalogues;
 mod histories;
+mod indexes;
 mod values;
 
-// Installs.
+// Installs, and rules for them.
 mod installs;
 mod joins;
+mod ruled;
 mod stated;
 
 // The made load.
 mod loads;
 
+use admission::{Delta, Kept, RuleKind, Test, changes_at_most, changes_no_past};
 use case_lines::{Answer, CaseFault, Row, Table};
 use std::alloc::Global;
 use std::io;
 use std::sync::Wait;
 use td_base::{Bytes, MemoryStore};
 
+#[tactic(auto, using(admission::proofs::lemmas::Keeping::both_kept))]
 fn main(rt: HostRuntime) -> io::Result<()> {
     let alloc = rt.alloc();
     let mut table = Table::new(alloc);
     let mut store = MemoryStore::new(alloc);
+    let at_most = |delta: &Delta, most: i64| -> bool
+        ensures { result ≡ allows RuleKind.MaxChanged most delta.now }
+    { changes_at_most(delta, most) };
+    let no_past = |delta: &Delta, moment: i64| -> bool
+        ensures { result ≡ allows RuleKind.NoPastChange moment delta.now }
+    { changes_no_past(delta, moment) };
+    let at_most: Test = Box::new(alloc, at_most)?;
+    let no_past: Test = Box::new(alloc, no_past)?;
+    let kept = [
+        Kept::new(RuleKind::MaxChanged, at_most),
+        Kept::new(RuleKind::NoPastChange, no_past),
+    ];
     for line in rt.lines(alloc) {
         let line = line?;
         if let Some(row) = table.row(line.as_str())? {
-            let answer = answer(&rt, alloc, &row, &mut store);
+            let answer = answer(&rt, alloc, &row, &mut store, &kept);
             if let Some(told) = table.judge(&row, answer)? {
                 println!(rt; "{told}")?;
             }
@@ -44,14 +63,25 @@ fn main(rt: HostRuntime) -> io::Result<()> {
     println!(rt; "{tally}")
 }
 
-/// What is answered to a row.
-fn answer<R: Wait>(rt: &R, alloc: Global, row: &Row, store: &mut MemoryStore) -> Answer {
+/// What is answered to a row, with a test for each kind of rule.
+fn answer<R: Wait>(
+    rt: &R,
+    alloc: Global,
+    row: &Row,
+    store: &mut MemoryStore,
+    kept: &[Kept],
+) -> Answer
+    requires { KeepsAll (map (λ k. k.kind) kept.now) }
+{
     match row.kind() {
         "file" => put(alloc, row, store),
         "install" => installs::install(rt, alloc, row, store),
         "open" => installs::open(rt, alloc, row, store),
         "joins" => joins::joins(rt, alloc, row, store),
-        "stated" => stated::stated(rt, alloc, row, store),
+        "stated" => stated::stated(rt, alloc, row, store, kept),
+        "asked" => ruled::asked(alloc, row, kept),
+        "changed" => ruled::changed(alloc, row, store),
+        "ruled" => ruled::ruled(rt, alloc, row, store, kept),
         "serves" => stated::served(rt, alloc, row, store),
         "manifest" => manifests::read_back(alloc, row),
         "printed" => printed::printed(alloc, row),
@@ -59,7 +89,11 @@ fn answer<R: Wait>(rt: &R, alloc: Global, row: &Row, store: &mut MemoryStore) ->
         "examine" => values::examined(alloc, row, store),
         "history" => histories::told(alloc, row, store),
         "again" => histories::again(alloc, row, store),
-        "load-manifest" | "load-file" | "load-requests" | "load-summary" => loads::told(alloc, row),
+        "load-manifest" | "load-file" | "load-requests" | "load-place-of" | "load-summary" => {
+            loads::told(alloc, row)
+        }
+        "after" => indexes::after(alloc, row),
+        "positions-after" => indexes::positions(alloc, row),
         "laws" => laws(alloc),
         _ => catalogues::asked(alloc, row, store),
     }

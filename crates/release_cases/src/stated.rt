@@ -1,5 +1,10 @@
 //! Manifests that are at hand and installed, and whether they are what is served. Their files stand
 //! in a folder of the store.
+ghost use Rattle.std.specs.Prelude.{map};
+ghost use Rattle.admission.specs.Rules.{KeepsAll};
+
+use crate::ruled::rules;
+use admission::{Kept, Rules};
 use case_lines::{Answer, CaseFault, Row};
 use installer::{InstallFault, Installer};
 use release_manifest::{MOST_BYTES, Manifest, ManifestLeaps, ManifestZone, read};
@@ -7,15 +12,25 @@ use std::alloc::{AllocError, Global};
 use std::sync::Wait;
 use td_base::{Bytes, FileRead, Items, MemoryStore, NoMemory, Store};
 
-/// `stated DIR DIR DIR`: how many releases the history has once the first manifest began it, and
-/// after the second and the third, each after its fault if it has one.
-pub fn stated<R: Wait>(rt: &R, alloc: Global, row: &Row, store: &mut MemoryStore) -> Answer {
-    let first = manifest_of(alloc, row.word(0)?, store)?;
+/// `stated RULES DIR DIR DIR`: how many releases the history has once the first manifest began it,
+/// and after the second and the third were installed under the rules, each after its fault if it
+/// has one.
+pub fn stated<R: Wait>(
+    rt: &R,
+    alloc: Global,
+    row: &Row,
+    store: &mut MemoryStore,
+    kept: &[Kept],
+) -> Answer
+    requires { KeepsAll (map (λ k. k.kind) kept.now) }
+{
+    let rules = rules(alloc, kept, row.word(0)?)?;
+    let first = manifest_of(alloc, row.word(1)?, store)?;
     match Installer::open_manifest(rt, alloc, &first, store, 1) {
         Ok((installer, desks)) => {
             drop(desks);
             let mut installer = installer;
-            let told = grown(rt, alloc, row, store, &mut installer);
+            let told = grown(rt, alloc, row, store, &mut installer, &rules);
             installer.close(rt);
             told
         }
@@ -30,12 +45,13 @@ fn grown<R: Wait>(
     row: &Row,
     store: &mut MemoryStore,
     installer: &mut Installer,
+    rules: &Rules<'_>,
 ) -> Answer {
     let mut out = Vec::new(alloc);
     put_count(alloc, &mut out, installer)?;
-    for at in 1..3 {
+    for at in 2..4 {
         let manifest = manifest_of(alloc, row.word(at)?, store)?;
-        if let Err(fault) = installer.install_manifest(rt, alloc, &manifest, store) {
+        if let Err(fault) = installer.install_manifest(rt, alloc, &manifest, store, rules) {
             out.extend_from_slice(crate::text(alloc, &fault)?.as_slice())?;
             out.push(b' ')?;
         }
@@ -45,7 +61,11 @@ fn grown<R: Wait>(
 }
 
 /// Tells how many releases the history has.
-fn put_count(alloc: Global, out: &mut Vec<u8>, installer: &Installer) -> Result<(), AllocError> {
+pub fn put_count(
+    alloc: Global,
+    out: &mut Vec<u8>,
+    installer: &Installer,
+) -> Result<(), AllocError> {
     let count = installer.last().count();
     out.extend_from_slice(format!(in alloc; "{count};")?.as_bytes())?;
     Ok(())

@@ -1,9 +1,13 @@
+ghost use Rattle.std.specs.Prelude.{map};
+ghost use Rattle.admission.specs.Rules.{KeepsAll};
+
 use crate::ending::Ending;
 use crate::exchanges::are_met;
 use crate::outside::{File, ROOM, Sizes, calls, piece_sizes, source_of};
 use crate::plan::NetworkPlan;
 use crate::stage::Stage;
 use crate::trial::Trial;
+use admission::Kept;
 use case_lines::CaseFault;
 use std::alloc::{AllocError, Global};
 use std::sync::Wait;
@@ -126,11 +130,14 @@ impl Case {
         &self,
         rt: &R,
         alloc: Global,
+        kept: &[Kept],
         files: &[File],
         trial: Trial,
-    ) -> Result<Ending, NoMemory> {
+    ) -> Result<Ending, NoMemory>
+        requires { KeepsAll (map (λ k. k.kind) kept.now) }
+    {
         let mut stage = Stage::new(alloc, self, files, trial)?;
-        let outcome = stage.play(rt, alloc, self.words.as_slice());
+        let outcome = stage.play(rt, alloc, self.words.as_slice(), kept);
         stage.end(alloc, outcome)
     }
 

@@ -1,7 +1,11 @@
+ghost use Rattle.std.specs.Prelude.{map};
+ghost use Rattle.admission.specs.Rules.{KeepsAll};
+
 use crate::case::Case;
 use crate::ending::Ending;
 use crate::outside::File;
 use crate::trial::Trial;
+use admission::Kept;
 use case_lines::{CaseFault, Tally, Texts, cut, hex_bytes, number};
 use std::alloc::{AllocError, Global};
 use std::sync::Wait;
@@ -38,9 +42,12 @@ impl Script {
     pub fn read_line<R: Threads + Wait + Copy + Send + 'static>(
         &mut self,
         rt: &R,
+        kept: &[Kept],
         line: &str,
-    ) -> Result<Option<String>, AllocError> {
-        match self.take(rt, line) {
+    ) -> Result<Option<String>, AllocError>
+        requires { KeepsAll (map (λ k. k.kind) kept.now) }
+    {
+        match self.take(rt, kept, line) {
             Ok(told) => Ok(told),
             Err(CaseFault::NoMemory) => Err(AllocError),
             Err(CaseFault::Strange) => Ok(Some(format!(in self.alloc; "strange line: {line}")?)),
@@ -50,8 +57,11 @@ impl Script {
     fn take<R: Threads + Wait + Copy + Send + 'static>(
         &mut self,
         rt: &R,
+        kept: &[Kept],
         line: &str,
-    ) -> Result<Option<String>, CaseFault> {
+    ) -> Result<Option<String>, CaseFault>
+        requires { KeepsAll (map (λ k. k.kind) kept.now) }
+    {
         let (word, rest) = cut(line);
         match word {
             "" | "#" => {}
@@ -59,7 +69,7 @@ impl Script {
             "hex" => self.add_hex_file(rest)?,
             "remove" => self.files = Vec::new(self.alloc),
             "case" => self.case = Some(Case::new(self.alloc, rest)?),
-            "run" => return self.run_case(rt, rest),
+            "run" => return self.run_case(rt, kept, rest),
             _ => {
                 if !self.texts.define(word, rest)? {
                     self.add_to_case(word, rest)?;
@@ -119,8 +129,11 @@ impl Script {
     fn run_case<R: Threads + Wait + Copy + Send + 'static>(
         &mut self,
         rt: &R,
+        kept: &[Kept],
         how: &str,
-    ) -> Result<Option<String>, CaseFault> {
+    ) -> Result<Option<String>, CaseFault>
+        requires { KeepsAll (map (λ k. k.kind) kept.now) }
+    {
         let Some(case) = &self.case else {
             return Err(CaseFault::Strange);
         };
@@ -132,7 +145,7 @@ impl Script {
         let mut report = None;
         for number in 1..count.saturating_add(1) {
             let trial = Trial::of(how, number);
-            let ending = case.run(rt, self.alloc, self.files.as_slice(), trial)?;
+            let ending = case.run(rt, self.alloc, kept, self.files.as_slice(), trial)?;
             let is_right = case.is_met_by(trial, &ending);
             self.tally.count(is_right);
             if !is_right {

@@ -1,10 +1,14 @@
 //! The objects in memory over which a case runs.
+ghost use Rattle.std.specs.Prelude.{map};
+ghost use Rattle.admission.specs.Rules.{KeepsAll};
+
 use crate::case::Case;
 use crate::ending::{ConnEnd, DoorEnd, Ending};
 use crate::exchanges::Exchanged;
 use crate::outside::{CaseDoor, CaseUpstream, File, calls, network_of, store_of};
 use crate::trial::Trial;
 use crate::watched::{WatchedNetwork, WatchedSpawner};
+use admission::Kept;
 use std::alloc::Global;
 use std::sync::Wait;
 use std::thread::Threads;
@@ -54,11 +58,15 @@ impl Stage {
         rt: &R,
         alloc: Global,
         words: &[Bytes],
-    ) -> Outcome<CaseDoor, CaseUpstream> {
+        kept: &[Kept],
+    ) -> Outcome<CaseDoor, CaseUpstream>
+        requires { KeepsAll (map (λ k. k.kind) kept.now) }
+    {
         top_call(
             rt,
             alloc,
             words,
+            kept,
             &mut self.store,
             &mut self.input,
             &mut self.output,
@@ -157,6 +165,7 @@ fn top_call<R, S, C, K, N, W>(
     rt: &R,
     alloc: Global,
     words: &[Bytes],
+    kept: &[Kept],
     store: &mut S,
     input: &mut C,
     output: &mut K,
@@ -172,6 +181,7 @@ where
     N::Door: Send + Drop + 'static,
     <N::Door as Door>::Conn: Send + 'static,
     W: Spawner,
+    requires { KeepsAll (map (λ k. k.kind) kept.now) }
 {
-    td_top::run(rt, alloc, words, store, input, output, net, spawner)
+    td_top::run(rt, alloc, words, kept, store, input, output, net, spawner)
 }

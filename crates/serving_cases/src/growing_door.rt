@@ -2,6 +2,7 @@
 ghost use Rattle.std.specs.Prelude.{◌≡◌};
 
 use crate::listed_door::ListedDoor;
+use admission::Rules;
 use installer::Installer;
 use release_manifest::Manifest;
 use std::alloc::Global;
@@ -48,7 +49,7 @@ fn grow<R: Wait>(
 ) {
     if steps.pop_front() == Some(b'p') {
         if let Some(manifest) = manifests.pop_front() {
-            let _ = installer.install_manifest(rt, alloc, &manifest, store);
+            let _ = installer.install_manifest(rt, alloc, &manifest, store, &Rules::none(alloc));
         }
     }
 }

@@ -1,0 +1,156 @@
+//! Rules for releases: what a release changes, what chosen rules say of that, and what they let
+//! join a history.
+ghost use Rattle.std.specs.Prelude.{map};
+ghost use Rattle.admission.specs.Rules.{KeepsAll};
+
+use crate::histories::catalogue_of;
+use crate::stated::put_count;
+use admission::{Changed, Chosen, Delta, Kept, RuleKind, Rules, delta_of};
+use case_lines::{Answer, CaseFault, Row, shown, signed};
+use installer::Installer;
+use release_check::check;
+use std::alloc::Global;
+use std::sync::Wait;
+use td_base::{Bytes, Items, MemoryStore};
+use td_civil::Moment;
+
+/// The most rules of a row.
+const MOST_RULES: usize = 8;
+
+/// The rule of a word: `most=N` or `from=SECONDS`.
+fn rule(word: &[u8]) -> Result<Chosen, CaseFault> {
+    if let Some(number) = word.strip_prefix(b"most=") {
+        let number = signed(number)?;
+        return Ok(Chosen {
+            kind: RuleKind::MaxChanged,
+            number,
+        });
+    }
+    let Some(number) = word.strip_prefix(b"from=") else {
+        return crate::strange();
+    };
+    let number = signed(number)?;
+    Ok(Chosen {
+        kind: RuleKind::NoPastChange,
+        number,
+    })
+}
+
+/// The rules of a word, with a comma between two, or none of an empty one.
+#[tactic(auto, using(admission::proofs::lemmas::Keeping::all_kept))]
+pub fn rules<'k>(alloc: Global, kept: &'k [Kept], word: &[u8]) -> Result<Rules<'k>, CaseFault>
+    requires { KeepsAll (map (λ k. k.kind) kept.now) }
+{
+    let mut chosen = Vec::new(alloc);
+    if word.is_empty() {
+        return Ok(Rules::none(alloc));
+    }
+    for text in word.split(|byte| *byte == b',') {
+        chosen.push(rule(text)?)?;
+    }
+    if chosen.len() > MOST_RULES {
+        return crate::strange();
+    }
+    Ok(Rules::new(kept, chosen))
+}
+
+/// `asked RULES MOMENTS`: what rules say of a release whose changes begin at these moments, in
+/// seconds, or never.
+pub fn asked(alloc: Global, row: &Row, kept: &[Kept]) -> Answer
+    requires { KeepsAll (map (λ k. k.kind) kept.now) }
+{
+    let rules = rules(alloc, kept, row.word(0)?)?;
+    let delta = delta(alloc, row.word(1)?)?;
+    shown(alloc, &rules.ask(&delta))
+}
+
+/// A release with changes that begin at the moments of a word.
+fn delta(alloc: Global, word: &[u8]) -> Result<Delta, CaseFault> {
+    let mut changed = Items::new(alloc);
+    if word.is_empty() {
+        return Ok(Delta { changed });
+    }
+    for text in word.split(|byte| *byte == b',') {
+        let tzid = Bytes::new(alloc);
+        let first = moment(text)?;
+        changed.push(Changed { tzid, first })?;
+    }
+    Ok(Delta { changed })
+}
+
+/// The moment of a word, none of `never`.
+fn moment(word: &[u8]) -> Result<Option<Moment>, CaseFault> {
+    if word == b"never".as_slice() {
+        return Ok(None);
+    }
+    let seconds = signed(word)?;
+    Ok(Some(Moment { seconds }))
+}
+
+/// `changed DIRS DIR`: the zones that a folder changes of the last release of a history, each with
+/// the moment from which it differs from what its identifier stood for, if it does.
+pub fn changed(alloc: Global, row: &Row, store: &mut MemoryStore) -> Answer {
+    let last = catalogue_of(alloc, row.word(0)?, store)?;
+    match check(alloc, row.word(1)?, store, Some(&last)) {
+        Ok(release) => told(alloc, &delta_of(alloc, &last, &release)?),
+        Err(fault) => crate::text(alloc, &fault),
+    }
+}
+
+fn told(alloc: Global, delta: &Delta) -> Answer {
+    let mut out = Vec::new(alloc);
+    for change in delta.changed.as_slice() {
+        out.extend_from_slice(change.tzid.as_slice())?;
+        if let Some(first) = change.first {
+            let seconds = first.seconds;
+            out.extend_from_slice(format!(in alloc; "@{seconds}")?.as_bytes())?;
+        }
+        out.push(b';')?;
+    }
+    Ok(out)
+}
+
+/// `ruled RULES DIR ..`: how many releases the history has once the first folder began it, and
+/// after each further one that was installed under the rules, after its fault if it has one.
+pub fn ruled<R: Wait>(
+    rt: &R,
+    alloc: Global,
+    row: &Row,
+    store: &mut MemoryStore,
+    kept: &[Kept],
+) -> Answer
+    requires { KeepsAll (map (λ k. k.kind) kept.now) }
+{
+    let rules = rules(alloc, kept, row.word(0)?)?;
+    match Installer::open(rt, alloc, row.word(1)?, store, 1) {
+        Ok((installer, desks)) => {
+            drop(desks);
+            let mut installer = installer;
+            let told = grown(rt, alloc, row, store, &mut installer, &rules);
+            installer.close(rt);
+            told
+        }
+        Err(fault) => crate::text(alloc, &fault),
+    }
+}
+
+/// Installs the folders after the first.
+fn grown<R: Wait>(
+    rt: &R,
+    alloc: Global,
+    row: &Row,
+    store: &mut MemoryStore,
+    installer: &mut Installer,
+    rules: &Rules<'_>,
+) -> Answer {
+    let mut out = Vec::new(alloc);
+    put_count(alloc, &mut out, installer)?;
+    for at in 2..row.words().len() {
+        if let Err(fault) = installer.install(rt, alloc, row.word(at)?, store, rules) {
+            out.extend_from_slice(crate::text(alloc, &fault)?.as_slice())?;
+            out.push(b' ')?;
+        }
+        put_count(alloc, &mut out, installer)?;
+    }
+    Ok(out)
+}
