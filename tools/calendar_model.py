@@ -2,7 +2,7 @@
 """Tells, by itself, what the cases of calendars must answer.
 
 It is written from the standards alone: zone files (RFC 9636), TZ strings (POSIX, section 8.3), yearly
-rules and VTIMEZONE (RFC 5545), with the profile of docs/FORMATS.md. It goes over days and years one
+rules and VTIMEZONE (RFC 5545), and the same as JSON (RFC 7265), with the profile of docs/FORMATS.md. It goes over days and years one
 by one and shares nothing with the crates.
 
     calendar_model.py < crates/calendar_cases/stdin     compares the rows that it knows
@@ -10,9 +10,11 @@ by one and shares nothing with the crates.
 """
 import calendar
 import datetime
+import json
 import re
 import struct
 import sys
+import typing
 
 LO, HI = -5364662400, 253370764800
 DAY = 86400
@@ -256,6 +258,12 @@ def changes(zone, a, b):
     return rows
 
 
+def first_difference(one, two):
+    """The first moment at which two zones differ: the state stays from one change to the next."""
+    turns = sorted({row[0] for zone in (one, two) for row in changes(zone, LO, HI)})
+    return next((t for t in turns if state_at(one, t) != state_at(two, t)), None)
+
+
 # ---- calendars
 
 def local_text(t):
@@ -270,14 +278,27 @@ def offset_text(offset):
     return text + (f"{size % 60:02}" if size % 60 else "")
 
 
-def part_lines(onset, before, state, rule=None, until=None):
-    kind = "DAYLIGHT" if state[1] else "STANDARD"
-    lines = ["BEGIN:" + kind, "DTSTART:" + local_text(onset + before)]
-    lines += ["TZOFFSETFROM:" + offset_text(before), "TZOFFSETTO:" + offset_text(state[0])]
-    lines.append("TZNAME:" + state[2])
-    if rule:
-        end = "" if until is None else f";UNTIL={local_text(until)}Z"
-        lines.append("RRULE:FREQ=YEARLY;" + rule_text(rule[0]) + end)
+class Part(typing.NamedTuple):
+    """An onset, the offset before it, the state after it, and the further onsets or the rule."""
+
+    onset: int
+    before: int
+    state: tuple
+    dates: tuple = ()
+    form: tuple | None = None
+    until: int | None = None
+
+
+def part_lines(part):
+    kind = "DAYLIGHT" if part.state[1] else "STANDARD"
+    lines = ["BEGIN:" + kind, "DTSTART:" + local_text(part.onset + part.before)]
+    lines += ["TZOFFSETFROM:" + offset_text(part.before), "TZOFFSETTO:" + offset_text(part.state[0])]
+    lines.append("TZNAME:" + part.state[2])
+    if part.dates:
+        lines.append("RDATE:" + ",".join(local_text(t + part.before) for t in part.dates))
+    if part.form:
+        end = "" if part.until is None else f";UNTIL={local_text(part.until)}Z"
+        lines.append("RRULE:FREQ=YEARLY;" + rule_text(part.form) + end)
     return lines + ["END:" + kind]
 
 
@@ -299,8 +320,16 @@ def rule_parts(zone, year, b):
                 continue
             last = max(t for t in come if t < b)
         first = onsets(tz, year)[side]
-        parts.append((first, part_lines(first, before, state, said[side], last)))
-    return [lines for _, lines in sorted(parts)]
+        parts.append(Part(first, before, state, form=said[side][0], until=last))
+    return sorted(parts)
+
+
+def change_parts(rows):
+    """The parts of changes: alike ones in one, by the first of them."""
+    groups = {}
+    for onset, before, state in rows:
+        groups.setdefault((before, state), []).append(onset)
+    return [Part(come[0], *kind, dates=tuple(come[1:])) for kind, come in groups.items()]
 
 
 def fold(line):
@@ -308,21 +337,76 @@ def fold(line):
     return "\r\n ".join(rows) + "\r\n"
 
 
-def calendar_of(zone, a, b, tzid, alias_of):
+def parts_of(zone, a, b):
     latest = max([a] + [zone[0][-1]] if zone[0] else [a])
     year = civil(latest // DAY).year + 1
     turn = day_number(year, 1, 1) * DAY
+    return change_parts(changes(zone, a, turn if b is None else min(b, turn))) + rule_parts(zone, year, b)
+
+
+def calendar_of(zone, a, b, tzid, alias_of):
     lines = ["BEGIN:VCALENDAR", "VERSION:2.0", "PRODID:-//tzdistd//RFC 7808//EN", "BEGIN:VTIMEZONE"]
     lines.append("TZID:" + tzid)
     if alias_of is not None:
         lines.append("TZID-ALIAS-OF:" + alias_of)
     if b is not None:
         lines.append(f"TZUNTIL:{local_text(b)}Z")
-    for row in changes(zone, a, turn if b is None else min(b, turn)):
-        lines += part_lines(*row)
-    for part in rule_parts(zone, year, b):
-        lines += part
+    for part in parts_of(zone, a, b):
+        lines += part_lines(part)
     return "".join(fold(line) for line in lines + ["END:VTIMEZONE", "END:VCALENDAR"])
+
+
+# ---- the same as JSON (RFC 7265)
+
+def json_local_text(t):
+    moment = datetime.datetime.fromtimestamp(0, datetime.timezone.utc) + datetime.timedelta(seconds=t)
+    return moment.strftime("%Y-%m-%dT%H:%M:%S").rjust(19, "0")
+
+
+def json_offset_text(offset):
+    text = offset_text(offset)
+    return ":".join([text[:3], text[3:5]] + ([text[5:]] if text[5:] else []))
+
+
+def recur_value(form, until):
+    """The members that a rule has, whatever their order."""
+    week = lambda first: [first + i for i in range(7)]
+    kind, rest = form[0], form[1:]
+    value = {"freq": "YEARLY"}
+    if kind == "NthDay":
+        value |= {"bymonth": rest[0], "byday": f"{rest[1]}{WEEKDAYS[rest[2]]}"}
+    elif kind == "MonthDays":
+        value |= {"bymonth": rest[0], "bymonthday": week(rest[1]), "byday": WEEKDAYS[rest[2]]}
+    elif kind == "YearDays":
+        value |= {"byyearday": week(rest[0]), "byday": WEEKDAYS[rest[1]]}
+    else:
+        value |= {"bymonth": rest[0], "bymonthday": rest[1]}
+    return value if until is None else value | {"until": json_local_text(until) + "Z"}
+
+
+def part_value(part):
+    rows = [
+        ["dtstart", {}, "date-time", json_local_text(part.onset + part.before)],
+        ["tzoffsetfrom", {}, "utc-offset", json_offset_text(part.before)],
+        ["tzoffsetto", {}, "utc-offset", json_offset_text(part.state[0])],
+        ["tzname", {}, "text", part.state[2]],
+    ]
+    if part.dates:
+        rows.append(["rdate", {}, "date-time", *(json_local_text(t + part.before) for t in part.dates)])
+    if part.form:
+        rows.append(["rrule", {}, "recur", recur_value(part.form, part.until)])
+    return ["daylight" if part.state[1] else "standard", rows, []]
+
+
+def json_calendar_of(zone, a, b, tzid, alias_of):
+    rows = [["tzid", {}, "text", tzid]]
+    if alias_of is not None:
+        rows.append(["tzid-alias-of", {}, "text", alias_of])
+    if b is not None:
+        rows.append(["tzuntil", {}, "date-time", json_local_text(b) + "Z"])
+    front = [["version", {}, "text", "2.0"], ["prodid", {}, "text", "-//tzdistd//RFC 7808//EN"]]
+    zones = [["vtimezone", rows, [part_value(part) for part in parts_of(zone, a, b)]]]
+    return json.dumps(["vcalendar", front, zones], separators=(",", ":"), sort_keys=True)
 
 
 # ---- the rows of the table
@@ -423,10 +507,14 @@ def expected(kind, words):
     if kind == "same-observances":
         one, two = (changes(zone_in(bytes.fromhex(w)), int(words[2]), int(words[3])) for w in words[:2])
         return str(len(one)) if one == two else "other"
-    if kind == "calendar":
+    if kind == "differ":
+        first = first_difference(*(zone_in(bytes.fromhex(word)) for word in words))
+        return "none" if first is None else str(first)
+    if kind in ("calendar", "json-calendar"):
         ends = int(words[1]), seconds_or_none(words[2])
         alias_of = None if words[4] == "-" else words[4]
-        return calendar_of(zone_in(bytes.fromhex(words[0])), *ends, words[3], alias_of)
+        written = calendar_of if kind == "calendar" else json_calendar_of
+        return written(zone_in(bytes.fromhex(words[0])), *ends, words[3], alias_of)
     return None
 
 

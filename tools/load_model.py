@@ -16,6 +16,7 @@ import urllib.parse
 ZONES = 50
 BEGIN = 1577836800
 DAY = 86400
+KEPT_TOKENS = 512
 YEAR = "?start=2020-01-01T00:00:00Z&end=2021-01-01T00:00:00Z"
 
 
@@ -62,17 +63,23 @@ def digest(release, zone):
     return hashlib.sha256(content).digest()
 
 
-def chain(release):
+def tokens(number):
     value = bytes(32)
-    for r in range(1, release + 1):
+    for r in range(1, number + 1):
         text = value + sized(stamp(r).encode()) + sized(b"Load") + sized(b"%d" % r) + sized(b"") + sized(b"")
         text += struct.pack(">L", ZONES) + b"".join(digest(r, z) for z in range(ZONES))
         value = hashlib.sha256(text).digest()
-    return value
+        yield "%d-%s" % (r, value.hex()[:16])
 
 
 def token(place):
-    return "%d-%s" % (place, chain(place).hex()[:16])
+    return list(tokens(place))[-1]
+
+
+def places_of(number, texts):
+    """The tokens of the last places alone are known."""
+    known = {text: place for place, text in enumerate(tokens(number), 1) if number - place < KEPT_TOKENS}
+    return "[%s]" % ", ".join("Some(%d)" % known[text] if text in known else "None" for text in texts)
 
 
 def request(target, *lines):
@@ -125,6 +132,8 @@ def answer(kind, words):
         return file_of(int(words[1]), words[2])
     if kind == "load-requests":
         return requests(int(words[0]))
+    if kind == "load-place-of":
+        return places_of(int(words[0]), words[1:])
     if kind == "load-summary":
         return summary(*map(int, words))
     return None

@@ -73,32 +73,59 @@ def expansion(tzid, changes, start, end):
                       separators=(",", ":"))
 
 
-def part(moment, before, kind, rule=None):
-    """The lines of a part of a calendar."""
-    local = moment + datetime.timedelta(seconds=before)
+def local_text(moment, before):
+    return (moment + datetime.timedelta(seconds=before)).strftime("%Y%m%dT%H%M%S")
+
+
+def part(moments, before, kind, rule=None):
+    """The lines of a part of a calendar: the moments after the first are its dates."""
     word = "DAYLIGHT" if kind == EDT else "STANDARD"
     def offset(seconds):
         return "-%02d%02d" % divmod(-seconds // 60, 60)
-    lines = ["BEGIN:" + word, "DTSTART:" + local.strftime("%Y%m%dT%H%M%S"), "TZOFFSETFROM:" + offset(before),
+    first, *dates = [local_text(moment, before) for moment in moments]
+    lines = ["BEGIN:" + word, "DTSTART:" + first, "TZOFFSETFROM:" + offset(before),
              "TZOFFSETTO:" + offset(kind[0]), "TZNAME:" + kind[1]]
+    lines += ["RDATE:" + ",".join(dates)] if dates else []
     return lines + (["RRULE:FREQ=YEARLY;" + rule] if rule else []) + ["END:" + word]
 
 
-def calendar(tzid, changes, first_rule_year):
-    """The calendar of all time: a part at the first moment, one a change, and the two rules."""
-    lines = ["BEGIN:VCALENDAR", "VERSION:2.0", "PRODID:-//tzdistd//RFC 7808//EN", "BEGIN:VTIMEZONE", "TZID:" + tzid]
-    start = datetime.datetime(1800, 1, 1, tzinfo=UTC)
-    lines += part(start, EST[0], EST)
+def folded(line):
+    """A line, and its end, cut so that no row has more than 75 octets."""
+    rows = [line[:75]] + [" " + line[at : at + 74] for at in range(75, len(line), 74)]
+    return "".join(row + "\r\n" for row in rows)
+
+
+def alike(changes):
+    """The moments of all changes that are alike, by the first of them; the first moment of all is one."""
+    sets = {(EST[0], EST): [datetime.datetime(1800, 1, 1, tzinfo=UTC)]}
     before = EST
     for moment, kind in changes:
-        lines += part(moment, before[0], kind)
+        sets.setdefault((before[0], kind), []).append(moment)
         before = kind
+    return sets
+
+
+def calendar(tzid, changes, first_rule_year):
+    """The calendar of all time: a part for each set of alike changes, and the two rules."""
+    lines = ["BEGIN:VCALENDAR", "VERSION:2.0", "PRODID:-//tzdistd//RFC 7808//EN", "BEGIN:VTIMEZONE", "TZID:" + tzid]
+    for (offset, kind), moments in alike(changes).items():
+        lines += part(moments, offset, kind)
     (spring, _), (autumn, _) = onsets(first_rule_year, first_rule_year)
-    lines += part(spring, EST[0], EDT, "BYMONTH=3;BYDAY=2SU")
-    lines += part(autumn, EDT[0], EST, "BYMONTH=11;BYDAY=1SU")
+    lines += part([spring], EST[0], EDT, "BYMONTH=3;BYDAY=2SU")
+    lines += part([autumn], EDT[0], EST, "BYMONTH=11;BYDAY=1SU")
     lines += ["END:VTIMEZONE", "END:VCALENDAR"]
-    assert all(len(line) <= 75 for line in lines)
-    return "".join(line + "\r\n" for line in lines)
+    return "".join(folded(line) for line in lines)
+
+
+def json_calendar(tzid, changes, first_rule_year):
+    """The same as JSON."""
+    parts = [json_part(moments, offset, kind) for (offset, kind), moments in alike(changes).items()]
+    (spring, _), (autumn, _) = onsets(first_rule_year, first_rule_year)
+    parts.append(json_part([spring], EST[0], EDT, {"byday": "2SU", "bymonth": 3, "freq": "YEARLY"}))
+    parts.append(json_part([autumn], EDT[0], EST, {"byday": "1SU", "bymonth": 11, "freq": "YEARLY"}))
+    front = [["version", {}, "text", "2.0"], ["prodid", {}, "text", "-//tzdistd//RFC 7808//EN"]]
+    zone = ["vtimezone", [["tzid", {}, "text", tzid]], parts]
+    return json.dumps(["vcalendar", front, [zone]], separators=(",", ":"))
 
 
 def tag(tzid, data):
@@ -108,10 +135,26 @@ def tag(tzid, data):
     return hashlib.sha256(sized(tzid.encode()) + bytes(4) + sized(data)).hexdigest()[:32]
 
 
-def case(title, target, head):
+def json_text(moment, before):
+    return (moment + datetime.timedelta(seconds=before)).isoformat(timespec="seconds")[:19]
+
+
+def json_part(moments, before, kind, rule=None):
+    """A part of a calendar as JSON."""
+    def offset(seconds):
+        return "-%02d:%02d" % divmod(-seconds // 60, 60)
+    first, *dates = [json_text(moment, before) for moment in moments]
+    rows = [["dtstart", {}, "date-time", first], ["tzoffsetfrom", {}, "utc-offset", offset(before)],
+            ["tzoffsetto", {}, "utc-offset", offset(kind[0])], ["tzname", {}, "text", kind[1]]]
+    rows += [["rdate", {}, "date-time", *dates]] if dates else []
+    rows += [["rrule", {}, "recur", rule]] if rule else []
+    return ["daylight" if kind == EDT else "standard", rows, []]
+
+
+def case(title, target, head, field=""):
     print("case " + title)
     print("words answer a")
-    print("input HEAD %s HTTP/1.1\\r\\nHost: x\\r\\n\\r\\n" % target)
+    print("input HEAD %s HTTP/1.1\\r\\nHost: x\\r\\n%s\\r\\n" % (target, field))
     print("output HTTP/1.1 200 OK\\r\\n%s\\r\\n\\r\\n" % head)
     print("run")
 
@@ -134,8 +177,12 @@ def main():
          "Content-Type: application/json\\r\\nContent-Length: %d" % len(text))
     text = calendar("Test/Changes", many, 2007)
     case("the calendar of 236 changes", "/tzdist/zones/Test%2FChanges",
-         "Content-Type: text/calendar; charset=utf-8\\r\\nETag: \"%s.c\"\\r\\nVary: Accept\\r\\nContent-Length: %d"
+         "Content-Type: text/calendar; charset=utf-8\\r\\nETag: \"%s.c2\"\\r\\nVary: Accept\\r\\nContent-Length: %d"
          % (tag("Test/Changes", zone_file(many)), len(text)))
+    text = json_calendar("Test/Changes", many, 2007)
+    case("the same as JSON", "/tzdist/zones/Test%2FChanges",
+         "Content-Type: application/calendar+json\\r\\nETag: \"%s.j\"\\r\\nVary: Accept\\r\\nContent-Length: %d"
+         % (tag("Test/Changes", zone_file(many)), len(text)), "Accept: application/calendar+json\\r\\n")
     text = json.dumps({"synctoken": "1-" + 16 * "0", "timezones": []}, separators=(",", ":"))
     path = "/tzdist/zones?pattern="
     print("let LETTER a")

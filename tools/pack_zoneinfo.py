@@ -19,11 +19,11 @@ import tempfile
 import time
 from pathlib import Path
 
-MOST_ZONES = 1_024
-MOST_NAMES = 4_096
+MOST_ZONES = 4_096
+MOST_NAMES = 16_384
 MOST_ZONE_BYTES = 65_536
 MOST_TRANSITIONS = 4_096
-MOST_MANIFEST_BYTES = 1_048_576
+MOST_MANIFEST_BYTES = 4_194_304
 
 IDENTIFIER = re.compile(r"[A-Za-z0-9_+.-]+(/[A-Za-z0-9_+.-]+)*")
 LABEL = re.compile(r"[\x20-\x7e]{1,64}")

@@ -35,19 +35,19 @@ def free_port(host=HOST):
 
 
 class Served:
-    """A server over folders at a free port, which has said that it is ready. It is started by the
-    words `by`, which end by running those that come after them."""
+    """A server over folders at a free port, which has said that it is ready, within so many seconds.
+    It is started by the words `by`, which end by running those that come after them."""
 
     command = "serve"
 
-    def __init__(self, folders, workers=2, program=PROGRAM, at=DATA, host=HOST, by=()):
+    def __init__(self, folders, workers=2, program=PROGRAM, at=DATA, host=HOST, by=(), within=30):
         for again in (True, True, False):
             self.port = free_port(host)
             self.address = address_of(self.port, host)
             words = [*by, program, self.command, self.address, str(workers), *folders]
             self._start(words, at)
             try:
-                first = self.line(timeout=30)
+                first = self.line(timeout=within)
                 break
             except Failure:
                 # another process may have taken the port meanwhile

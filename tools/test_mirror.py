@@ -433,6 +433,33 @@ def recovers(program):
                 same("standard error", mirror.errors, b"")
 
 
+def retires(program):
+    """A primary knows the tokens of its last 512 releases; a mirror that was away for longer takes everything anew."""
+    with Served(["data/a"], program=program) as primary, Fake(Way(primary.port)) as way:
+        with Mirror(way.address, program=program) as mirror:
+            same("ready", mirror.token, FIRST)
+            way.targets()
+            for _ in range(511):
+                token = installed(primary, "data/a")
+            same("512 releases", token[:4], "512-")
+            same("a sync", mirror.say("sync"), f"unchanged {FIRST}")
+            same("what was asked", way.targets(), [f"{ZONES}?changedsince={FIRST}"])
+            for _ in range(513):
+                token = installed(primary, "data/b")
+            said = mirror.say("sync")
+            holds(f"a sync after 513 more: {said}", said.startswith("installed 2-"))
+            asked = [ZONES, f"{ZONES}/America%2FNew_York", f"{ZONES}/Etc%2FUTC", f"{ZONES}?changedsince={token}"]
+            same("what was asked", way.targets()[-4:], asked)
+            compare("all anew", primary, mirror, all_members=False)
+
+
+def installed(server, folder):
+    """The token of a release that is installed."""
+    said = server.say(f"install {folder}")
+    holds(f"an install: {said}", said.startswith("installed "))
+    return said.split(" ")[1]
+
+
 def names(program):
     """The upstream may be a host's name, of which several addresses are tried, and an address of IPv6."""
     with Fake(one_zone()) as upstream:
@@ -668,6 +695,7 @@ CHECKS = [
     while_asked,
     follows,
     recovers,
+    retires,
     aliases,
     console,
     names,
