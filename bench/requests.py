@@ -5,7 +5,7 @@
 
 Each action is asked for once, and then 1,000 times, on one stream that `answer` serves. The
 difference of the two, over 999, is what a further request costs: processor microseconds (user and
-system) and bytes. Two rows ask for all zones by turns, so that no answer is still kept. Beside it stands the time that the program takes to read, check and publish the
+system) and bytes. Four rows ask for all zones by turns, so that no answer is still kept. Beside it stands the time that the program takes to read, check and publish the
 release, which is the run without any request less one that prints the usage line. At last comes
 one head that arrives a byte at a time, short and long: what a byte costs is not to grow with the
 head. Figures are medians over several rounds, in each of which all runs come once. It needs
@@ -30,6 +30,7 @@ ROOT = os.path.dirname(os.path.dirname(os.path.abspath(__file__)))
 MANY = 1000
 SHORT, LONG = 4_000, 16_000
 YEAR = "start=2025-01-01T00:00:00Z&end=2026-01-01T00:00:00Z"
+JSON = "Accept: application/calendar+json"
 
 
 class Run:
@@ -117,6 +118,8 @@ def requests_of(program, folder, zone):
         ("list since the last token", head(f"/tzdist/zones?changedsince={token}"), 200),
         ("get as calendar, whole", head(path), 200),
         ("get as calendar, a year", head(f"{path}?{YEAR}"), 200),
+        ("get as JSON, whole", head(path, JSON), 200),
+        ("get as JSON, a year", head(f"{path}?{YEAR}", JSON), 200),
         ("get as TZif", head(path, "Accept: application/tzif"), 200),
         ("get with its tag", head(path, f"If-None-Match: {tag}"), 304),
         ("expand, a year", head(f"{path}/observances?{YEAR}"), 200),
@@ -125,6 +128,8 @@ def requests_of(program, folder, zone):
         ("unknown target", head("/tzdist/nothing"), 400),
         ("get as TZif, zone by zone", [head(it, "Accept: application/tzif") for it in paths], 200),
         ("get as calendar, a year, zone by zone", [head(f"{it}?{YEAR}") for it in paths], 200),
+        ("get as calendar, whole, zone by zone", [head(it) for it in paths], 200),
+        ("get as JSON, whole, zone by zone", [head(it, JSON) for it in paths], 200),
     ]
     return zone, len(names), [(name, it if isinstance(it, list) else [it], status) for name, it, status in asked]
 

@@ -20,6 +20,10 @@ The parts:
     memory   resident memory over many installs of two releases that take turns
     kept     resident memory of 64 workers before they have answered, and once each keeps the full list and the
              whole calendars of 64 zones
+    changes  lists of changes after 0, 1, 50 and 447 zones changed, over the release and over one of 4,096 zones
+    limits   a release at all limits, 256 MiB of zone files: until it is served, and the most memory
+    rules    installs with both rules and without: where nothing changed, where the bytes of all zones did and
+             their local times did not (another form of the same files, by zic), and where these did, too
     idle     200 connections that ask once and stay, and the time of a new client
     delay    replies on one connection that come later than 5 ms
     peers    memory and descriptors before and after 10,000 connections of peers that misbehave
@@ -45,6 +49,7 @@ import shutil
 import signal
 import socket
 import statistics
+import struct
 import subprocess
 import sys
 import tempfile
@@ -59,7 +64,6 @@ from served import HOST, PROGRAM, Client, Failure, Served, free_port, request, s
 
 YEAR = "start=2025-01-01T00:00:00Z&end=2026-01-01T00:00:00Z"
 TICKS = os.sysconf("SC_CLK_TCK")
-MOST_RELEASES = 4096
 
 
 # --- what is asked -----------------------------------------------------------------------------
@@ -218,6 +222,46 @@ http {{
 """
 
 
+# --- releases that are made --------------------------------------------------------------------
+
+
+def put_file(path, data):
+    """Writes a file anew, also one that was copied without leave to write."""
+    if os.path.exists(path):
+        os.chmod(path, 0o644)
+    with open(path, "wb") as out:
+        out.write(data)
+
+
+def made_release(folder, zones, names, data):
+    """A release of so many zones and names in all, each zone with a file of its own."""
+    os.makedirs(folder)
+    listed = []
+    for zone in range(zones):
+        aliases = [f"Alias/{name}" for name in range(zone, names - zones, zones)]
+        listed.append({"tzid": f"Made/{zone}", "file": f"zone-{zone}", "aliases": aliases})
+        put_file(os.path.join(folder, f"zone-{zone}"), data)
+    manifest = {"publisher": "Made", "version": "1", "stamp": "2025-01-01T00:00:00Z", "zones": listed}
+    put_file(os.path.join(folder, "manifest.json"), json.dumps(manifest).encode())
+    return folder
+
+
+def largest_zone():
+    """A TZif file of 65,536 bytes with 4,096 transitions, of which the last leads to what its footer says."""
+    count, letters = 4096, b"+01\0+02\0"
+    moments = struct.pack(f">{count}q", *(86_400 * (number - count) for number in range(count)))
+    numbers = bytes((number + 1) % 2 for number in range(count))
+    kinds = struct.pack(">iBBiBB", 3600, 0, 0, 7200, 0, 4)
+    second, footer = moments + numbers + kinds + letters, b"\n<+01>-1\n"
+
+    def header(times, types, size):
+        return b"TZif2" + bytes(15) + struct.pack(">6I", 0, 0, 0, times, types, size)
+
+    # the first block is not looked at, so it fills the file
+    filled = 65_536 - 2 * len(header(0, 0, 0)) - 6 - len(second) - len(footer)
+    return header(0, 1, filled) + bytes(6 + filled) + header(count, 2, len(letters)) + second + footer
+
+
 class Nginx:
     """nginx over files with the bodies of requests, by so many worker processes."""
 
@@ -291,8 +335,8 @@ class Bench:
         with self.served([self.folder], 1) as server:
             self.zone, self.zones, self.asked = requests_of(server.port, words.zone)
 
-    def served(self, folders, workers, program=None):
-        return Served(folders, workers, program=program or self.program)
+    def served(self, folders, workers, program=None, **more):
+        return Served(folders, workers, program=program or self.program, **more)
 
     def driven(self, port, asked, connections, seconds=None):
         return self.drive(self.wrk, port, asked, connections, seconds or self.words.seconds)
@@ -449,10 +493,7 @@ class Bench:
         for hours in (1, 2):
             folders.append(os.path.join(room, str(hours)))
             shutil.copytree(self.folder, folders[-1])
-            path = os.path.join(folders[-1], file)
-            os.chmod(path, 0o644)
-            with open(path, "wb") as out:
-                out.write(slim_zone(hours))
+            put_file(os.path.join(folders[-1], file), slim_zone(hours))
         return folders
 
     def installs(self):
@@ -477,7 +518,7 @@ class Bench:
         done, said = threading.Event(), []
 
         def install():
-            while not done.is_set() and len(said) < MOST_RELEASES - 1:
+            while not done.is_set():
                 said.append(server.say(f"install {folders[(len(said) + 1) % 2]}"))
 
         installing = threading.Thread(target=install)
@@ -493,20 +534,20 @@ class Bench:
 
     def memory(self):
         wanted = self.words.installs
-        marks = {0, 10, 100, 500, *range(1000, wanted, 1000), MOST_RELEASES - 1, wanted}
+        marks = {0, 10, 100, 500, *range(1000, wanted, 1000), wanted}
         print("| Installs asked for | installed | Resident KiB | Descriptors | Seconds |")
         print("|---|---|---|---|---|")
         with tempfile.TemporaryDirectory() as room:
             folders = self.two_releases(room)
             with self.served(folders[:1], 2) as server:
-                begin, installed, first_refusal = time.monotonic(), 0, ""
+                begin, installed = time.monotonic(), 0
                 found = {}
                 for number in range(wanted + 1):
                     if number:
                         said = server.say(f"install {folders[(installed + 1) % 2]}")
-                        installed += said.startswith("installed ")
-                        if not said.startswith("installed ") and not first_refusal:
-                            first_refusal = said
+                        if not said.startswith("installed "):
+                            raise Failure(f"an install was answered {said}")
+                        installed += 1
                     if number % 10 == 0:
                         with Client(server.port) as client:
                             client.ask("/tzdist/zones", "Connection: close")
@@ -514,13 +555,108 @@ class Bench:
                         found[number] = status_of(server.pid, "VmRSS")
                         print(f"| {number} | {installed} | {found[number]} | {descriptors(server.pid)} | {time.monotonic() - begin:.1f} |", flush=True)
                 server.quit()
-        last = min(wanted, MOST_RELEASES - 1)
-        print()
-        if first_refusal:
-            print(f"A history has at most {MOST_RELEASES} releases: from then on each install was answered `{first_refusal}`.")
-        if last > 100:
-            grown = (found[last] - found[100]) * 1024 / (last - 100)
-            print(f"From 100 installs to {last} memory grew by {found[last] - found[100]} KiB, {grown:.0f} bytes a release.")
+        if wanted > 100:
+            print()
+            print(f"From 100 installs to {wanted} memory grew by {found[wanted] - found[100]} KiB, {100 * found[wanted] / found[100] - 100:.0f} %.")
+
+    def changes(self):
+        print("| Zones | Changed | Bytes | Requests a second | Processor microseconds | p99, ms |")
+        print("|---|---|---|---|---|---|")
+        with tempfile.TemporaryDirectory() as room:
+            made = made_release(os.path.join(room, "made"), 4096, 4096, slim_zone(1))
+            for folder in (self.folder, made):
+                with open(os.path.join(folder, "manifest.json"), encoding="utf-8") as file:
+                    zones = json.load(file)["zones"]
+                for count in (0, 1, 50, 447):
+                    later = os.path.join(room, "later")
+                    shutil.copytree(folder, later)
+                    for number, zone in enumerate(zones[:count]):
+                        put_file(os.path.join(later, zone["file"]), slim_zone(2 + number % 2))
+                    with self.served([folder], 1) as server:
+                        with Client(server.port) as client:
+                            token = json.loads(client.ask("/tzdist/zones").body)["synctoken"]
+                        said = server.say(f"install {later}")
+                        if not said.startswith("installed "):
+                            raise Failure(f"an install was answered {said}")
+                        one = Asked("changes", f"/tzdist/zones?changedsince={token}")
+                        with Client(server.port) as client:
+                            told = json.loads(client.ask(one.target).body)["timezones"]
+                        if len(told) != count:
+                            raise Failure(f"{count} zones changed, and {len(told)} are told")
+                        rate, cost, driven = self.median(server.port, [server.pid], one, 1)
+                        with Client(server.port) as client:
+                            size = len(client.ask(one.target).body)
+                        server.quit()
+                    print(f"| {len(zones)} | {count} | {size} | {rate:.0f} | {cost:.1f} | {driven.late:.2f} |", flush=True)
+                    shutil.rmtree(later)
+
+    def limits(self):
+        with tempfile.TemporaryDirectory() as room:
+            folder = made_release(os.path.join(room, "largest"), 4096, 16384, largest_zone())
+            begin = time.monotonic()
+            with self.served([folder], 1, within=300) as server:
+                ready = time.monotonic() - begin
+                before = status_of(server.pid, "VmHWM")
+                begin = time.monotonic()
+                said = server.say(f"install {folder}", timeout=300)
+                took = time.monotonic() - begin
+                after = status_of(server.pid, "VmHWM")
+                server.quit()
+            if not said.startswith("installed "):
+                raise Failure(f"an install was answered {said}")
+            print("A release of 4,096 zones, 16,384 names and files of 65,536 bytes: "
+                  f"ready after {ready:.1f} s with at most {before} KiB; installed again in {took:.1f} s with at most {after} KiB.")
+
+    def rules(self):
+        print("| Install | Median, ms | with rules | Processor ms | with rules |")
+        print("|---|---|---|---|---|")
+        rules = ["--max-changed", "4096", "--no-past-change", "1800-01-01T00:00:00Z"]
+        with tempfile.TemporaryDirectory() as room:
+            for name, folders in self.changed_releases(room):
+                # taking turns, so that both have the same of whatever else the machine does
+                with self.served(folders[:1], 1) as plain, self.served([*rules, folders[0]], 1) as ruled:
+                    took = {plain: [], ruled: []}
+                    for number in range(50 * self.words.rounds):
+                        for server, rows in took.items():
+                            begin, before = time.monotonic(), processor_seconds([server.pid])
+                            said = server.say(f"install {folders[(number + 1) % 2]}")
+                            rows.append((time.monotonic() - begin, processor_seconds([server.pid]) - before))
+                            if not said.startswith("installed "):
+                                raise Failure(f"an install was answered {said}")
+                    plain.quit()
+                    ruled.quit()
+                columns = [[1000 * it for it in column] for rows in took.values() for column in zip(*rows)]
+                wall, cost, ruled_wall, ruled_cost = columns
+                print(f"| {name} | {statistics.median(wall):.2f} | {statistics.median(ruled_wall):.2f} "
+                      f"| {statistics.mean(cost):.2f} | {statistics.mean(ruled_cost):.2f} |", flush=True)
+
+    def changed_releases(self, room):
+        """For each kind of install its name and two releases that take turns."""
+        yield "nothing changed", [self.folder, self.folder]
+        with open(os.path.join(self.folder, "manifest.json"), encoding="utf-8") as file:
+            zones = json.load(file)["zones"]
+        source = "/usr/share/zoneinfo/tzdata.zi"
+        if shutil.which("zic") and os.path.exists(source):
+            other = os.path.join(room, "other")
+            shutil.copytree(self.folder, other)
+            tree = os.path.join(room, "tree")
+            subprocess.run(["zic", "-b", "slim", "-d", tree, source], check=True)
+            for zone in zones:
+                shutil.copyfile(os.path.join(tree, zone["tzid"]), os.path.join(other, zone["file"]))
+            kept = 0
+            while found := re.match(rb"refused \d+ \w+ (\d+)\n", subprocess.run([self.program, "check", other], capture_output=True).stdout):
+                # an old zic writes some files so that they are refused
+                file = zones[int(found[1])]["file"]
+                shutil.copyfile(os.path.join(self.folder, file), os.path.join(other, file))
+                kept += 1
+                if kept > len(zones):
+                    raise Failure(f"a release was answered {found[0]}")
+            yield f"the bytes of {len(zones) - kept} zones changed", [self.folder, other]
+        changed = os.path.join(room, "changed")
+        shutil.copytree(self.folder, changed)
+        for number, zone in enumerate(zones):
+            put_file(os.path.join(changed, zone["file"]), slim_zone(1 + number % 9))
+        yield "the local times of all zones changed", [self.folder, changed]
 
     def kept(self):
         workers, rounds = 64, 8
@@ -754,7 +890,7 @@ def crowd(port, path, idle, slow, pipe):
     pipe.send((idle - sum(map(has_ended, resting)), replaced))
 
 
-PARTS = ["rates", "opened", "crowd", "installs", "memory", "kept", "idle", "delay", "peers"]
+PARTS = ["rates", "opened", "crowd", "installs", "memory", "kept", "changes", "limits", "rules", "idle", "delay", "peers"]
 
 
 def processor():
