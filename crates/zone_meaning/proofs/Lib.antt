@@ -1,3 +1,4 @@
+pub mod AlikeBefore
 pub mod ChangeLists
 pub mod Counting
 pub mod Decided

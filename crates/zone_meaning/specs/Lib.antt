@@ -6,6 +6,7 @@ pub mod Rules
 pub mod Kept
 pub mod Observed
 pub mod Difference
+pub mod Alike
 pub mod Walks
 pub mod WalkLeft
 pub mod Names

@@ -1,18 +1,21 @@
 //! The first moment at which two zones differ.
 ghost use Rattle.std.specs.Prelude.{◌≡◌, ◌↔◌, IsTrue, int_le, if◌then◌else◌};
-ghost use Rattle.zone_meaning.specs.Difference.{onset_if_any, zone_difference, IsFirstDifference};
+ghost use Rattle.zone_meaning.specs.Difference.{onset_if_any, zone_difference, AreAlike};
+ghost use Rattle.zone_meaning.specs.Difference.{IsFirstDifference};
 ghost use Rattle.zone_meaning.specs.Observed.{IsRange};
 ghost use Rattle.zone_meaning.specs.State.{zone_state};
 
+use crate::alike::alike_until;
 use crate::deciding::decided_by;
 use crate::observing::Changes;
 use crate::{Zone, file};
 use td_civil::{HI, LO, Moment, Observance};
 
 /// The first moment from 1800 on, before 9999, at which the states of two zones differ, if there is
-/// one. It takes no memory. The changes of both are walked over side by side up to that moment;
-/// where there is none, those up to the last transition of both, and where their footers are not
-/// one text, those of the next 400 years.
+/// one. It takes no memory. The changes of both are walked over side by side, from the last
+/// transition up to which both files have the same, up to that moment; where there is none, those
+/// up to the last transition of both, and where their footers are not one text, those of the next
+/// 400 years.
 pub fn first_difference(one: &Zone, two: &Zone) -> Option<Moment>
     ensures first { result ≡ zone_difference one.now two.now }
     ensures least { IsFirstDifference (zone_state one.now) (zone_state two.now) LO HI result }
@@ -30,15 +33,37 @@ fn is_one_file(one: &Zone, two: &Zone) -> bool
     file(one) == file(two)
 }
 
-/// The first moment before an end at which two zones differ, if there is one: that at which the
-/// first observance begins that only one of them has.
+/// The first moment before an end at which two zones differ, if there is one.
 fn difference_before(one: &Zone, two: &Zone, end: Moment) -> Option<Moment>
     requires { IsRange LO end.seconds }
     ensures { IsFirstDifference (zone_state one.now) (zone_state two.now) LO end.seconds result }
 {
-    let first = Moment { seconds: LO };
-    let mut of_one = Changes::new(one, first, end);
-    let mut of_two = Changes::new(two, first, end);
+    difference_between(one, two, start_before(one, two, end), end)
+}
+
+/// A moment before an end up to which two zones are alike.
+fn start_before(one: &Zone, two: &Zone, end: Moment) -> Moment
+    requires { IsRange LO end.seconds }
+    ensures range { IsRange result.seconds end.seconds }
+    ensures alike { AreAlike (zone_state one.now) (zone_state two.now) LO result.seconds }
+{
+    let alike = alike_until(one, two);
+    if LO < alike.seconds && alike.seconds < end.seconds {
+        alike
+    } else {
+        Moment { seconds: LO }
+    }
+}
+
+/// The first moment of a range at which two zones differ, if there is one: that at which the first
+/// observance begins that only one of them has.
+fn difference_between(one: &Zone, two: &Zone, from: Moment, end: Moment) -> Option<Moment>
+    requires { IsRange from.seconds end.seconds }
+    ensures { IsFirstDifference (zone_state one.now) (zone_state two.now) from.seconds
+        end.seconds result }
+{
+    let mut of_one = Changes::new(one, from, end);
+    let mut of_two = Changes::new(two, from, end);
     while let Some(change) = of_one.next() {
         match of_two.next() {
             None => return Some(change.onset),

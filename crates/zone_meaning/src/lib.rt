@@ -25,6 +25,7 @@ mod stepping;
 mod walk;
 
 // The first moment at which two zones differ.
+mod alike;
 mod deciding;
 mod difference;
 

@@ -74,10 +74,19 @@ pub(crate) fn state_after(lists: &ZoneFile, begun: usize) -> Local
     requires bound { begun ≤ length lists.now.moments }
     ensures { result ≡ state.after lists.now begun }
 {
+    type_after(lists, begun).copy()
+}
+
+/// The type that holds after so many transitions.
+pub(crate) fn type_after(lists: &ZoneFile, begun: usize) -> &Local
+    requires types { HasTypes lists.now }
+    requires bound { begun ≤ length lists.now.moments }
+    ensures { result.now ≡ state.after lists.now begun }
+{
     let number = if begun == 0 {
         0
     } else {
         lists.numbers.as_slice()[begun - 1]
     };
-    lists.kinds.as_slice()[number as usize].copy()
+    &lists.kinds.as_slice()[number as usize]
 }

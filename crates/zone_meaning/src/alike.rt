@@ -1,0 +1,62 @@
+//! Up to when two zones are alike, by the transitions that both files have.
+ghost use Rattle.std.specs.Prelude.{◌<◌, length, IsTrue};
+ghost use Rattle.td_civil.specs.declared.moment_type.TheConstants.{LO};
+ghost use Rattle.zone_meaning.specs.Alike.{AreAlikeUpTo, IsAlikeAt};
+ghost use Rattle.zone_meaning.specs.Difference.{lists_state, AreAlike};
+ghost use Rattle.zone_meaning.specs.Kept.{HasTypes};
+ghost use Rattle.zone_meaning.specs.State.{zone_state};
+
+use crate::Zone;
+use crate::lookup::type_after;
+use td_civil::{LO, Moment};
+use tzif_reader::ZoneFile;
+
+/// A moment before which two zones are alike: the last transition up to which both files have the
+/// same, or 1800 where already the first is another. No footer is looked at.
+pub(crate) fn alike_until(one: &Zone, two: &Zone) -> Moment
+    ensures { AreAlike (zone_state one.now) (zone_state two.now) LO result.seconds }
+{
+    alike_until_lists(&one.lists, &two.lists)
+}
+
+/// The same of the lists of two files.
+fn alike_until_lists(one: &ZoneFile, two: &ZoneFile) -> Moment
+    requires types { HasTypes one.now }
+    requires other_types { HasTypes two.now }
+    ensures { AreAlike (lists_state one.now) (lists_state two.now) LO result.seconds }
+{
+    let count = alike_transitions(one, two);
+    if count == 0 {
+        return Moment { seconds: LO };
+    }
+    one.moments.as_slice()[count - 1]
+}
+
+/// How many transitions, from the first one on, two files have alike.
+fn alike_transitions(one: &ZoneFile, two: &ZoneFile) -> usize
+    requires types { HasTypes one.now }
+    requires other_types { HasTypes two.now }
+    ensures { AreAlikeUpTo one.now two.now result }
+{
+    let count = one.moments.len();
+    for place in 0..count {
+        if !is_alike_at(one, two, place) {
+            return place;
+        }
+    }
+    count
+}
+
+/// Whether two files have a transition of this place at the same moment, and the same state before
+/// it.
+fn is_alike_at(one: &ZoneFile, two: &ZoneFile, place: usize) -> bool
+    requires types { HasTypes one.now }
+    requires other_types { HasTypes two.now }
+    requires inside { place < length one.now.moments }
+    ensures { IsTrue result → IsAlikeAt one.now two.now place }
+{
+    let others = two.moments.as_slice();
+    place < others.len()
+        && one.moments.as_slice()[place].seconds == others[place].seconds
+        && type_after(one, place).is_same(type_after(two, place))
+}
