@@ -1,7 +1,7 @@
 -- The rules one after another, and the tests that are kept.
-use Rattle.std.proofs.Common.{◌≡◌, ℕ, suc, ◌+◌, ◌<◌, ◌≤◌, Bool, true, false, if◌then◌else◌, List, ◌∷◌, map, drop, length, get_or, Option, None}
-use Rattle.std.proofs.Common.{Some, refl, sym, ap, ◌∙◌, ◌||◌, add-one, drop-cons, true≢false}
-use Rattle.std.specs.List.{list_all, list_any, position_from}
+use Rattle.std.proofs.Common.{◌≡◌, ℕ, suc, ◌+◌, ◌<◌, ◌≤◌, Bool, true, false, if◌then◌else◌, List, ◌∷◌, drop, length, get_or, Option, None}
+use Rattle.std.proofs.Common.{Some, refl, sym, ap, ◌∙◌, add-one, drop-cons, true≢false}
+use Rattle.std.specs.List.{list_all, position_from}
 use Rattle.std.proofs.lemmas.List.{drop_all}
 use Rattle.std.proofs.lemmas.List.Folds.{list_all_at}
 
@@ -35,13 +35,3 @@ one_kept p xs i d less all =
       | true ↦ λ e. refl
       | false ↦ λ e. absurd (true≢false (sym all ∙ list_all_at p xs i d less e))
     ] refl
-
--- a kind that this test has not is one of the others'
-pub kind_later : {K R : Type 0} (kind : K → R) (p : R → Bool) (kept : List K) (i : ℕ) (k : K) → i < length kept → k ≡ get_or kept i k → p (kind k) ≡ false
-    → list_any p (map kind (drop i kept)) ≡ true → list_any p (map kind (drop (i + 1) kept)) ≡ true
-kind_later kind p kept i k lt is other there =
-    let one : drop i kept ≡ k ∷ drop (i + 1) kept = rw add-one (drop-cons kept i k lt ∙ ap (λ z. z ∷ drop (suc i) kept) (sym is)) in
-    ap (λ b. b || list_any p (map kind (drop (i + 1) kept))) (sym other) ∙ ap (λ xs. list_any p (map kind xs)) (sym one) ∙ there
-
-pub no_kind : {K R : Type 0} (kind : K → R) (p : R → Bool) (kept : List K) (i : ℕ) → length kept ≤ i → list_any p (map kind (drop i kept)) ≡ true → ⊥
-no_kind kind p kept i end there = true≢false (sym there ∙ ap (λ xs. list_any p (map kind xs)) (drop_all i kept end))

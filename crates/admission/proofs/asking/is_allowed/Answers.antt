@@ -1,6 +1,6 @@
 use Rattle.std.proofs.Common.{sym, ◌∙◌}
 use Rattle.admission.specs.Rules.{same_kind}
-use Rattle.admission.proofs.Asked.{kind_later}
+use Rattle.admission.proofs.lemmas.Keeping.{kind_later}
 use Rattle.admission.proofs.asking.is_allowed.Goals as goal
 
 pub loop-test-preserved : goal.loop-test-preserved

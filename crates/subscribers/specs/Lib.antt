@@ -1,0 +1,5 @@
+pub mod FaultText
+pub mod Hearing
+pub mod News
+pub mod Views
+pub mod Wishes
