@@ -19,6 +19,7 @@ use Rattle.release_check.specs.Found.{FindsIn}
 use Rattle.release_check.specs.declared.check_fault.CheckFault.{CheckFault}
 use Rattle.release_check.specs.declared.check_fault.CheckFault.TheVariants as check
 use Rattle.installer.specs.Installing.{GrowsBy, InstallsBy, IsPolicyOf, refusal}
+use Rattle.installer.specs.Views.{IsMadeOut}
 use Rattle.installer.proofs.lemmas.Refusals.{none_refuses, refusal_is}
 use Rattle.installer.specs.declared.install_fault.InstallFault.{InstallFault}
 use Rattle.installer.specs.declared.install_fault.InstallFault.TheVariants as fault
@@ -45,6 +46,10 @@ pub allowed_held : (c : Catalogue (List ℕ)) (H : List ReleaseData) (r : Releas
     → refusal rules H r ≡ None → refusal rules H (held c) ≡ None
 allowed_held c H r rules s allowed = subst (λ x. refusal rules H x ≡ None) (same_last c H r s) allowed
 
+pub made_out_held : {A : Type 0} (subscribers : List A) (delta : Option Delta) (c : Catalogue (List ℕ)) (H : List ReleaseData) (r : ReleaseData)
+    → Stands c (H ++ r ∷ []) → IsMadeOut subscribers delta H r → IsMadeOut subscribers delta H (held c)
+made_out_held subscribers delta c H r s made = subst (λ x. IsMadeOut subscribers delta H x) (same_last c H r s) made
+
 -- ---- what rules say after the history that a catalogue stands for
 
 pub asked : (c : Catalogue (List ℕ)) (H : List ReleaseData) (r : ReleaseData) (rules : List Chosen) (delta : Delta) (answer : Option ℕ) → Stands c H
@@ -56,23 +61,24 @@ not_asked rules H r e = ap (λ xs. refusal xs H r) e ∙ none_refuses H r
 
 -- ---- an install
 
-pub grew : (gives : List File → Before → Result ReleaseData CheckFault → Type 0) (rules : List Chosen) (old new : StoreView) (c : Catalogue (List ℕ))
-    (H : List ReleaseData) (r : Release (List ℕ)) (next : Catalogue (List ℕ)) → Stands c H
+pub grew : {A : Type 0} (gives : List File → Before → Result ReleaseData CheckFault → Type 0) (rules : List Chosen) (old new : StoreView)
+    (c : Catalogue (List ℕ)) (H : List ReleaseData) (r : Release (List ℕ)) (next : Catalogue (List ℕ)) (f : A → List ReleaseData) (a : A) → Stands c H
     → FindsIn {T = Release (List ℕ)} old new (Ok r) (λ files. ForEachBefore (Some c) (λ G. gives files (before_of G) (Ok (release_data zone_bytes r))))
     → refusal rules H (release_data zone_bytes r) ≡ None
     → Stands next (H ++ release_data zone_bytes r ∷ [])
-    → InstallsBy gives rules old new H (λ c'. H ++ held c' ∷ []) (Ok next)
-grew gives rules old new c H r next s f allowed n = record {
-  later = f.later;
+    → f a ≡ H ++ held next ∷ []
+    → InstallsBy gives rules old new H f (Ok a)
+grew gives rules old new c H r next f a s found allowed n e = record {
+  later = found.later;
   told = some_map old.files (λ files t. (
     release_data zone_bytes r,
     t H s,
     allowed,
-    ap (λ x. H ++ x ∷ []) (sym (same_last next H (release_data zone_bytes r) n)),
-  )) f.told;
-  policy = λ k e. absurd (cc e);
-  failed = λ e. absurd (cc e);
-  memory = λ e. cc e;
+    e ∙ ap (λ x. H ++ x ∷ []) (sym (same_last next H (release_data zone_bytes r) n)),
+  )) found.told;
+  policy = λ k h. absurd (cc h);
+  failed = λ h. absurd (cc h);
+  memory = λ h. cc h;
 }
 
 -- a release that a rule refuses, or of which it was not found out

@@ -1,4 +1,5 @@
 pub mod Given
+pub mod Hearers
 pub mod InstallLemmas
 pub mod lemmas
 pub mod Stated

@@ -1,3 +1,4 @@
 pub mod FaultText
 pub mod Installing
 pub mod Serving
+pub mod Views

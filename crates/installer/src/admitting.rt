@@ -1,19 +1,29 @@
 //! What is asked of a release that is to follow another one.
-ghost use Rattle.std.specs.Prelude.{◌≡◌, [], ◌∷◌, ◌++◌, None, Some, IfOk, IfErr, OnOk};
+ghost use Rattle.std.specs.Prelude.{◌≡◌, [], ◌∷◌, ◌++◌, None, Some, IfOk, IfErr};
 ghost use Rattle.catalogue.specs.Holdings.{StandsFor, release_held};
 ghost use Rattle.catalogue.specs.Releases.{release_data};
 ghost use Rattle.zone_meaning.specs.Sound.{IsSound};
 ghost use Rattle.zone_meaning.specs.ZoneHistories.{ForEachZoneHistory, zone_bytes};
 ghost use Rattle.installer.specs.Installing.{Installs, InstallsStated, IsPolicyOf, refusal};
+ghost use Rattle.installer.specs.Views.{IsMadeOut};
 
 use crate::install_fault::InstallFault;
-use admission::{Rules, delta_of};
+use admission::{Delta, Rules, delta_of};
 use catalogue::{Catalogue, Release};
 use release_check::{check, examine};
 use release_manifest::Manifest;
 use std::alloc::Global;
+use subscribers::Subscribers;
 use td_base::Store;
 use zone_meaning::Zone;
+
+/// A catalogue that may be published, and what its last release changes, where a rule or a
+/// subscriber asks for that.
+#[derive(Drop)]
+pub struct Admitted {
+    pub catalogue: Catalogue<Zone>,
+    pub delta: Option<Delta>,
+}
 
 /// The catalogue of the history of another one, with the release that a folder gives after it and
 /// that no rule refuses.
@@ -23,19 +33,23 @@ pub fn admitted_in<S: Store>(
     store: &mut S,
     last: &Catalogue<Zone>,
     rules: &Rules<'_>,
-) -> Result<Catalogue<Zone>, InstallFault>
+    subscribers: &Subscribers,
+) -> Result<Admitted, InstallFault>
     ensures found { ForEachZoneHistory last.now (λ H.
         Installs (S.seen store.old) (S.seen store.new) dir.now rules.now.chosen H
-        (λ c. H ++ release_held zone_bytes c ∷ []) result) }
-    ensures stands { IfOk result (λ c. ForEachZoneHistory last.now (λ H.
-        StandsFor zone_bytes IsSound c (H ++ release_held zone_bytes c ∷ []))) }
-    ensures allowed { IfOk result (λ c. ForEachZoneHistory last.now (λ H.
-        refusal rules.now.chosen H (release_held zone_bytes c) ≡ None)) }
+        (λ a. H ++ release_held zone_bytes a.catalogue ∷ []) result) }
+    ensures stands { IfOk result (λ a. ForEachZoneHistory last.now (λ H.
+        StandsFor zone_bytes IsSound a.catalogue
+        (H ++ release_held zone_bytes a.catalogue ∷ []))) }
+    ensures allowed { IfOk result (λ a. ForEachZoneHistory last.now (λ H.
+        refusal rules.now.chosen H (release_held zone_bytes a.catalogue) ≡ None)) }
+    ensures made_out { IfOk result (λ a. ForEachZoneHistory last.now (λ H.
+        IsMadeOut subscribers.now a.delta H (release_held zone_bytes a.catalogue))) }
 {
     let release = check(alloc, dir, store, Some(last))?;
-    judge(alloc, last, &release, rules)?;
+    let delta = judge(alloc, last, &release, rules, subscribers)?;
     let catalogue = last.next(alloc, release)?;
-    Ok(catalogue)
+    Ok(Admitted { catalogue, delta })
 }
 
 /// The same of the release of a manifest, whose files stand in the store's own top.
@@ -45,40 +59,47 @@ pub fn admitted_stated<S: Store>(
     store: &mut S,
     last: &Catalogue<Zone>,
     rules: &Rules<'_>,
-) -> Result<Catalogue<Zone>, InstallFault>
+    subscribers: &Subscribers,
+) -> Result<Admitted, InstallFault>
     ensures found { ForEachZoneHistory last.now (λ H.
         InstallsStated (S.seen store.old) (S.seen store.new) manifest.now rules.now.chosen H
-        (λ c. H ++ release_held zone_bytes c ∷ []) result) }
-    ensures stands { IfOk result (λ c. ForEachZoneHistory last.now (λ H.
-        StandsFor zone_bytes IsSound c (H ++ release_held zone_bytes c ∷ []))) }
-    ensures allowed { IfOk result (λ c. ForEachZoneHistory last.now (λ H.
-        refusal rules.now.chosen H (release_held zone_bytes c) ≡ None)) }
+        (λ a. H ++ release_held zone_bytes a.catalogue ∷ []) result) }
+    ensures stands { IfOk result (λ a. ForEachZoneHistory last.now (λ H.
+        StandsFor zone_bytes IsSound a.catalogue
+        (H ++ release_held zone_bytes a.catalogue ∷ []))) }
+    ensures allowed { IfOk result (λ a. ForEachZoneHistory last.now (λ H.
+        refusal rules.now.chosen H (release_held zone_bytes a.catalogue) ≡ None)) }
+    ensures made_out { IfOk result (λ a. ForEachZoneHistory last.now (λ H.
+        IsMadeOut subscribers.now a.delta H (release_held zone_bytes a.catalogue))) }
 {
     let release = examine(alloc, manifest, b"", store, Some(last))?;
-    judge(alloc, last, &release, rules)?;
+    let delta = judge(alloc, last, &release, rules, subscribers)?;
     let catalogue = last.next(alloc, release)?;
-    Ok(catalogue)
+    Ok(Admitted { catalogue, delta })
 }
 
-/// Asks the rules of a release that is to follow the one that a catalogue holds. Without rules
-/// nothing is compared.
+/// Asks the rules of a release that is to follow the one that a catalogue holds, and gives what it
+/// changes. Where there are neither rules nor subscribers nothing is compared.
 fn judge(
     alloc: Global,
     last: &Catalogue<Zone>,
     release: &Release<Zone>,
     rules: &Rules<'_>,
-) -> Result<(), InstallFault>
-    ensures allowed { OnOk result (ForEachZoneHistory last.now (λ H.
+    subscribers: &Subscribers,
+) -> Result<Option<Delta>, InstallFault>
+    ensures allowed { IfOk result (λ _. ForEachZoneHistory last.now (λ H.
         refusal rules.now.chosen H (release_data zone_bytes release.now) ≡ None)) }
     ensures refused { IfErr result (λ e. ForEachZoneHistory last.now (λ H.
         IsPolicyOf rules.now.chosen H (release_data zone_bytes release.now) e)) }
+    ensures made_out { IfOk result (λ delta. ForEachZoneHistory last.now (λ H.
+        IsMadeOut subscribers.now delta H (release_data zone_bytes release.now))) }
 {
-    if rules.is_empty() {
-        return Ok(());
+    if rules.is_empty() && subscribers.is_empty() {
+        return Ok(None);
     }
     let delta = delta_of(alloc, last, release)?;
     match rules.ask(&delta) {
-        None => Ok(()),
+        None => Ok(Some(delta)),
         Some(rule) => Err(InstallFault::Policy(rule)),
     }
 }

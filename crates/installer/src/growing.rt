@@ -11,6 +11,7 @@ use catalogue::Catalogue;
 use release_check::{check, examine};
 use release_manifest::Manifest;
 use std::alloc::Global;
+use subscribers::Subscribers;
 use td_base::Store;
 use zone_meaning::Zone;
 
@@ -43,7 +44,9 @@ pub fn next_in<S: Store>(
     ensures stands { IfOk result (λ c. ForEachZoneHistory last.now (λ H.
         StandsFor zone_bytes IsSound c (H ++ release_held zone_bytes c ∷ []))) }
 {
-    admitted_in(alloc, dir, store, last, &Rules::none(alloc))
+    let rules = Rules::none(alloc);
+    let admitted = admitted_in(alloc, dir, store, last, &rules, &Subscribers::new(alloc))?;
+    Ok(admitted.catalogue)
 }
 
 /// The catalogue of a history that begins with the release of a manifest, whose files stand in the
@@ -76,5 +79,14 @@ pub fn next_stated<S: Store>(
     ensures stands { IfOk result (λ c. ForEachZoneHistory last.now (λ H.
         StandsFor zone_bytes IsSound c (H ++ release_held zone_bytes c ∷ []))) }
 {
-    admitted_stated(alloc, manifest, store, last, &Rules::none(alloc))
+    let rules = Rules::none(alloc);
+    let admitted = admitted_stated(
+        alloc,
+        manifest,
+        store,
+        last,
+        &rules,
+        &Subscribers::new(alloc),
+    )?;
+    Ok(admitted.catalogue)
 }

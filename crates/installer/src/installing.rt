@@ -1,46 +1,57 @@
-ghost use Rattle.std.specs.Prelude.{◌≡◌, ◌<◌, [], ◌∷◌, ◌++◌, length, All, None, Some, IfOk, IsErr};
-ghost use Rattle.std.specs.Prelude.{OnErr, OnOk, true, false};
+ghost use Rattle.std.specs.Prelude.{◌≡◌, ◌↔◌, ◌<◌, ◌≤◌, [], ◌∷◌, ◌++◌, length, All, None, Some};
+ghost use Rattle.std.specs.Prelude.{IfOk, IsErr, IsErrOf, OnErr, OnOk, true, false};
 ghost use Rattle.std.specs.List.{last_or};
+ghost use Rattle.std.specs.Option.{option_map};
 ghost use mathlib.Core.List.{IsPrefix};
 ghost use Rattle.catalogue.specs.Holdings.{StandsFor, history_of, release_held};
 ghost use Rattle.publication.specs.Views.{IsNewDesk};
+ghost use Rattle.subscribers.specs.Hearing.{all_hear};
+ghost use Rattle.subscribers.specs.News.{numbered};
+ghost use Rattle.subscribers.specs.Views.{changed_numbered, emptied, newcomer};
+ghost use Rattle.subscribers.specs.declared.subscriber_list.TheConstants.{MOST_SUBSCRIBERS};
 ghost use Rattle.zone_meaning.specs.Sound.{IsSound};
 ghost use Rattle.zone_meaning.specs.ZoneHistories.{zone_bytes};
 ghost use Rattle.installer.specs.Installing.{GrowsBy, Installs, InstallsStated};
 ghost use Rattle.installer.specs.Serving.{FindsWhether, IsServed};
+ghost use Rattle.installer.specs.Views.{IsMadeOut, with_subscribers};
 
-use crate::admitting::{admitted_in, admitted_stated};
+use crate::admitting::{Admitted, admitted_in, admitted_stated};
+use crate::asked::Asked;
 use crate::growing::{first_in, first_stated};
+use crate::hearing::prepare;
 use crate::install_fault::InstallFault;
 use crate::serving::is_stated;
-use admission::Rules;
 use catalogue::Catalogue;
 use publication::{Desk, Ended, Publisher, Receipt, make};
 use release_manifest::Manifest;
 use std::alloc::Global;
 use std::marker::Model;
 use std::sync::Wait;
+use subscribers::{Notices, SubscribeFault, Subscribers, Wish};
 use td_base::{NoMemory, Store};
 use zone_meaning::Zone;
 
-/// Publishes the catalogues of one history. It is not `Drop`: each path ends it by `end` or
-/// `close`.
+/// Publishes the catalogues of one history, and keeps who hears of installs. It is not `Drop`: each
+/// path ends it by `end` or `close`.
 pub struct Installer {
     publisher: Publisher<Catalogue<Zone>>,
+    subscribers: Subscribers,
 }
 
 impl Model for Installer {
-    ghost use Rattle.std.specs.Prelude.{List, ℕ};
-    ghost use Rattle.catalogue.specs.declared.holding.Catalogue.{Catalogue};
-    ghost use Rattle.publication.specs.Views.{PublishedView};
+    ghost use Rattle.subscribers.specs.Views.{IsIdle, subscribers_of};
+    ghost use Rattle.installer.specs.Views.{InstallerView};
 
-    ghost Value = { PublishedView (Catalogue (List ℕ)) };
+    ghost Value = { InstallerView };
 
     ghost view = { λ i. record {
       pair = i.publisher.pair;
       list = i.publisher.list;
       stuck = i.publisher.stuck;
+      subscribers = subscribers_of i.subscribers;
     } };
+
+    ghost invariant = { λ i. IsIdle i.subscribers };
 }
 
 impl Installer {
@@ -58,12 +69,20 @@ impl Installer {
             (λ p. history_of p.0.list) result }
         ensures grown { IfOk result (λ p. GrowsBy [] [] (history_of p.0.list)) }
         ensures free { IfOk result (λ p. p.0.stuck ≡ false) }
+        ensures nobody { IfOk result (λ p. p.0.subscribers ≡ []) }
         ensures number { IfOk result (λ p. length p.1.items ≡ desks) }
         ensures each { IfOk result (λ p. All (IsNewDesk p.0.pair p.0.list false) p.1.items) }
     {
         let catalogue = first_in(alloc, dir, store)?;
         let (publisher, made) = make(rt, alloc, catalogue, desks)?;
-        Ok((Installer { publisher }, made))
+        let subscribers = Subscribers::new(alloc);
+        Ok((
+            Installer {
+                publisher,
+                subscribers,
+            },
+            made,
+        ))
     }
 
     /// The same of a manifest that is at hand, whose files stand in the store's own top.
@@ -79,12 +98,20 @@ impl Installer {
             (λ p. history_of p.0.list) result }
         ensures grown { IfOk result (λ p. GrowsBy [] [] (history_of p.0.list)) }
         ensures free { IfOk result (λ p. p.0.stuck ≡ false) }
+        ensures nobody { IfOk result (λ p. p.0.subscribers ≡ []) }
         ensures number { IfOk result (λ p. length p.1.items ≡ desks) }
         ensures each { IfOk result (λ p. All (IsNewDesk p.0.pair p.0.list false) p.1.items) }
     {
         let catalogue = first_stated(alloc, manifest, store)?;
         let (publisher, made) = make(rt, alloc, catalogue, desks)?;
-        Ok((Installer { publisher }, made))
+        let subscribers = Subscribers::new(alloc);
+        Ok((
+            Installer {
+                publisher,
+                subscribers,
+            },
+            made,
+        ))
     }
 
     /// Publishes the release of one more folder, where the folder gives one after the history so
@@ -98,23 +125,26 @@ impl Installer {
         alloc: Global,
         dir: &[u8],
         store: &mut S,
-        rules: &Rules<'_>,
+        asked: &Asked<'_>,
     ) -> Result<Receipt<Catalogue<Zone>>, InstallFault>
         ensures found { Installs (S.seen store.old) (S.seen store.new) dir.now
-            rules.now.chosen (history_of self.old.list) (λ r. history_of r.list) result }
-        ensures grown { IfOk result (λ r. GrowsBy rules.now.chosen (history_of self.old.list)
+            asked.now.rules.chosen (history_of self.old.list) (λ r. history_of r.list) result }
+        ensures grown { IfOk result (λ r. GrowsBy asked.now.rules.chosen (history_of self.old.list)
             (history_of r.list)) }
         ensures longer { IfOk result (λ r. IsPrefix self.old.list r.list) }
         ensures receipt { IfOk result (λ r. (r.pair ≡ self.old.pair) × (r.list ≡ self.new.list)
             × (r.ended ≡ false)) }
         ensures refused { OnErr result (self.new.list ≡ self.old.list) }
+        ensures heard { OnOk result (self.new.subscribers
+            ≡ all_hear (history_of self.new.list) self.old.subscribers) }
+        ensures unheard { OnErr result (self.new.subscribers ≡ self.old.subscribers) }
         ensures pair { self.new.pair ≡ self.old.pair }
         ensures free { IfOk result (λ _. self.new.stuck ≡ false) }
         ensures blocked { self.old.stuck ≡ true → IsErr result }
     {
         let last = self.publisher.last();
-        let catalogue = admitted_in(alloc, dir, store, last, rules)?;
-        let receipt = self.publish(rt, catalogue)?;
+        let admitted = admitted_in(alloc, dir, store, last, &asked.rules, &self.subscribers)?;
+        let receipt = self.publish(rt, admitted, asked)?;
         Ok(receipt)
     }
 
@@ -125,43 +155,104 @@ impl Installer {
         alloc: Global,
         manifest: &Manifest,
         store: &mut S,
-        rules: &Rules<'_>,
+        asked: &Asked<'_>,
     ) -> Result<Receipt<Catalogue<Zone>>, InstallFault>
         ensures found { InstallsStated (S.seen store.old) (S.seen store.new) manifest.now
-            rules.now.chosen (history_of self.old.list) (λ r. history_of r.list) result }
-        ensures grown { IfOk result (λ r. GrowsBy rules.now.chosen (history_of self.old.list)
+            asked.now.rules.chosen (history_of self.old.list) (λ r. history_of r.list) result }
+        ensures grown { IfOk result (λ r. GrowsBy asked.now.rules.chosen (history_of self.old.list)
             (history_of r.list)) }
         ensures longer { IfOk result (λ r. IsPrefix self.old.list r.list) }
         ensures receipt { IfOk result (λ r. (r.pair ≡ self.old.pair) × (r.list ≡ self.new.list)
             × (r.ended ≡ false)) }
         ensures refused { OnErr result (self.new.list ≡ self.old.list) }
+        ensures heard { OnOk result (self.new.subscribers
+            ≡ all_hear (history_of self.new.list) self.old.subscribers) }
+        ensures unheard { OnErr result (self.new.subscribers ≡ self.old.subscribers) }
         ensures pair { self.new.pair ≡ self.old.pair }
         ensures free { IfOk result (λ _. self.new.stuck ≡ false) }
         ensures blocked { self.old.stuck ≡ true → IsErr result }
     {
         let last = self.publisher.last();
-        let catalogue = admitted_stated(alloc, manifest, store, last, rules)?;
-        let receipt = self.publish(rt, catalogue)?;
+        let admitted = admitted_stated(
+            alloc,
+            manifest,
+            store,
+            last,
+            &asked.rules,
+            &self.subscribers,
+        )?;
+        let receipt = self.publish(rt, admitted, asked)?;
         Ok(receipt)
     }
 
-    /// Publishes a catalogue that stands for the history with one release more.
+    /// Publishes a catalogue that stands for the history with one release more. The notices are
+    /// prepared before it, and held once it is published.
     fn publish<R: Wait>(
         &mut self,
         rt: &R,
-        next: Catalogue<Zone>,
+        next: Admitted,
+        asked: &Asked<'_>,
     ) -> Result<Receipt<Catalogue<Zone>>, NoMemory>
-        requires { StandsFor zone_bytes IsSound next
-            (history_of self.old.list ++ release_held zone_bytes next ∷ []) }
-        ensures ok { IfOk result (λ r. (r.list ≡ self.old.list ++ next ∷ [])
+        requires stands { StandsFor zone_bytes IsSound next.catalogue
+            (history_of self.old.list ++ release_held zone_bytes next.catalogue ∷ []) }
+        requires made_out { IsMadeOut self.old.subscribers next.delta (history_of self.old.list)
+            (release_held zone_bytes next.catalogue) }
+        ensures ok { IfOk result (λ r. (r.list ≡ self.old.list ++ next.catalogue ∷ [])
             × (r.pair ≡ self.old.pair) × (r.ended ≡ false)) }
-        ensures kept { OnOk result (self.new.list ≡ self.old.list ++ next ∷ []) }
+        ensures kept { OnOk result (self.new.list ≡ self.old.list ++ next.catalogue ∷ []) }
         ensures refused { OnErr result (self.new.list ≡ self.old.list) }
+        ensures heard { OnOk result (self.new.subscribers
+            ≡ all_hear (history_of self.new.list) self.old.subscribers) }
+        ensures unheard { OnErr result (self.new.subscribers ≡ self.old.subscribers) }
         ensures pair { self.new.pair ≡ self.old.pair }
         ensures free { IfOk result (λ _. self.new.stuck ≡ false) }
         ensures blocked { self.old.stuck ≡ true → IsErr result }
     {
-        self.publisher.publish(rt, next)
+        let place = next.catalogue.count();
+        prepare(&mut self.subscribers, asked, place, &next.delta)?;
+        match self.publisher.publish(rt, next.catalogue) {
+            Ok(receipt) => {
+                self.subscribers.commit();
+                Ok(receipt)
+            }
+            Err(NoMemory) => {
+                self.subscribers.give_up();
+                Err(NoMemory)
+            }
+        }
+    }
+
+    /// Adds a subscriber to what is published next, and gives its number, counted from 1. It is
+    /// refused as full exactly where [`subscribers::MOST_SUBSCRIBERS`] are there.
+    pub fn subscribe(&mut self, wish: Wish) -> Result<u32, SubscribeFault>
+        ensures ok { OnOk result (self.new ≡ with_subscribers
+            (self.old.subscribers ++ newcomer wish (length self.old.list) ∷ []) self.old) }
+        ensures number { IfOk result (λ number. number ≡ length self.new.subscribers) }
+        ensures full { IsErrOf result SubscribeFault.WatchFull
+            ↔ (MOST_SUBSCRIBERS ≤ length self.old.subscribers) }
+        ensures err { OnErr result (self.new ≡ self.old) }
+    {
+        let place = self.publisher.last().count();
+        self.subscribers.subscribe(wish, place)
+    }
+
+    /// What the subscriber of a number holds: the notices that were not cleared. None exactly where
+    /// there is no such subscriber. It takes no memory.
+    pub fn held(&self, number: u32) -> Option<Notices<'_>>
+        ensures { option_map (λ held. held.now) result
+            ≡ option_map (λ s. s.held) (numbered self.now.subscribers number) }
+    {
+        self.subscribers.held(number)
+    }
+
+    /// Drops what the subscriber of a number holds. It takes no memory.
+    pub fn clear(&mut self, number: u32)
+        requires some { 0 < number }
+        requires there { number ≤ length self.old.subscribers }
+        ensures { self.new ≡ with_subscribers
+            (changed_numbered emptied number self.old.subscribers) self.old }
+    {
+        self.subscribers.clear(number);
     }
 
     /// Whether the release published last is the one that a manifest and its files state, which
@@ -201,13 +292,19 @@ impl Installer {
         ensures ended { IfOk result (λ e. (e.pair ≡ self.pair) × (e.list ≡ self.list)) }
         ensures blocked { self.stuck ≡ true → IsErr result }
     {
-        let Installer { publisher } = self;
+        let Installer {
+            publisher,
+            subscribers: _,
+        } = self;
         publisher.end(rt)
     }
 
     /// Waits for desks that are entering, and gives up what is shown.
     pub fn close<R: Wait>(self, rt: &R) {
-        let Installer { publisher } = self;
+        let Installer {
+            publisher,
+            subscribers: _,
+        } = self;
         publisher.close(rt);
     }
 }

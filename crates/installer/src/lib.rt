@@ -10,15 +10,21 @@
 //! [`next_stated`] do the same of a manifest that is at hand, by `InstallsStated`.
 //! [`Installer::serves`] tells whether such a manifest and its files are what was published last,
 //! by `IsServed` of specs/Serving.antt.
+//!
+//! [`Installer::subscribe`] adds one who hears of later installs. What an install changes for it is
+//! prepared before the release is published and held once it is, as `all_hear` of the subscribers'
+//! crate says; a refused install leaves no notice.
 #![tactic(auto)]
 
 // Installs, and why one is refused.
 mod install_fault;
 mod installing;
 
-// The catalogues that they publish, and what is asked before.
+// The catalogues that they publish, what is asked before, and who hears of them.
 mod admitting;
+mod asked;
 mod growing;
+mod hearing;
 
 // Whether a release is published already.
 mod serving;
@@ -28,6 +34,7 @@ mod sorting;
 mod laws;
 mod send_sync;
 
+pub use asked::Asked;
 pub use growing::{first_in, first_stated, next_in, next_stated};
 pub use install_fault::InstallFault;
 pub use installing::Installer;

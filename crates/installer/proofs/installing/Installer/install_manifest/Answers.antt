@@ -2,37 +2,44 @@ use Rattle.std.proofs.Common.{[], ◌∷◌, sym, ap, ◌∙◌}
 use Rattle.std.proofs.lemmas.Result.{err_from_is_err_and}
 use Rattle.catalogue.specs.Holdings.{history_of}
 use Rattle.installer.specs.Installing.{ManifestGives}
+use Rattle.installer.proofs.Hearers.{made_out_seen}
 use Rattle.installer.proofs.InstallLemmas.{grows, history_more, refused_as, seen_as}
 use Rattle.installer.proofs.installing.Installer.install_manifest.Goals as goal
 
-pub publish-requires : goal.publish-requires
-publish-requires g c =
-    rw (← c.self.view_is) (c.in_ok-catalogue.ensures.stands (history_of c.self.inside.publisher.list) c.last-last.ensures.stands)
+pub publish-requires-clause-stands : goal.publish-requires-clause-stands
+publish-requires-clause-stands g c =
+    rw (← c.self.view_is) (c.in_ok-admitted.ensures.stands (history_of c.self.inside.publisher.list) c.last-last.ensures.stands)
 
-pub returns-in_err-catalogue-clause-found : goal.returns-in_err-catalogue-clause-found
-returns-in_err-catalogue-clause-found g c =
+pub publish-requires-clause-made_out : goal.publish-requires-clause-made_out
+publish-requires-clause-made_out g c =
+    rw (← c.self.view_is)
+    (made_out_seen (λ p. p.subscriber) c.self.inside.subscribers c.in_ok-admitted.admitted.delta (history_of c.self.inside.publisher.list) _
+    (c.in_ok-admitted.ensures.made_out (history_of c.self.inside.publisher.list) c.last-last.ensures.stands))
+
+pub returns-in_err-admitted-clause-found : goal.returns-in_err-admitted-clause-found
+returns-in_err-admitted-clause-found g c =
     let p = err_from_is_err_and c.from_residual.result c.from_residual.ensures.1 in
     rw (p.1, p.2) (rw (← c.self.view_is)
-    (refused_as (ManifestGives c.args.manifest.now) c.args.rules.now.chosen _ _ (history_of c.self.inside.publisher.list) _ _ _
-    (c.in_err-catalogue.ensures.found (history_of c.self.inside.publisher.list) c.last-last.ensures.stands)))
+    (refused_as (ManifestGives c.args.manifest.now) c.args.asked.now.rules.chosen _ _ (history_of c.self.inside.publisher.list) _ _ _
+    (c.in_err-admitted.ensures.found (history_of c.self.inside.publisher.list) c.last-last.ensures.stands)))
 
 pub returns-clause-found : goal.returns-clause-found
 returns-clause-found g c =
     let listed = rw (← c.self.view_is) at c.in_ok-receipt.ensures.ok.0 in
     rw (← c.self.view_is)
-    (seen_as (ManifestGives c.args.manifest.now) c.args.rules.now.chosen _ _ (history_of c.self.inside.publisher.list) _ _ c.in_ok-catalogue.catalogue _
-    (c.in_ok-catalogue.ensures.found (history_of c.self.inside.publisher.list) c.last-last.ensures.stands)
-    (ap history_of listed ∙ history_more c.self.inside.publisher.list c.in_ok-catalogue.catalogue))
+    (seen_as (ManifestGives c.args.manifest.now) c.args.asked.now.rules.chosen _ _ (history_of c.self.inside.publisher.list) _ _ c.in_ok-admitted.admitted _
+    (c.in_ok-admitted.ensures.found (history_of c.self.inside.publisher.list) c.last-last.ensures.stands)
+    (ap history_of listed ∙ history_more c.self.inside.publisher.list c.in_ok-admitted.admitted.catalogue))
 
 pub returns-clause-grown : goal.returns-clause-grown
 returns-clause-grown g c =
     let listed = rw (← c.self.view_is) at c.in_ok-receipt.ensures.ok.0 in
     rw (← c.self.view_is)
-    (grows c.args.rules.now.chosen c.in_ok-catalogue.catalogue (history_of c.self.inside.publisher.list) _
-    (c.in_ok-catalogue.ensures.stands (history_of c.self.inside.publisher.list) c.last-last.ensures.stands)
-    (c.in_ok-catalogue.ensures.allowed (history_of c.self.inside.publisher.list) c.last-last.ensures.stands)
-    (ap history_of listed ∙ history_more c.self.inside.publisher.list c.in_ok-catalogue.catalogue))
+    (grows c.args.asked.now.rules.chosen c.in_ok-admitted.admitted.catalogue (history_of c.self.inside.publisher.list) _
+    (c.in_ok-admitted.ensures.stands (history_of c.self.inside.publisher.list) c.last-last.ensures.stands)
+    (c.in_ok-admitted.ensures.allowed (history_of c.self.inside.publisher.list) c.last-last.ensures.stands)
+    (ap history_of listed ∙ history_more c.self.inside.publisher.list c.in_ok-admitted.admitted.catalogue))
 
 pub returns-clause-longer : goal.returns-clause-longer
 returns-clause-longer g c =
-    (c.in_ok-catalogue.catalogue ∷ [], sym c.in_ok-receipt.ensures.ok.0)
+    (c.in_ok-admitted.admitted.catalogue ∷ [], sym c.in_ok-receipt.ensures.ok.0)
