@@ -3,6 +3,7 @@ use crate::pieces::{differs, joined};
 use case_lines::{Answer, CaseFault, Row};
 use console::{Line, Lines};
 use std::alloc::Global;
+use subscribers::{Wish, WishKind};
 use td_base::{Bytes, NoMemory, put_decimal};
 
 /// `lines TEXT`: the lines of the text, each with a line feed, and how many bytes are held in the
@@ -114,9 +115,39 @@ fn tell(told: &mut Bytes, line: &Line) -> Result<(), NoMemory> {
             told.append(folder.as_slice())?;
             told.append(b"\n")
         }
+        Line::Watch(wish) => tell_wish(told, wish),
+        Line::News(number) => {
+            told.append(b"news ")?;
+            put_decimal(told, u64::from(*number))?;
+            told.append(b"\n")
+        }
         Line::Sync => told.append(b"sync\n"),
         Line::Status => told.append(b"status\n"),
         Line::Quit => told.append(b"quit\n"),
         Line::Strange => told.append(b"strange\n"),
     }
+}
+
+/// Appends the text of a wish, with the seconds of its moment.
+fn tell_wish(told: &mut Bytes, wish: &Wish) -> Result<(), NoMemory> {
+    match wish.kind {
+        WishKind::Any => told.append(b"watch any\n"),
+        WishKind::Under => {
+            told.append(b"watch under ")?;
+            told.append(wish.under.as_slice())?;
+            told.append(b"\n")
+        }
+        WishKind::Past => {
+            told.append(b"watch past ")?;
+            tell_seconds(told, wish.before.seconds)?;
+            told.append(b"\n")
+        }
+    }
+}
+
+fn tell_seconds(told: &mut Bytes, seconds: i64) -> Result<(), NoMemory> {
+    if seconds < 0 {
+        told.append(b"-")?;
+    }
+    put_decimal(told, seconds.unsigned_abs())
 }

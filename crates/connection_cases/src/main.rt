@@ -44,6 +44,7 @@ fn answer(alloc: Global, row: &Row) -> Answer {
         "lines" => lines::lines(alloc, row),
         "long-line" => lines::long_line(alloc, row),
         "said" => said::said(alloc, row),
+        "news" => said::news(alloc, row),
         "laws" => laws(alloc),
         _ => Err(CaseFault::Strange),
     }

@@ -1,8 +1,9 @@
 -- The lines of a list, by what has come of the first.
 use Rattle.std.proofs.Common.{cond, codes, subst, ◌≡◌, ◌<◌, ◌≤◌, ℕ, ◌⊎◌, inl, inr, Bool, true, false, not, ◌&&◌, ◌||◌, List, [], ◌∷◌, ◌++◌, length, take, drop}
-use Rattle.std.proofs.Common.{map, nat_le, refl, sym, ap, ◌∙◌, arith, append_assoc, length-append, take-append-drop}
+use Rattle.std.proofs.Common.{map, nat_le, Option, None, Some, refl, sym, ap, ◌∙◌, arith, append_assoc, length-append, take-append-drop}
 use Rattle.std.specs.Str.{bytes_eq}
 use Rattle.std.specs.List.{before_first, after_first, list_all, flat_map}
+use Rattle.std.specs.Option.{option_map_or}
 use Rattle.std.proofs.lemmas.Bool.{cases_Bool, true≢false}
 use Rattle.std.proofs.lemmas.Bool.Decides.{nat_tests}
 use Rattle.std.proofs.lemmas.List.{append-nil, length-take, take_all}
@@ -13,7 +14,10 @@ use Rattle.console.specs.declared.line.Line.TheVariants as line
 use Rattle.console.specs.declared.reading.TheConstants.{MOST_BYTES}
 use Rattle.console.specs.Steps.{most_held}
 use Rattle.td_base.specs.Names.{is_path_word}
-use Rattle.console.specs.Lines.{without_return, install_of, asked_in, is_feed, has_feed, is_whole_text, ended_lines, line_of, lines_from, lines_of}
+use Rattle.subscribers.specs.declared.wish.Wish.{Wish}
+use Rattle.console.specs.Words.{number_in}
+use Rattle.console.specs.Lines.{without_return, install_of, watch_of, wish_in, news_of, most_number, words_of, asked_in, is_feed, has_feed}
+use Rattle.console.specs.Lines.{is_whole_text, ended_lines, line_of, lines_from, lines_of}
 
 pub lines_none : (begun : List ℕ) → lines_from begun [] ≡ []
 unfolding lines_from
@@ -138,6 +142,8 @@ written (text ∷ texts) e =
 -- the folder of a line, or another list
 abbrev folder_or : List ℕ → Line → List ℕ
 folder_or other (line.Install folder) = folder
+folder_or other (line.Watch wish) = other
+folder_or other (line.News number) = other
 folder_or other line.Sync = other
 folder_or other line.Status = other
 folder_or other line.Quit = other
@@ -145,34 +151,58 @@ folder_or other line.Strange = other
 
 abbrev is_install : Line → Bool
 is_install (line.Install folder) = true
+is_install (line.Watch wish) = false
+is_install (line.News number) = false
 is_install line.Sync = false
 is_install line.Status = false
 is_install line.Quit = false
 is_install line.Strange = false
 
-install_by : (word folder : Bool) (text rest : List ℕ) → is_path_word rest ≡ folder
-    → cond (word && folder) (line.Install rest) line.Strange ≡ line.Install text → is_path_word text ≡ true
-install_by true true text rest f e = subst (λ l. is_path_word l ≡ true) (ap (folder_or []) e) f
-install_by true false text rest f e = absurd (true≢false (sym (ap is_install e)))
-install_by false folder text rest f e = absurd (true≢false (sym (ap is_install e)))
+no_install : {P : Type 0} (l : Line) (text : List ℕ) → is_install l ≡ false → l ≡ line.Install text → P
+no_install l text other e = absurd (true≢false (sym (ap is_install e) ∙ other))
+
+install_by : (folder : Bool) (text rest : List ℕ) → is_path_word rest ≡ folder
+    → cond folder (line.Install rest) line.Strange ≡ line.Install text → is_path_word text ≡ true
+install_by true text rest f e = subst (λ l. is_path_word l ≡ true) (ap (folder_or []) e) f
+install_by false text rest f e = no_install line.Strange text refl e
+
+no_watch : (wish : Option Wish) (text : List ℕ) → option_map_or line.Watch wish line.Strange ≡ line.Install text → is_path_word text ≡ true
+no_watch None text e = no_install line.Strange text refl e
+no_watch (Some wish) text e = no_install (line.Watch wish) text refl e
+
+no_news : (number : Option ℕ) (text : List ℕ) → option_map_or line.News number line.Strange ≡ line.Install text → is_path_word text ≡ true
+no_news None text e = no_install line.Strange text refl e
+no_news (Some number) text e = no_install (line.News number) text refl e
+
+asks_by : (install watch news : Bool) (text words : List ℕ)
+    → cond install (install_of (drop 8 words)) (cond watch (watch_of (drop 6 words)) (cond news (news_of (drop 5 words)) line.Strange)) ≡ line.Install text
+    → is_path_word text ≡ true
+asks_by true watch news text words e = install_by (is_path_word (drop 8 words)) text (drop 8 words) refl e
+asks_by false true news text words e = no_watch (wish_in (drop 6 words)) text e
+asks_by false false true text words e = no_news (number_in 0 most_number (drop 5 words)) text e
+asks_by false false false text words e = no_install line.Strange text refl e
+
+of_words : (words text : List ℕ) → words_of words ≡ line.Install text → is_path_word text ≡ true
+unfolding words_of
+of_words words text e =
+    asks_by (bytes_eq (take 8 words) (codes "install ")) (bytes_eq (take 6 words) (codes "watch ")) (bytes_eq (take 5 words) (codes "news ")) text words e
 
 words_by : (sync status quit : Bool) (l : Line) (text : List ℕ) → (l ≡ line.Install text → is_path_word text ≡ true)
     → cond sync line.Sync (cond status line.Status (cond quit line.Quit l)) ≡ line.Install text → is_path_word text ≡ true
-words_by true status quit l text h e = absurd (true≢false (sym (ap is_install e)))
-words_by false true quit l text h e = absurd (true≢false (sym (ap is_install e)))
-words_by false false true l text h e = absurd (true≢false (sym (ap is_install e)))
+words_by true status quit l text h e = no_install line.Sync text refl e
+words_by false true quit l text h e = no_install line.Status text refl e
+words_by false false true l text h e = no_install line.Quit text refl e
 words_by false false false l text h e = h e
 
 of_command : (bytes text : List ℕ) → asked_in bytes ≡ line.Install text → is_path_word text ≡ true
 unfolding asked_in
 of_command bytes text e =
-    words_by (bytes_eq bytes (codes "sync")) (bytes_eq bytes (codes "status")) (bytes_eq bytes (codes "quit")) (install_of bytes) text
-    (install_by (bytes_eq (take 8 bytes) (codes "install ")) (is_path_word (drop 8 bytes)) text (drop 8 bytes) refl) e
+    words_by (bytes_eq bytes (codes "sync")) (bytes_eq bytes (codes "status")) (bytes_eq bytes (codes "quit")) (words_of bytes) text (of_words bytes text) e
 
 short_by : (short : Bool) (l : Line) (text : List ℕ) → (l ≡ line.Install text → is_path_word text ≡ true)
     → cond short l line.Strange ≡ line.Install text → is_path_word text ≡ true
 short_by true l text h e = h e
-short_by false l text h e = absurd (true≢false (sym (ap is_install e)))
+short_by false l text h e = no_install line.Strange text refl e
 
 -- the folder of an `install` is named as folders are
 pub named_folder : (bytes folder : List ℕ) → line_of bytes ≡ line.Install folder → is_path_word folder ≡ true

@@ -6,7 +6,7 @@ use Rattle.std.proofs.lemmas.List.{append-nil, length-take}
 use Rattle.td_base.specs.declared.no_memory.NoMemory.{NoMemory}
 use Rattle.console.specs.declared.line.Line.{Line}
 use Rattle.console.specs.Lines.{is_feed, has_feed, line_of, lines_of}
-use Rattle.console.specs.Steps.{StepsLine, GivesLines, ContinuesLines, HasInstall, LineTakesBytes, LeavesFew, most_held}
+use Rattle.console.specs.Steps.{StepsLine, GivesLines, ContinuesLines, FirstHasText, LineTakesBytes, LeavesFew, most_held}
 use Rattle.console.proofs.LineLemmas.{lines_none, first_line, all_begun, first_stand}
 
 -- a list in which no line ends has no lines
@@ -47,6 +47,6 @@ few old new (Ok (Some line)) s = tt
 few old new (Ok None) s = omega (arith, ap length s.1, length-take most_held old)
 few old new (Err e) s = tt
 
-pub err_install : {T : Type 0} (old : List ℕ) (r : Result T NoMemory) → HasInstall old → OnErr r (HasInstall old)
-err_install old (Ok v) h = tt
-err_install old (Err e) h = h
+pub err_text : {T : Type 0} (old : List ℕ) (r : Result T NoMemory) → FirstHasText old → OnErr r (FirstHasText old)
+err_text old (Ok v) h = tt
+err_text old (Err e) h = h

@@ -1,3 +1,4 @@
 pub mod Lines
 pub mod Replies
 pub mod Steps
+pub mod Words

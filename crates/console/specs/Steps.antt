@@ -2,7 +2,7 @@
 use Rattle.std.specs.Prelude.{◌≡◌, ℕ, ◌+◌, ◌<◌, ◌≤◌, List, [], ◌∷◌, ◌++◌, length, take, false}
 use Rattle.std.specs.Prelude.{IsTrue, Option, Some, None, ⊤}
 use Rattle.std.specs.List.{before_first, after_first}
-use Rattle.console.specs.Lines.{is_feed, has_feed, line_of, lines_of, IsInstall}
+use Rattle.console.specs.Lines.{is_feed, has_feed, line_of, lines_of, HasText}
 use Rattle.console.specs.declared.line.Line.{Line}
 use Rattle.console.specs.declared.reading.TheConstants.{MOST_BYTES}
 
@@ -21,9 +21,9 @@ StepsLine old (Some line) new =
     × (new ≡ after_first is_feed old)
 StepsLine old None new = (has_feed old ≡ false) × (new ≡ take most_held old)
 
--- the first line of the bytes held is to install
-abbrev pub HasInstall : List ℕ → Type 0
-HasInstall held = IsTrue (has_feed held) × IsInstall (line_of (before_first is_feed held))
+-- the first line of the bytes held has a text of its own
+abbrev pub FirstHasText : List ℕ → Type 0
+FirstHasText held = IsTrue (has_feed held) × HasText (line_of (before_first is_feed held))
 
 -- whatever more is fed, the lines of all bytes are those given, followed by those of what is held
 -- and of what is fed then

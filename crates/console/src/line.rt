@@ -1,3 +1,4 @@
+use subscribers::Wish;
 use td_base::Bytes;
 
 /// What a line of the operator asks for.
@@ -8,6 +9,12 @@ pub enum Line {
     Install(Bytes),
     /// `sync`: to ask the upstream for its release.
     Sync,
+    /// `watch any`, `watch under TEXT` or `watch past MOMENT`: to hear, from now on, which zones each
+    /// install changes. TEXT has 1 to 64 bytes that identifiers may have, and MOMENT is a moment of
+    /// UTC from 1800 on, before 9999.
+    Watch(Wish),
+    /// `news K`: what the subscriber of this number was not told yet.
+    News(u32),
     /// `status`: which release is served.
     Status,
     /// `quit`: to stop.

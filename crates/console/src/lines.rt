@@ -1,8 +1,8 @@
 ghost use Rattle.std.specs.Prelude.{◌≡◌, ℕ, List, [], ◌∷◌, ◌+◌, ◌<◌, ◌≤◌, ◌++◌, drop, length, take};
 ghost use Rattle.std.specs.Prelude.{IfSome, IfOk, OnOk, OnErr, IsTrue, Some};
 ghost use Rattle.std.specs.List.{position};
-ghost use Rattle.console.specs.Lines.{has_feed, is_feed, line_of, IsInstall};
-ghost use Rattle.console.specs.Steps.{ContinuesLines, GivesLines, HasInstall, LeavesFew};
+ghost use Rattle.console.specs.Lines.{has_feed, is_feed, line_of, HasText};
+ghost use Rattle.console.specs.Steps.{ContinuesLines, GivesLines, FirstHasText, LeavesFew};
 ghost use Rattle.console.specs.Steps.{LineTakesBytes, StepsLine, first_line};
 ghost use Rattle.console.specs.declared.line.Line.{Line};
 
@@ -60,11 +60,12 @@ impl Lines {
     }
 
     /// The first line of what is held, which loses its bytes, or `None` exactly where no line feed
-    /// is held. Then at most 1,101 bytes stay. Only a line `install DIR` takes memory.
+    /// is held. Then at most 1,101 bytes stay. Only a line `install DIR` or
+    /// `watch under TEXT` takes memory.
     pub fn next(&mut self) -> Result<Option<Line>, NoMemory>
         ensures steps { IfOk result (λ line. StepsLine self.old line self.new) }
         ensures err { OnErr result (self.new ≡ self.old) }
-        ensures memory { OnErr result (HasInstall self.old) }
+        ensures memory { OnErr result (FirstHasText self.old) }
 
         // Over all the bytes that were fed, with the lines given so far.
         ensures cutting { IfOk result (λ line. (all : List ℕ) (given : List Line)
@@ -96,7 +97,7 @@ impl Lines {
     fn step(&mut self) -> Result<Option<Line>, NoMemory>
         ensures steps { IfOk result (λ line. StepsLine self.old line self.new) }
         ensures err { OnErr result (self.new ≡ self.old) }
-        ensures memory { OnErr result (HasInstall self.old) }
+        ensures memory { OnErr result (FirstHasText self.old) }
     {
         let Some(len) = self.first_feed() else {
             self.keep_first(MOST_BYTES + 1);
@@ -115,11 +116,11 @@ impl Lines {
         self.as_slice().iter().position(|&byte| byte == b'\n')
     }
 
-    /// The line of the first `len` bytes, without memory unless it is to install.
+    /// The line of the first `len` bytes, without memory unless it has a text of its own.
     fn read_first(&self, len: usize) -> Result<Line, NoMemory>
         requires { len ≤ length self.now }
         ensures found { IfOk result (λ line. line ≡ line_of (take len self.now)) }
-        ensures memory { OnErr result (IsInstall (line_of (take len self.now))) }
+        ensures memory { OnErr result (HasText (line_of (take len self.now))) }
     {
         read_line(*self.bytes.allocator(), &self.as_slice()[..len])
     }

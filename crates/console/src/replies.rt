@@ -53,6 +53,7 @@ pub fn short(said: &Said) -> ShortLine
         Said::Unchanged(token) => token_line(b"unchanged ", token, b"\n"),
         Said::Serving(token, zones) => serving_line(token, *zones),
         Said::NoMemory => fixed_line(b"no memory\n"),
+        Said::Watching(number) => watching_line(*number),
         Said::Bye => fixed_line(b"bye\n"),
         Said::Unknown => fixed_line(b"unknown\n"),
         Said::Refused(_) => unreachable!(),
@@ -90,6 +91,16 @@ fn serving_line(token: &Token, zones: u32) -> ShortLine
     let mut line = token_line(b"serving ", token, b" ");
     let mut buffer = Buffer::new();
     put_ended(&mut line, buffer.format(zones).as_bytes(), b"\n");
+    line
+}
+
+/// The number of a new subscriber.
+fn watching_line(number: u32) -> ShortLine
+    ensures { result ≡ codes "watching " ++ (decimal number ++ codes "\n") }
+{
+    let mut line = fixed_line(b"watching ");
+    let mut buffer = Buffer::new();
+    put_ended(&mut line, buffer.format(number).as_bytes(), b"\n");
     line
 }
 

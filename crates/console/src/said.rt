@@ -15,6 +15,8 @@ pub enum Said {
     NoMemory,
     /// The token of the release served, and how many zones it has.
     Serving(Token, u32),
+    /// There is a new subscriber, of this number.
+    Watching(u32),
     /// The last reply, to `quit`.
     Bye,
     /// The line is none that is known.
