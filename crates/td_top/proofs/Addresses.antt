@@ -4,7 +4,7 @@ use Rattle.std.proofs.lemmas.Bool.{and_parts}
 use Rattle.std.proofs.lemmas.Bool.Decides.{nat_tests}
 use Rattle.std.specs.List.{list_all}
 use Rattle.td_base.specs.Names.{IsPlain, is_printable}
-use Rattle.td_top.specs.Grammar.{is_address, is_address_byte}
+use Rattle.td_top.specs.Command.{is_address, is_address_byte}
 
 byte_is_printable : (b : ℕ) → is_address_byte b ≡ true → is_printable b ≡ true
 byte_is_printable b h = grind (arith, nat_tests)

@@ -21,15 +21,15 @@ use Rattle.installer.specs.FaultText.{fault_text}
 use Rattle.release_check.specs.declared.check_fault.CheckFault.TheVariants as fault
 use Rattle.zone_meaning.specs.Sound.{IsSound}
 use Rattle.zone_meaning.specs.ZoneHistories.{HasZoneHistory}
-use Rattle.td_top.specs.Checking.{Checks, all, refused, cut, unread, out_of_memory}
+use Rattle.td_top.specs.Running.Checking.{Checks, all, refused, cut, unread, out_of_memory}
 use Rattle.td_top.specs.Tells.{ChecksFolders}
 use Rattle.td_top.specs.Folders.{FoldersBegin, FoldersGive, GivesAfter, IsRefusal, none, more}
-use Rattle.td_top.specs.Checking.{ok_line, ok_lines, ok_lines_after}
+use Rattle.td_top.specs.Running.Checking.{ok_line, ok_lines, ok_lines_after}
 use Rattle.td_top.specs.Printing.{refused_line}
 use Rattle.td_top.specs.Outside.{outside}
 use Rattle.td_top.specs.Printing.{Printed}
-use Rattle.td_top.specs.CheckingSteps.{ChecksNext, EndsAt, PrintsRelease, IsCheckedTo, Stands, TellsRelease}
-use Rattle.td_top.specs.CheckingSteps.{grown}
+use Rattle.td_top.specs.Running.Checking.CheckingSteps.{ChecksNext, EndsAt, PrintsRelease, IsCheckedTo, Stands, TellsRelease}
+use Rattle.td_top.specs.Running.Checking.CheckingSteps.{grown}
 use Rattle.td_top.specs.Tells.{EndsLater, TellsRefused, RefusesInstall}
 use Rattle.td_top.specs.declared.status.Status.{Status}
 use Rattle.td_top.specs.declared.status.Status.TheVariants as status

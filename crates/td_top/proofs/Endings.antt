@@ -21,16 +21,16 @@ use Rattle.zone_meaning.specs.FaultText.{fault_text as zone_text}
 use Rattle.zone_meaning.specs.Faults.{zone_fault}
 use Rattle.zone_meaning.specs.State.{zone_state}
 use Rattle.zone_meaning.specs.declared.zone_fault.ZoneFault.{ZoneFault}
-use Rattle.td_top.specs.Answering.{Answers, nothing, served}
+use Rattle.td_top.specs.Running.Answering.{Answers, nothing, served}
 use Rattle.td_top.specs.Folders.{StopsAtFault}
 use Rattle.td_top.specs.Opening.{InstallsAll}
 use Rattle.td_top.specs.Printing.{refused_line}
-use Rattle.td_top.specs.StateLine.{state_line}
+use Rattle.td_top.specs.Running.StateLine.{state_line}
 use Rattle.td_top.specs.Outside.{Later, LeavesStreams, Outside, outside}
 use Rattle.td_top.specs.Printing.{Printed}
 use Rattle.td_top.specs.Folders.{ServesNothing, out_of_memory, refused, unread}
-use Rattle.td_top.specs.StateLine.{ShowsState, no_file, no_zone, state}
-use Rattle.td_top.specs.StateLine.{out_of_memory as out_of_memory_shown, unread as unread_shown}
+use Rattle.td_top.specs.Running.StateLine.{ShowsState, no_file, no_zone, state}
+use Rattle.td_top.specs.Running.StateLine.{out_of_memory as out_of_memory_shown, unread as unread_shown}
 use Rattle.td_top.specs.Tells.{EndsLater, ServesLast, Tells, TellsRefused, RefusesInstall, Shows}
 use Rattle.td_top.specs.Tells.{ShowsBy}
 use Rattle.td_top.specs.declared.status.Status.{Status}

@@ -12,11 +12,12 @@ use Rattle.installer.specs.Installing.{GrowsBy, Installs}
 use Rattle.installer.specs.declared.install_fault.InstallFault.{InstallFault}
 use Rattle.installer.specs.declared.install_fault.InstallFault.TheVariants as install
 use Rattle.release_check.specs.declared.check_fault.CheckFault.TheVariants as fault
+use Rattle.subscribers.specs.Hearing.{all_hear}
 use Rattle.td_top.specs.Folders.{InstallsFolder, installed, refused, starved, unread}
 use Rattle.td_top.specs.Growth.{by_folder, folders}
 use Rattle.td_top.specs.Replies.{SaysRefused, last_token}
 use Rattle.td_top.specs.Sessions.{AnswersLine, LaterSession}
-use Rattle.td_top.specs.Talk.{with_joined}
+use Rattle.td_top.specs.Talk.{heard_by, with_joined}
 use Rattle.td_top.specs.declared.session.Session.{Session}
 use Rattle.td_top.proofs.Installing.{gives, gives_fault}
 use Rattle.td_top.proofs.LineLemmas.{is_done}
@@ -24,25 +25,27 @@ use Rattle.td_top.proofs.LineLemmas.{is_done}
 -- a folder was looked into
 looked : (rules : List Chosen) (s t : StoreView) (old new : Session) (dir answer : List ℕ) (joined : Option ReleaseData)
     → LaterStore s t → InstallsFolder s t rules (history_of old.installer.list) dir answer joined → LaterSession old new
-    → history_of new.installer.list ≡ with_joined (history_of old.installer.list) joined → length new.installer.list ≤ length new.desk.seen
-    → AnswersLine (folders rules s) (folders rules t) old new (line.Install dir) answer
-looked rules s t old new dir answer joined store installs later grows knows =
+    → history_of new.installer.list ≡ with_joined (history_of old.installer.list) joined
+    → new.installer.subscribers ≡ heard_by old.installer.subscribers (history_of old.installer.list) joined
+    → length new.installer.list ≤ length new.desk.seen → AnswersLine (folders rules s) (folders rules t) old new (line.Install dir) answer
+looked rules s t old new dir answer joined store installs later grows hears knows =
     is_done (folders rules s) (folders rules t) old new (line.Install dir) answer joined (refl, store) later
-    (by_folder rules s t dir answer joined store installs) grows knows
+    (by_folder rules s t dir answer joined store installs) grows hears knows
 
 -- a release joined the history
 pub is_installed : {A : Type 0} (rules : List Chosen) (s t : StoreView) (old new : Session) (dir answer : List ℕ) (history : A → List ReleaseData) (a : A)
     → Installs s t dir rules (history_of old.installer.list) history (Ok a) → history a ≡ history_of new.installer.list
     → GrowsBy rules (history_of old.installer.list) (history_of new.installer.list)
+    → new.installer.subscribers ≡ all_hear (history_of new.installer.list) old.installer.subscribers
     → LaterSession old new → length new.installer.list ≤ length new.desk.seen
     → answer ≡ reply_text (said.Installed (last_token (history_of new.installer.list)))
     → AnswersLine (folders rules s) (folders rules t) old new (line.Install dir) answer
-is_installed rules s t old new dir answer history a installs same grows later knows said_is =
+is_installed rules s t old new dir answer history a installs same grows hears later knows said_is =
     let H : List ReleaseData = history_of old.installer.list in
     looked rules s t old new dir answer (Some grows.release) installs.later
     (installed grows.release (gives s t dir rules H history a grows.release (same ∙ grows.now_is) grows.allowed installs)
     (said_is ∙ ap (λ (K : List ReleaseData). reply_text (said.Installed (last_token K))) grows.now_is))
-    later grows.now_is knows
+    later grows.now_is (hears ∙ ap (λ K. all_hear K old.installer.subscribers) grows.now_is) knows
 
 -- why a folder was not installed
 why : {A : Type 0} (s t : StoreView) (rules : List Chosen) (H : List ReleaseData) (dir : List ℕ) (e : InstallFault) (history : A → List ReleaseData)
@@ -64,8 +67,9 @@ not_installed s t rules H dir e answer history installs (inr said_so) =
 
 pub is_refused : {A : Type 0} (rules : List Chosen) (s t : StoreView) (old new : Session) (dir : List ℕ) (e : InstallFault) (answer : List ℕ)
     (history : A → List ReleaseData) → Installs {A = A} s t dir rules (history_of old.installer.list) history (Err e)
-    → new.installer.list ≡ old.installer.list → LaterSession old new → length new.installer.list ≤ length new.desk.seen → SaysRefused e answer
+    → new.installer.list ≡ old.installer.list → new.installer.subscribers ≡ old.installer.subscribers
+    → LaterSession old new → length new.installer.list ≤ length new.desk.seen → SaysRefused e answer
     → AnswersLine (folders rules s) (folders rules t) old new (line.Install dir) answer
-is_refused rules s t old new dir e answer history installs same later knows says =
+is_refused rules s t old new dir e answer history installs same hears later knows says =
     looked rules s t old new dir answer None installs.later (not_installed s t rules (history_of old.installer.list) dir e answer history installs says) later
-    (ap history_of same) knows
+    (ap history_of same) hears knows

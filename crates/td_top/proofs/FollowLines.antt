@@ -23,6 +23,7 @@ use Rattle.release_check.specs.Before.{before_of}
 use Rattle.release_check.specs.Folder.{examined_in, release_with}
 use Rattle.release_manifest.specs.declared.manifest_type.Manifest.{Manifest}
 use Rattle.release_manifest.specs.declared.manifest_type.ManifestZone.{ManifestZone}
+use Rattle.subscribers.specs.Hearing.{all_hear}
 use Rattle.sync_core.specs.Mirrors.{MirrorState, ZoneFile}
 use Rattle.sync_core.specs.Published.{HasFiles, manifest_of}
 use Rattle.td_top.specs.Folders.{IsRefusal}
@@ -46,17 +47,17 @@ pub is_synced : (host : List ℕ) (s t : MirrorState) (old new : UpstreamView) (
     → AnswersLine (following host s old) (following host t new) x y line.Sync answer
 is_synced host s t old new x y answer h p knows =
     is_done (following host s old) (following host t new) x y line.Sync answer p.joined (later_sync host s t old new (Ok tt) h) p.later
-    (by_sync host s t old new answer p.joined (settled h p.says)) p.grown knows
+    (by_sync host s t old new answer p.joined (settled h p.says)) p.grown p.heard knows
 
 pub is_faulted : (host : List ℕ) (s t : MirrorState) (old new : UpstreamView) (x : Session) (e : SyncFault) (answer : List ℕ)
     → SyncsAs host s t old new (Err e) → SaysFaulted e answer → length x.installer.list ≤ length x.desk.seen
     → AnswersLine (following host s old) (following host t new) x x line.Sync answer
 is_faulted host s t old new x e answer h (inl none) knows =
     is_done (following host s old) (following host t new) x x line.Sync answer None (later_sync host s t old new (Err e) h) (session_refl x)
-    (by_sync host s t old new answer None (faulted_starved e h none refl)) refl knows
+    (by_sync host s t old new answer None (faulted_starved e h none refl)) refl refl knows
 is_faulted host s t old new x e answer h (inr why) knows =
     is_done (following host s old) (following host t new) x x line.Sync answer None (later_sync host s t old new (Err e) h) (session_refl x)
-    (by_sync host s t old new answer None (faulted e h why.0 why.1 refl)) refl knows
+    (by_sync host s t old new answer None (faulted e h why.0 why.1 refl)) refl refl knows
 
 -- ---- files of one mirror
 
@@ -124,7 +125,7 @@ module _ (stored : List File) (m : Manifest) (s : MirrorState) (is : m ≡ manif
 -- ---- publishing
 
 pub not_published : (s : MirrorState) (x : Session) (answer : List ℕ) → answer ≡ reply_text said.NoMemory → PublishesStated s x x answer
-not_published s x answer none = record { later = session_refl x; joined = None; says = starved none; grown = refl }
+not_published s x answer none = record { later = session_refl x; joined = None; says = starved none; grown = refl; heard = refl }
 
 module _ (stored : List File) (m : Manifest) (s : MirrorState) (is : m ≡ manifest_of s) (has : HasFiles stored s.files) (x : Session) where
   abbrev H : List ReleaseData
@@ -137,6 +138,7 @@ module _ (stored : List File) (m : Manifest) (s : MirrorState) (is : m ≡ manif
     joined = None;
     says = unchanged (last_stated stored m s is has H (h.told.0 refl)) says;
     grown = refl;
+    heard = refl;
   }
 
   pub differs : (left : List File) → FindsWhether (memory stored) (memory left) (λ files. IsServed files m H) (Ok false) → StatesLast H s → ⊥
@@ -154,8 +156,9 @@ module _ (stored : List File) (m : Manifest) (s : MirrorState) (is : m ≡ manif
 
   pub is_joined : {A : Type 0} (left : List File) (y : Session) (answer : List ℕ) (history : A → List ReleaseData) (a : A)
       → InstallsStated (memory stored) (memory left) m [] H history (Ok a) → history a ≡ history_of y.installer.list → (StatesLast H s → ⊥)
-      → LaterSession x y → answer ≡ reply_text (said.Installed (last_token (history_of y.installer.list))) → PublishesStated s x y answer
-  is_joined left y answer history a h same other later says =
+      → LaterSession x y → y.installer.subscribers ≡ all_hear (history_of y.installer.list) x.installer.subscribers
+      → answer ≡ reply_text (said.Installed (last_token (history_of y.installer.list))) → PublishesStated s x y answer
+  is_joined left y answer history a h same other later hears says =
       let now : history_of y.installer.list ≡ H ++ h.told.0 ∷ [] = sym same ∙ h.told.3 in
       record {
         later = later;
@@ -163,16 +166,17 @@ module _ (stored : List File) (m : Manifest) (s : MirrorState) (is : m ≡ manif
         says = installed h.told.0 other (states stored m s is has H h.told.0 h.told.1)
             (says ∙ ap (λ (K : List ReleaseData). reply_text (said.Installed (last_token K))) now);
         grown = now;
+        heard = hears ∙ ap (λ K. all_hear K x.installer.subscribers) now;
       }
 
   pub is_not_joined : {A : Type 0} (left : List File) (y : Session) (e : InstallFault) (answer : List ℕ) (history : A → List ReleaseData)
       → InstallsStated {A = A} (memory stored) (memory left) m [] H history (Err e) → y.installer.list ≡ x.installer.list → (StatesLast H s → ⊥)
-      → LaterSession x y → SaysRefused e answer → PublishesStated s x y answer
-  is_not_joined left y e answer history h same other later (inl none) =
-      record { later = later; joined = None; says = starved none; grown = ap history_of same }
-  is_not_joined left y e answer history h same other later (inr why) =
+      → LaterSession x y → y.installer.subscribers ≡ x.installer.subscribers → SaysRefused e answer → PublishesStated s x y answer
+  is_not_joined left y e answer history h same other later hears (inl none) =
+      record { later = later; joined = None; says = starved none; grown = ap history_of same; heard = hears }
+  is_not_joined left y e answer history h same other later hears (inr why) =
       let cause = faults stored m s is has H left history e h why.0 in
-      record { later = later; joined = None; says = refused e other cause.3 cause.2 why.1; grown = ap history_of same }
+      record { later = later; joined = None; says = refused e other cause.3 cause.2 why.1; grown = ap history_of same; heard = hears }
 
 -- ---- a first release
 

@@ -5,10 +5,8 @@ use Rattle.std.proofs.Common.{Err, refl, sym, subst, ap, ◌∙◌, append_assoc
 use Rattle.std.proofs.lemmas.List.{length-append, take-append-drop, take_all}
 use Rattle.std.specs.Option.{option_to_list}
 use Rattle.std.proofs.lemmas.List.Elements.{All-pop, All-weaker}
-use Rattle.admission.specs.Rules.{AreKept, KeepsAll, first_refusing}
-use Rattle.admission.proofs.lemmas.Keeping.{all_kept as chosen_kept}
+use Rattle.admission.specs.Rules.{first_refusing}
 use Rattle.admission.specs.declared.rules.Chosen.{Chosen}
-use Rattle.admission.specs.declared.rules.RuleKind.{RuleKind}
 use Rattle.td_base.specs.Views.{File, LaterStore, StoreView}
 use Rattle.td_base.proofs.lemmas.LaterLemmas.{store_refl, store_trans}
 use Rattle.catalogue.specs.Releases.{ReleaseData}
@@ -22,14 +20,10 @@ use Rattle.logbook.specs.Pages.{Book}
 use Rattle.publication.specs.Views.{DeskView, IsNewDesk}
 use Rattle.release_check.specs.declared.check_fault.CheckFault.TheVariants as fault
 use Rattle.td_top.specs.Folders.{FoldersGive, GivesAfter, IsOfRule, IsRefusal, StopsAtFault, none, more}
-use Rattle.td_top.specs.Command.{rule_list}
 use Rattle.td_top.specs.Opening.{Extends, InstallsAll, InstallsRest, Refused}
 use Rattle.td_top.specs.Works.{HasSeen}
-use Rattle.td_top.specs.declared.rules.Choice.{Choice}
-use Rattle.td_top.specs.declared.rules.Choice.TheVariants as choice
 use Rattle.release_check.specs.Before.{before_of}
 use Rattle.release_check.specs.Folder.{FolderGives}
-use Rattle.std.specs.Prelude.{◌^◌}
 
 -- ---- rows
 
@@ -66,15 +60,6 @@ pub no_refusal : (H : List ReleaseData) (r : ReleaseData) → refusal [] H r ≡
 unfolding first_refusing
 no_refusal [] r = refl
 no_refusal (h ∷ H) r = refl
-
-few : (named : Choice) → length (rule_list named) < 2 ^ 32
-few choice.None = omega arith
-few (choice.One a) = omega arith
-few (choice.Two a b) = omega arith
-
--- each rule that words name is of a kind for which there is a test
-pub all_kept : (kinds : List RuleKind) (named : Choice) → KeepsAll kinds → AreKept kinds (rule_list named)
-all_kept kinds named all = (chosen_kept kinds (rule_list named) all, few named)
 
 -- ---- one folder
 

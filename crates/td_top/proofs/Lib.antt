@@ -1,5 +1,4 @@
 pub mod Addresses
-pub mod Meant
 pub mod ZonesShown
 pub mod Endings
 pub mod Refusals
@@ -9,6 +8,8 @@ pub mod Desks
 pub mod FolderLines
 pub mod FollowLines
 pub mod GrowthLemmas
+pub mod AudienceLemmas
+pub mod Hears
 pub mod LineLemmas
 pub mod MirrorHistory
 pub mod MirrorRuns
@@ -17,7 +18,6 @@ pub mod TurnLemmas
 pub mod ServerLemmas
 pub mod WorkLemmas
 pub mod RunLemmas
-pub mod NumberLemmas
 pub mod RuleLemmas
 pub mod LoadLemmas
 pub mod BesideLemmas

@@ -19,7 +19,7 @@ use Rattle.zone_meaning.specs.ZoneHistories.{HasZoneHistory}
 use Rattle.td_top.specs.Growth.{GrowthView, Handles, LaterGrowth}
 use Rattle.td_top.specs.Replies.{last_token}
 use Rattle.td_top.specs.Sessions.{AnswersLine, LaterSession, StandsAt}
-use Rattle.td_top.specs.Talk.{GetsAnswer, IsUnknown, Talk, TakesMemory, grown, handled, least_after, no_memory, quit, status, unknown, with_joined}
+use Rattle.td_top.specs.Talk.{GetsAnswer, IsUnknown, Talk, TakesMemory, grown, handled, heard_by, least_after, no_memory, quit, status, unknown, with_joined}
 use Rattle.td_top.specs.declared.session.Session.{Session}
 use Rattle.td_top.proofs.GrowthLemmas.{growth_refl}
 
@@ -45,19 +45,20 @@ few_zones c h =
 -- ---- lines
 
 -- a line that leaves the talk as it is
-pub stays : (g : GrowthView) (old new : Session) (asked : Line) (answer : List ℕ) → LaterSession old new → new.installer.list ≡ old.installer.list
-    → ((whole : List ReleaseData) (talk : Talk) → talk.growth ≡ g → GetsAnswer whole talk asked answer talk) → AnswersLine g g old new asked answer
+pub stays : (g : GrowthView) (old new : Session) (asked : Line) (answer : List ℕ) → LaterSession old new → new.installer ≡ old.installer
+    → ((whole : List ReleaseData) (talk : Talk) → StandsAt g old talk → GetsAnswer whole talk asked answer talk) → AnswersLine g g old new asked answer
 stays g old new asked answer later same answers = record {
   growth = growth_refl g;
   later = later;
   answers = λ whole talk begins stands. (
     talk,
     record {
-      published = stands.published ∙ ap history_of (sym same);
+      published = stands.published ∙ ap (λ i. history_of i.list) (sym same);
       least = omega (arith, stands.least, prefix_length old.desk.seen new.desk.seen later.seen);
       growth = stands.growth;
+      subscribers = stands.subscribers ∙ ap (λ i. i.subscribers) (sym same);
     },
-    answers whole talk stands.growth,
+    answers whole talk stands,
   );
 }
 
@@ -74,10 +75,10 @@ not_done g h old new asked answer same left is_unknown is =
     subst (λ k. AnswersLine g k old new asked answer) (sym same)
     (subst (λ s. AnswersLine g g old s asked answer) (sym left)
     (stays g old old asked answer (session_refl old) refl
-    (λ whole talk at. unknown (subst (λ k. IsUnknown k asked) (sym at) is_unknown) is refl)))
+    (λ whole talk at. unknown (subst (λ k. IsUnknown k asked) (sym at.growth) is_unknown) is refl)))
 
 -- a status
-pub is_shown : (g : GrowthView) (old new : Session) (answer : List ℕ) → LaterSession old new → new.installer.list ≡ old.installer.list
+pub is_shown : (g : GrowthView) (old new : Session) (answer : List ℕ) → LaterSession old new → new.installer ≡ old.installer
     → answer ≡ reply_text (said.Serving (last_token (history_of new.desk.seen)) (length (meta (history_of new.desk.seen))))
     → AnswersLine g g old new line.Status answer
 is_shown g old new answer later same is = record {
@@ -88,9 +89,10 @@ is_shown g old new answer later same is = record {
       let size = history_length new.desk.seen in (
         record talk { least = length (history_of new.desk.seen) },
         record {
-          published = stands.published ∙ ap history_of (sym same);
+          published = stands.published ∙ ap (λ i. history_of i.list) (sym same);
           least = omega (arith, size);
           growth = stands.growth;
+          subscribers = stands.subscribers ∙ ap (λ i. i.subscribers) (sym same);
         },
         status (history_of new.desk.seen) refl begins.seen (omega (arith, size, longer, stands.least)) is refl,
       );
@@ -114,9 +116,10 @@ least_stands g talk (Some r) old new stands later grows knows =
 -- a line that makes the history grow, by a release or by none
 pub is_done : (g h : GrowthView) (old new : Session) (asked : Line) (answer : List ℕ) (joined : Option ReleaseData) → LaterGrowth g h → LaterSession old new
     → Handles (history_of old.installer.list) g asked answer joined h
-    → history_of new.installer.list ≡ with_joined (history_of old.installer.list) joined → length new.installer.list ≤ length new.desk.seen
-    → AnswersLine g h old new asked answer
-is_done g h old new asked answer joined growth later handles grows knows = record {
+    → history_of new.installer.list ≡ with_joined (history_of old.installer.list) joined
+    → new.installer.subscribers ≡ heard_by old.installer.subscribers (history_of old.installer.list) joined
+    → length new.installer.list ≤ length new.desk.seen → AnswersLine g h old new asked answer
+is_done g h old new asked answer joined growth later handles grows hears knows = record {
   growth = growth;
   later = later;
   answers = λ whole talk begins stands. (
@@ -125,6 +128,7 @@ is_done g h old new asked answer joined growth later handles grows knows = recor
       published = ap (λ H. with_joined H joined) stands.published ∙ sym grows;
       least = least_stands g talk joined old new stands later grows knows;
       growth = refl;
+      subscribers = rw (stands.subscribers, stands.published) (sym hears);
     },
     handled joined h
         (subst (λ H. Handles H talk.growth asked answer joined h) (sym stands.published)

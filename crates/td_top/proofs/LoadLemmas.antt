@@ -29,8 +29,8 @@ use Rattle.made_load.specs.Requests.{made_requests}
 use Rattle.made_load.specs.declared.counts.LoadCounts.{LoadCounts}
 use Rattle.http_answer.specs.declared.answer.Answer.{Answer}
 use Rattle.http_request.specs.declared.head.Head.{Head}
-use Rattle.td_top.specs.Loading.{AreCounted, IsAnswered, IsFirstHead, Loads, begun, more, next, none}
-use Rattle.td_top.specs.LoadSteps.{AnswersCounted, ClosesOver, JoinsMade}
+use Rattle.td_top.specs.Running.Loading.{AreCounted, IsAnswered, IsFirstHead, Loads, begun, more, next, none}
+use Rattle.td_top.specs.Running.Loading.LoadSteps.{AnswersCounted, ClosesOver, JoinsMade}
 
 -- ---- what a desk sees
 

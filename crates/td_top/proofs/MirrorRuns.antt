@@ -20,17 +20,17 @@ use Rattle.release_check.specs.declared.check_fault.CheckFault.TheVariants as fa
 use Rattle.sync_core.specs.Mirrors.{MirrorState, empty_mirror}
 use Rattle.td_top.specs.Following.{StatesAfter, SyncsAs}
 use Rattle.td_top.specs.FollowingSteps.{OpensStated}
-use Rattle.td_top.specs.Grammar.{mirror}
+use Rattle.td_top.specs.Command.{mirror}
 use Rattle.td_top.specs.Growth.{GrowthView, following}
-use Rattle.td_top.specs.Mirroring.{Mirrors, ReachedTold, ReachesServer, not_synced, opened, out_of_memory, refused, unreached}
-use Rattle.td_top.specs.MirroringSteps.{FollowEnds, FollowsOn, ServesStated, StatedEnds, TellsWhy}
-use Rattle.td_top.specs.MirroringSteps as steps
+use Rattle.td_top.specs.Running.Mirroring.{Mirrors, ReachedTold, ReachesServer, not_synced, opened, out_of_memory, refused, unreached}
+use Rattle.td_top.specs.Running.Mirroring.MirroringSteps.{FollowEnds, FollowsOn, ServesStated, StatedEnds, TellsWhy}
+use Rattle.td_top.specs.Running.Mirroring.MirroringSteps as steps
 use Rattle.td_top.specs.Outside.{outside, world}
 use Rattle.td_top.specs.Printing.{Printed, refused_line}
 use Rattle.td_top.specs.Running.{RunEndsLater, mirrored}
-use Rattle.td_top.specs.Server.{CalledTold, OpenedEnds, no_network, not_started, served, status_for}
-use Rattle.td_top.specs.Server.{out_of_memory as out_of_memory_opened}
-use Rattle.td_top.specs.ServerSteps.{ServesOpened}
+use Rattle.td_top.specs.Running.Server.{CalledTold, OpenedEnds, no_network, not_started, served, status_for}
+use Rattle.td_top.specs.Running.Server.{out_of_memory as out_of_memory_opened}
+use Rattle.td_top.specs.Running.Server.ServerSteps.{ServesOpened}
 use Rattle.td_top.specs.Site.{LaterSite, SiteView, console, site}
 use Rattle.td_top.specs.Tells.{IsLeft, RefusesInstall, RefusesSync, Tells}
 use Rattle.td_top.specs.declared.status.Status.{Status}

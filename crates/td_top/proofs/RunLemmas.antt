@@ -11,13 +11,13 @@ use Rattle.td_base.proofs.lemmas.LaterLemmas.{sink_refl, source_refl, store_tran
 use Rattle.catalogue.specs.Releases.{ReleaseData}
 use Rattle.catalogue.specs.declared.holding.Catalogue.{Catalogue}
 use Rattle.catalogue.specs.Holdings.{history_of}
-use Rattle.td_top.specs.Grammar.{Asked, serve}
+use Rattle.td_top.specs.Command.{Asked, serve}
 use Rattle.td_top.specs.Growth.{folders}
 use Rattle.td_top.specs.Opening.{InstallsAll}
 use Rattle.td_top.specs.Outside.{IsAlone, Outside, outside, World, world}
 use Rattle.td_top.specs.Running.{RunEnds, RunEndsLater, served as served_run}
-use Rattle.td_top.specs.Server.{OpenedEnds, opened}
-use Rattle.td_top.specs.ServerSteps.{ServesOpened}
+use Rattle.td_top.specs.Running.Server.{OpenedEnds, opened}
+use Rattle.td_top.specs.Running.Server.ServerSteps.{ServesOpened}
 use Rattle.td_top.specs.Site.{ConsoleView, LaterConsole, LaterSite, SiteView, console, site}
 use Rattle.td_top.specs.Tells.{EndsLater}
 use Rattle.td_top.specs.declared.status.Status.{Status}

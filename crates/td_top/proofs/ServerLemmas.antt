@@ -27,24 +27,29 @@ use Rattle.logbook.specs.Pages.{Book}
 use Rattle.publication.specs.Views.{DeskView}
 use Rattle.td_base.proofs.lemmas.Beginnings.{prefix_self}
 use Rattle.td_top.specs.ConsoleBeside.{BesideView, Halted, Ran}
-use Rattle.td_top.specs.Server.{CalledTold, ConnsTold, IsDone, OpensDoors, OpenedTold}
-use Rattle.td_top.specs.Server.{ServesDoor, ServesDoors, no_door, one_more}
+use Rattle.td_top.specs.Running.Server.{CalledTold, ConnsTold, IsDone, OpensDoors, OpenedTold}
+use Rattle.td_top.specs.Running.Server.{ServesDoor, ServesDoors, no_door, one_more}
+use Rattle.td_top.specs.Talk.{Talks, heard, talk_begun}
 use Rattle.td_top.specs.Talking.{AnswersOperator, ComesTo, LaterScene, Scene, Talked}
 use Rattle.td_top.specs.Works.{AreWorks, HasSeen}
 use Rattle.td_top.specs.declared.talking.TalkEnd.{TalkEnd}
 use Rattle.catalogue.proofs.lemmas.HistoryLemmas.{history_longer}
+use Rattle.td_top.proofs.Hears.{tells_each_change}
 
 -- ---- the talk
 
 -- over the history that was published, of which the console's desk has seen no more
-pub operated : (before now : Scene) (ended : TalkEnd) → IsPrefix now.session.desk.seen now.session.installer.list → Talked before now ended
+pub operated : (before now : Scene) (ended : TalkEnd) → before.session.installer.subscribers ≡ [] → IsPrefix now.session.desk.seen now.session.installer.list → Talked before now ended
     → AnswersOperator (history_of before.session.installer.list) (history_of now.session.installer.list) before.console now.console ended
-operated before now ended seen t =
+operated before now ended nobody seen t =
     let whole : List ReleaseData = history_of now.session.installer.list in
     let talk = t.over.talks whole (record {
       published = prefix_self whole;
       seen = history_longer now.session.desk.seen now.session.installer.list seen;
     }) in
+    let opening : List ReleaseData = history_of before.session.installer.list in
+    let talks : Talks whole (talk_begun opening before.console.growth) t.asked t.told talk.0 =
+    subst (λ s. Talks whole (heard (talk_begun opening before.console.growth) s) t.asked t.told talk.0) nobody talk.2 in
     record {
       read = t.read;
       asked = t.asked;
@@ -53,7 +58,8 @@ operated before now ended seen t =
       last = talk.0;
       reads = t.reads;
       needed = t.needed;
-      talks = talk.2;
+      talks = talks;
+      hears = tells_each_change whole opening before.console.growth t.asked t.told talk.0 talks;
       published = talk.1.published;
       growth = talk.1.growth;
       written = t.written;

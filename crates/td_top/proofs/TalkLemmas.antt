@@ -26,8 +26,8 @@ use Rattle.td_top.specs.Growth.{GrowthView}
 use Rattle.td_top.specs.Replies.{last_token}
 use Rattle.td_top.specs.Sessions.{AnswersLine, BeginsWhole, LaterSession}
 use Rattle.td_top.specs.Site.{console}
-use Rattle.td_top.specs.Talk.{KeepsTalking, more, none, talk_begun}
-use Rattle.td_top.specs.Talking.{ComesTo, IsAt, IsNeeded, LaterScene, Scene, TalksOver, at_ready, at_reply, scene, talk_text}
+use Rattle.td_top.specs.Talk.{KeepsTalking, more, none}
+use Rattle.td_top.specs.Talking.{ComesTo, IsAt, IsNeeded, LaterScene, Scene, TalksOver, at_ready, at_reply, begun_at, scene, talk_text}
 use Rattle.td_top.specs.TalkingSteps.{FeedsHeld, FeedsTalk, HasNone, IsNextLine, Reaches, SaysBye}
 use Rattle.td_top.specs.TalkingSteps.{SaysText}
 use Rattle.td_top.specs.declared.talking.TheConstants.{PIECE}
@@ -103,13 +103,14 @@ nothing_asked : (s : GrowthView) (i : SourceView) (o p : SinkView) (x : Session)
 nothing_asked s i o p x knows sink = record {
   later = record { console = record { growth = growth_refl s; input = source_refl i; output = sink }; session = session_refl x };
   talks = λ whole begins. (
-    talk_begun (history_of x.installer.list) s,
+    begun_at (scene (console s i o) x),
     record {
       published = refl;
       least = omega (arith, history_length x.installer.list, knows);
       growth = refl;
+      subscribers = refl;
     },
-    none (talk_begun (history_of x.installer.list) s),
+    none (begun_at (scene (console s i o) x)),
   );
 }
 
@@ -240,7 +241,7 @@ over_more start s t i o p x y asked told next a goes sink over answers = record 
       let after = answers.answers whole before.0 begins before.1 in (
         after.0,
         after.1,
-        more (talk_begun (history_of start.session.installer.list) start.console.growth) before.0 after.0 asked told next a before.2 goes after.2,
+        more (begun_at start) before.0 after.0 asked told next a before.2 goes after.2,
       );
 }
 

@@ -6,10 +6,34 @@ use Rattle.td_top.specs.Growth.{GrowthView}
 use Rattle.td_top.specs.Site.{console}
 use Rattle.td_top.specs.Talking.{ComesTo, Scene, scene}
 use Rattle.td_top.specs.declared.console_beside.Console.{Console}
+use Rattle.td_top.specs.declared.console_beside.TalkOver.{TalkOver}
 use Rattle.td_top.specs.declared.talking.TalkEnd.{TalkEnd}
 
+-- what a console talks over
+abbrev pub scene_of : {Q G C K : Type 0} → (Q → List Chosen) → (G → List Chosen → GrowthView)
+    → (C → SourceView) → (K → SinkView) → Console Q G C K → Scene
+scene_of chosen growth input output c =
+    scene (console (growth c.growth.now (chosen c.asked.now)) (input c.input.now)
+    (output c.output.now)) c.session.now
+
+-- which objects it was lent: a session, what the history grows by, an input, an output, and what
+-- tells the end of its talk
+abbrev pub lent_to : {Q G C K : Type 0} → Console Q G C K → ℕ × ℕ × ℕ × ℕ × ℕ
+lent_to c = (
+  c.session.ghost_name,
+  c.growth.ghost_name,
+  c.input.ghost_name,
+  c.output.ghost_name,
+  c.over.ghost_name,
+)
+
+-- what stays as it is while the talk goes on: what is asked of releases and of wishes, what tells
+-- its end, and which objects were lent
+abbrev pub steady : {Q G C K : Type 0} → Console Q G C K → Q × TalkOver × (ℕ × ℕ × ℕ × ℕ × ℕ)
+steady c = (c.asked.now, c.over.now, lent_to c)
+
 -- a console: what it talks over, the rules that it asks of releases, how its talk ended, if it did
--- and memory served, and which objects it was lent: a session, an end, what the history grows by, an input and an output
+-- and memory served, and which objects it was lent
 pub record BesideView : Type 0 where
   pub scene : Scene
   pub rules : List Chosen
@@ -19,17 +43,10 @@ pub record BesideView : Type 0 where
 abbrev pub beside_of : {Q G C K : Type 0} → (Q → List Chosen) → (G → List Chosen → GrowthView)
     → (C → SourceView) → (K → SinkView) → Console Q G C K → BesideView
 beside_of chosen growth input output c = record {
-  scene = scene (console (growth c.growth.now (chosen c.rules.now)) (input c.input.now)
-      (output c.output.now)) c.session.now;
-  rules = chosen c.rules.now;
-  end = c.end.now;
-  lent = (
-    c.session.ghost_name,
-    c.end.ghost_name,
-    c.growth.ghost_name,
-    c.input.ghost_name,
-    c.output.ghost_name,
-  );
+  scene = scene_of chosen growth input output c;
+  rules = chosen c.asked.now;
+  end = c.over.now.end;
+  lent = lent_to c;
 }
 
 -- the talk came to its end, if memory did not run out, under the same rules and over the same

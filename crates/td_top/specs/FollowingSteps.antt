@@ -12,7 +12,7 @@ use Rattle.td_top.specs.Folders.{IsRefusal}
 use Rattle.td_top.specs.Following.{SaysStated, StatesAfter}
 use Rattle.td_top.specs.Growth.{GrowthView, following}
 use Rattle.td_top.specs.Sessions.{LaterSession}
-use Rattle.td_top.specs.Talk.{with_joined}
+use Rattle.td_top.specs.Talk.{heard_by, with_joined}
 use Rattle.td_top.specs.declared.following.Follow.{Follow}
 use Rattle.td_top.specs.declared.session.Session.{Session}
 
@@ -37,3 +37,5 @@ pub record PublishesStated (s : MirrorState) (before now : Session) (answer : Li
   pub says : SaysStated s (history_of before.installer.list) answer joined
   pub grown : history_of now.installer.list
       ≡ with_joined (history_of before.installer.list) joined
+  pub heard : now.installer.subscribers
+      ≡ heard_by before.installer.subscribers (history_of before.installer.list) joined

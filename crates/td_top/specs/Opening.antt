@@ -1,5 +1,5 @@
 -- What installing a row of folders comes to.
-use Rattle.std.specs.Prelude.{◌≡◌, ℕ, List, ◌++◌, length, All, Option, Result, Ok, Err, IsErrOf}
+use Rattle.std.specs.Prelude.{◌≡◌, ℕ, List, [], ◌++◌, length, All, Option, Result, Ok, Err, IsErrOf}
 use Rattle.admission.specs.declared.rules.Chosen.{Chosen}
 use Rattle.td_base.specs.Views.{StoreFailed, File, LaterStore, StoreView}
 use Rattle.catalogue.specs.Releases.{ReleaseData}
@@ -60,8 +60,10 @@ pub record InstallsAll (rules : List Chosen) (dirs : List (List ℕ)) (s t : Sto
   pub memory : IsErrOf result (install.Check fault.NoMemory) → ⊥
   pub came : AllCame s.files rules dirs result
 
--- so many further desks were made, of the same pair, which have seen all that was published
+-- so many further desks were made, of the same pair, which have seen all that was published, and
+-- nobody has subscribed
 pub record HasDesks (workers : ℕ) (opened : Opened) : Type 0 where
   pub number : length opened.desks.items ≡ workers
   pub seen : All (HasSeen opened.session.installer.pair (length opened.session.installer.list))
       opened.desks.items
+  pub nobody : opened.session.installer.subscribers ≡ []

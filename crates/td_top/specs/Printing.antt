@@ -10,10 +10,6 @@ use Rattle.td_top.specs.declared.status.Status.TheVariants as status
 abbrev pub refused_line : List ℕ → List ℕ
 refused_line why = codes "refused " ++ (why ++ codes "\n")
 
--- what is printed for words that are no command
-unfoldable pub usage_line : List ℕ
-usage_line = codes "usage: tzdistd answer|serve|mirror|check|at|load\n"
-
 -- A text that is called for with a status was printed. What is the work itself is written whole, or
 -- a failed write cut it; a line that says why nothing was done keeps its status, cut or not.
 abbrev pub Printed : Status → List ℕ → SinkView → SinkView → Status → Type 0

@@ -1,5 +1,5 @@
 -- What is written in reply to a line.
-use Rattle.std.specs.Prelude.{◌≡◌, ◌≢◌, ℕ, List, length, ◌⊎◌}
+use Rattle.std.specs.Prelude.{◌≡◌, ◌≢◌, ℕ, List, length, codes, ◌⊎◌}
 use Rattle.catalogue.specs.Histories.{token_of}
 use Rattle.catalogue.specs.Releases.{ReleaseData}
 use Rattle.console.specs.Replies.{reply_text}
@@ -17,10 +17,19 @@ use Rattle.td_top.specs.declared.replies.Reply.TheVariants as reply
 abbrev pub last_token : List ReleaseData → List ℕ
 last_token H = token_of H (length H)
 
+-- why there is no news: nobody has subscribed under that number
+abbrev pub nobody_text : List ℕ
+nobody_text = codes "20 NoWatch"
+
 -- a reply as it is written
 abbrev pub reply_bytes : Reply → List ℕ
 reply_bytes (reply.Short text) = text
 reply_bytes (reply.Long text) = text
+
+-- what is said of something that was refused: why, or, where there is no memory for that, this
+abbrev pub SaysWhy : List ℕ → List ℕ → Type 0
+SaysWhy why text =
+    (text ≡ reply_text said.NoMemory) ⊎ (text ≡ reply_text (said.Refused why))
 
 -- what is said of a folder that was not installed: why, or, where there is no memory for that, this
 abbrev pub SaysRefused : InstallFault → List ℕ → Type 0

@@ -1,17 +1,23 @@
 -- How a run ends, command by command, over all that is outside it.
+pub mod Answering
+pub mod Checking
+pub mod Loading
+pub mod Mirroring
+pub mod Server
+pub mod StateLine
 use Rattle.std.specs.Prelude.{◌≡◌, ℕ, ℤ, List, [], Option, None, Some}
 use Rattle.admission.specs.declared.rules.Chosen.{Chosen}
 use Rattle.td_base.specs.DoorViews.{DoorView}
 use Rattle.td_base.specs.Upstreams.{UpstreamView}
-use Rattle.td_top.specs.Answering.{Answers}
-use Rattle.td_top.specs.Checking.{Checks}
-use Rattle.td_top.specs.Grammar.{Asked, answer, at, check, load, mirror, serve}
-use Rattle.td_top.specs.Loading.{LoadEnds}
-use Rattle.td_top.specs.Mirroring.{Mirrors}
+use Rattle.td_top.specs.Command.{Asked, answer, at, check, load, mirror, serve, usage_line}
 use Rattle.td_top.specs.Outside.{IsAlone, LaterWorld, World}
-use Rattle.td_top.specs.Printing.{Printed, usage_line}
-use Rattle.td_top.specs.Server.{Serves}
-use Rattle.td_top.specs.StateLine.{ShowsState}
+use Rattle.td_top.specs.Printing.{Printed}
+use Rattle.td_top.specs.Running.Answering.{Answers}
+use Rattle.td_top.specs.Running.Checking.{Checks}
+use Rattle.td_top.specs.Running.Loading.{LoadEnds}
+use Rattle.td_top.specs.Running.Mirroring.{Mirrors}
+use Rattle.td_top.specs.Running.Server.{Serves}
+use Rattle.td_top.specs.Running.StateLine.{ShowsState}
 use Rattle.td_top.specs.declared.status.Status.{Status}
 use Rattle.td_top.specs.declared.status.Status.TheVariants as status
 

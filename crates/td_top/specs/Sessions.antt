@@ -20,6 +20,7 @@ pub record StandsAt (now : GrowthView) (session : Session) (t : Talk) : Type 0 w
   pub published : t.published ≡ history_of session.installer.list
   pub least : t.least ≤ length session.desk.seen
   pub growth : t.growth ≡ now
+  pub subscribers : t.subscribers ≡ session.installer.subscribers
 
 -- the history begins with all that was published and seen
 pub record BeginsWhole (session : Session) (whole : List ReleaseData) : Type 0 where

@@ -1,6 +1,6 @@
 -- What an operator's lines get said, one after the other, while a history grows by what they ask
 -- for.
-use Rattle.std.specs.Prelude.{◌≡◌, ℕ, ◌+◌, ◌≤◌, List, [], ◌∷◌, ◌++◌, length, ⊤, Bool, true}
+use Rattle.std.specs.Prelude.{◌≡◌, ℕ, ◌+◌, ◌<◌, ◌≤◌, List, [], ◌∷◌, ◌++◌, length, ⊤, Bool, true}
 use Rattle.std.specs.Prelude.{false, Option, None, Some}
 use Rattle.std.specs.List.{AllByRecursion}
 use mathlib.Core.List.{IsPrefix}
@@ -8,21 +8,30 @@ use Rattle.catalogue.specs.Histories.{meta}
 use Rattle.catalogue.specs.Releases.{ReleaseData}
 use Rattle.console.specs.declared.line.Line.{Line}
 use Rattle.console.specs.declared.line.Line.TheVariants as line
-use Rattle.console.specs.Replies.{reply_text}
+use Rattle.console.specs.Replies.{news_text, reply_text}
 use Rattle.console.specs.declared.said.Said.TheVariants as said
+use Rattle.subscribers.specs.FaultText.{fault_text}
+use Rattle.subscribers.specs.Hearing.{all_hear}
+use Rattle.subscribers.specs.News.{numbered}
+use Rattle.subscribers.specs.Views.{SubscriberView, changed_numbered, emptied, newcomer}
+use Rattle.subscribers.specs.declared.subscribe_fault.SubscribeFault.TheVariants as fault
+use Rattle.subscribers.specs.declared.subscriber_list.TheConstants.{MOST_SUBSCRIBERS}
+use Rattle.subscribers.specs.declared.wish.Wish.{Wish}
 use Rattle.td_top.specs.Growth.{GrowthView, Grows, Handles}
-use Rattle.td_top.specs.Replies.{last_token}
+use Rattle.td_top.specs.Replies.{last_token, nobody_text}
 
--- a talk so far: the releases published, the least place that a status may tell, and by what the
--- history grows
+-- a talk so far: the releases published, the least place that a status may tell, by what the
+-- history grows, and who hears of installs
 pub record Talk : Type 0 where
   pub published : List ReleaseData
   pub least : ℕ
   pub growth : GrowthView
+  pub subscribers : List SubscriberView
 
--- the server is ready, over these releases
+-- the server is ready, over these releases, and nobody has subscribed
 abbrev pub talk_begun : List ReleaseData → GrowthView → Talk
-talk_begun H growth = record { published = H; least = length H; growth = growth }
+talk_begun H growth =
+    record { published = H; least = length H; growth = growth; subscribers = [] }
 
 -- releases that were joined by one more, or by none
 abbrev pub with_joined : List ReleaseData → Option ReleaseData → List ReleaseData
@@ -34,24 +43,44 @@ abbrev pub least_after : Talk → Option ReleaseData → ℕ
 least_after t None = t.least
 least_after t (Some r) = length t.published + 1
 
+-- what those who hear of installs hold after that: a release that joined is heard of
+abbrev pub heard_by : List SubscriberView → List ReleaseData → Option ReleaseData
+    → List SubscriberView
+heard_by subscribers H None = subscribers
+heard_by subscribers H (Some r) = all_hear (H ++ r ∷ []) subscribers
+
 -- a line made the history grow by a release, or by none
 abbrev pub grown : Talk → Option ReleaseData → GrowthView → Talk
 grown t joined growth = record {
   published = with_joined t.published joined;
   least = least_after t joined;
   growth = growth;
+  subscribers = heard_by t.subscribers t.published joined;
+}
+
+-- the same talk with other subscribers
+abbrev pub heard : Talk → List SubscriberView → Talk
+heard t subscribers = record {
+  published = t.published;
+  least = t.least;
+  growth = t.growth;
+  subscribers = subscribers;
 }
 
 -- a line that asks for nothing that is done
 abbrev pub IsUnknown : GrowthView → Line → Type 0
 IsUnknown growth line.Status = ⊥
 IsUnknown growth line.Quit = ⊥
+IsUnknown growth (line.Watch wish) = ⊥
+IsUnknown growth (line.News number) = ⊥
 IsUnknown growth asked = Grows growth asked → ⊥
 
 -- a line for which memory may run out before it is done
 abbrev pub TakesMemory : Line → Type 0
 TakesMemory line.Status = ⊤
 TakesMemory (line.Install dir) = ⊤
+TakesMemory (line.Watch wish) = ⊤
+TakesMemory (line.News number) = ⊤
 TakesMemory asked = ⊥
 
 -- What one line gets said, and what it makes of the talk. `whole` is the history of the run, with
@@ -66,6 +95,22 @@ pub data GetsAnswer (whole : List ReleaseData) (t : Talk) (asked : Line) (answer
       → t.least ≤ length shown
       → answer ≡ reply_text (said.Serving (last_token shown) (length (meta shown)))
       → u ≡ record t { least = length shown }
+      → GetsAnswer whole t asked answer u
+  -- one more subscriber, which is to hear of the releases after those published so far
+  watched : (wish : Wish) → asked ≡ line.Watch wish → length t.subscribers < MOST_SUBSCRIBERS
+      → answer ≡ reply_text (said.Watching (length t.subscribers + 1))
+      → u ≡ heard t (t.subscribers ++ newcomer wish (length t.published) ∷ [])
+      → GetsAnswer whole t asked answer u
+  full : (wish : Wish) → asked ≡ line.Watch wish → MOST_SUBSCRIBERS ≤ length t.subscribers
+      → answer ≡ reply_text (said.Refused (fault_text fault.WatchFull)) → u ≡ t
+      → GetsAnswer whole t asked answer u
+  -- what a subscriber holds is told, and cleared
+  told_news : (number : ℕ) (s : SubscriberView) → asked ≡ line.News number
+      → numbered t.subscribers number ≡ Some s → answer ≡ news_text s.held
+      → u ≡ heard t (changed_numbered emptied number t.subscribers)
+      → GetsAnswer whole t asked answer u
+  nobody : (number : ℕ) → asked ≡ line.News number → numbered t.subscribers number ≡ None
+      → answer ≡ reply_text (said.Refused nobody_text) → u ≡ t
       → GetsAnswer whole t asked answer u
   quit : asked ≡ line.Quit → answer ≡ reply_text said.Bye → u ≡ t
       → GetsAnswer whole t asked answer u

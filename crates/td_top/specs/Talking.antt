@@ -14,14 +14,15 @@ use Rattle.console.specs.declared.line.Line.{Line}
 use Rattle.console.specs.declared.line.Line.TheVariants as line
 use Rattle.console.specs.declared.said.Said.TheVariants as said
 use Rattle.catalogue.specs.Holdings.{history_of}
+use Rattle.td_top.specs.Audiences.{TellsEachChange}
 use Rattle.td_top.specs.Replies.{last_token}
 use Rattle.td_top.specs.Sessions.{BeginsWhole, LaterSession, StandsAt}
 use Rattle.td_top.specs.Site.{ConsoleView, LaterConsole}
-use Rattle.td_top.specs.Talk.{KeepsTalking, Talk, Talks, talk_begun}
+use Rattle.td_top.specs.Talk.{KeepsTalking, Talk, Talks, heard, talk_begun}
 use Rattle.td_top.specs.declared.session.Session.{Session}
-use Rattle.td_top.specs.declared.talking.TheConstants.{PIECE}
 use Rattle.td_top.specs.declared.talking.TalkEnd.{TalkEnd}
 use Rattle.td_top.specs.declared.talking.TalkEnd.TheVariants as end
+use Rattle.td_top.specs.declared.talking.TheConstants.{PIECE}
 
 -- a talk's moment: what it is over, and what the console publishes with and shows
 pub record Scene : Type 0 where
@@ -36,6 +37,12 @@ pub record LaterScene (before now : Scene) : Type 0 where
   pub console : LaterConsole before.console now.console
   pub session : LaterSession before.session now.session
 
+-- a talk that begins at a scene
+abbrev pub begun_at : Scene → Talk
+begun_at s =
+    heard (talk_begun (history_of s.session.installer.list) s.console.growth)
+    s.session.installer.subscribers
+
 -- all that is said: that the server is ready, and what each line gets said
 abbrev pub talk_text : List ReleaseData → List (List ℕ) → List ℕ
 talk_text opening told =
@@ -47,8 +54,7 @@ pub record TalksOver (before now : Scene) (asked : List Line) (told : List (List
   pub later : LaterScene before now
   pub talks : (whole : List ReleaseData) → BeginsWhole now.session whole
       → (t : Talk) × StandsAt now.console.growth now.session t
-      × Talks whole
-      (talk_begun (history_of before.session.installer.list) before.console.growth) asked told t
+      × Talks whole (begun_at before) asked told t
 
 -- the first of the lines in the bytes that were read
 abbrev pub ReadsLines : SourceView → SourceView → List ℕ → List Line → List Line → Type 0
@@ -121,7 +127,8 @@ pub record IsAt (before now : Scene) (held : List ℕ) : Type 0 where
       (talk_text (history_of before.session.installer.list) told) written.Whole
 
 -- An operator's lines were answered, while the history of the run grew from its opening: the lines
--- stand in the bytes that were read, in order and up to an end, and what they got said was written.
+-- stand in the bytes that were read, in order and up to an end, what they got said was written, and
+-- each subscriber was told what it was owed.
 pub record AnswersOperator (opening whole : List ReleaseData) (before now : ConsoleView)
     (ended : TalkEnd) : Type 0 where
   pub read : List ℕ
@@ -132,6 +139,7 @@ pub record AnswersOperator (opening whole : List ReleaseData) (before now : Cons
   pub reads : ReadsLines before.input now.input read asked ignored
   pub needed : IsNeeded read asked
   pub talks : Talks whole (talk_begun opening before.growth) asked told last
+  pub hears : TellsEachChange opening asked told last
   pub published : last.published ≡ whole
   pub growth : last.growth ≡ now.growth
   pub written : WritesTalk ended opening before.output now.output told

@@ -4,20 +4,19 @@ use Rattle.std.specs.Io.KnownBytes.{Consumes, IsAtEnd}
 use Rattle.td_base.specs.Views.{SourceFailed, SinkView, SourceView}
 use Rattle.td_base.specs.Transfer.{WritesAll}
 use Rattle.td_base.specs.declared.transfer.Written.TheVariants as written
-use Rattle.console.specs.Lines.{lines_of}
+use Rattle.console.specs.Lines.{HasText, lines_of}
 use Rattle.console.specs.Replies.{reply_text}
 use Rattle.console.specs.Steps.{GivesLines, most_held}
 use Rattle.console.specs.declared.line.Line.{Line}
-use Rattle.console.specs.declared.line.Line.TheVariants as line
 use Rattle.console.specs.declared.said.Said.TheVariants as said
 use Rattle.td_top.specs.Talking.{ComesTo, IsAt, Scene}
-use Rattle.td_top.specs.declared.talking.TheConstants.{PIECE}
-use Rattle.td_top.specs.declared.talking.TalkEnd.{TalkEnd}
-use Rattle.td_top.specs.declared.talking.TalkEnd.TheVariants as end
-use Rattle.td_top.specs.declared.talking.Turn.{Turn}
-use Rattle.td_top.specs.declared.talking.Turn.TheVariants as turn
 use Rattle.td_top.specs.declared.talking.Taken.{Taken}
 use Rattle.td_top.specs.declared.talking.Taken.TheVariants as taken
+use Rattle.td_top.specs.declared.talking.TalkEnd.{TalkEnd}
+use Rattle.td_top.specs.declared.talking.TalkEnd.TheVariants as end
+use Rattle.td_top.specs.declared.talking.TheConstants.{PIECE}
+use Rattle.td_top.specs.declared.talking.Turn.{Turn}
+use Rattle.td_top.specs.declared.talking.Turn.TheVariants as turn
 
 -- whatever was asked so far, the next line was this
 abbrev pub IsNextLine : List ℕ → List ℕ → Line → Type 0
@@ -34,7 +33,7 @@ HasNone held new =
 -- what came of the next line of the bytes that are held
 abbrev pub TakesLine : List ℕ → List ℕ → Taken → Type 0
 TakesLine held new (taken.Line next) = IsNextLine held new next
-TakesLine held new taken.Unread = (dir : List ℕ) × IsNextLine held new (line.Install dir)
+TakesLine held new taken.Unread = (next : Line) × HasText next × IsNextLine held new next
 TakesLine held new taken.None = HasNone held new
 
 -- how many bytes are held at most: those that stay where there is no line, and a piece

@@ -14,11 +14,12 @@ use Rattle.zone_meaning.specs.Faults.{zone_fault}
 use Rattle.zone_meaning.specs.FaultText.{fault_text as zone_text}
 use Rattle.zone_meaning.specs.State.{zone_state}
 use Rattle.zone_meaning.specs.declared.zone_fault.ZoneFault.{ZoneFault}
-use Rattle.td_top.specs.Answering.{ServesStreams, end_status}
-use Rattle.td_top.specs.Checking.{Checks}
+use Rattle.td_top.specs.Command.{usage_line}
 use Rattle.td_top.specs.Outside.{Outside, Later, outside}
-use Rattle.td_top.specs.Printing.{Printed, refused_line, usage_line}
-use Rattle.td_top.specs.StateLine.{state_line}
+use Rattle.td_top.specs.Printing.{Printed, refused_line}
+use Rattle.td_top.specs.Running.Answering.{ServesStreams, end_status}
+use Rattle.td_top.specs.Running.Checking.{Checks}
+use Rattle.td_top.specs.Running.StateLine.{state_line}
 use Rattle.td_top.specs.declared.status.Status.{Status}
 use Rattle.td_top.specs.declared.status.Status.TheVariants as status
 

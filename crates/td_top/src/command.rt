@@ -1,17 +1,18 @@
-ghost use Rattle.std.specs.Prelude.{◌≡◌, ◌<◌, ◌≤◌, ◌^◌, [], ◌∷◌, length, IfSome, IsTrue};
+ghost use Rattle.std.specs.Prelude.{◌≡◌, ◌<◌, [], ◌∷◌, length, IfSome, IsTrue};
 ghost use Rattle.std.specs.List.{list_all};
 ghost use Rattle.std.specs.Option.{option_map};
 ghost use Rattle.td_base.specs.Names.{is_path_word};
-ghost use Rattle.td_civil.specs.Bounds.{HasMeaning};
-ghost use Rattle.td_top.specs.Grammar.{command_of, over_folders, are_folders, at_of};
-ghost use Rattle.td_top.specs.Grammar.{answer, check, if_meant, meant_moment};
-ghost use Rattle.td_top.specs.Grammar.{is_address, is_address_byte, load_of, mirror_of};
-ghost use Rattle.td_top.specs.Grammar.{number_in, serve_of};
-ghost use Rattle.td_top.specs.Command.{plain_command, IsMeantCommand};
+ghost use Rattle.td_top.specs.Command.{IsMeantCommand, answer, are_folders, at_of, check};
+ghost use Rattle.td_top.specs.Command.{command_of, is_address, is_address_byte, load_of};
+ghost use Rattle.td_top.specs.Command.{mirror_of, over_folders};
+ghost use Rattle.td_top.specs.Command.{plain_command, serve_of};
 
-use crate::rules::{Choice, read_rules};
-use td_base::{Bytes, is_path_word, read_decimal};
-use td_civil::{HI, LO, Moment, moment_of};
+pub(crate) mod rules;
+
+use crate::command::rules::{Choice, read_rules};
+use console::{meant_moment, read_number};
+use td_base::{Bytes, is_path_word};
+use td_civil::Moment;
 
 /// The most folders of a command.
 const MOST_FOLDERS: usize = 64;
@@ -26,7 +27,7 @@ const MOST_WORKERS: u64 = 64;
 const MOST_RELEASES: u64 = 1_000;
 
 /// What the words ask for.
-#[derive(Clone, Copy, Debug)]
+#[derive(Drop)]
 pub enum Command<'a> {
     /// Install the folders, and answer the input as one connection.
     Answer {
@@ -119,7 +120,7 @@ fn read_check(words: &[Bytes]) -> Option<Command<'_>>
 }
 
 /// Whether the words may name the folders of a command.
-#[tactic(auto, unfolding(crate::specs::Grammar::are_folders))]
+#[tactic(auto, unfolding(crate::specs::Command::are_folders))]
 fn are_folders(words: &[Bytes]) -> bool
     ensures test { result ≡ are_folders words.now }
     ensures some { IsTrue result → 0 < length words.now }
@@ -181,15 +182,16 @@ fn serve_at<'a>(address: &'a [u8], workers: &[u8], words: &'a [Bytes]) -> Option
         return None;
     }
     let workers = read_number(workers, 1, MOST_WORKERS)?;
-    match read_rules(words) {
-        Some((rules, folders)) if are_folders(folders) => Some(Command::Serve {
-            address,
-            workers,
-            rules,
-            folders,
-        }),
-        _ => None,
+    let (rules, folders) = read_rules(words)?;
+    if !are_folders(folders) {
+        return None;
     }
+    Some(Command::Serve {
+        address,
+        workers,
+        rules,
+        folders,
+    })
 }
 
 /// `mirror ADDRESS WORKERS UPSTREAM`
@@ -259,41 +261,5 @@ fn read_load(words: &[Bytes]) -> Option<Command<'_>>
             Some(Command::Load { number })
         }
         _ => None,
-    }
-}
-
-/// The number that a word writes in decimal, from the least to the most.
-pub fn read_number(word: &[u8], least: u64, most: u64) -> Option<u32>
-    requires { most < 2 ^ 32 }
-    ensures value { result ≡ number_in least most word.now }
-    ensures some { IfSome result (λ n. least ≤ n) }
-    ensures few { IfSome result (λ n. n ≤ most) }
-{
-    match read_decimal(word) {
-        Some(number) if least <= number && number <= most => Some(number as u32),
-        _ => None,
-    }
-}
-
-/// The moment that a word spells, if it has a meaning.
-pub fn meant_moment(word: &[u8]) -> Option<Moment>
-    ensures value { option_map (λ m. m.seconds) result ≡ meant_moment word.now }
-    ensures meant { IfSome result (λ m. HasMeaning m.seconds) }
-{
-    match moment_of(word) {
-        Ok(moment) => if_meant(moment),
-        Err(_) => None,
-    }
-}
-
-/// The moment, if it has a meaning.
-fn if_meant(moment: Moment) -> Option<Moment>
-    ensures value { option_map (λ m. m.seconds) result ≡ if_meant moment.seconds }
-    ensures meant { IfSome result (λ m. HasMeaning m.seconds) }
-{
-    if LO <= moment.seconds && moment.seconds < HI {
-        Some(moment)
-    } else {
-        None
     }
 }

@@ -1,4 +1,3 @@
-ghost use Rattle.std.specs.Prelude.{◌≡◌};
 ghost use Rattle.td_top.specs.Growth.{folders};
 ghost use Rattle.td_top.specs.Replies.{reply_bytes};
 ghost use Rattle.td_top.specs.Sessions.{AnswersLine};
@@ -7,8 +6,8 @@ use crate::growth::Growth;
 use crate::operator::newest;
 use crate::replies::Reply;
 use crate::session::Session;
-use admission::Rules;
 use console::{Line, Said};
+use installer::Asked;
 use std::sync::Wait;
 use td_base::{Bytes, Store};
 
@@ -20,12 +19,12 @@ impl<S: Store> Growth for S {
         &mut self,
         rt: &R,
         session: &mut Session,
-        rules: &Rules<'_>,
+        asked: &Asked<'_>,
         line: &Line,
     ) -> Option<Reply> {
         match line {
-            Line::Install(dir) => Some(install(rt, session, rules, self, dir)),
-            Line::Sync | Line::Status | Line::Quit | Line::Strange => None,
+            Line::Install(dir) => Some(install(rt, session, asked, self, dir)),
+            _ => None,
         }
     }
 }
@@ -34,15 +33,15 @@ impl<S: Store> Growth for S {
 fn install<R: Wait, S: Store>(
     rt: &R,
     session: &mut Session,
-    rules: &Rules<'_>,
+    asked: &Asked<'_>,
     store: &mut S,
     dir: &Bytes,
 ) -> Reply
-    ensures { AnswersLine (folders rules.now.chosen (S.seen store.old))
-        (folders rules.now.chosen (S.seen store.new)) session.old session.new
+    ensures { AnswersLine (folders asked.now.rules.chosen (S.seen store.old))
+        (folders asked.now.rules.chosen (S.seen store.new)) session.old session.new
         (Line.Install dir.now) (reply_bytes result) }
 {
-    match session.install(rt, dir.as_slice(), store, rules) {
+    match session.install(rt, dir.as_slice(), store, asked) {
         Ok(()) => Reply::brief(&Said::Installed(newest(&session.installer))),
         Err(fault) => Reply::refusal(session.alloc, &fault),
     }

@@ -13,9 +13,8 @@ use crate::opening::Opened;
 use crate::operator::newest;
 use crate::replies::Reply;
 use crate::session::Session;
-use admission::Rules;
 use console::{Line, Said};
-use installer::{InstallFault, Installer};
+use installer::{Asked, InstallFault, Installer};
 use mirror::sync;
 use release_manifest::Manifest;
 use std::alloc::Global;
@@ -38,12 +37,12 @@ impl<'h, U: Upstream> Growth for Follow<'h, U> {
         &mut self,
         rt: &R,
         session: &mut Session,
-        _rules: &Rules<'_>,
+        asked: &Asked<'_>,
         line: &Line,
     ) -> Option<Reply> {
         match line {
-            Line::Sync => Some(sync_once(rt, session, self)),
-            Line::Install(_) | Line::Status | Line::Quit | Line::Strange => None,
+            Line::Sync => Some(sync_once(rt, session, asked, self)),
+            _ => None,
         }
     }
 }
@@ -52,6 +51,7 @@ impl<'h, U: Upstream> Growth for Follow<'h, U> {
 fn sync_once<R: Wait, U: Upstream>(
     rt: &R,
     session: &mut Session,
+    asked: &Asked<'_>,
     follow: &mut Follow<'_, U>,
 ) -> Reply
     ensures { AnswersLine
@@ -60,19 +60,19 @@ fn sync_once<R: Wait, U: Upstream>(
 {
     let alloc = session.alloc;
     match sync(alloc, &mut follow.mirror, follow.host, &mut follow.upstream) {
-        Ok(()) => publish(rt, session, &follow.mirror),
+        Ok(()) => publish(rt, session, asked, &follow.mirror),
         Err(fault) => Reply::sync_refusal(alloc, &fault),
     }
 }
 
 /// Publishes what the mirror states, where that is another release than the last, and gives what is
 /// said of it.
-fn publish<R: Wait>(rt: &R, session: &mut Session, mirror: &Mirror) -> Reply
+fn publish<R: Wait>(rt: &R, session: &mut Session, asked: &Asked<'_>, mirror: &Mirror) -> Reply
     requires { mirror.now.pending ≡ [] }
     ensures { PublishesStated mirror.now session.old session.new (reply_bytes result) }
 {
     match mirror.manifest(session.alloc) {
-        Ok((manifest, mut store)) => publish_stated(rt, session, &manifest, &mut store),
+        Ok((manifest, mut store)) => publish_stated(rt, session, asked, &manifest, &mut store),
         Err(NoMemory) => Reply::brief(&Said::NoMemory),
     }
 }
@@ -81,6 +81,7 @@ fn publish<R: Wait>(rt: &R, session: &mut Session, mirror: &Mirror) -> Reply
 fn publish_stated<R: Wait>(
     rt: &R,
     session: &mut Session,
+    asked: &Asked<'_>,
     manifest: &Manifest,
     store: &mut MemoryStore,
 ) -> Reply
@@ -90,7 +91,7 @@ fn publish_stated<R: Wait>(
     let alloc = session.alloc;
     match session.installer.serves(alloc, manifest, store) {
         Ok(true) => Reply::brief(&Said::Unchanged(newest(&session.installer))),
-        Ok(false) => install(rt, session, manifest, store),
+        Ok(false) => install(rt, session, asked, manifest, store),
         Err(fault) => Reply::refusal(alloc, &fault),
     }
 }
@@ -99,6 +100,7 @@ fn publish_stated<R: Wait>(
 fn install<R: Wait>(
     rt: &R,
     session: &mut Session,
+    asked: &Asked<'_>,
     manifest: &Manifest,
     store: &mut MemoryStore,
 ) -> Reply
@@ -106,7 +108,7 @@ fn install<R: Wait>(
         → (StatesLast (history_of session.old.installer.list) s → ⊥)
         → PublishesStated s session.old session.new (reply_bytes result) }
 {
-    match session.install_stated(rt, manifest, store) {
+    match session.install_stated(rt, manifest, store, asked) {
         Ok(()) => Reply::brief(&Said::Installed(newest(&session.installer))),
         Err(fault) => Reply::refusal(session.alloc, &fault),
     }

@@ -6,13 +6,13 @@ ghost use Rattle.td_top.specs.Sessions.{AnswersLine};
 
 use crate::replies::Reply;
 use crate::session::Session;
-use admission::Rules;
 use console::Line;
+use installer::Asked;
 use std::sync::Wait;
 
 /// What a history grows by while it is served: the folders of a store, or a mirror.
 pub trait Growth {
-    /// Under these rules.
+    /// Where these rules are asked of releases.
     ghost seen: { Self → List Chosen → GrowthView };
 
     /// Does what a line asks for, where it is one that makes the history grow, and gives the reply
@@ -21,14 +21,14 @@ pub trait Growth {
         &mut self,
         rt: &R,
         session: &mut Session,
-        rules: &Rules<'_>,
+        asked: &Asked<'_>,
         line: &Line,
     ) -> Option<Reply>
-        ensures done { IfSome result (λ reply. AnswersLine (seen self.old rules.now.chosen)
-            (seen self.new rules.now.chosen) session.old session.new line.now
+        ensures done { IfSome result (λ reply. AnswersLine (seen self.old asked.now.rules.chosen)
+            (seen self.new asked.now.rules.chosen) session.old session.new line.now
             (reply_bytes reply)) }
-        ensures other { result ≡ None → Grows (seen self.old rules.now.chosen) line.now → ⊥ }
+        ensures other { result ≡ None → Grows (seen self.old asked.now.rules.chosen) line.now → ⊥ }
         ensures left { result ≡ None
-            → (seen self.new rules.now.chosen ≡ seen self.old rules.now.chosen)
+            → (seen self.new asked.now.rules.chosen ≡ seen self.old asked.now.rules.chosen)
             × (session.new ≡ session.old) };
 }

@@ -3,10 +3,10 @@
 //! `RunEnds` of `specs/Running.antt`.
 #![tactic(auto)]
 
-// A run: its words, what it is lent, and how it ends.
+// A run: its words, what it is lent, how each command goes, and how a run ends.
 mod command;
+mod kept_tests;
 mod outcome;
-mod rules;
 mod running;
 mod site;
 mod status;
@@ -15,21 +15,13 @@ mod status;
 mod printing;
 mod refusing;
 
-// The commands over folders and files.
-mod checking;
-mod state_line;
-
-// A load of made releases.
-mod load_turns;
-mod loading;
-
-// One connection over the standard streams.
-mod answering;
+// What is published, and for whom.
 mod opening;
 mod publishing;
 mod session;
 
 // The talk with an operator.
+mod audience;
 mod operator;
 mod replies;
 mod talking;
@@ -39,10 +31,8 @@ mod folders;
 mod following;
 mod growth;
 
-// The doors of an address, with that talk beside them.
+// Workers, and that talk beside them.
 mod console_beside;
-mod mirroring;
-mod server;
 mod works;
 
 // What may cross threads.

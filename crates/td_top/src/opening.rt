@@ -1,25 +1,27 @@
-ghost use Rattle.std.specs.Prelude.{◌≡◌, ◌<◌, ◌≤◌, length, All, IfOk};
+ghost use Rattle.std.specs.Prelude.{◌≡◌, ◌<◌, ◌≤◌, [], length, All, IfOk};
 ghost use Rattle.td_top.specs.Opening.{HasDesks, InstallsAll, InstallsRest, published_in};
 ghost use Rattle.td_top.specs.Works.{HasSeen};
 
-use crate::rules::Choice;
+use crate::command::rules::Choice;
 use crate::session::Session;
-use admission::{Kept, Rules};
+use admission::Kept;
 use catalogue::Catalogue;
-use installer::{InstallFault, Installer};
+use installer::{Asked, InstallFault, Installer};
 use publication::Desk;
 use std::alloc::Global;
 use std::sync::Wait;
+use subscribers::Want;
 use td_base::{Bytes, NoMemory, Store};
 use zone_meaning::Zone;
 
 /// Folders whose releases are to be installed, in their order, the rules that each of them but the
-/// first is asked, and a test for each kind of rule.
+/// first is asked, and a test for each kind of rule and of wish.
 #[derive(Clone, Copy)]
 pub struct Plan<'w> {
     pub folders: &'w [Bytes],
-    pub rules: Choice,
+    pub rules: &'w Choice,
     pub kept: &'w [Kept],
+    pub wants: &'w [Want],
 }
 
 /// What the releases of folders were installed for: a session, and the desks of its workers.
@@ -34,14 +36,14 @@ pub fn open_all<R: Wait, S: Store>(
     rt: &R,
     alloc: Global,
     folders: &[Bytes],
-    rules: &Rules<'_>,
+    asked: &Asked<'_>,
     store: &mut S,
     workers: u32,
 ) -> Result<Opened, InstallFault>
     requires folders { 0 < length folders.now }
     requires workers { workers ≤ 64 }
-    ensures all { InstallsAll rules.now.chosen folders.now (S.seen store.old) (S.seen store.new)
-        (published_in result) }
+    ensures all { InstallsAll asked.now.rules.chosen folders.now
+        (S.seen store.old) (S.seen store.new) (published_in result) }
     ensures desks { IfOk result (HasDesks workers) }
 {
     let first = folders[0].as_slice();
@@ -52,7 +54,7 @@ pub fn open_all<R: Wait, S: Store>(
         installer,
         desk,
     };
-    if let Err(fault) = install_rest(rt, &folders[1..], rules, store, &mut session) {
+    if let Err(fault) = install_rest(rt, &folders[1..], asked, store, &mut session) {
         session.close(rt);
         return Err(fault);
     }
@@ -89,16 +91,19 @@ fn learn_opening(
 fn install_rest<R: Wait, S: Store>(
     rt: &R,
     folders: &[Bytes],
-    rules: &Rules<'_>,
+    asked: &Asked<'_>,
     store: &mut S,
     session: &mut Session,
 ) -> Result<(), InstallFault>
-    ensures rest { InstallsRest rules.now.chosen folders.now (S.seen store.old) (S.seen store.new)
+    ensures rest { InstallsRest asked.now.rules.chosen folders.now
+        (S.seen store.old) (S.seen store.new)
         session.old.installer.list session.new.installer.list result }
+    ensures nobody { session.old.installer.subscribers ≡ []
+        → session.new.installer.subscribers ≡ [] }
     ensures pair { session.new.installer.pair ≡ session.old.installer.pair }
 {
     for folder in folders {
-        session.install(rt, folder.as_slice(), store, rules)?;
+        session.install(rt, folder.as_slice(), store, asked)?;
     }
     Ok(())
 }

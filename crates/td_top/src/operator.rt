@@ -8,13 +8,13 @@ ghost use Rattle.td_top.specs.Growth.{GrowthView};
 ghost use Rattle.td_top.specs.Replies.{last_token, reply_bytes};
 ghost use Rattle.td_top.specs.Sessions.{AnswersLine};
 
+use crate::audience::{tell_news, watch};
 use crate::growth::Growth;
 use crate::replies::Reply;
 use crate::session::Session;
-use admission::Rules;
 use catalogue::Catalogue;
 use console::{Line, Said};
-use installer::Installer;
+use installer::{Asked, Installer};
 use std::sync::Wait;
 use td_base::{NoMemory, Token};
 use zone_meaning::Zone;
@@ -23,18 +23,21 @@ use zone_meaning::Zone;
 pub fn answer_line<R: Wait, G: Growth>(
     rt: &R,
     session: &mut Session,
-    rules: &Rules<'_>,
+    asked: &Asked<'_>,
     growth: &mut G,
     line: &Line,
 ) -> Reply
-    ensures { AnswersLine (G.seen growth.old rules.now.chosen) (G.seen growth.new rules.now.chosen)
+    ensures { AnswersLine (G.seen growth.old asked.now.rules.chosen)
+        (G.seen growth.new asked.now.rules.chosen)
         session.old session.new line.now (reply_bytes result) }
 {
     match line {
+        Line::Watch(wish) => watch(session, wish),
+        Line::News(number) => tell_news(session, *number),
         Line::Status => show(session),
         Line::Quit => Reply::brief(&Said::Bye),
         Line::Install(_) | Line::Sync | Line::Strange => {
-            match growth.grow(rt, session, rules, line) {
+            match growth.grow(rt, session, asked, line) {
                 Some(reply) => reply,
                 None => Reply::brief(&Said::Unknown),
             }

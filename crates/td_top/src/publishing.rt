@@ -1,11 +1,12 @@
 ghost use Rattle.std.specs.Prelude.{◌≡◌, [], OnOk, OnErr};
 ghost use Rattle.catalogue.specs.Holdings.{history_of};
+ghost use Rattle.subscribers.specs.Hearing.{all_hear};
 ghost use Rattle.installer.specs.Installing.{GrowsBy, Installs, InstallsStated};
 ghost use Rattle.td_top.specs.Sessions.{LaterSession};
 
 use crate::session::Session;
 use admission::Rules;
-use installer::InstallFault;
+use installer::{Asked, InstallFault};
 use release_manifest::Manifest;
 use std::sync::Wait;
 use td_base::Store;
@@ -17,38 +18,49 @@ impl Session {
         rt: &R,
         dir: &[u8],
         store: &mut S,
-        rules: &Rules<'_>,
+        asked: &Asked<'_>,
     ) -> Result<(), InstallFault>
-        ensures found { Installs (S.seen store.old) (S.seen store.new) dir.now rules.now.chosen
-            (history_of self.old.installer.list) (λ u. history_of self.new.installer.list) result }
-        ensures grown { OnOk result (GrowsBy rules.now.chosen (history_of self.old.installer.list)
+        ensures found { Installs (S.seen store.old) (S.seen store.new) dir.now
+            asked.now.rules.chosen (history_of self.old.installer.list)
+            (λ u. history_of self.new.installer.list) result }
+        ensures grown { OnOk result (GrowsBy asked.now.rules.chosen (history_of self.old.installer.list)
             (history_of self.new.installer.list)) }
         ensures refused { OnErr result (self.new.installer.list ≡ self.old.installer.list) }
+        ensures heard { OnOk result (self.new.installer.subscribers
+            ≡ all_hear (history_of self.new.installer.list) self.old.installer.subscribers) }
+        ensures unheard { OnErr result
+            (self.new.installer.subscribers ≡ self.old.installer.subscribers) }
         ensures later { LaterSession self.old self.new }
     {
-        let receipt = self.installer.install(rt, self.alloc, dir, store, rules)?;
+        let receipt = self.installer.install(rt, self.alloc, dir, store, asked)?;
         self.desk.learn(receipt);
         Ok(())
     }
 
-    /// Installs the release of a manifest and its files, of which no rule is asked, and lets the desk learn of it.
+    /// Installs the release of a manifest and its files, of which no rule is asked, and lets the
+    /// desk learn of it.
     pub fn install_stated<R: Wait, S: Store>(
         &mut self,
         rt: &R,
         manifest: &Manifest,
         store: &mut S,
+        asked: &Asked<'_>,
     ) -> Result<(), InstallFault>
         ensures found { InstallsStated (S.seen store.old) (S.seen store.new) manifest.now []
             (history_of self.old.installer.list) (λ u. history_of self.new.installer.list) result }
         ensures grown { OnOk result (GrowsBy [] (history_of self.old.installer.list)
             (history_of self.new.installer.list)) }
         ensures refused { OnErr result (self.new.installer.list ≡ self.old.installer.list) }
+        ensures heard { OnOk result (self.new.installer.subscribers
+            ≡ all_hear (history_of self.new.installer.list) self.old.installer.subscribers) }
+        ensures unheard { OnErr result
+            (self.new.installer.subscribers ≡ self.old.installer.subscribers) }
         ensures later { LaterSession self.old self.new }
     {
-        let rules = Rules::none(self.alloc);
+        let unruled = Asked::new(Rules::none(self.alloc), asked.wants);
         let receipt = self
             .installer
-            .install_manifest(rt, self.alloc, manifest, store, &rules)?;
+            .install_manifest(rt, self.alloc, manifest, store, &unruled)?;
         self.desk.learn(receipt);
         Ok(())
     }

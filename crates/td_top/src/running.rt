@@ -1,30 +1,41 @@
 ghost use Rattle.std.specs.Prelude.{◌≡◌, map};
 ghost use Rattle.std.specs.Option.{option_map};
 ghost use Rattle.td_base.specs.Views.{SourceView, StoreView};
-ghost use Rattle.td_top.specs.Grammar.{command_of};
+ghost use Rattle.td_top.specs.Command.{command_of};
 ghost use Rattle.admission.specs.Rules.{KeepsAll};
+ghost use Rattle.subscribers.specs.Wishes.{WantsAll};
 ghost use Rattle.td_top.specs.Site.{site_names, world_of};
 ghost use Rattle.td_top.specs.Outside.{LaterWorld, outside, world};
 ghost use Rattle.td_top.specs.Running.{RunEnds, RunEndsLater, number_of};
 ghost use Rattle.td_top.specs.Tells.{EndsLater, ShowsUsage};
 ghost use Rattle.td_top.specs.declared.status.Status.{Status};
 
-use crate::answering::answer;
-use crate::checking::check_folders;
+// The commands.
+pub(crate) mod answering;
+pub(crate) mod checking;
+pub(crate) mod loading;
+pub(crate) mod mirroring;
+pub(crate) mod server;
+pub(crate) mod state_line;
+
 use crate::command::{Command, read_words};
-use crate::loading::load;
-use crate::mirroring::mirror_server;
+use crate::kept_tests::KeptTests;
 use crate::opening::Plan;
 use crate::outcome::{Ending, Outcome};
 use crate::printing::print;
-use crate::server::{Serving, serve_doors};
+use crate::running::answering::{AnswerPlan, answer};
+use crate::running::checking::check_folders;
+use crate::running::loading::{LoadPlan, load};
+use crate::running::mirroring::{MirrorPlan, mirror_server};
+use crate::running::server::{Serving, serve_doors};
+use crate::running::state_line::state_at;
 use crate::site::Site;
-use crate::state_line::state_at;
 use crate::status::Status;
 use admission::Kept;
 use std::alloc::Global;
 use std::sync::Wait;
 use std::thread::Threads;
+use subscribers::Want;
 use td_base::{Bytes, Door, Network, Role, Sink, Source, Spawner, Store};
 
 /// The line that is printed for words that are no command.
@@ -45,12 +56,17 @@ const USAGE: &[u8] = b"usage: tzdistd answer|serve|mirror|check|at|load\n";
 /// at a moment. `load NUMBER` makes so many releases, serves requests after each in memory, and
 /// prints what was counted.
 ///
-/// The tests of the rules, one for each kind at least, are kept by the caller.
+/// The operator of `serve` and `mirror` may ask to hear which zones later releases change, by
+/// wishes, and is told when it asks for the news.
+///
+/// The tests of the rules and those of the wishes, one for each kind at least, are kept by the
+/// caller.
 pub fn run<R, S, C, K, N, W>(
     rt: &R,
     alloc: Global,
     words: &[Bytes],
     kept: &[Kept],
+    wants: &[Want],
     store: &mut S,
     input: &mut C,
     output: &mut K,
@@ -67,6 +83,7 @@ where
     <N::Door as Door>::Conn: Send + 'static,
     W: Spawner,
     requires rules { KeepsAll (map (λ k. k.kind) kept.now) }
+    requires wants { WantsAll (map (λ w. w.kind) wants.now) }
     // The status stands for one of the ends, and each is tied to what the words call for and to
     // what became of all that is outside: no file changed, the input was only read, the output only
     // written, and no count of faults fell. Memory may run out at any time.
@@ -82,7 +99,8 @@ where
         × LaterWorld before after }
 {
     let mut site = Site::new(input, output, net, spawner);
-    do_words(rt, alloc, words, kept, store, &mut site).outcome()
+    let tests = KeptTests { kept, wants };
+    do_words(rt, alloc, words, &tests, store, &mut site).outcome()
 }
 
 /// Does what the words ask for.
@@ -90,7 +108,7 @@ fn do_words<R, S, C, K, N, W>(
     rt: &R,
     alloc: Global,
     words: &[Bytes],
-    kept: &[Kept],
+    tests: &KeptTests<'_>,
     store: &mut S,
     site: &mut Site<'_, C, K, N, W>,
 ) -> Ending<N::Door, N::Up>
@@ -103,7 +121,8 @@ where
     N::Door: Send + Drop + 'static,
     <N::Door as Door>::Conn: Send + 'static,
     W: Spawner,
-    requires rules { KeepsAll (map (λ k. k.kind) kept.now) }
+    requires rules { KeepsAll (map (λ k. k.kind) tests.now.kept.now) }
+    requires wants { WantsAll (map (λ w. w.kind) tests.now.wants.now) }
     ensures kept { site_names site.new ≡ site_names site.old }
     ensures ends { RunEndsLater (command_of words.now)
         (world_of (S.seen store.old) C.seen K.seen N.seen W.faults site.old)
@@ -121,8 +140,9 @@ where
         ) => {
             let plan = Plan {
                 folders,
-                rules,
-                kept,
+                rules: &rules,
+                kept: tests.kept,
+                wants: tests.wants,
             };
             let serving = Serving {
                 role: &Role::Primary,
@@ -137,11 +157,23 @@ where
                 workers,
                 upstream,
             },
-        ) => mirror_server(rt, alloc, address, workers, upstream, site),
+        ) => {
+            let plan = MirrorPlan {
+                address,
+                workers,
+                upstream,
+                wants: tests.wants,
+            };
+            mirror_server(rt, alloc, &plan, site)
+        }
         Some(Command::Answer { folders }) => {
+            let plan = AnswerPlan {
+                folders,
+                wants: tests.wants,
+            };
             Ending::closed(
                 alloc,
-                answer(rt, alloc, folders, store, site.input, site.output),
+                answer(rt, alloc, &plan, store, site.input, site.output),
             )
         }
         Some(Command::Check { folders }) => Ending::closed(
@@ -153,14 +185,18 @@ where
             state_at(alloc, file, moment, store, site.output),
         ),
         Some(Command::Load { number }) => {
-            Ending::closed(alloc, load(rt, alloc, number, site.output))
+            let plan = LoadPlan {
+                number,
+                wants: tests.wants,
+            };
+            Ending::closed(alloc, load(rt, alloc, &plan, site.output))
         }
         None => Ending::closed(alloc, usage(site.output)),
     }
 }
 
 /// Ends a run whose words are no command.
-#[tactic(auto, unfolding(crate::specs::Printing::usage_line))]
+#[tactic(auto, unfolding(crate::specs::Command::usage_line))]
 fn usage<K: Sink>(output: &mut K) -> Status
     // The store and the input, whatever they are, are left alone.
     ensures { (store : StoreView) (input : SourceView) → EndsLater ShowsUsage

@@ -1,7 +1,7 @@
 ghost use Rattle.std.specs.Prelude.{◌≡◌, if◌then◌else◌};
 ghost use Rattle.td_top.specs.Running.{number_of};
-ghost use Rattle.td_top.specs.Server.{status_for};
-ghost use Rattle.td_top.specs.Answering.{end_status};
+ghost use Rattle.td_top.specs.Running.Server.{status_for};
+ghost use Rattle.td_top.specs.Running.Answering.{end_status};
 
 use crate::talking::TalkEnd;
 use td_base::End;

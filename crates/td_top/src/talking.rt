@@ -1,17 +1,17 @@
 ghost use Rattle.std.specs.Prelude.{◌≡◌, ◌≤◌, length};
 ghost use Rattle.console.specs.Steps.{most_held};
 ghost use Rattle.td_base.specs.Views.{LaterSource};
-ghost use Rattle.td_top.specs.Site.{console};
+ghost use Rattle.td_top.specs.ConsoleBeside.{scene_of, steady};
 ghost use Rattle.td_top.specs.Talk.{is_quit};
-ghost use Rattle.td_top.specs.Talking.{ComesTo, scene};
+ghost use Rattle.td_top.specs.Talking.{ComesTo};
 ghost use Rattle.td_top.specs.TalkingSteps.{FeedsTalk, SaysBye, SaysText, TakesLine, TalksOn};
 ghost use Rattle.td_top.specs.TalkingSteps.{Turns, most_waiting};
 
+use crate::console_beside::Console;
 use crate::growth::Growth;
 use crate::operator::{answer_line, newest};
-use crate::session::Session;
-use admission::Rules;
 use console::{Line, Lines, Said, short};
+use installer::Asked;
 use std::sync::Wait;
 use td_base::{NoMemory, ReadStep, Sink, Source, Written, write_whole};
 
@@ -47,7 +47,7 @@ pub enum Turn {
 pub enum Taken {
     /// A line.
     Line(Line),
-    /// A line to install a folder, for whose name there was no memory.
+    /// A line with a text of its own, for which there was no memory.
     Unread,
     /// No line is held whole.
     None,
@@ -57,22 +57,16 @@ pub enum Taken {
 /// ends, or a read or a write fails. It gives no end where memory ran out.
 pub fn talk<R: Wait, G: Growth, C: Source, K: Sink>(
     rt: &R,
-    session: &mut Session,
-    rules: &Rules<'_>,
-    growth: &mut G,
-    input: &mut C,
-    output: &mut K,
+    console: &mut Console<'_, Asked<'_>, G, C, K>,
 ) -> Option<TalkEnd>
-    ensures { ComesTo
-        (scene (console (G.seen growth.old rules.now.chosen) (C.seen input.old)
-        (K.seen output.old)) session.old)
-        (scene (console (G.seen growth.new rules.now.chosen) (C.seen input.new)
-        (K.seen output.new)) session.new)
-        result }
+    ensures talks { let at = scene_of (λ a. a.rules.chosen) G.seen C.seen K.seen in
+        ComesTo (at console.old) (at console.new) result }
+    ensures steady { steady console.new ≡ steady console.old }
 {
+    let session = &mut *console.session;
     let ready = short(&Said::Ready(newest(&session.installer)));
-    match write_whole(output, ready.as_slice()) {
-        Written::Whole => answer_lines(rt, session, rules, growth, input, output),
+    match write_whole(console.output, ready.as_slice()) {
+        Written::Whole => answer_lines(rt, console),
         Written::Cut => Some(TalkEnd::NotWritten),
     }
 }
@@ -80,22 +74,15 @@ pub fn talk<R: Wait, G: Growth, C: Source, K: Sink>(
 /// Answers line by line up to the end of the talk.
 fn answer_lines<R: Wait, G: Growth, C: Source, K: Sink>(
     rt: &R,
-    session: &mut Session,
-    rules: &Rules<'_>,
-    growth: &mut G,
-    input: &mut C,
-    output: &mut K,
+    console: &mut Console<'_, Asked<'_>, G, C, K>,
 ) -> Option<TalkEnd>
-    ensures { TalksOn
-        (scene (console (G.seen growth.old rules.now.chosen) (C.seen input.old)
-        (K.seen output.old)) session.old)
-        (scene (console (G.seen growth.new rules.now.chosen) (C.seen input.new)
-        (K.seen output.new)) session.new)
-        result }
+    ensures talks { let at = scene_of (λ a. a.rules.chosen) G.seen C.seen K.seen in
+        TalksOn (at console.old) (at console.new) result }
+    ensures steady { steady console.new ≡ steady console.old }
 {
-    let mut lines = Lines::new(session.alloc);
+    let mut lines = Lines::new(console.session.alloc);
     for _ in rt.forever() {
-        match take_turn(rt, session, rules, growth, input, output, &mut lines) {
+        match take_turn(rt, console, &mut lines) {
             Turn::On => {}
             Turn::End(end) => return Some(end),
             Turn::NoMemory => return None,
@@ -107,31 +94,24 @@ fn answer_lines<R: Wait, G: Growth, C: Source, K: Sink>(
 /// Answers the next line, or reads a piece of the input where none is held whole.
 fn take_turn<R: Wait, G: Growth, C: Source, K: Sink>(
     rt: &R,
-    session: &mut Session,
-    rules: &Rules<'_>,
-    growth: &mut G,
-    input: &mut C,
-    output: &mut K,
+    console: &mut Console<'_, Asked<'_>, G, C, K>,
     lines: &mut Lines,
 ) -> Turn
     requires { length lines.old ≤ most_waiting }
-    ensures turns { Turns
-        (scene (console (G.seen growth.old rules.now.chosen) (C.seen input.old)
-        (K.seen output.old)) session.old)
-        (scene (console (G.seen growth.new rules.now.chosen) (C.seen input.new)
-        (K.seen output.new)) session.new)
-        lines.old lines.new result }
+    ensures turns { let at = scene_of (λ a. a.rules.chosen) G.seen C.seen K.seen in
+        Turns (at console.old) (at console.new) lines.old lines.new result }
+    ensures steady { steady console.new ≡ steady console.old }
     ensures held { length lines.new ≤ most_waiting }
 {
     match take_line(lines) {
-        Taken::None => feed(lines, input),
-        Taken::Unread => say(output, short(&Said::NoMemory).as_slice()),
+        Taken::None => feed(lines, console.input),
+        Taken::Unread => say(console.output, short(&Said::NoMemory).as_slice()),
         Taken::Line(line) => {
             if is_quit(&line) {
-                return Turn::End(quit(output));
+                return Turn::End(quit(console.output));
             }
-            let reply = answer_line(rt, session, rules, growth, &line);
-            say(output, reply.as_slice())
+            let reply = answer_line(rt, console.session, console.asked, console.growth, &line);
+            say(console.output, reply.as_slice())
         }
     }
 }
@@ -140,10 +120,7 @@ fn take_turn<R: Wait, G: Growth, C: Source, K: Sink>(
 fn is_quit(line: &Line) -> bool
     ensures { result ≡ is_quit line.now }
 {
-    match line {
-        Line::Quit => true,
-        Line::Install(_) | Line::Sync | Line::Status | Line::Strange => false,
-    }
+    matches!(line, Line::Quit)
 }
 
 /// Takes the next line off the bytes that are held.

@@ -23,7 +23,8 @@ pub fn works_for<D: Door + Drop>(
     requires role { IsPlainRole role.now }
     requires many { length doors.items ≡ length desks.items }
     requires new { All (λ d. NoneOut (D.seen d)) doors.items }
-    ensures works { IfOk result (λ r. (pair : Book) (least : ℕ) → All (HasSeen pair least) desks.items
+    ensures works { IfOk result (λ r. (pair : Book) (least : ℕ)
+        → All (HasSeen pair least) desks.items
         → AreWorks role.now pair least (map D.seen doors.items) r.0.items) }
     ensures flag { IfOk result (λ r. r.1.raised ≡ false) }
     ensures signs { IfOk result (λ r. All (λ w. w.stop ≡ r.1) r.0.items) }

@@ -5,19 +5,21 @@
 
 ghost use Rattle.std.specs.Prelude.{◌≡◌};
 ghost use Rattle.admission.specs.Rules.{allows};
+ghost use Rattle.subscribers.specs.Wishes.{takes_by};
 ghost use Rattle.std.specs.Process.{exit_status};
 
 // The words of the command line, and what is said of a failure.
 mod complaint;
 mod words;
 
-use admission::{Delta, Kept, RuleKind, Test, changes_at_most, changes_no_past};
+use admission::{Changed, Delta, Kept, RuleKind, Test, changes_at_most, changes_no_past};
 use complaint::{Failures, complain};
 use devices::{
     RealDoor, RealNetwork, RealSink, RealSource, RealSpawner, RealStore, RealUpstream, drain,
 };
 use std::io::ErrorKind;
 use std::process::ExitCode;
+use subscribers::{Want, WantTest, Wish, WishKind, is_any, is_past, is_under};
 
 /// The status where memory ran out.
 const OUT_OF_MEMORY: u8 = 70;
@@ -25,7 +27,7 @@ const OUT_OF_MEMORY: u8 = 70;
 /// For how many milliseconds what is owed to peers may still go out before the program ends.
 const OWED_MILLIS: u64 = 2_000;
 
-#[tactic(auto, using(admission::proofs::lemmas::Keeping::both_kept))]
+#[tactic(auto, using(admission::proofs::lemmas::Keeping::both_kept, subscribers::proofs::lemmas::Wanting::three_wanted))]
 fn main(rt: HostRuntime) -> ExitCode {
     let at_most = |delta: &Delta, most: i64| -> bool
         ensures { result ≡ allows RuleKind.MaxChanged most delta.now }
@@ -44,6 +46,30 @@ fn main(rt: HostRuntime) -> ExitCode {
         Kept::new(RuleKind::MaxChanged, at_most),
         Kept::new(RuleKind::NoPastChange, no_past),
     ];
+    let any = |change: &Changed, wish: &Wish| -> bool
+        ensures { result ≡ takes_by WishKind.Any change.now wish.now }
+    { is_any(change, wish) };
+    let under = |change: &Changed, wish: &Wish| -> bool
+        ensures { result ≡ takes_by WishKind.Under change.now wish.now }
+    { is_under(change, wish) };
+    let past = |change: &Changed, wish: &Wish| -> bool
+        ensures { result ≡ takes_by WishKind.Past change.now wish.now }
+    { is_past(change, wish) };
+    let Ok(any) = Box::new(rt.alloc(), any) else {
+        return out_of_memory(&rt);
+    };
+    let Ok(under) = Box::new(rt.alloc(), under) else {
+        return out_of_memory(&rt);
+    };
+    let Ok(past) = Box::new(rt.alloc(), past) else {
+        return out_of_memory(&rt);
+    };
+    let (any, under, past): (WantTest, WantTest, WantTest) = (any, under, past);
+    let wants = [
+        Want::new(WishKind::Any, any),
+        Want::new(WishKind::Under, under),
+        Want::new(WishKind::Past, past),
+    ];
     let Ok(words) = words::collect(rt.alloc(), &rt) else {
         return out_of_memory(&rt);
     };
@@ -57,6 +83,7 @@ fn main(rt: HostRuntime) -> ExitCode {
         rt.alloc(),
         words.as_slice(),
         &kept,
+        &wants,
         &mut store,
         &mut input,
         &mut output,

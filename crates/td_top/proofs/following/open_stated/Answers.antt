@@ -15,4 +15,4 @@ returns-clause-desks g c =
     let parts = parts_desks c.in_ok-installer.installer.pair _ c.in_ok-installer.installer.list c.in_ok-installer.desks.items
     c.pop.new.self.items c.pop.result c.unwrap-desk.result c.args.workers refl c.pop.ensures.items c.unwrap-desk.ensures
     c.in_ok-installer.ensures.number c.in_ok-installer.ensures.each in
-    record { number = parts.0; seen = parts.1 }
+    record { number = parts.0; seen = parts.1; nobody = c.in_ok-installer.ensures.nobody }

@@ -6,7 +6,7 @@ use Rattle.td_top.proofs.opening.open_all.Goals as goal
 pub returns-in_err-installer-clause-all : goal.returns-in_err-installer-clause-all
 returns-in_err-installer-clause-all g c =
     let row = headed c.args.folders.now c.index-folders-0.result c.requires.folders c.index-folders-0.is in
-    let refused = all_refused _ _ c.args.rules.now.chosen c.index-folders-0.result (drop 1 c.args.folders.now) c.args.folders.now _ c.in_err-installer.field-0.0 row
+    let refused = all_refused _ _ c.args.asked.now.rules.chosen c.index-folders-0.result (drop 1 c.args.folders.now) c.args.folders.now _ c.in_err-installer.field-0.0 row
     (rw c.as_slice-first.ensures at c.in_err-installer.ensures.found) in
     search (refused, rules)
 
@@ -38,7 +38,11 @@ returns-in-Ok-clause-desks g c =
     let parts = parts_desks c.in_ok-installer.installer.pair _ c.in_ok-installer.installer.list c.in_ok-installer.desks.items c.pop.new.self.items
     c.pop.result c.unwrap-desk.result c.args.workers c.install_rest.ensures.pair c.pop.ensures.items c.unwrap-desk.ensures
     c.in_ok-installer.ensures.number c.in_ok-installer.ensures.each in
-    record { number = c.in-Ok.ensures.number ∙ parts.0; seen = c.in-Ok.ensures.seen }
+    record {
+      number = c.in-Ok.ensures.number ∙ parts.0;
+      seen = c.in-Ok.ensures.seen;
+      nobody = c.install_rest.ensures.nobody c.in_ok-installer.ensures.nobody;
+    }
 
 pub returns-in-Err-learn_opening-clause-all : goal.returns-in-Err-learn_opening-clause-all
 returns-in-Err-learn_opening-clause-all g c =

@@ -15,8 +15,8 @@ serve_doors-requires-clause-workers g c =
 pub returns-in-Some-Serve-clause-ends : goal.returns-in-Some-Serve-clause-ends
 returns-in-Some-Serve-clause-ends g c = runs_as _ _ _ _ _ _ _ (rw c.in-Some-Serve.field-0-is at c.in-Some-Serve.ensures.spelled) c.serve_doors.ensures.ends
 
-pub answer-requires : goal.answer-requires
-answer-requires g c = rw c.in-Some-Answer.field-0-is at c.in-Some-Answer.ensures.meant
+pub answer-requires-clause-folders : goal.answer-requires-clause-folders
+answer-requires-clause-folders g c = rw c.in-Some-Answer.field-0-is at c.in-Some-Answer.ensures.meant
 
 pub returns-in-Some-Answer-clause-ends : goal.returns-in-Some-Answer-clause-ends
 returns-in-Some-Answer-clause-ends g c =

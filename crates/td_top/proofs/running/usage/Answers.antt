@@ -1,6 +1,6 @@
 use Rattle.std.proofs.Common.{refl}
 use Rattle.td_base.proofs.lemmas.LaterLemmas.{store_refl}
-use Rattle.td_top.specs.Printing.{usage_line}
+use Rattle.td_top.specs.Command.{usage_line}
 use Rattle.td_top.specs.Tells.{ShowsUsage}
 use Rattle.td_top.specs.declared.status.Status.TheVariants as status
 use Rattle.td_top.proofs.Endings.{ends_printed}

@@ -1,8 +1,7 @@
 use Rattle.std.proofs.Common.{refl, sym, ◌∙◌}
-use Rattle.console.specs.declared.line.Line.TheVariants as line
 use Rattle.td_top.proofs.LineLemmas.{is_quit, said_as, starved}
 use Rattle.td_top.proofs.TalkLemmas.{line_turn, quit_turn, read_turn}
-use Rattle.td_top.proofs.TurnLemmas.{is_last}
+use Rattle.td_top.proofs.TurnLemmas.{is_last, keeps_talking, takes_memory}
 use Rattle.td_top.proofs.talking.take_turn.Goals as goal
 
 pub returns-in-None-clause-turns : goal.returns-in-None-clause-turns
@@ -12,10 +11,9 @@ returns-in-None-clause-turns g c = λ start at.
 
 pub returns-in-Unread-clause-turns : goal.returns-in-Unread-clause-turns
 returns-in-Unread-clause-turns g c = λ start at.
-    line_turn start _ _ _ _ _ _ _ c.args.lines.now c.take_line.new.lines (line.Install c.in-Unread.ensures.takes.0) c.as_slice.result.now c.say.result refl at
-    c.in-Unread.ensures.takes.1
-    (said_as _ _ _ _ _ _ _ (c.as_slice.ensures.value ∙ c.short.ensures)
-    (starved _ c.args.session.now (line.Install c.in-Unread.ensures.takes.0) tt))
+    let next = c.in-Unread.ensures.takes in
+    line_turn start _ _ _ _ _ _ _ c.args.lines.now c.take_line.new.lines next.0 c.as_slice.result.now c.say.result (keeps_talking next.0 next.1) at next.2
+    (said_as _ _ _ _ _ _ _ (c.as_slice.ensures.value ∙ c.short.ensures) (starved _ c.args.console.now.session.now next.0 (takes_memory next.0 next.1)))
     c.say.ensures
 
 pub returns-then-is_quit-clause-turns : goal.returns-then-is_quit-clause-turns

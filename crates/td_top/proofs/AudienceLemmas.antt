@@ -1,0 +1,147 @@
+-- What the lines that ask for news of installs make of a talk.
+use Rattle.std.proofs.Common.{◌≡◌, ℕ, zero, suc, ◌+◌, ◌<◌, ◌≤◌, List, [], ◌∷◌, ◌++◌, length, Option, None, Some, inl, inr, ◌⊎◌, refl, sym, subst, ap, ◌∙◌, arith}
+use Rattle.std.proofs.lemmas.Bool.{cases_lt}
+use Rattle.std.specs.Option.{option_map}
+use Rattle.std.proofs.lemmas.List.{length_push}
+use Rattle.std.proofs.lemmas.Option.{slice_get_within}
+use mathlib.Core.List.{IsPrefix}
+use Rattle.td_base.proofs.lemmas.Beginnings.{prefix_length, prefix_self}
+use Rattle.catalogue.specs.Holdings.{history_of}
+use Rattle.catalogue.specs.Releases.{ReleaseData}
+use Rattle.catalogue.proofs.lemmas.HistoryLemmas.{history_length}
+use Rattle.console.specs.Replies.{news_text, reply_text}
+use Rattle.console.specs.declared.line.Line.{Line}
+use Rattle.console.specs.declared.line.Line.TheVariants as line
+use Rattle.console.specs.declared.said.Said.TheVariants as said
+use Rattle.installer.specs.Views.{InstallerView, with_subscribers}
+use Rattle.subscribers.specs.FaultText.{fault_text}
+use Rattle.subscribers.specs.News.{numbered}
+use Rattle.subscribers.specs.Views.{SubscriberView, changed_numbered, emptied, newcomer}
+use Rattle.subscribers.specs.declared.subscribe_fault.SubscribeFault.TheVariants as fault
+use Rattle.subscribers.specs.declared.subscriber_list.TheConstants.{MOST_SUBSCRIBERS}
+use Rattle.subscribers.specs.declared.wish.Wish.{Wish}
+use Rattle.td_top.specs.Growth.{GrowthView}
+use Rattle.td_top.specs.Replies.{SaysWhy, nobody_text}
+use Rattle.td_top.specs.Sessions.{AnswersLine, LaterSession}
+use Rattle.td_top.specs.Talk.{GetsAnswer, Talk, TakesMemory, full, heard, no_memory, nobody, told_news, watched}
+use Rattle.td_top.specs.declared.session.Session.{Session}
+use Rattle.td_top.proofs.GrowthLemmas.{growth_refl}
+use Rattle.td_top.proofs.LineLemmas.{session_refl, stays}
+
+-- ---- sessions
+
+-- one in which all but who hears of installs is the same
+hears_later : (old new : Session) (subscribers : List SubscriberView) → new.installer ≡ with_subscribers subscribers old.installer → new.desk ≡ old.desk
+    → LaterSession old new
+hears_later old new subscribers is desk = record {
+  installer = ap (λ i. i.pair) is;
+  desk = ap (λ d. d.pair) desk;
+  published = subst (λ list. IsPrefix old.installer.list list) (sym (ap (λ i. i.list) is)) (prefix_self old.installer.list);
+  seen = subst (λ d. IsPrefix old.desk.seen d.seen) (sym desk) (prefix_self old.desk.seen);
+}
+
+left_later : (old new : Session) → new.installer ≡ old.installer → new.desk ≡ old.desk → LaterSession old new
+left_later old new is desk = record {
+  installer = ap (λ i. i.pair) is;
+  desk = ap (λ d. d.pair) desk;
+  published = subst (λ i. IsPrefix old.installer.list i.list) (sym is) (prefix_self old.installer.list);
+  seen = subst (λ d. IsPrefix old.desk.seen d.seen) (sym desk) (prefix_self old.desk.seen);
+}
+
+-- ---- lines that change nothing but who hears of installs
+
+hears : (g : GrowthView) (old new : Session) (asked : Line) (answer : List ℕ)
+    (change : List SubscriberView → List ReleaseData → List SubscriberView) → LaterSession old new → new.installer.list ≡ old.installer.list
+    → new.installer.subscribers ≡ change old.installer.subscribers (history_of old.installer.list)
+    → ((whole : List ReleaseData) (talk : Talk) → talk.subscribers ≡ old.installer.subscribers
+    → GetsAnswer whole talk asked answer (heard talk (change talk.subscribers talk.published)))
+    → AnswersLine g g old new asked answer
+hears g old new asked answer change later same changes answers = record {
+  growth = growth_refl g;
+  later = later;
+  answers = λ whole talk begins stands. (
+    heard talk (change talk.subscribers talk.published),
+    record {
+      published = stands.published ∙ ap history_of (sym same);
+      least = omega (arith, stands.least, prefix_length old.desk.seen new.desk.seen later.seen);
+      growth = stands.growth;
+      subscribers = rw (stands.subscribers, stands.published) (sym changes);
+    },
+    answers whole talk stands.subscribers,
+  );
+}
+
+-- ---- a watch
+
+fewer : (n m : ℕ) → (m ≤ n → ⊥) → n < m
+fewer n m few = by_cases (cases_lt n m)
+  where
+    by_cases : (n < m) ⊎ (m ≤ n) → n < m
+    by_cases (inl less) = less
+    by_cases (inr many) = absurd (few many)
+
+pub is_watched : (g : GrowthView) (old new : Session) (wish : Wish) (number : ℕ) (answer : List ℕ)
+    → new.installer ≡ with_subscribers (old.installer.subscribers ++ newcomer wish (length old.installer.list) ∷ []) old.installer → new.desk ≡ old.desk
+    → number ≡ length new.installer.subscribers → (MOST_SUBSCRIBERS ≤ length old.installer.subscribers → ⊥) → answer ≡ reply_text (said.Watching number)
+    → AnswersLine g g old new (line.Watch wish) answer
+is_watched g old new wish number answer is desk count few says =
+    let before : List SubscriberView = old.installer.subscribers in
+    let counted : number ≡ length before + 1 = count ∙ ap (λ i. length i.subscribers) is ∙ length_push before (newcomer wish (length old.installer.list)) in
+    hears g old new (line.Watch wish) answer (λ subscribers H. subscribers ++ newcomer wish (length H) ∷ []) (hears_later old new _ is desk)
+    (ap (λ i. i.list) is)
+    (ap (λ i. i.subscribers) is ∙ ap (λ n. before ++ newcomer wish n ∷ []) (sym (history_length old.installer.list)))
+    (λ whole talk same.
+    watched wish refl (subst (λ s. length s < MOST_SUBSCRIBERS) (sym same) (fewer (length before) MOST_SUBSCRIBERS few))
+    (says ∙ ap (λ n. reply_text (said.Watching n)) (counted ∙ ap (λ s. length s + 1) (sym same))) refl)
+
+-- a line for which memory ran out leaves all as it was
+pub is_starved : (g : GrowthView) (old new : Session) (asked : Line) (answer : List ℕ) → new.installer ≡ old.installer → new.desk ≡ old.desk
+    → TakesMemory asked → answer ≡ reply_text said.NoMemory → AnswersLine g g old new asked answer
+is_starved g old new asked answer same desk takes says =
+    stays g old new asked answer (left_later old new same desk) same (λ whole talk at. no_memory takes says refl)
+
+pub is_full : (g : GrowthView) (old new : Session) (wish : Wish) (answer : List ℕ) → new.installer ≡ old.installer → new.desk ≡ old.desk
+    → MOST_SUBSCRIBERS ≤ length old.installer.subscribers → SaysWhy (fault_text fault.WatchFull) answer → AnswersLine g g old new (line.Watch wish) answer
+is_full g old new wish answer same desk many (inl none) = is_starved g old new (line.Watch wish) answer same desk tt none
+is_full g old new wish answer same desk many (inr says) =
+    stays g old new (line.Watch wish) answer (left_later old new same desk) same
+    (λ whole talk at. full wish refl (subst (λ s. MOST_SUBSCRIBERS ≤ length s) (sym at.subscribers) many) says refl)
+
+-- ---- news
+
+-- a number under which something was found
+held_by : (o : Option SubscriberView) (text : List ℕ) → Some text ≡ option_map (λ s. news_text s.held) o
+    → (s : SubscriberView) × (o ≡ Some s) × (text ≡ news_text s.held)
+held_by None text e = absurd (cc e)
+held_by (Some s) text e = (s, refl, cc e)
+
+none_by : (o : Option SubscriberView) → None ≡ option_map (λ s. news_text s.held) o → o ≡ None
+none_by None e = refl
+none_by (Some s) e = absurd (cc e)
+
+there : (xs : List SubscriberView) (k : ℕ) (s : SubscriberView) → numbered xs k ≡ Some s → (0 < k) × (k ≤ length xs)
+there xs zero s e = absurd (cc e)
+there xs (suc i) s e = (omega arith, omega (arith, slice_get_within xs i s e))
+
+pub has_number : (xs : List SubscriberView) (k : ℕ) (text : List ℕ) → Some text ≡ option_map (λ s. news_text s.held) (numbered xs k)
+    → (0 < k) × (k ≤ length xs)
+has_number xs k text e = let found = held_by (numbered xs k) text e in there xs k found.0 found.1
+
+pub is_told : (g : GrowthView) (old new : Session) (number : ℕ) (text answer : List ℕ)
+    → new.installer ≡ with_subscribers (changed_numbered emptied number old.installer.subscribers) old.installer → new.desk ≡ old.desk
+    → Some text ≡ option_map (λ s. news_text s.held) (numbered old.installer.subscribers number) → answer ≡ text
+    → AnswersLine g g old new (line.News number) answer
+is_told g old new number text answer is desk holds says =
+    let found = held_by (numbered old.installer.subscribers number) text holds in
+    hears g old new (line.News number) answer (λ subscribers H. changed_numbered emptied number subscribers) (hears_later old new _ is desk)
+    (ap (λ i. i.list) is) (ap (λ i. i.subscribers) is)
+    (λ whole talk same.
+    told_news number found.0 refl (ap (λ s. numbered s number) same ∙ found.1) (says ∙ found.2) refl)
+
+pub is_of_nobody : (g : GrowthView) (a : Session) (number : ℕ) (answer : List ℕ)
+    → None ≡ option_map (λ s. news_text s.held) (numbered a.installer.subscribers number) → SaysWhy nobody_text answer
+    → AnswersLine g g a a (line.News number) answer
+is_of_nobody g a number answer none (inl starved) = is_starved g a a (line.News number) answer refl refl tt starved
+is_of_nobody g a number answer none (inr says) =
+    stays g a a (line.News number) answer (session_refl a) refl
+    (λ whole talk at. nobody number refl (ap (λ s. numbered s number) at.subscribers ∙ none_by (numbered a.installer.subscribers number) none) says refl)

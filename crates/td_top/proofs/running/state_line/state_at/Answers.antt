@@ -1,0 +1,21 @@
+use Rattle.std.proofs.Common.{refl}
+use Rattle.td_base.proofs.lemmas.LaterLemmas.{looks_later}
+use Rattle.td_top.proofs.Endings.{ends_absent, ends_shown, ends_starved, ends_unshown}
+use Rattle.td_top.proofs.running.state_line.state_at.Goals as goal
+
+pub returns-in-Found : goal.returns-in-Found
+returns-in-Found g c = λ input.
+    ends_shown c.args.file.now c.in-Found.bytes c.args.moment.seconds _ _ input _ _ _ c.in-Found.ensures.look c.show.ensures
+
+pub returns-in-Absent : goal.returns-in-Absent
+returns-in-Absent g c = λ input.
+    ends_absent c.args.file.now c.args.moment.seconds _ _ input _ _ _ c.in-Absent.ensures.look c.refuse_absent.ensures
+
+pub returns-in-Failed : goal.returns-in-Failed
+returns-in-Failed g c = λ input.
+    ends_unshown c.args.file.now c.args.moment.seconds _ _ input _ _ (c.in-Failed.ensures.look.failed refl)
+    (looks_later _ _ _ _ _ c.in-Failed.ensures.look) refl
+
+pub returns-in-NoMemory : goal.returns-in-NoMemory
+returns-in-NoMemory g c = λ input.
+    ends_starved c.args.file.now c.args.moment.seconds _ _ input _ _ (looks_later _ _ _ _ _ c.in-NoMemory.ensures.look) refl

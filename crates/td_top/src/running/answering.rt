@@ -1,0 +1,113 @@
+ghost use Rattle.std.specs.Prelude.{◌≡◌, ◌<◌, length, map, true, IfOk};
+ghost use Rattle.catalogue.specs.Holdings.{history_of};
+ghost use Rattle.subscribers.specs.Wishes.{WantsAll};
+ghost use Rattle.td_top.specs.Running.Answering.{Answers};
+ghost use Rattle.td_top.specs.Outside.{outside};
+ghost use Rattle.td_top.specs.Tells.{EndsLater, ServesLast, ServesLater};
+
+use crate::opening::{Opened, open_all};
+use crate::refusing::refuse_install;
+use crate::session::Session;
+use crate::status::{Status, status_of};
+use admission::Rules;
+use catalogue::Catalogue;
+use installer::Asked;
+use publication::{Desk, Ended};
+use std::alloc::Global;
+use std::sync::Wait;
+use subscribers::Want;
+use td_base::{Bytes, End, Joined, NoMemory, Role, Sink, Source, Store};
+use zone_meaning::Zone;
+
+/// Folders whose releases are installed, in their order, and a test for each kind of wish.
+#[derive(Clone, Copy)]
+pub struct AnswerPlan<'w> {
+    pub folders: &'w [Bytes],
+    pub wants: &'w [Want],
+}
+
+/// Installs the releases of folders, and serves the input and the output, as one connection, over
+/// the last of them.
+pub fn answer<R: Wait, S: Store, C: Source, K: Sink>(
+    rt: &R,
+    alloc: Global,
+    plan: &AnswerPlan<'_>,
+    store: &mut S,
+    input: &mut C,
+    output: &mut K,
+) -> Status
+    requires folders { 0 < length plan.now.folders.now }
+    requires wants { WantsAll (map (λ w. w.kind) plan.now.wants.now) }
+    ensures { EndsLater (Answers plan.now.folders.now)
+        (outside (S.seen store.old) (C.seen input.old) (K.seen output.old))
+        (outside (S.seen store.new) (C.seen input.new) (K.seen output.new)) result }
+{
+    let asked = Asked::new(Rules::none(alloc), plan.wants);
+    match open_all(rt, alloc, plan.folders, &asked, store, 0) {
+        Ok(Opened { session, desks: _ }) => serve_last(rt, alloc, session, input, output),
+        Err(fault) => refuse_install(alloc, &fault, output),
+    }
+}
+
+/// Serves the input and the output over the last release of a session, whose history ends.
+fn serve_last<R: Wait, C: Source, K: Sink>(
+    rt: &R,
+    alloc: Global,
+    session: Session,
+    input: &mut C,
+    output: &mut K,
+) -> Status
+    ensures { ServesLast (history_of session.installer.list)
+        (C.seen input.old) (C.seen input.new) (K.seen output.old) (K.seen output.new) result }
+{
+    match end_history(rt, session) {
+        Ok((ended, mut desk)) => {
+            let end = serve(alloc, &mut desk, input, output);
+            ended.close(rt);
+            status_of(end)
+        }
+        Err(NoMemory) => Status::NoMemory,
+    }
+}
+
+/// Ends the history of a session, and lets its desk learn that. What is shown stays until the other
+/// value is closed.
+fn end_history<R: Wait>(
+    rt: &R,
+    session: Session,
+) -> Result<(Ended<Catalogue<Zone>>, Desk<Catalogue<Zone>>), NoMemory>
+    ensures { IfOk result (λ p. (p.1.seen ≡ session.installer.list) × (p.1.ended ≡ true)) }
+{
+    let Session {
+        alloc: _,
+        installer,
+        mut desk,
+    } = session;
+    let mut ended = installer.end(rt)?;
+    match ended.receipt() {
+        Ok(receipt) => {
+            desk.learn(receipt);
+            Ok((ended, desk))
+        }
+        Err(NoMemory) => {
+            ended.close(rt);
+            Err(NoMemory)
+        }
+    }
+}
+
+/// Serves the input and the output, as one connection, over a desk that has seen all.
+fn serve<C: Source, K: Sink>(
+    alloc: Global,
+    desk: &mut Desk<Catalogue<Zone>>,
+    input: &mut C,
+    output: &mut K,
+) -> End
+    requires { desk.old.ended ≡ true }
+    ensures { ServesLater (history_of desk.old.seen)
+        (C.seen input.old) (C.seen input.new) (K.seen output.old) (K.seen output.new) result }
+{
+    let mut conn = Joined::new(input, output);
+    let report = connection::serve(alloc, &Role::Primary, desk, &mut conn);
+    report.end
+}

@@ -1,0 +1,186 @@
+ghost use Rattle.std.specs.Prelude.{◌≡◌, ◌≤◌, [], map, Some, IfOk};
+ghost use Rattle.std.specs.Option.{option_map};
+ghost use Rattle.subscribers.specs.Wishes.{WantsAll};
+ghost use Rattle.td_base.specs.Names.{IsPlain};
+ghost use Rattle.td_base.specs.Views.{StoreView};
+ghost use Rattle.td_top.specs.Command.{mirror};
+ghost use Rattle.td_top.specs.FollowingSteps.{follow_of};
+ghost use Rattle.td_top.specs.Running.Mirroring.MirroringSteps.{FollowsOn, ServesStated};
+ghost use Rattle.td_top.specs.Running.{RunEndsLater};
+ghost use Rattle.td_top.specs.Site.{site_names, site_of, world_of};
+ghost use Rattle.td_top.specs.Tells.{RefusesSync};
+
+use crate::following::{Follow, open_stated};
+use crate::outcome::{Ending, Served};
+use crate::printing::refuse_shown;
+use crate::refusing::refuse_install;
+use crate::running::server::{Serving, serve_opened};
+use crate::site::Site;
+use crate::status::Status;
+use admission::Rules;
+use installer::Asked;
+use mirror::{SyncFault, sync};
+use mirror_world::{histories_go_on, mirrors_hold_in_turn, releases_are_held};
+use std::alloc::Global;
+use std::sync::Wait;
+use std::thread::Threads;
+use subscribers::Want;
+use sync_core::Mirror;
+use td_base::{Bytes, Door, Made, Network, NoMemory, Role, Sink, Source, Spawner, Upstream};
+
+/// A server that follows the one at `upstream`: the address of its doors, its workers, and a test
+/// for each kind of wish.
+#[derive(Clone, Copy)]
+pub struct MirrorPlan<'w> {
+    pub address: &'w [u8],
+    pub workers: u32,
+    pub upstream: &'w [u8],
+    pub wants: &'w [Want],
+}
+
+/// Syncs with the server at an address, publishes what the mirror states, and serves the doors of
+/// another address, each by a worker of its own, while an operator talks over the input and the
+/// output and lets the mirror sync again. The server's requests name it as they were given it.
+pub fn mirror_server<R, C, K, N, W>(
+    rt: &R,
+    alloc: Global,
+    plan: &MirrorPlan<'_>,
+    site: &mut Site<'_, C, K, N, W>,
+) -> Ending<N::Door, N::Up>
+where
+    R: Threads + Wait + Copy + Send + 'static,
+    C: Source,
+    K: Sink,
+    N: Network,
+    N::Door: Send + Drop + 'static,
+    <N::Door as Door>::Conn: Send + 'static,
+    W: Spawner,
+    requires workers { plan.now.workers ≤ 64 }
+    requires wants { WantsAll (map (λ w. w.kind) plan.now.wants.now) }
+    requires plain { IsPlain plan.now.upstream.now }
+    ensures kept { site_names site.new ≡ site_names site.old }
+    // The store, whatever it is, is left alone.
+    ensures ends { (store : StoreView) → RunEndsLater
+        (Some (mirror plan.now.address.now plan.now.workers plan.now.upstream.now))
+        (world_of store C.seen K.seen N.seen W.faults site.old)
+        (world_of store C.seen K.seen N.seen W.faults site.new)
+        (map N.Door.seen result.doors.items) (option_map N.Up.seen result.up) result.status }
+{
+    mirrors_hold_in_turn();
+    histories_go_on();
+    releases_are_held();
+    match site.net.upstream(alloc, plan.upstream) {
+        Made::Given(server) => {
+            let mut follow = Follow {
+                mirror: Mirror::empty(alloc),
+                host: plan.upstream,
+                upstream: server,
+            };
+            let served = follow_on(rt, alloc, plan, &mut follow, site);
+            let Follow {
+                mirror: _,
+                host: _,
+                upstream: server,
+            } = follow;
+            served.after(Some(server))
+        }
+        Made::Failed => Ending::closed(alloc, Status::NoNetwork),
+        Made::NoMemory => Ending::closed(alloc, Status::NoMemory),
+    }
+}
+
+/// Syncs for the first time, and serves what the mirror states.
+fn follow_on<R, U, C, K, N, W>(
+    rt: &R,
+    alloc: Global,
+    plan: &MirrorPlan<'_>,
+    follow: &mut Follow<'_, U>,
+    site: &mut Site<'_, C, K, N, W>,
+) -> Served<N::Door>
+where
+    R: Threads + Wait + Copy + Send + 'static,
+    U: Upstream,
+    C: Source,
+    K: Sink,
+    N: Network,
+    N::Door: Send + Drop + 'static,
+    <N::Door as Door>::Conn: Send + 'static,
+    W: Spawner,
+    requires workers { plan.now.workers ≤ 64 }
+    requires wants { WantsAll (map (λ w. w.kind) plan.now.wants.now) }
+    requires plain { IsPlain follow.old.host.now }
+    ensures kept { site_names site.new ≡ site_names site.old }
+    ensures ends { FollowsOn follow.old.host.now plan.now.address.now plan.now.workers
+        follow.old.mirror
+        (U.seen follow.old.upstream)
+        (site_of (follow_of U.seen follow.old) C.seen K.seen N.seen W.faults site.old)
+        (site_of (follow_of U.seen follow.new) C.seen K.seen N.seen W.faults site.new)
+        (map N.Door.seen result.doors.items) result.status }
+{
+    match sync(alloc, &mut follow.mirror, follow.host, &mut follow.upstream) {
+        Ok(()) => serve_stated(rt, alloc, plan, follow, site),
+        Err(fault) => Served::closed(alloc, refuse_sync(alloc, &fault, site.output)),
+    }
+}
+
+/// Serves what a settled mirror states.
+fn serve_stated<R, U, C, K, N, W>(
+    rt: &R,
+    alloc: Global,
+    plan: &MirrorPlan<'_>,
+    follow: &mut Follow<'_, U>,
+    site: &mut Site<'_, C, K, N, W>,
+) -> Served<N::Door>
+where
+    R: Threads + Wait + Copy + Send + 'static,
+    U: Upstream,
+    C: Source,
+    K: Sink,
+    N: Network,
+    N::Door: Send + Drop + 'static,
+    <N::Door as Door>::Conn: Send + 'static,
+    W: Spawner,
+    requires workers { plan.now.workers ≤ 64 }
+    requires wants { WantsAll (map (λ w. w.kind) plan.now.wants.now) }
+    requires plain { IsPlain follow.old.host.now }
+    requires settled { follow.old.mirror.pending ≡ [] }
+    ensures kept { site_names site.new ≡ site_names site.old }
+    ensures ends { ServesStated follow.old.host.now plan.now.address.now plan.now.workers
+        follow.old.mirror
+        (site_of (follow_of U.seen follow.old) C.seen K.seen N.seen W.faults site.old)
+        (site_of (follow_of U.seen follow.new) C.seen K.seen N.seen W.faults site.new)
+        (map N.Door.seen result.doors.items) result.status }
+{
+    let Ok(role) = secondary(alloc, follow.host) else {
+        return Served::closed(alloc, Status::NoMemory);
+    };
+    match open_stated(rt, alloc, &follow.mirror, plan.workers) {
+        Ok(opened) => {
+            let serving = Serving {
+                role: &role,
+                address: plan.address,
+                workers: plan.workers,
+            };
+            let asked = Asked::new(Rules::none(alloc), plan.wants);
+            serve_opened(rt, &serving, opened, &asked, follow, site)
+        }
+        Err(fault) => Served::closed(alloc, refuse_install(alloc, &fault, site.output)),
+    }
+}
+
+/// A server that follows the one at this address.
+fn secondary(alloc: Global, address: &[u8]) -> Result<Role, NoMemory>
+    ensures { IfOk result (λ role. role ≡ Role.Secondary address.now) }
+{
+    Ok(Role::Secondary(Bytes::from_slice(alloc, address)?))
+}
+
+/// Ends a run for a first sync that ended by a fault.
+fn refuse_sync<K: Sink>(alloc: Global, fault: &SyncFault, output: &mut K) -> Status
+    ensures { RefusesSync fault.now (K.seen output.old) (K.seen output.new) result }
+{
+    match fault {
+        SyncFault::NoMemory => Status::NoMemory,
+        _ => refuse_shown(alloc, Status::NotSynced, fault, output),
+    }
+}

@@ -1,0 +1,245 @@
+ghost use Rattle.std.specs.Prelude.{◌≡◌, ◌<◌, ◌≤◌, [], length, map, All, IfOk, OnOk, Some};
+ghost use Rattle.std.specs.Prelude.{false};
+ghost use Rattle.std.specs.Option.{option_map};
+ghost use mathlib.Core.List.{IsPrefix};
+ghost use Rattle.catalogue.specs.Holdings.{history_of};
+ghost use Rattle.json_forms.specs.PlainTexts.{IsPlainRole};
+ghost use Rattle.admission.specs.Rules.{KeepsAll};
+ghost use Rattle.subscribers.specs.Wishes.{WantsAll};
+ghost use Rattle.td_top.specs.Command.{serve};
+ghost use Rattle.td_top.specs.Opening.{HasDesks};
+ghost use Rattle.td_top.specs.Site.{console, site_names, site_of, world_of};
+ghost use Rattle.td_top.specs.Running.{RunEndsLater};
+ghost use Rattle.td_top.specs.Running.Server.ServerSteps.{Concludes, ServesBeside, ServesOpened};
+ghost use Rattle.td_top.specs.Works.{HasWorks, Learnt};
+
+use crate::console_beside::{Console, TalkOver};
+use crate::growth::Growth;
+use crate::opening::{Opened, Plan, open_all};
+use crate::outcome::{Ending, Served};
+use crate::refusing::refuse_install;
+use crate::session::Session;
+use crate::site::Site;
+use crate::status::{Status, status_for};
+use crate::talking::TalkEnd;
+use crate::works::{learn_all, works_for};
+use catalogue::Catalogue;
+use connection::{DoorDone, DoorWork};
+use desk_pool::{PoolEnd, StopFlag, run_beside};
+use installer::Asked;
+use publication::{Desk, Ended};
+use std::alloc::Global;
+use std::sync::Wait;
+use std::thread::Threads;
+use td_base::{Door, Made, Network, NoMemory, Role, Sink, Source, Spawner, Store};
+use zone_meaning::Zone;
+
+/// Which doors are served: as such a server, at an address, each by a worker of its own.
+#[derive(Clone, Copy)]
+pub struct Serving<'d> {
+    pub role: &'d Role,
+    pub address: &'d [u8],
+    pub workers: u32,
+}
+
+/// Installs the releases of folders under rules, and serves such doors, while an operator talks
+/// over the input and the output and installs further releases.
+pub fn serve_doors<R, S, C, K, N, W>(
+    rt: &R,
+    alloc: Global,
+    serving: &Serving<'_>,
+    plan: &Plan<'_>,
+    store: &mut S,
+    site: &mut Site<'_, C, K, N, W>,
+) -> Ending<N::Door, N::Up>
+where
+    R: Threads + Wait + Copy + Send + 'static,
+    S: Store,
+    C: Source,
+    K: Sink,
+    N: Network,
+    N::Door: Send + Drop + 'static,
+    <N::Door as Door>::Conn: Send + 'static,
+    W: Spawner,
+    requires role { serving.now.role.now ≡ Role.Primary }
+    requires folders { 0 < length plan.now.folders.now }
+    requires workers { serving.now.workers ≤ 64 }
+    requires rules { KeepsAll (map (λ k. k.kind) plan.now.kept.now) }
+    requires wants { WantsAll (map (λ w. w.kind) plan.now.wants.now) }
+    ensures kept { site_names site.new ≡ site_names site.old }
+    ensures ends { RunEndsLater
+        (Some (serve serving.now.address.now serving.now.workers
+        plan.now.rules.now plan.now.folders.now))
+        (world_of (S.seen store.old) C.seen K.seen N.seen W.faults site.old)
+        (world_of (S.seen store.new) C.seen K.seen N.seen W.faults site.new)
+        (map N.Door.seen result.doors.items) (option_map N.Up.seen result.up) result.status }
+{
+    let Ok(rules) = plan.rules.rules(alloc, plan.kept) else {
+        return Ending::closed(alloc, Status::NoMemory);
+    };
+    let asked = Asked::new(rules, plan.wants);
+    match open_all(rt, alloc, plan.folders, &asked, store, serving.workers) {
+        Ok(opened) => serve_opened(rt, serving, opened, &asked, store, site).after(None),
+        Err(fault) => Ending::closed(alloc, refuse_install(alloc, &fault, site.output)),
+    }
+}
+
+/// Serves such doors, once a first history is published, while an operator talks over the input and
+/// the output.
+pub fn serve_opened<R, G, C, K, N, W>(
+    rt: &R,
+    serving: &Serving<'_>,
+    opened: Opened,
+    asked: &Asked<'_>,
+    growth: &mut G,
+    site: &mut Site<'_, C, K, N, W>,
+) -> Served<N::Door>
+where
+    R: Threads + Wait + Copy + Send + 'static,
+    G: Growth,
+    C: Source,
+    K: Sink,
+    N: Network,
+    N::Door: Send + Drop + 'static,
+    <N::Door as Door>::Conn: Send + 'static,
+    W: Spawner,
+    requires role { IsPlainRole serving.now.role.now }
+    requires desks { HasDesks serving.now.workers opened }
+    ensures kept { site_names site.new ≡ site_names site.old }
+    ensures ends { ServesOpened serving.now.role.now serving.now.address.now serving.now.workers
+        (history_of opened.session.installer.list)
+        (site_of (G.seen growth.old asked.now.rules.chosen) C.seen K.seen N.seen W.faults site.old)
+        (site_of (G.seen growth.new asked.now.rules.chosen) C.seen K.seen N.seen W.faults site.new)
+        (map N.Door.seen result.doors.items) result.status }
+{
+    let Opened { session, desks } = opened;
+    let alloc = session.alloc;
+    match site.net.doors(alloc, serving.address, serving.workers) {
+        Made::Given(doors) => match works_for(alloc, serving.role, doors, desks) {
+            Ok((works, flag)) => {
+                let staff = Staff {
+                    session,
+                    asked,
+                    works,
+                    flag,
+                };
+                serve_beside(rt, staff, growth, site.input, site.output, site.spawner)
+            }
+            Err(NoMemory) => give_up(rt, session, Status::NoMemory),
+        },
+        Made::Failed => give_up(rt, session, Status::NoNetwork),
+        Made::NoMemory => give_up(rt, session, Status::NoMemory),
+    }
+}
+
+/// Who serves: a session with what it asks, and the works of workers, of such a flag.
+struct Staff<'s, 'k, D: Door> {
+    session: Session,
+    asked: &'s Asked<'k>,
+    works: Vec<DoorWork<D>>,
+    flag: StopFlag,
+}
+
+/// Serves doors by their works, beside a talk with the operator.
+fn serve_beside<R, G, C, K, D, W>(
+    rt: &R,
+    staff: Staff<'_, '_, D>,
+    growth: &mut G,
+    input: &mut C,
+    output: &mut K,
+    spawner: &mut W,
+) -> Served<D>
+where
+    R: Threads + Wait + Copy + Send + 'static,
+    G: Growth,
+    C: Source,
+    K: Sink,
+    D: Door + Send + Drop + 'static,
+    D::Conn: Send + 'static,
+    W: Spawner,
+    requires flag { staff.flag.raised ≡ false }
+    requires nobody { staff.session.installer.subscribers ≡ [] }
+    requires works { HasWorks staff.session.installer.pair staff.works.items }
+    ensures { ServesBeside staff.entry.session staff.entry.works.items
+        (console (G.seen growth.old staff.entry.asked.now.rules.chosen) (C.seen input.old)
+        (K.seen output.old))
+        (console (G.seen growth.new staff.entry.asked.now.rules.chosen) (C.seen input.new)
+        (K.seen output.new))
+        (W.faults spawner.old) (W.faults spawner.new)
+        (map D.seen result.doors.items) result.status }
+{
+    let Staff {
+        mut session,
+        asked,
+        works,
+        flag,
+    } = staff;
+    let alloc = session.alloc;
+    let mut over = TalkOver { end: None, flag };
+    let mut console = Console::new(&mut session, asked, growth, input, output, &mut over);
+    let pool = run_beside(rt, alloc, spawner, works, &mut console);
+    match pool {
+        PoolEnd::All(dones) => match over.end {
+            Some(end) => conclude(rt, session, end, dones),
+            None => give_up(rt, session, Status::NoMemory),
+        },
+        PoolEnd::NotStarted(_) => give_up(rt, session, Status::NotStarted),
+        PoolEnd::NoMemory => give_up(rt, session, Status::NoMemory),
+    }
+}
+
+/// Ends the history of a session, of which all desks learn, once the workers are done and the talk
+/// is over.
+fn conclude<R: Wait, D: Door + Drop>(
+    rt: &R,
+    session: Session,
+    end: TalkEnd,
+    dones: Vec<DoorDone<D>>,
+) -> Served<D>
+    requires { All (λ d. d.desk.pair ≡ session.installer.pair) dones.items }
+    ensures { Concludes session dones.items end result.doors.items result.status }
+{
+    let Session {
+        alloc,
+        installer,
+        mut desk,
+    } = session;
+    let Ok(mut ended) = installer.end(rt) else {
+        return Served::closed(alloc, Status::NoMemory);
+    };
+    let learnt = learn_last(alloc, &mut ended, &mut desk, dones);
+    ended.close(rt);
+    match learnt {
+        Ok((doors, worn)) => Served {
+            status: status_for(end, worn),
+            doors,
+        },
+        Err(NoMemory) => Served::closed(alloc, Status::NoMemory),
+    }
+}
+
+/// Lets the desk of a console, and those of the workers, learn all that was published.
+fn learn_last<D: Door + Drop>(
+    alloc: Global,
+    ended: &mut Ended<Catalogue<Zone>>,
+    desk: &mut Desk<Catalogue<Zone>>,
+    dones: Vec<DoorDone<D>>,
+) -> Result<(Vec<D>, bool), NoMemory>
+    requires desk { desk.old.pair ≡ ended.old.pair }
+    requires dones { All (λ d. d.desk.pair ≡ ended.old.pair) dones.items }
+    ensures learnt { IfOk result (λ r. Learnt ended.old.list dones.items r.0.items r.1) }
+    ensures seen { OnOk result (IsPrefix desk.old.seen ended.old.list) }
+{
+    desk.learn(ended.receipt()?);
+    learn_all(alloc, ended, dones)
+}
+
+/// Gives up what is published, and ends without doors.
+fn give_up<R: Wait, D>(rt: &R, session: Session, status: Status) -> Served<D>
+    ensures status { result.status ≡ status }
+    ensures doors { result.doors.items ≡ [] }
+{
+    let alloc = session.alloc;
+    session.close(rt);
+    Served::closed(alloc, status)
+}
