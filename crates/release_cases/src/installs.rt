@@ -1,10 +1,9 @@
 //! Folders that are installed, for desks.
 ghost use Rattle.std.specs.Prelude.{◌≡◌};
 
-use admission::Rules;
 use case_lines::{Answer, CaseFault, Row};
 use catalogue::Catalogue;
-use installer::{InstallFault, Installer};
+use installer::{Asked, InstallFault, Installer};
 use publication::Desk;
 use std::alloc::Global;
 use std::sync::Wait;
@@ -37,8 +36,14 @@ struct Steps {
 /// `install DIR DIR DIR`: the places at which two desks answer once the first folder was published,
 /// the first desk was told of the second, both entered, the third was refused, and both learnt the
 /// end; and the fault of the third.
-pub fn install<R: Wait>(rt: &R, alloc: Global, row: &Row, store: &mut MemoryStore) -> Answer {
-    let (steps, ended) = match run(rt, alloc, row, store) {
+pub fn install<R: Wait>(
+    rt: &R,
+    alloc: Global,
+    row: &Row,
+    store: &mut MemoryStore,
+    asked: &Asked<'_>,
+) -> Answer {
+    let (steps, ended) = match run(rt, alloc, row, store, asked) {
         Ok(run) => run,
         Err(InstallFault::NoMemory) => return Err(CaseFault::NoMemory),
         Err(_fault) => return crate::strange(),
@@ -57,13 +62,23 @@ fn run<R: Wait>(
     alloc: Global,
     row: &Row,
     store: &mut MemoryStore,
+    asked: &Asked<'_>,
 ) -> Result<(Steps, (u32, u32)), InstallFault> {
     let (first, more) = (word(row, 0), (word(row, 1), word(row, 2)));
     let (installer, desks) = Installer::open(rt, alloc, first, store, 2)?;
     let (mut installer, mut desks) = (installer, desks);
     let mut two = desks.pop().unwrap();
     let mut one = desks.pop().unwrap();
-    let steps = match grow(rt, alloc, more, store, &mut installer, &mut one, &mut two) {
+    let steps = match grow(
+        rt,
+        alloc,
+        more,
+        store,
+        asked,
+        &mut installer,
+        &mut one,
+        &mut two,
+    ) {
         Ok(steps) => steps,
         Err(fault) => {
             installer.close(rt);
@@ -85,6 +100,7 @@ fn grow<R: Wait>(
     alloc: Global,
     dirs: (&[u8], &[u8]),
     store: &mut MemoryStore,
+    asked: &Asked<'_>,
     installer: &mut Installer,
     one: &mut Desk<Catalogue<Zone>>,
     two: &mut Desk<Catalogue<Zone>>,
@@ -95,12 +111,11 @@ fn grow<R: Wait>(
     ensures two { two.new.pair ≡ two.old.pair }
 {
     let opened = (entered(one), entered(two));
-    let rules = Rules::none(alloc);
-    let receipt = installer.install(rt, alloc, dirs.0, store, &rules)?;
+    let receipt = installer.install(rt, alloc, dirs.0, store, asked)?;
     one.learn(receipt);
     let told = (one.value().count(), two.value().count());
     let grown = (entered(one), entered(two));
-    let fault = text_of(alloc, installer.install(rt, alloc, dirs.1, store, &rules))?;
+    let fault = text_of(alloc, installer.install(rt, alloc, dirs.1, store, asked))?;
     let refused = (entered(one), entered(two));
     Ok(Steps {
         opened,

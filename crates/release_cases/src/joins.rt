@@ -1,9 +1,8 @@
 //! Whether a folder joins a history whole or not at all.
 use crate::installs::entered;
-use admission::Rules;
 use case_lines::{Answer, CaseFault, Row};
 use catalogue::Catalogue;
-use installer::{InstallFault, Installer};
+use installer::{Asked, InstallFault, Installer};
 use publication::Desk;
 use std::alloc::{AllocError, Global};
 use std::sync::Wait;
@@ -29,9 +28,15 @@ type Joining = Option<(bool, Stand)>;
 /// fails for want of memory a second is made, and if the history does not stand as STAND says
 /// between them, what it comes to then is told first. `bench/each_allocation.py` fails each
 /// allocation of such a row in turn.
-pub fn joins<R: Wait>(rt: &R, alloc: Global, row: &Row, store: &mut MemoryStore) -> Answer {
+pub fn joins<R: Wait>(
+    rt: &R,
+    alloc: Global,
+    row: &Row,
+    store: &mut MemoryStore,
+    asked: &Asked<'_>,
+) -> Answer {
     let dirs = (row.word(0)?, row.word(1)?);
-    let (first, second) = match installed(rt, alloc, dirs, store) {
+    let (first, second) = match installed(rt, alloc, dirs, store, asked) {
         Ok(both) => both,
         Err(InstallFault::NoMemory) => return Err(CaseFault::NoMemory),
         Err(_fault) => return crate::strange(),
@@ -73,13 +78,14 @@ fn installed<R: Wait>(
     alloc: Global,
     dirs: (&[u8], &[u8]),
     store: &mut MemoryStore,
+    asked: &Asked<'_>,
 ) -> Result<(Joining, Joining), InstallFault> {
     let (installer, desks) = Installer::open(rt, alloc, dirs.0, store, 1)?;
     let (mut installer, mut desks) = (installer, desks);
     let mut desk = desks.pop().unwrap();
-    let first = joined(rt, alloc, dirs.1, store, &mut installer, &mut desk);
+    let first = joined(rt, alloc, dirs.1, store, asked, &mut installer, &mut desk);
     let second = match first {
-        Some((false, _)) => joined(rt, alloc, dirs.1, store, &mut installer, &mut desk),
+        Some((false, _)) => joined(rt, alloc, dirs.1, store, asked, &mut installer, &mut desk),
         _ => first,
     };
     installer.close(rt);
@@ -92,10 +98,11 @@ fn joined<R: Wait>(
     alloc: Global,
     dir: &[u8],
     store: &mut MemoryStore,
+    asked: &Asked<'_>,
     installer: &mut Installer,
     desk: &mut Desk<Catalogue<Zone>>,
 ) -> Joining {
-    let joined = match installer.install(rt, alloc, dir, store, &Rules::none(alloc)) {
+    let joined = match installer.install(rt, alloc, dir, store, asked) {
         Ok(receipt) => {
             drop(receipt);
             true

@@ -5,6 +5,7 @@
 
 ghost use Rattle.std.specs.Prelude.{◌≡◌, map};
 ghost use Rattle.admission.specs.Rules.{KeepsAll, allows};
+ghost use Rattle.subscribers.specs.Wishes.{takes_by};
 
 // Manifests and tables of leap seconds.
 mod leap_tables;
@@ -26,14 +27,16 @@ mod stated;
 // The made load.
 mod loads;
 
-use admission::{Delta, Kept, RuleKind, Test, changes_at_most, changes_no_past};
+use admission::{Changed, Delta, Kept, RuleKind, Rules, Test, changes_at_most, changes_no_past};
 use case_lines::{Answer, CaseFault, Row, Table};
+use installer::Asked;
 use std::alloc::Global;
 use std::io;
 use std::sync::Wait;
+use subscribers::{Want, WantTest, Wish, WishKind, is_any, is_past, is_under};
 use td_base::{Bytes, MemoryStore};
 
-#[tactic(auto, using(admission::proofs::lemmas::Keeping::both_kept))]
+#[tactic(auto, using(admission::proofs::lemmas::Keeping::both_kept, subscribers::proofs::lemmas::Wanting::three_wanted))]
 fn main(rt: HostRuntime) -> io::Result<()> {
     let alloc = rt.alloc();
     let mut table = Table::new(alloc);
@@ -50,10 +53,28 @@ fn main(rt: HostRuntime) -> io::Result<()> {
         Kept::new(RuleKind::MaxChanged, at_most),
         Kept::new(RuleKind::NoPastChange, no_past),
     ];
+    let any = |change: &Changed, wish: &Wish| -> bool
+        ensures { result ≡ takes_by WishKind.Any change.now wish.now }
+    { is_any(change, wish) };
+    let under = |change: &Changed, wish: &Wish| -> bool
+        ensures { result ≡ takes_by WishKind.Under change.now wish.now }
+    { is_under(change, wish) };
+    let past = |change: &Changed, wish: &Wish| -> bool
+        ensures { result ≡ takes_by WishKind.Past change.now wish.now }
+    { is_past(change, wish) };
+    let any: WantTest = Box::new(alloc, any)?;
+    let under: WantTest = Box::new(alloc, under)?;
+    let past: WantTest = Box::new(alloc, past)?;
+    let wants = [
+        Want::new(WishKind::Any, any),
+        Want::new(WishKind::Under, under),
+        Want::new(WishKind::Past, past),
+    ];
+    let asked = Asked::new(Rules::none(alloc), &wants);
     for line in rt.lines(alloc) {
         let line = line?;
         if let Some(row) = table.row(line.as_str())? {
-            let answer = answer(&rt, alloc, &row, &mut store, &kept);
+            let answer = answer(&rt, alloc, &row, &mut store, &kept, &asked);
             if let Some(told) = table.judge(&row, answer)? {
                 println!(rt; "{told}")?;
             }
@@ -63,25 +84,27 @@ fn main(rt: HostRuntime) -> io::Result<()> {
     println!(rt; "{tally}")
 }
 
-/// What is answered to a row, with a test for each kind of rule.
+/// What is answered to a row, with a test for each kind of rule, and what is lent to installs of
+/// which no rule is asked.
 fn answer<R: Wait>(
     rt: &R,
     alloc: Global,
     row: &Row,
     store: &mut MemoryStore,
     kept: &[Kept],
+    asked: &Asked<'_>,
 ) -> Answer
     requires { KeepsAll (map (λ k. k.kind) kept.now) }
 {
     match row.kind() {
         "file" => put(alloc, row, store),
-        "install" => installs::install(rt, alloc, row, store),
+        "install" => installs::install(rt, alloc, row, store, asked),
         "open" => installs::open(rt, alloc, row, store),
-        "joins" => joins::joins(rt, alloc, row, store),
-        "stated" => stated::stated(rt, alloc, row, store, kept),
+        "joins" => joins::joins(rt, alloc, row, store, asked),
+        "stated" => stated::stated(rt, alloc, row, store, kept, asked),
         "asked" => ruled::asked(alloc, row, kept),
         "changed" => ruled::changed(alloc, row, store),
-        "ruled" => ruled::ruled(rt, alloc, row, store, kept),
+        "ruled" => ruled::ruled(rt, alloc, row, store, kept, asked),
         "serves" => stated::served(rt, alloc, row, store),
         "manifest" => manifests::read_back(alloc, row),
         "printed" => printed::printed(alloc, row),

@@ -7,7 +7,7 @@ use crate::histories::catalogue_of;
 use crate::stated::put_count;
 use admission::{Changed, Chosen, Delta, Kept, RuleKind, Rules, delta_of};
 use case_lines::{Answer, CaseFault, Row, shown, signed};
-use installer::Installer;
+use installer::{Asked, Installer};
 use release_check::check;
 use std::alloc::Global;
 use std::sync::Wait;
@@ -118,15 +118,16 @@ pub fn ruled<R: Wait>(
     row: &Row,
     store: &mut MemoryStore,
     kept: &[Kept],
+    asked: &Asked<'_>,
 ) -> Answer
     requires { KeepsAll (map (λ k. k.kind) kept.now) }
 {
-    let rules = rules(alloc, kept, row.word(0)?)?;
+    let asked = Asked::new(rules(alloc, kept, row.word(0)?)?, asked.wants);
     match Installer::open(rt, alloc, row.word(1)?, store, 1) {
         Ok((installer, desks)) => {
             drop(desks);
             let mut installer = installer;
-            let told = grown(rt, alloc, row, store, &mut installer, &rules);
+            let told = grown(rt, alloc, row, store, &mut installer, &asked);
             installer.close(rt);
             told
         }
@@ -141,12 +142,12 @@ fn grown<R: Wait>(
     row: &Row,
     store: &mut MemoryStore,
     installer: &mut Installer,
-    rules: &Rules<'_>,
+    asked: &Asked<'_>,
 ) -> Answer {
     let mut out = Vec::new(alloc);
     put_count(alloc, &mut out, installer)?;
     for at in 2..row.words().len() {
-        if let Err(fault) = installer.install(rt, alloc, row.word(at)?, store, rules) {
+        if let Err(fault) = installer.install(rt, alloc, row.word(at)?, store, asked) {
             out.extend_from_slice(crate::text(alloc, &fault)?.as_slice())?;
             out.push(b' ')?;
         }

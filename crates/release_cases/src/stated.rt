@@ -4,9 +4,9 @@ ghost use Rattle.std.specs.Prelude.{map};
 ghost use Rattle.admission.specs.Rules.{KeepsAll};
 
 use crate::ruled::rules;
-use admission::{Kept, Rules};
+use admission::Kept;
 use case_lines::{Answer, CaseFault, Row};
-use installer::{InstallFault, Installer};
+use installer::{Asked, InstallFault, Installer};
 use release_manifest::{MOST_BYTES, Manifest, ManifestLeaps, ManifestZone, read};
 use std::alloc::{AllocError, Global};
 use std::sync::Wait;
@@ -21,16 +21,17 @@ pub fn stated<R: Wait>(
     row: &Row,
     store: &mut MemoryStore,
     kept: &[Kept],
+    asked: &Asked<'_>,
 ) -> Answer
     requires { KeepsAll (map (λ k. k.kind) kept.now) }
 {
-    let rules = rules(alloc, kept, row.word(0)?)?;
+    let asked = Asked::new(rules(alloc, kept, row.word(0)?)?, asked.wants);
     let first = manifest_of(alloc, row.word(1)?, store)?;
     match Installer::open_manifest(rt, alloc, &first, store, 1) {
         Ok((installer, desks)) => {
             drop(desks);
             let mut installer = installer;
-            let told = grown(rt, alloc, row, store, &mut installer, &rules);
+            let told = grown(rt, alloc, row, store, &mut installer, &asked);
             installer.close(rt);
             told
         }
@@ -45,13 +46,13 @@ fn grown<R: Wait>(
     row: &Row,
     store: &mut MemoryStore,
     installer: &mut Installer,
-    rules: &Rules<'_>,
+    asked: &Asked<'_>,
 ) -> Answer {
     let mut out = Vec::new(alloc);
     put_count(alloc, &mut out, installer)?;
     for at in 2..4 {
         let manifest = manifest_of(alloc, row.word(at)?, store)?;
-        if let Err(fault) = installer.install_manifest(rt, alloc, &manifest, store, rules) {
+        if let Err(fault) = installer.install_manifest(rt, alloc, &manifest, store, asked) {
             out.extend_from_slice(crate::text(alloc, &fault)?.as_slice())?;
             out.push(b' ')?;
         }

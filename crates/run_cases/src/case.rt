@@ -1,5 +1,6 @@
 ghost use Rattle.std.specs.Prelude.{map};
 ghost use Rattle.admission.specs.Rules.{KeepsAll};
+ghost use Rattle.subscribers.specs.Wishes.{WantsAll};
 
 use crate::ending::Ending;
 use crate::exchanges::are_met;
@@ -12,6 +13,7 @@ use case_lines::CaseFault;
 use std::alloc::{AllocError, Global};
 use std::sync::Wait;
 use std::thread::Threads;
+use subscribers::Want;
 use td_base::{Bytes, Faulty, MemorySink, MemorySource, NoMemory};
 
 /// A run, and how it is to end.
@@ -131,13 +133,15 @@ impl Case {
         rt: &R,
         alloc: Global,
         kept: &[Kept],
+        wants: &[Want],
         files: &[File],
         trial: Trial,
     ) -> Result<Ending, NoMemory>
-        requires { KeepsAll (map (λ k. k.kind) kept.now) }
+        requires rules { KeepsAll (map (λ k. k.kind) kept.now) }
+        requires wants { WantsAll (map (λ w. w.kind) wants.now) }
     {
         let mut stage = Stage::new(alloc, self, files, trial)?;
-        let outcome = stage.play(rt, alloc, self.words.as_slice(), kept);
+        let outcome = stage.play(rt, alloc, self.words.as_slice(), kept, wants);
         stage.end(alloc, outcome)
     }
 

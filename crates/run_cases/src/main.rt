@@ -4,6 +4,7 @@
 
 ghost use Rattle.std.specs.Prelude.{◌≡◌};
 ghost use Rattle.admission.specs.Rules.{allows};
+ghost use Rattle.subscribers.specs.Wishes.{takes_by};
 
 // The table, line by line.
 mod script;
@@ -20,11 +21,12 @@ mod plan;
 mod stage;
 mod watched;
 
-use admission::{Delta, Kept, RuleKind, Test, changes_at_most, changes_no_past};
+use admission::{Changed, Delta, Kept, RuleKind, Test, changes_at_most, changes_no_past};
 use script::Script;
 use std::io;
+use subscribers::{Want, WantTest, Wish, WishKind, is_any, is_past, is_under};
 
-#[tactic(auto, using(admission::proofs::lemmas::Keeping::both_kept))]
+#[tactic(auto, using(admission::proofs::lemmas::Keeping::both_kept, subscribers::proofs::lemmas::Wanting::three_wanted))]
 fn main(rt: HostRuntime) -> io::Result<()> {
     let at_most = |delta: &Delta, most: i64| -> bool
         ensures { result ≡ allows RuleKind.MaxChanged most delta.now }
@@ -38,10 +40,27 @@ fn main(rt: HostRuntime) -> io::Result<()> {
         Kept::new(RuleKind::MaxChanged, at_most),
         Kept::new(RuleKind::NoPastChange, no_past),
     ];
+    let any = |change: &Changed, wish: &Wish| -> bool
+        ensures { result ≡ takes_by WishKind.Any change.now wish.now }
+    { is_any(change, wish) };
+    let under = |change: &Changed, wish: &Wish| -> bool
+        ensures { result ≡ takes_by WishKind.Under change.now wish.now }
+    { is_under(change, wish) };
+    let past = |change: &Changed, wish: &Wish| -> bool
+        ensures { result ≡ takes_by WishKind.Past change.now wish.now }
+    { is_past(change, wish) };
+    let any: WantTest = Box::new(rt.alloc(), any)?;
+    let under: WantTest = Box::new(rt.alloc(), under)?;
+    let past: WantTest = Box::new(rt.alloc(), past)?;
+    let wants = [
+        Want::new(WishKind::Any, any),
+        Want::new(WishKind::Under, under),
+        Want::new(WishKind::Past, past),
+    ];
     let mut script = Script::new(rt.alloc());
     for line in rt.lines(rt.alloc()) {
         let line = line?;
-        if let Some(told) = script.read_line(&rt, &kept, line.as_str())? {
+        if let Some(told) = script.read_line(&rt, &kept, &wants, line.as_str())? {
             println!(rt; "{told}")?;
         }
     }

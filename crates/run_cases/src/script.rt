@@ -1,5 +1,6 @@
 ghost use Rattle.std.specs.Prelude.{map};
 ghost use Rattle.admission.specs.Rules.{KeepsAll};
+ghost use Rattle.subscribers.specs.Wishes.{WantsAll};
 
 use crate::case::Case;
 use crate::ending::Ending;
@@ -10,6 +11,7 @@ use case_lines::{CaseFault, Tally, Texts, cut, hex_bytes, number};
 use std::alloc::{AllocError, Global};
 use std::sync::Wait;
 use std::thread::Threads;
+use subscribers::Want;
 use td_base::Bytes;
 
 /// A table that is read line by line.
@@ -43,11 +45,13 @@ impl Script {
         &mut self,
         rt: &R,
         kept: &[Kept],
+        wants: &[Want],
         line: &str,
     ) -> Result<Option<String>, AllocError>
-        requires { KeepsAll (map (λ k. k.kind) kept.now) }
+        requires rules { KeepsAll (map (λ k. k.kind) kept.now) }
+        requires wants { WantsAll (map (λ w. w.kind) wants.now) }
     {
-        match self.take(rt, kept, line) {
+        match self.take(rt, kept, wants, line) {
             Ok(told) => Ok(told),
             Err(CaseFault::NoMemory) => Err(AllocError),
             Err(CaseFault::Strange) => Ok(Some(format!(in self.alloc; "strange line: {line}")?)),
@@ -58,9 +62,11 @@ impl Script {
         &mut self,
         rt: &R,
         kept: &[Kept],
+        wants: &[Want],
         line: &str,
     ) -> Result<Option<String>, CaseFault>
-        requires { KeepsAll (map (λ k. k.kind) kept.now) }
+        requires rules { KeepsAll (map (λ k. k.kind) kept.now) }
+        requires wants { WantsAll (map (λ w. w.kind) wants.now) }
     {
         let (word, rest) = cut(line);
         match word {
@@ -69,7 +75,7 @@ impl Script {
             "hex" => self.add_hex_file(rest)?,
             "remove" => self.files = Vec::new(self.alloc),
             "case" => self.case = Some(Case::new(self.alloc, rest)?),
-            "run" => return self.run_case(rt, kept, rest),
+            "run" => return self.run_case(rt, kept, wants, rest),
             _ => {
                 if !self.texts.define(word, rest)? {
                     self.add_to_case(word, rest)?;
@@ -130,9 +136,11 @@ impl Script {
         &mut self,
         rt: &R,
         kept: &[Kept],
+        wants: &[Want],
         how: &str,
     ) -> Result<Option<String>, CaseFault>
-        requires { KeepsAll (map (λ k. k.kind) kept.now) }
+        requires rules { KeepsAll (map (λ k. k.kind) kept.now) }
+        requires wants { WantsAll (map (λ w. w.kind) wants.now) }
     {
         let Some(case) = &self.case else {
             return Err(CaseFault::Strange);
@@ -145,7 +153,7 @@ impl Script {
         let mut report = None;
         for number in 1..count.saturating_add(1) {
             let trial = Trial::of(how, number);
-            let ending = case.run(rt, self.alloc, kept, self.files.as_slice(), trial)?;
+            let ending = case.run(rt, self.alloc, kept, wants, self.files.as_slice(), trial)?;
             let is_right = case.is_met_by(trial, &ending);
             self.tally.count(is_right);
             if !is_right {

@@ -1,6 +1,7 @@
 //! The objects in memory over which a case runs.
 ghost use Rattle.std.specs.Prelude.{map};
 ghost use Rattle.admission.specs.Rules.{KeepsAll};
+ghost use Rattle.subscribers.specs.Wishes.{WantsAll};
 
 use crate::case::Case;
 use crate::ending::{ConnEnd, DoorEnd, Ending};
@@ -12,6 +13,7 @@ use admission::Kept;
 use std::alloc::Global;
 use std::sync::Wait;
 use std::thread::Threads;
+use subscribers::Want;
 use td_base::{
     Bytes, Door, Faulty, MemoryDoor, MemoryNetwork, MemorySink, MemorySource, MemorySpawner,
     MemoryStore, Network, NoMemory, Sink, Source, Spawner, Store,
@@ -59,14 +61,17 @@ impl Stage {
         alloc: Global,
         words: &[Bytes],
         kept: &[Kept],
+        wants: &[Want],
     ) -> Outcome<CaseDoor, CaseUpstream>
-        requires { KeepsAll (map (λ k. k.kind) kept.now) }
+        requires rules { KeepsAll (map (λ k. k.kind) kept.now) }
+        requires wants { WantsAll (map (λ w. w.kind) wants.now) }
     {
         top_call(
             rt,
             alloc,
             words,
             kept,
+            wants,
             &mut self.store,
             &mut self.input,
             &mut self.output,
@@ -166,6 +171,7 @@ fn top_call<R, S, C, K, N, W>(
     alloc: Global,
     words: &[Bytes],
     kept: &[Kept],
+    wants: &[Want],
     store: &mut S,
     input: &mut C,
     output: &mut K,
@@ -181,7 +187,10 @@ where
     N::Door: Send + Drop + 'static,
     <N::Door as Door>::Conn: Send + 'static,
     W: Spawner,
-    requires { KeepsAll (map (λ k. k.kind) kept.now) }
+    requires rules { KeepsAll (map (λ k. k.kind) kept.now) }
+    requires wants { WantsAll (map (λ w. w.kind) wants.now) }
 {
-    td_top::run(rt, alloc, words, kept, store, input, output, net, spawner)
+    td_top::run(
+        rt, alloc, words, kept, wants, store, input, output, net, spawner,
+    )
 }

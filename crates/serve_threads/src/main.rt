@@ -6,18 +6,20 @@
 
 ghost use Rattle.std.specs.Prelude.{◌≡◌};
 ghost use Rattle.admission.specs.Rules.{allows};
+ghost use Rattle.subscribers.specs.Wishes.{takes_by};
 
-use admission::{Delta, Kept, RuleKind, Test, changes_at_most, changes_no_past};
+use admission::{Changed, Delta, Kept, RuleKind, Test, changes_at_most, changes_no_past};
 use devices::{GateDoor, RealSink, RealSource, RealSpawner, RealStore, gate_pair};
 use std::alloc::Global;
 use std::io;
 use std::io::{Error, ErrorKind};
+use subscribers::{Want, WantTest, Wish, WishKind, is_any, is_past, is_under};
 use td_base::{Bytes, End, MemoryNetwork, MemoryUpstream, NoMemory};
 
 /// For how many turns a read waits for the other connection.
 const TURNS: u32 = 1_000_000;
 
-#[tactic(auto, using(admission::proofs::lemmas::Keeping::both_kept))]
+#[tactic(auto, using(admission::proofs::lemmas::Keeping::both_kept, subscribers::proofs::lemmas::Wanting::three_wanted))]
 fn main(rt: HostRuntime) -> io::Result<()> {
     let at_most = |delta: &Delta, most: i64| -> bool
         ensures { result ≡ allows RuleKind.MaxChanged most delta.now }
@@ -31,6 +33,23 @@ fn main(rt: HostRuntime) -> io::Result<()> {
         Kept::new(RuleKind::MaxChanged, at_most),
         Kept::new(RuleKind::NoPastChange, no_past),
     ];
+    let any = |change: &Changed, wish: &Wish| -> bool
+        ensures { result ≡ takes_by WishKind.Any change.now wish.now }
+    { is_any(change, wish) };
+    let under = |change: &Changed, wish: &Wish| -> bool
+        ensures { result ≡ takes_by WishKind.Under change.now wish.now }
+    { is_under(change, wish) };
+    let past = |change: &Changed, wish: &Wish| -> bool
+        ensures { result ≡ takes_by WishKind.Past change.now wish.now }
+    { is_past(change, wish) };
+    let any: WantTest = Box::new(rt.alloc(), any)?;
+    let under: WantTest = Box::new(rt.alloc(), under)?;
+    let past: WantTest = Box::new(rt.alloc(), past)?;
+    let wants = [
+        Want::new(WishKind::Any, any),
+        Want::new(WishKind::Under, under),
+        Want::new(WishKind::Past, past),
+    ];
     let mut network = gates(rt.alloc()).map_err(out_of_memory)?;
     let words = words(rt.alloc()).map_err(out_of_memory)?;
     let mut store = RealStore::new(&rt);
@@ -42,6 +61,7 @@ fn main(rt: HostRuntime) -> io::Result<()> {
         rt.alloc(),
         words.as_slice(),
         &kept,
+        &wants,
         &mut store,
         &mut input,
         &mut output,

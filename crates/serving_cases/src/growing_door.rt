@@ -1,13 +1,15 @@
 //! A door at which releases are installed between connections.
 ghost use Rattle.std.specs.Prelude.{◌≡◌};
+ghost use Rattle.subscribers.specs.Wishes.{takes_by};
 
 use crate::listed_door::ListedDoor;
-use admission::Rules;
-use installer::Installer;
+use admission::{Changed, Rules};
+use installer::{Asked, Installer};
 use release_manifest::Manifest;
-use std::alloc::Global;
+use std::alloc::{AllocError, Global};
 use std::collections::VecDeque;
 use std::sync::Wait;
+use subscribers::{Want, WantTest, Wish, WishKind, is_any, is_past, is_under};
 use td_base::{Accepted, Door, FaultyConn, MemoryConn, MemoryStore, Report};
 
 /// A door that installs a release before it gives the connection of a step `p`. It tells nothing but
@@ -49,9 +51,41 @@ fn grow<R: Wait>(
 ) {
     if steps.pop_front() == Some(b'p') {
         if let Some(manifest) = manifests.pop_front() {
-            let _ = installer.install_manifest(rt, alloc, &manifest, store, &Rules::none(alloc));
+            let _ = install(rt, alloc, installer, store, &manifest);
         }
     }
+}
+
+/// Installs the release of a manifest. Nobody hears of it, but tests of wishes are lent to it as to
+/// any install.
+#[tactic(auto, using(subscribers::proofs::lemmas::Wanting::three_wanted))]
+fn install<R: Wait>(
+    rt: &R,
+    alloc: Global,
+    installer: &mut Installer,
+    store: &mut MemoryStore,
+    manifest: &Manifest,
+) -> Result<(), AllocError> {
+    let any = |change: &Changed, wish: &Wish| -> bool
+        ensures { result ≡ takes_by WishKind.Any change.now wish.now }
+    { is_any(change, wish) };
+    let under = |change: &Changed, wish: &Wish| -> bool
+        ensures { result ≡ takes_by WishKind.Under change.now wish.now }
+    { is_under(change, wish) };
+    let past = |change: &Changed, wish: &Wish| -> bool
+        ensures { result ≡ takes_by WishKind.Past change.now wish.now }
+    { is_past(change, wish) };
+    let any: WantTest = Box::new(alloc, any)?;
+    let under: WantTest = Box::new(alloc, under)?;
+    let past: WantTest = Box::new(alloc, past)?;
+    let wants = [
+        Want::new(WishKind::Any, any),
+        Want::new(WishKind::Under, under),
+        Want::new(WishKind::Past, past),
+    ];
+    let asked = Asked::new(Rules::none(alloc), &wants);
+    let _ = installer.install_manifest(rt, alloc, manifest, store, &asked);
+    Ok(())
 }
 
 impl<R: Wait> Door for GrowingDoor<'_, R> {
