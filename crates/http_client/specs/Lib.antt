@@ -1,3 +1,4 @@
+pub mod CalendarRequests
 pub mod FaultText
 pub mod Fields
 pub mod Replies

@@ -36,7 +36,7 @@ fn request_text(alloc: Global, ask: &Ask, host: &[u8]) -> Result<Bytes, NoMemory
     Ok(out)
 }
 
-fn put_request_line(out: &mut Bytes, ask: &Ask) -> Result<(), NoMemory>
+pub fn put_request_line(out: &mut Bytes, ask: &Ask) -> Result<(), NoMemory>
     ensures { OnOk result (out.new ≡ out.old ++ requests.request_line ask.now) }
 {
     out.append(b"GET ")?;
@@ -46,7 +46,7 @@ fn put_request_line(out: &mut Bytes, ask: &Ask) -> Result<(), NoMemory>
 }
 
 /// Appends the text with something before it and something after it.
-fn put_enclosed(out: &mut Bytes, front: &[u8], text: &[u8], end: &[u8]) -> Result<(), NoMemory>
+pub fn put_enclosed(out: &mut Bytes, front: &[u8], text: &[u8], end: &[u8]) -> Result<(), NoMemory>
     ensures { OnOk result (out.new ≡ out.old ++ requests.enclosed front.now text.now end.now) }
 {
     out.append(front)?;
