@@ -1,0 +1,16 @@
+pub mod ContentLines
+pub mod FallsOn
+pub mod FaultText
+pub mod Faults
+pub mod Observing
+pub mod Onsets
+pub mod PartLines
+pub mod Pieces
+pub mod ReadLines
+pub mod RuleWords
+pub mod Separated
+pub mod Sound
+pub mod TimeTexts
+pub mod Turns
+pub mod ValidForms
+pub mod Written
