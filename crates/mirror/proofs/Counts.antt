@@ -29,9 +29,7 @@ use Rattle.sync_core.specs.declared.heard_type.Heard.{Heard}
 use Rattle.sync_core.specs.declared.heard_type.Heard.TheVariants as heard
 use Rattle.sync_core.specs.declared.heard_type.Settled.TheVariants.{Holds, More}
 use Rattle.mirror.specs.Shares.{lists_in}
-use Rattle.mirror.specs.Understanding.{Means}
-use Rattle.mirror.specs.declared.understood_type.Understood.TheVariants as understood
-use Rattle.mirror.proofs.Meanings.{IsToldIn, is_told}
+use Rattle.mirror.proofs.lemmas.Meanings.{IsToldIn}
 
 -- ---- zones of a list
 
@@ -155,8 +153,8 @@ pends_by s h (tzid ∷ tzids) some told =
     one_more : (ts : List (List ℕ)) → length ts + 1 ≡ length (tzid ∷ ts)
     one_more ts = omega arith
 
-pub pends : (s : MirrorState) (answer : List ℕ) (h : Heard) → Means (ask_of s) answer (understood.Hears h) → Pends s (sync_step s h)
-pends s answer h m = pends_by s h s.pending refl (is_told (ask_of s) answer h m)
+pub pends : (s : MirrorState) (h : Heard) → IsToldIn (ask_of s) h → Pends s (sync_step s h)
+pends s h told = pends_by s h s.pending refl told
 
 -- ---- where the mirror is settled, nothing is pending
 
@@ -177,11 +175,9 @@ file_not_settled s (heard.List doc) (ask.Get name) none told = absurd told.0
 file_not_settled s (heard.Zone bytes) (ask.Get name) none told = refl
 file_not_settled s heard.BadToken (ask.Get name) none told = absurd told
 
-pub settled_leaves_none : (s : MirrorState) (answer : List ℕ) (h : Heard) → Means (ask_of s) answer (understood.Hears h) → settles s h ≡ Holds
-    → (sync_step s h).pending ≡ []
-settled_leaves_none s answer h m e = by_pends (pends s answer h m)
+pub settled_leaves_none : (s : MirrorState) (h : Heard) → IsToldIn (ask_of s) h → settles s h ≡ Holds → (sync_step s h).pending ≡ []
+settled_leaves_none s h told e = by_pends (pends s h told)
   where
     by_pends : Pends s (sync_step s h) → (sync_step s h).pending ≡ []
     by_pends (listed none is few) = step_pending s h ∙ settled_heard s h e ∙ none
-    by_pends (got is fewer) =
-        let more = file_not_settled s h (ask_of s) is (is_told (ask_of s) answer h m) in absurd (cc (more, e))
+    by_pends (got is fewer) = let more = file_not_settled s h (ask_of s) is told in absurd (cc (more, e))

@@ -1,4 +1,2 @@
 mod Counts
-mod Meanings
-mod Walks
 pub mod lemmas

@@ -1,2 +1,4 @@
 -- Lemmas that proofs of other crates may cite.
+pub mod Meanings
 pub mod Told
+pub mod Walks

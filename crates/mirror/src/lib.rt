@@ -25,5 +25,7 @@ pub use laws::one_meaning;
 pub use limits::{MOST_ANSWER, MOST_LISTS};
 pub use sync_fault::SyncFault;
 pub use syncing::sync;
+pub use taken_type::Taken;
+pub use turns::taken_by;
 pub use understanding::understand;
 pub use understood_type::Understood;

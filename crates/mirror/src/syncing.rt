@@ -14,7 +14,7 @@ use td_base::Upstream;
 /// Asks the upstream, as this host, for what the mirror asks, and takes the answers, until a list
 /// of changes comes back empty. After a fault the mirror is as after the last answer that was
 /// taken.
-#[tactic(auto, using(crate::proofs::Walks::begins, crate::proofs::Walks::settled_syncs, crate::proofs::Walks::settled_leaves, crate::proofs::Walks::fault_syncs, crate::proofs::Walks::list_goes_on, crate::proofs::Walks::file_goes_on, crate::proofs::Walks::list_leaves, crate::proofs::Walks::file_leaves, crate::proofs::Walks::unsettled))]
+#[tactic(auto, using(crate::proofs::lemmas::Walks::begins, crate::proofs::lemmas::Walks::settled_syncs, crate::proofs::lemmas::Walks::fault_syncs, crate::proofs::lemmas::Walks::list_goes_on, crate::proofs::lemmas::Walks::file_goes_on, crate::proofs::lemmas::Walks::unsettled))]
 pub fn sync<U: Upstream>(
     alloc: Global,
     mirror: &mut Mirror,

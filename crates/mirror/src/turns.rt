@@ -2,6 +2,7 @@ ghost use Rattle.std.specs.Prelude.{◌≡◌, IfOk};
 ghost use Rattle.http_client.specs.Requests.{request_text};
 ghost use Rattle.sync_core.specs.Mirrors.{ask_of};
 ghost use Rattle.mirror.specs.Turns as turns;
+ghost use Rattle.mirror.specs.Understanding.{Means};
 
 use crate::limits::MOST_ANSWER;
 use crate::taken_type::Taken;
@@ -13,7 +14,7 @@ use sync_core::{Mirror, Settled};
 use td_base::{Ask, Bytes, Exchanged, NoMemory, Upstream};
 
 /// The exchange of this number: what the mirror asks is asked, and the answer taken.
-#[tactic(auto, using(crate::proofs::Walks::got_turn, crate::proofs::Walks::failed_turn, crate::proofs::Walks::starved_turn, crate::proofs::Walks::no_turn))]
+#[tactic(auto, using(crate::proofs::lemmas::Walks::got_turn, crate::proofs::lemmas::Walks::failed_turn, crate::proofs::lemmas::Walks::starved_turn, crate::proofs::lemmas::Walks::no_turn))]
 pub fn turn<U: Upstream>(
     alloc: Global,
     mirror: &mut Mirror,
@@ -21,8 +22,8 @@ pub fn turn<U: Upstream>(
     upstream: &mut U,
     number: u64,
 ) -> Result<Taken, SyncFault>
-    ensures { turns.TurnsOn (request_text host.now) mirror.old mirror.new (U.seen upstream.old)
-        (U.seen upstream.new) number result }
+    ensures { turns.TurnsOn (request_text host.now) Means mirror.old mirror.new
+        (U.seen upstream.old) (U.seen upstream.new) number result }
 {
     let ask = mirror.ask(alloc)?;
     let text = written(alloc, &ask, host)?;
@@ -51,7 +52,7 @@ fn take_answer(
     answer: Bytes,
 ) -> Result<Taken, SyncFault>
     requires { ask.now ≡ ask_of mirror.old }
-    ensures { turns.Takes ask.now mirror.old mirror.new answer number result }
+    ensures { turns.Takes Means ask.now mirror.old mirror.new answer number result }
 {
     match understand(alloc, ask, answer.as_slice())? {
         Understood::Hears(heard) => {
@@ -64,7 +65,7 @@ fn take_answer(
 }
 
 /// What was taken of the answer to what was asked.
-fn taken_by(ask: &Ask, settled: Settled) -> Taken
+pub fn taken_by(ask: &Ask, settled: Settled) -> Taken
     ensures { result ≡ turns.taken_by ask.now settled }
 {
     match (ask, settled) {

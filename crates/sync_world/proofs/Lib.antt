@@ -20,3 +20,4 @@ pub mod Answering
 pub mod Requests
 pub mod Retired
 pub mod Reaching
+pub mod Calendars

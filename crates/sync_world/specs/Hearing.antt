@@ -11,11 +11,15 @@ use Rattle.http_request.specs.declared.head.Head.{Head}
 use Rattle.json_forms.specs.ListReading.{list_read}
 use Rattle.json_forms.specs.ProblemDocument.{problem_in}
 use Rattle.json_forms.specs.declared.problem_type.Problem.TheVariants.{InvalidChangedsince}
+use Rattle.negotiate.specs.declared.choosing.Format.{Format}
+use Rattle.negotiate.specs.declared.choosing.Format.TheVariants as format
 use Rattle.target.specs.Actions.{asks}
 use Rattle.target.specs.declared.asked_types.Asked.{Asked}
 use Rattle.target.specs.declared.asked_types.Asked.TheVariants as asked
 use Rattle.target.specs.declared.asked_types.Param.TheVariants as param
 use Rattle.actions.specs.Action.{action}
+use Rattle.actions.specs.Formats.{form_of}
+use Rattle.actions.specs.declared.bounds.Bound.TheVariants.{Open}
 use Rattle.sync_core.specs.declared.heard_type.Heard.{Heard}
 use Rattle.sync_core.specs.declared.heard_type.Heard.TheVariants as heard
 use Rattle.sync_world.specs.Primaries.{Service}
@@ -26,15 +30,22 @@ action_asked (ask.List None) = asked.List param.Absent
 action_asked (ask.List (Some token)) = asked.List (param.Once token)
 action_asked (ask.Get name) = asked.Get name param.Absent param.Absent
 
--- lists are JSON, and zones TZif files (RFC 9636, section 9)
-abbrev pub accepted : Ask → List ℕ
-accepted (ask.List token) = codes "application/json"
-accepted (ask.Get name) = codes "application/tzif"
+-- the media type of a zone's data in a format (RFC 5545, section 8.1; RFC 9636, section 9; RFC 7265,
+-- section 7)
+abbrev pub media_type : Format → List ℕ
+media_type format.Calendar = codes "text/calendar"
+media_type format.Tzif = codes "application/tzif"
+media_type format.CalendarJson = codes "application/calendar+json"
+
+-- lists are JSON, and zones of the format
+abbrev pub data_accepted : Format → Ask → List ℕ
+data_accepted f (ask.List token) = codes "application/json"
+data_accepted f (ask.Get name) = media_type f
 
 -- the head is one of a request that asks so
-pub record IsHeadOf (a : Ask) (head : Head) : Type 0 where
+pub record IsDataHeadOf (f : Format) (a : Ask) (head : Head) : Type 0 where
   pub target : asks head.target ≡ action_asked a
-  pub accept : head.accept ≡ Some (accepted a)
+  pub accept : head.accept ≡ Some (data_accepted f a)
   pub none_match : head.none_match ≡ None
 
 -- what is heard in an answer: a list in a document, a file in a body, and that a token is refused
@@ -51,13 +62,30 @@ IsHeardIn (ask.Get name) answer (heard.Zone bytes) = (answer.status ≡ 200) × 
 IsHeardIn (ask.Get name) answer heard.BadToken = ⊥
 
 -- a request that asks so is answered over the history, and this is heard in the answer
-pub record IsHeardOver (H : List ReleaseData) (a : Ask) (h : Heard) : Type 0 where
+pub record IsDataHeardOver (f : Format) (H : List ReleaseData) (a : Ask) (h : Heard) : Type 0 where
   pub head : Head
-  pub asks_so : IsHeadOf a head
+  pub asks_so : IsDataHeadOf f a head
   pub hears : IsHeardIn a (action H Primary head) h
 
--- a primary that answers so knows the tokens of its last places, and has a zone's own file under
--- each of its names
+-- a zone's data without bounds, under one of its names
+abbrev pub whole_data : Format → List ℕ → ContentData → List ℕ
+whole_data f name c = (form_of f).text name c (record { start = Open; end = Open })
+
+-- a primary that answers so knows the tokens of its last places, and has a zone's data under each
+-- of its names
+abbrev pub data_service : Format → Service
+data_service f = record { kept = KEPT_TOKENS; place = place_of; served = whole_data f }
+
+-- the same of TZif files: a zone has its own file under each of its names
+abbrev pub accepted : Ask → List ℕ
+accepted a = data_accepted format.Tzif a
+
+abbrev pub IsHeadOf : Ask → Head → Type 0
+IsHeadOf a head = IsDataHeadOf format.Tzif a head
+
+abbrev pub IsHeardOver : List ReleaseData → Ask → Heard → Type 0
+IsHeardOver H a h = IsDataHeardOver format.Tzif H a h
+
 abbrev pub file_bytes : List ℕ → ContentData → List ℕ
 file_bytes name c = c.file
 

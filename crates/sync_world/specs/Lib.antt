@@ -1,3 +1,4 @@
+pub mod Calendars
 pub mod Hearing
 pub mod Holding
 pub mod Primaries

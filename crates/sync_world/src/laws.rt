@@ -14,6 +14,8 @@ ghost use Rattle.sync_core.specs.Names.{put_all};
 ghost use Rattle.sync_core.specs.Steps.{kept_entries};
 ghost use Rattle.sync_core.specs.declared.heard_type.Heard.{Heard};
 ghost use Rattle.sync_core.specs.declared.heard_type.Heard.TheVariants as heard;
+ghost use Rattle.sync_world.specs.Calendars.{HoldsCalendars, IsCalendarHeadOf, IsCalendarHeardOver};
+ghost use Rattle.sync_world.specs.Calendars.{calendar_service};
 ghost use Rattle.sync_world.specs.Hearing.{IsHeardIn, IsHeadOf, IsHeardOver, action_service};
 ghost use Rattle.sync_world.specs.Holding.{HoldsLast, SaysHolds};
 ghost use Rattle.sync_world.specs.Primaries.{AsksSinceKept, IsPlace, IsTokenOf, ServesSo};
@@ -61,7 +63,38 @@ pub fn mirrors_hold_releases()
         → HoldsLast action_service v.mirror (take n w.history) }
 {}
 
-/// The same of any primary, as it serves.
+/// The same of a mirror that asks for calendars in the place of files: it holds exactly the calendars
+/// of the zones of the last of these n releases.
+pub fn mirrors_hold_calendars()
+    ensures { (H : List ReleaseData) (steps : List WorldStep) (w v : SyncWorld) (n : ℕ)
+        (sent : Sent) (h : Heard)
+        → IsHistory IsSound H → 1 ≤ length H
+        → Leads IsSound IsCalendarHeardOver (world_begun H) steps w
+        → IsAnswer IsCalendarHeardOver w n v sent h → SaysHolds w.mirror h
+        → HoldsCalendars v.mirror (take n w.history) }
+{}
+
+/// What is heard in the answer to a request for calendars is what there is to be told, no more and
+/// no less.
+pub fn calendars_are_heard()
+    ensures { (H : List ReleaseData) (a : Ask) (head : Head) (h : Heard) → IsHistory IsSound H
+        → 1 ≤ length H → IsCalendarHeadOf a head
+        → (told_by calendar_service H a ≡ Some h) ↔ IsHeardIn a (action H Primary head) h }
+{}
+
+/// Each such request for what is outstanding is answered, as one for files is.
+pub fn calendar_requests_are_answered()
+    ensures { (H : List ReleaseData) (steps : List WorldStep) (w : SyncWorld) (sent : Sent)
+        (n : ℕ) (head : Head)
+        → IsHistory IsSound H → 1 ≤ length H
+        → Leads IsSound IsCalendarHeardOver (world_begun H) steps w
+        → w.sent ≡ Some sent → sent.since ≤ n → n ≤ length w.history
+        → IsCalendarHeadOf sent.ask head
+        → (h : Heard) × IsHeardIn sent.ask (action (take n w.history) Primary head) h
+        × (AsksSinceKept calendar_service w.history n sent.ask → h ≢ heard.BadToken) }
+{}
+
+/// The law of any primary, as it serves.
 pub fn mirrors_hold<P: Primary>()
     ensures { (H : List ReleaseData) (steps : List WorldStep) (w v : SyncWorld) (n : ℕ)
         (sent : Sent) (h : Heard)

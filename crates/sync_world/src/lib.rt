@@ -5,7 +5,8 @@
 //! The world of a primary and a mirror, and its steps, are in `specs/Worlds.antt`; what a mirror
 //! hears in the answers of the actions in `specs/Hearing.antt`; that it holds a release in
 //! `specs/Holding.antt`. The law is the contract of [`mirrors_hold_releases`], and [`mirrors_hold`]
-//! says the same of any [`Primary`].
+//! says the same of any [`Primary`]. A mirror that asks for calendars in the place of files holds
+//! those of `specs/Calendars.antt`, by [`mirrors_hold_calendars`].
 #![tactic(auto)]
 
 // The servers that a mirror may follow.
@@ -15,7 +16,8 @@ mod primary;
 mod laws;
 
 pub use laws::{
-    actions_serve, aliases_follow, answers_are_heard, asks_are_answered, holds_comes, mirrors_hold,
-    mirrors_hold_releases, requests_are_answered, tokens_are_refused_late,
+    actions_serve, aliases_follow, answers_are_heard, asks_are_answered,
+    calendar_requests_are_answered, calendars_are_heard, holds_comes, mirrors_hold,
+    mirrors_hold_calendars, mirrors_hold_releases, requests_are_answered, tokens_are_refused_late,
 };
 pub use primary::{Actions, Primary};

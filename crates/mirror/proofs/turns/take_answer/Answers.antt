@@ -1,7 +1,7 @@
 use Rattle.std.proofs.Common.{refl, ap, ◌∙◌, subst}
 use Rattle.sync_core.specs.Steps.{IsAnswerTo}
 use Rattle.mirror.specs.Turns.{taken_by}
-use Rattle.mirror.proofs.Meanings.{answers, meant}
+use Rattle.mirror.proofs.lemmas.Meanings.{answers, meant}
 use Rattle.mirror.proofs.turns.take_answer.Goals as goal
 
 pub take-requires : goal.take-requires

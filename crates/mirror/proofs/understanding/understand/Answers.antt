@@ -1,4 +1,4 @@
-use Rattle.mirror.proofs.Meanings.{heard_fault, heard_reply}
+use Rattle.mirror.proofs.lemmas.Meanings.{heard_fault, heard_reply}
 use Rattle.mirror.proofs.understanding.understand.Goals as goal
 
 pub returns-in-Ok : goal.returns-in-Ok

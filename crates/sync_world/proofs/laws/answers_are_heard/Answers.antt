@@ -1,5 +1,6 @@
+use Rattle.negotiate.specs.declared.choosing.Format.TheVariants.{Tzif}
 use Rattle.sync_world.proofs.Requests.{heard_exactly}
 use Rattle.sync_world.proofs.laws.answers_are_heard.Goals as goal
 
 pub returns : goal.returns
-returns c = heard_exactly
+returns c = heard_exactly Tzif

@@ -33,6 +33,10 @@ IsToldIn a (heard.List doc) = IsAnswerTo a (heard.List doc) × ((text : List ℕ
 IsToldIn a (heard.Zone bytes) = IsAnswerTo a (heard.Zone bytes)
 IsToldIn a heard.BadToken = IsAnswerTo a heard.BadToken
 
+-- so is all that is heard, by what answers mean
+abbrev pub HearsInKind : (Ask → List ℕ → Understood → Type 0) → Type 0
+HearsInKind means = (a : Ask) (answer : List ℕ) (h : Heard) → means a answer (understood.Hears h) → IsToldIn a h
+
 same_heard : (h k : Heard) → understood.Hears h ≡ understood.Hears k → h ≡ k
 same_heard h k e = cc
 
@@ -65,17 +69,17 @@ told_reading a h (Ok reply) e = told_reply a reply h (reply.status == 200) e
 told_reading a h (Err (bad_reply.BadReply place)) e = absurd (cc)
 told_reading a h (Err bad_reply.NoMemory) e = absurd (cc)
 
-pub is_told : (a : Ask) (answer : List ℕ) (h : Heard) → Means a answer (understood.Hears h) → IsToldIn a h
+pub is_told : HearsInKind Means
 is_told a answer h (too_long m e) = absurd (cc)
 is_told a answer h (short r m k e) = told_reading a h r e
 
+pub told_answers : (a : Ask) (h : Heard) → IsToldIn a h → IsAnswerTo a h
+told_answers a (heard.List doc) t = t.0
+told_answers a (heard.Zone bytes) t = t
+told_answers a heard.BadToken t = t
+
 pub answers : (a : Ask) (answer : List ℕ) (h : Heard) → Means a answer (understood.Hears h) → IsAnswerTo a h
-answers a answer h m = by_kind h (is_told a answer h m)
-  where
-    by_kind : (k : Heard) → IsToldIn a k → IsAnswerTo a k
-    by_kind (heard.List doc) t = t.0
-    by_kind (heard.Zone bytes) t = t
-    by_kind heard.BadToken t = t
+answers a answer h m = told_answers a h (is_told a answer h m)
 
 -- ---- what is heard in an answer that is not too long
 

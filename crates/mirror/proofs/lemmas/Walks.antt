@@ -15,7 +15,6 @@ use Rattle.sync_core.specs.declared.heard_type.Settled.{Settled}
 use Rattle.sync_core.specs.declared.heard_type.Settled.TheVariants.{Holds, More}
 use Rattle.mirror.specs.Shares.{AsksOn, IsFor, SyncEnds, Syncs, WalksOn, failed, lists_in, not_settled, number_after, refused, settled, starved, unreadable}
 use Rattle.mirror.specs.Turns.{HasWalked, Takes, Turn, TurnsOn, asked_none, asked_one, taken_by}
-use Rattle.mirror.specs.Understanding.{Means}
 use Rattle.mirror.specs.declared.limits.TheConstants.{MOST_ANSWER, MOST_LISTS}
 use Rattle.mirror.specs.declared.sync_fault.SyncFault.{SyncFault}
 use Rattle.mirror.specs.declared.sync_fault.SyncFault.TheVariants as fault
@@ -23,6 +22,7 @@ use Rattle.mirror.specs.declared.taken_type.Taken.{Taken}
 use Rattle.mirror.specs.declared.taken_type.Taken.TheVariants as took
 use Rattle.mirror.specs.declared.understood_type.Understood.{Understood}
 use Rattle.mirror.specs.declared.understood_type.Understood.TheVariants as understood
+use Rattle.mirror.proofs.lemmas.Meanings.{HearsInKind}
 use Rattle.mirror.proofs.lemmas.Told.{tells_none, tells_on}
 use Rattle.mirror.proofs.Counts.{Pends, got, listed, pends, settled_leaves_none}
 
@@ -33,18 +33,19 @@ rose_on a b c l r = omega (arith, l, r)
 
 -- ---- walks
 
-walks_on : (written : Ask → List ℕ) (s t : MirrorState) (taken : List Exchange) (before lists : ℕ) (x : Exchange) (h : Heard)
-    → WalksOn written Means s taken before lists t → IsFor written Means t x (understood.Hears h) → settles t h ≡ More → lists < MOST_LISTS
-    → WalksOn written Means s (taken ++ x ∷ []) before (lists + lists_in (ask_of t)) (sync_step t h)
-walks_on written s t [] before lists x h w f m few = (
+walks_on : (written : Ask → List ℕ) (means : Ask → List ℕ → Understood → Type 0)
+    (s t : MirrorState) (taken : List Exchange) (before lists : ℕ) (x : Exchange) (h : Heard)
+    → WalksOn written means s taken before lists t → IsFor written means t x (understood.Hears h) → settles t h ≡ More → lists < MOST_LISTS
+    → WalksOn written means s (taken ++ x ∷ []) before (lists + lists_in (ask_of t)) (sync_step t h)
+walks_on written means s t [] before lists x h w f m few = (
   h,
-  subst (λ u. IsFor written Means u x (understood.Hears h)) w.0 f,
+  subst (λ u. IsFor written means u x (understood.Hears h)) w.0 f,
   ap (λ u. settles u h) (sym w.0) ∙ m,
   subst (λ n. n < MOST_LISTS) w.1 few,
   (ap (λ u. sync_step u h) w.0, ap (λ n. n + lists_in (ask_of t)) w.1 ∙ ap (λ u. before + lists_in (ask_of u)) w.0),
 )
-walks_on written s t (y ∷ ys) before lists x h w f m few =
-    (w.0, w.1, w.2, w.3, walks_on written (sync_step s w.0) t ys (before + lists_in (ask_of s)) lists x h w.4 f m few)
+walks_on written means s t (y ∷ ys) before lists x h w f m few =
+    (w.0, w.1, w.2, w.3, walks_on written means (sync_step s w.0) t ys (before + lists_in (ask_of s)) lists x h w.4 f m few)
 
 -- ---- what is left
 
@@ -80,35 +81,36 @@ got_by (ask.Get name) More e = (refl, refl)
 
 -- ---- ends
 
-module _ (written : Ask → List ℕ) (s t u : MirrorState) (old now new : UpstreamView) (lists asked number : ℕ)
-    (w : HasWalked written s t old now lists asked) (few : lists < MOST_LISTS) (next : number ≡ one_more asked) where
+module _ (written : Ask → List ℕ) (means : Ask → List ℕ → Understood → Type 0)
+    (s t u : MirrorState) (old now new : UpstreamView) (lists asked number : ℕ)
+    (w : HasWalked written means s t old now lists asked) (few : lists < MOST_LISTS) (next : number ≡ one_more asked) where
   told_on : (xs : List Exchange) → TellsMore now.told new.told xs → TellsMore old.told new.told (w.taken ++ xs)
   told_on xs told = tells_on old.told now.told new.told w.taken xs w.told told
 
-  walks_to : u ≡ t → WalksOn written Means s w.taken 0 lists u
-  walks_to same = subst (λ v. WalksOn written Means s w.taken 0 lists v) (sym same) w.walks
+  walks_to : u ≡ t → WalksOn written means s w.taken 0 lists u
+  walks_to same = subst (λ v. WalksOn written means s w.taken 0 lists v) (sym same) w.walks
 
-  asks_on : (x : Exchange) (m : Understood) → x.request ≡ written (ask_of t) → x.most ≡ MOST_ANSWER → Means (ask_of t) x.answer m
-      → AsksOn written Means s t w.taken x m
-  asks_on x m request most means =
-      record { lists = lists; walks = w.walks; few = few; is_for = record { request = request; most = most; is_meant = means } }
+  asks_on : (x : Exchange) (m : Understood) → x.request ≡ written (ask_of t) → x.most ≡ MOST_ANSWER → means (ask_of t) x.answer m
+      → AsksOn written means s t w.taken x m
+  asks_on x m request most is_meant =
+      record { lists = lists; walks = w.walks; few = few; is_for = record { request = request; most = most; is_meant = is_meant } }
 
-  asks_to : (x : Exchange) (m : Understood) → u ≡ t → x.request ≡ written (ask_of t) → x.most ≡ MOST_ANSWER → Means (ask_of t) x.answer m
-      → AsksOn written Means s u w.taken x m
-  asks_to x m same request most means = subst (λ v. AsksOn written Means s v w.taken x m) (sym same) (asks_on x m request most means)
+  asks_to : (x : Exchange) (m : Understood) → u ≡ t → x.request ≡ written (ask_of t) → x.most ≡ MOST_ANSWER → means (ask_of t) x.answer m
+      → AsksOn written means s u w.taken x m
+  asks_to x m same request most is_meant = subst (λ v. AsksOn written means s v w.taken x m) (sym same) (asks_on x m request most is_meant)
 
-  number_is : number ≡ number_after w.taken
+  pub number_is : number ≡ number_after w.taken
   number_is = omega (arith, next, w.count)
 
   none_ends : (e : SyncFault) (r : Result Taken SyncFault) (xs : List Exchange) → r ≡ Err e → xs ≡ [] → u ≡ t
-      → (r ≡ Err fault.UpstreamFault) ⊎ (r ≡ Err fault.NoMemory) → SyncEnds written Means s u w.taken xs (Err e)
+      → (r ≡ Err fault.UpstreamFault) ⊎ (r ≡ Err fault.NoMemory) → SyncEnds written means s u w.taken xs (Err e)
   none_ends e r xs says is same (inl f) =
       let cause : e ≡ fault.UpstreamFault = cc in failed lists (walks_to same) few is (ap Err cause)
   none_ends e r xs says is same (inr f) =
       let cause : e ≡ fault.NoMemory = cc in starved lists (walks_to same) few (inl is) (ap Err cause)
 
   one_ends : (e : SyncFault) (xs : List Exchange) (x : Exchange) → xs ≡ x ∷ [] → x.request ≡ written (ask_of t) → x.most ≡ MOST_ANSWER
-      → Takes (ask_of t) t u x.answer number (Err e) → SyncEnds written Means s u w.taken xs (Err e)
+      → Takes means (ask_of t) t u x.answer number (Err e) → SyncEnds written means s u w.taken xs (Err e)
   one_ends fault.NoMemory xs x is request most same =
       starved lists (walks_to same) few (inr (x, is, request ∙ ap (λ v. written (ask_of v)) (sym same), most)) refl
   one_ends fault.UpstreamFault xs x is request most takes = absurd takes
@@ -120,14 +122,14 @@ module _ (written : Ask → List ℕ) (s t u : MirrorState) (old now new : Upstr
       (ap (λ m. Err (fault.Refused m status)) (takes.1 ∙ number_is))
   one_ends (fault.NotSettled n) xs x is request most takes = absurd takes
 
-  fault_ends : (e : SyncFault) (xs : List Exchange) → Turn written t u xs number (Err e) → SyncEnds written Means s u w.taken xs (Err e)
+  fault_ends : (e : SyncFault) (xs : List Exchange) → Turn written means t u xs number (Err e) → SyncEnds written means s u w.taken xs (Err e)
   fault_ends e xs (asked_none is k) = none_ends e (Err e) xs refl is k.0 k.1
   fault_ends e xs (asked_one x is request most takes) = one_ends e xs x is request most takes
 
   same_cause : (e : SyncFault) (r : Result (Unit {0}) SyncFault) → r ≡ Err e → r ≡ Err fault.UpstreamFault → e ≡ fault.UpstreamFault
   same_cause e r says f = cc
 
-  pub fault_syncs : (e : SyncFault) → TurnsOn written t u now new number (Err e) → Syncs written Means s u old new (Err e)
+  pub fault_syncs : (e : SyncFault) → TurnsOn written means t u now new number (Err e) → Syncs written means s u old new (Err e)
   fault_syncs e o = record {
     taken = w.taken;
     untaken = o.exchanges;
@@ -144,7 +146,7 @@ module _ (written : Ask → List ℕ) (s t u : MirrorState) (old now new : Upstr
     is : xs ≡ x ∷ []
     request : x.request ≡ written (ask_of t)
     most : x.most ≡ MOST_ANSWER
-    means : Means (ask_of t) x.answer (understood.Hears h)
+    is_meant : means (ask_of t) x.answer (understood.Hears h)
     state : u ≡ sync_step t h
     by : k ≡ taken_by (ask_of t) (settles t h)
 
@@ -152,59 +154,59 @@ module _ (written : Ask → List ℕ) (s t u : MirrorState) (old now new : Upstr
   not_failed k r says (inl e) = cc
   not_failed k r says (inr e) = cc
 
-  is_taken : (k : Taken) (xs : List Exchange) → Turn written t u xs number (Ok k) → IsTaken xs k
+  is_taken : (k : Taken) (xs : List Exchange) → Turn written means t u xs number (Ok k) → IsTaken xs k
   is_taken k xs (asked_none is pair) = absurd (not_failed k (Ok k) refl pair.1)
   is_taken k xs (asked_one x is request most takes) =
-      record { x = x; h = takes.0; is = is; request = request; most = most; means = takes.1; state = takes.2; by = takes.3 }
+      record { x = x; h = takes.0; is = is; request = request; most = most; is_meant = takes.1; state = takes.2; by = takes.3 }
 
-  pub settled_leaves : TurnsOn written t u now new number (Ok took.Settled) → u.pending ≡ []
-  settled_leaves o =
+  pub settled_leaves : HearsInKind means → TurnsOn written means t u now new number (Ok took.Settled) → u.pending ≡ []
+  settled_leaves kind o =
       let k = is_taken took.Settled o.exchanges o.turn in
       ap (λ (v : MirrorState). v.pending) k.state
-      ∙ settled_leaves_none t k.x.answer k.h k.means (settled_by (ask_of t) (settles t k.h) k.by)
+      ∙ settled_leaves_none t k.h (kind (ask_of t) k.x.answer k.h k.is_meant) (settled_by (ask_of t) (settles t k.h) k.by)
 
-  pub settled_syncs : TurnsOn written t u now new number (Ok took.Settled) → Syncs written Means s u old new (Ok tt)
+  pub settled_syncs : TurnsOn written means t u now new number (Ok took.Settled) → Syncs written means s u old new (Ok tt)
   settled_syncs o =
       let k = is_taken took.Settled o.exchanges o.turn in
       record {
         taken = w.taken ++ o.exchanges;
         untaken = [];
-        ends = settled w.taken k.x t k.h (asks_on k.x (understood.Hears k.h) k.request k.most k.means)
+        ends = settled w.taken k.x t k.h (asks_on k.x (understood.Hears k.h) k.request k.most k.is_meant)
             (settled_by (ask_of t) (settles t k.h) k.by) k.state (ap (λ l. w.taken ++ l) k.is) refl refl;
         told = subst (TellsMore old.told new.told) (sym (append-nil (w.taken ++ o.exchanges))) (told_on o.exchanges o.told);
         later = omega (arith, w.later, o.later);
         failed = λ f. absurd (cc);
       }
 
-  goes_on : (k : Taken) (o : TurnsOn written t u now new number (Ok k)) (i : IsTaken o.exchanges k) → settles t i.h ≡ More
-      → HasWalked written s u old new (lists + lists_in (ask_of t)) number
+  goes_on : (k : Taken) (o : TurnsOn written means t u now new number (Ok k)) (i : IsTaken o.exchanges k) → settles t i.h ≡ More
+      → HasWalked written means s u old new (lists + lists_in (ask_of t)) number
   goes_on k o i more =
       let longer : length (w.taken ++ o.exchanges) ≡ length w.taken + 1 =
       ap (λ l. length (w.taken ++ l)) i.is ∙ length-append w.taken (i.x ∷ []) in
       let few_in = lists_are (ask_of t) in
-      let walks = walks_on written s t w.taken 0 lists i.x i.h w.walks (record { request = i.request; most = i.most; is_meant = i.means }) more few in
+      let walks = walks_on written means s t w.taken 0 lists i.x i.h w.walks (record { request = i.request; most = i.most; is_meant = i.is_meant }) more few in
       record {
         taken = w.taken ++ o.exchanges;
-        walks = subst (λ v. WalksOn written Means s (w.taken ++ o.exchanges) 0 (lists + lists_in (ask_of t)) v) (sym i.state)
-            (subst (λ l. WalksOn written Means s (w.taken ++ l) 0 (lists + lists_in (ask_of t)) (sync_step t i.h)) (sym i.is) walks);
+        walks = subst (λ v. WalksOn written means s (w.taken ++ o.exchanges) 0 (lists + lists_in (ask_of t)) v) (sym i.state)
+            (subst (λ l. WalksOn written means s (w.taken ++ l) 0 (lists + lists_in (ask_of t)) (sync_step t i.h)) (sym i.is) walks);
         count = omega (arith, next, w.count, longer);
         told = told_on o.exchanges o.told;
         later = omega (arith, w.later, o.later);
         few_lists = omega (arith, few, few_in);
       }
 
-  pub list_goes_on : TurnsOn written t u now new number (Ok took.List) → HasWalked written s u old new (lists + 1) number
+  pub list_goes_on : TurnsOn written means t u now new number (Ok took.List) → HasWalked written means s u old new (lists + 1) number
   list_goes_on o =
       let i = is_taken took.List o.exchanges o.turn in
       let by = listed_by (ask_of t) (settles t i.h) i.by in
-      subst (λ n. HasWalked written s u old new (lists + n) number) by.1 (goes_on took.List o i by.0)
+      subst (λ n. HasWalked written means s u old new (lists + n) number) by.1 (goes_on took.List o i by.0)
 
-  pub file_goes_on : TurnsOn written t u now new number (Ok took.File) → HasWalked written s u old new lists number
+  pub file_goes_on : TurnsOn written means t u now new number (Ok took.File) → HasWalked written means s u old new lists number
   file_goes_on o =
       let i = is_taken took.File o.exchanges o.turn in
       let by = got_by (ask_of t) (settles t i.h) i.by in
       let same : lists + 0 ≡ lists = omega arith in
-      subst (λ n. HasWalked written s u old new n number) (ap (λ n. lists + n) by.1 ∙ same) (goes_on took.File o i by.0)
+      subst (λ n. HasWalked written means s u old new n number) (ap (λ n. lists + n) by.1 ∙ same) (goes_on took.File o i by.0)
 
   list_pends : (h : Heard) → u ≡ sync_step t h → lists_in (ask_of t) ≡ 1 → Pends t (sync_step t h)
       → left (lists + 1) (length u.pending) < left lists (length t.pending)
@@ -220,38 +222,39 @@ module _ (written : Ask → List ℕ) (s t u : MirrorState) (old now new : Upstr
       subst (λ (v : MirrorState). left lists (length v.pending) < left lists (length t.pending)) (sym state)
       (file_left lists (length t.pending) (length (sync_step t h).pending) fewer)
 
-  pub list_leaves : TurnsOn written t u now new number (Ok took.List) → left (lists + 1) (length u.pending) < left lists (length t.pending)
-  list_leaves o =
+  pub list_leaves : HearsInKind means → TurnsOn written means t u now new number (Ok took.List) → left (lists + 1) (length u.pending) < left lists (length t.pending)
+  list_leaves kind o =
       let i = is_taken took.List o.exchanges o.turn in
-      list_pends i.h i.state (listed_by (ask_of t) (settles t i.h) i.by).1 (pends t i.x.answer i.h i.means)
+      list_pends i.h i.state (listed_by (ask_of t) (settles t i.h) i.by).1 (pends t i.h (kind (ask_of t) i.x.answer i.h i.is_meant))
 
-  pub file_leaves : TurnsOn written t u now new number (Ok took.File) → left lists (length u.pending) < left lists (length t.pending)
-  file_leaves o =
+  pub file_leaves : HearsInKind means → TurnsOn written means t u now new number (Ok took.File) → left lists (length u.pending) < left lists (length t.pending)
+  file_leaves kind o =
       let i = is_taken took.File o.exchanges o.turn in
-      file_pends i.h i.state (got_by (ask_of t) (settles t i.h) i.by).1 (pends t i.x.answer i.h i.means)
+      file_pends i.h i.state (got_by (ask_of t) (settles t i.h) i.by).1 (pends t i.h (kind (ask_of t) i.x.answer i.h i.is_meant))
 
   -- the same, of what was taken as a name says
-  taken_as : (k j : Taken) → k ≡ j → TurnsOn written t u now new number (Ok k) → TurnsOn written t u now new number (Ok j)
-  taken_as k j is o = subst (λ i. TurnsOn written t u now new number (Ok i)) is o
+  taken_as : (k j : Taken) → k ≡ j → TurnsOn written means t u now new number (Ok k) → TurnsOn written means t u now new number (Ok j)
+  taken_as k j is o = subst (λ i. TurnsOn written means t u now new number (Ok i)) is o
 
-  pub syncs_at : (k : Taken) → TurnsOn written t u now new number (Ok k) → k ≡ took.Settled → Syncs written Means s u old new (Ok tt)
+  pub syncs_at : (k : Taken) → TurnsOn written means t u now new number (Ok k) → k ≡ took.Settled → Syncs written means s u old new (Ok tt)
   syncs_at k o is = settled_syncs (taken_as k took.Settled is o)
 
-  pub leaves_at : (k : Taken) → TurnsOn written t u now new number (Ok k) → k ≡ took.Settled → u.pending ≡ []
-  leaves_at k o is = settled_leaves (taken_as k took.Settled is o)
+  pub leaves_at : HearsInKind means → (k : Taken) → TurnsOn written means t u now new number (Ok k) → k ≡ took.Settled → u.pending ≡ []
+  leaves_at kind k o is = settled_leaves kind (taken_as k took.Settled is o)
 
-  pub list_smaller : (k : Taken) → TurnsOn written t u now new number (Ok k) → k ≡ took.List
+  pub list_smaller : HearsInKind means → (k : Taken) → TurnsOn written means t u now new number (Ok k) → k ≡ took.List
       → left (lists + 1) (length u.pending) < left lists (length t.pending)
-  list_smaller k o is = list_leaves (taken_as k took.List is o)
+  list_smaller kind k o is = list_leaves kind (taken_as k took.List is o)
 
-  pub file_smaller : (k : Taken) → TurnsOn written t u now new number (Ok k) → k ≡ took.File
+  pub file_smaller : HearsInKind means → (k : Taken) → TurnsOn written means t u now new number (Ok k) → k ≡ took.File
       → left lists (length u.pending) < left lists (length t.pending)
-  file_smaller k o is = file_leaves (taken_as k took.File is o)
+  file_smaller kind k o is = file_leaves kind (taken_as k took.File is o)
 
 -- ---- the first and the last
 
-pub begins : (written : Ask → List ℕ) (s : MirrorState) (old : UpstreamView) → HasWalked written s s old old 0 0
-begins written s old = record {
+pub begins : (written : Ask → List ℕ) (means : Ask → List ℕ → Understood → Type 0)
+    (s : MirrorState) (old : UpstreamView) → HasWalked written means s s old old 0 0
+begins written means s old = record {
   taken = [];
   walks = (refl, refl);
   count = omega arith;
@@ -260,12 +263,13 @@ begins written s old = record {
   few_lists = omega arith;
 }
 
-pub unsettled : (written : Ask → List ℕ) (s t : MirrorState) (old now : UpstreamView) (lists asked : ℕ) → HasWalked written s t old now lists asked
-    → MOST_LISTS ≤ lists → Syncs written Means s t old now (Err (fault.NotSettled MOST_LISTS))
-unsettled written s t old now lists asked w all = record {
+pub unsettled : (written : Ask → List ℕ) (means : Ask → List ℕ → Understood → Type 0)
+    (s t : MirrorState) (old now : UpstreamView) (lists asked : ℕ) → HasWalked written means s t old now lists asked
+    → MOST_LISTS ≤ lists → Syncs written means s t old now (Err (fault.NotSettled MOST_LISTS))
+unsettled written means s t old now lists asked w all = record {
   taken = w.taken;
   untaken = [];
-  ends = not_settled (subst (λ n. WalksOn written Means s w.taken 0 n t) full w.walks) refl refl;
+  ends = not_settled (subst (λ n. WalksOn written means s w.taken 0 n t) full w.walks) refl refl;
   told = subst (TellsMore old.told now.told) (sym (append-nil w.taken)) w.told;
   later = w.later;
   failed = λ f. absurd (cc);
@@ -276,39 +280,44 @@ unsettled written s t old now lists asked w all = record {
 
 -- ---- one exchange
 
-never_upstream : (a : Ask) (s t : MirrorState) (answer : List ℕ) (number : ℕ) (r : Result Taken SyncFault) → Takes a s t answer number r
+never_upstream : (means : Ask → List ℕ → Understood → Type 0)
+    (a : Ask) (s t : MirrorState) (answer : List ℕ) (number : ℕ) (r : Result Taken SyncFault) → Takes means a s t answer number r
     → r ≡ Err fault.UpstreamFault → ⊥
-never_upstream a s t answer number (Ok k) takes e = cc
-never_upstream a s t answer number (Err fault.NoMemory) takes e = cc
-never_upstream a s t answer number (Err fault.UpstreamFault) takes e = takes
-never_upstream a s t answer number (Err (fault.BadAnswer n place kept)) takes e = cc
-never_upstream a s t answer number (Err (fault.Refused n status)) takes e = cc
-never_upstream a s t answer number (Err (fault.NotSettled n)) takes e = takes
+never_upstream means a s t answer number (Ok k) takes e = cc
+never_upstream means a s t answer number (Err fault.NoMemory) takes e = cc
+never_upstream means a s t answer number (Err fault.UpstreamFault) takes e = takes
+never_upstream means a s t answer number (Err (fault.BadAnswer n place kept)) takes e = cc
+never_upstream means a s t answer number (Err (fault.Refused n status)) takes e = cc
+never_upstream means a s t answer number (Err (fault.NotSettled n)) takes e = takes
 
-pub got_turn : (written : Ask → List ℕ) (s t : MirrorState) (old new : UpstreamView) (a : Ask) (request answer : List ℕ) (number : ℕ)
+pub got_turn : (written : Ask → List ℕ) (means : Ask → List ℕ → Understood → Type 0)
+    (s t : MirrorState) (old new : UpstreamView) (a : Ask) (request answer : List ℕ) (number : ℕ)
     (r : Result Taken SyncFault)
-    → a ≡ ask_of s → request ≡ written a → Exchanges old new request MOST_ANSWER (exchanged.Got answer) → Takes a s t answer number r
-    → TurnsOn written s t old new number r
-got_turn written s t old new a request answer number r same is e takes =
+    → a ≡ ask_of s → request ≡ written a → Exchanges old new request MOST_ANSWER (exchanged.Got answer) → Takes means a s t answer number r
+    → TurnsOn written means s t old new number r
+got_turn written means s t old new a request answer number r same is e takes =
     let x : Exchange = record { request = request; most = MOST_ANSWER; answer = answer } in
     record {
       exchanges = x ∷ [];
-      turn = asked_one x refl (is ∙ ap written same) refl (subst (λ b. Takes b s t answer number r) same takes);
+      turn = asked_one x refl (is ∙ ap written same) refl (subst (λ b. Takes means b s t answer number r) same takes);
       told = e.told;
       later = e.later;
-      failed = λ f. absurd (never_upstream a s t answer number r takes f);
+      failed = λ f. absurd (never_upstream means a s t answer number r takes f);
     }
 
-pub failed_turn : (written : Ask → List ℕ) (s : MirrorState) (old new : UpstreamView) (request : List ℕ) (number : ℕ)
-    → Exchanges old new request MOST_ANSWER exchanged.Failed → TurnsOn written s s old new number (Err fault.UpstreamFault)
-failed_turn written s old new request number e =
+pub failed_turn : (written : Ask → List ℕ) (means : Ask → List ℕ → Understood → Type 0)
+    (s : MirrorState) (old new : UpstreamView) (request : List ℕ) (number : ℕ)
+    → Exchanges old new request MOST_ANSWER exchanged.Failed → TurnsOn written means s s old new number (Err fault.UpstreamFault)
+failed_turn written means s old new request number e =
     record { exchanges = []; turn = asked_none refl (refl, inl refl); told = e.told; later = e.later; failed = λ f. e.failed refl }
 
-pub starved_turn : (written : Ask → List ℕ) (s : MirrorState) (old new : UpstreamView) (request : List ℕ) (number : ℕ)
-    → Exchanges old new request MOST_ANSWER exchanged.NoMemory → TurnsOn written s s old new number (Err fault.NoMemory)
-starved_turn written s old new request number e =
+pub starved_turn : (written : Ask → List ℕ) (means : Ask → List ℕ → Understood → Type 0)
+    (s : MirrorState) (old new : UpstreamView) (request : List ℕ) (number : ℕ)
+    → Exchanges old new request MOST_ANSWER exchanged.NoMemory → TurnsOn written means s s old new number (Err fault.NoMemory)
+starved_turn written means s old new request number e =
     record { exchanges = []; turn = asked_none refl (refl, inr refl); told = e.told; later = e.later; failed = λ f. absurd (cc) }
 
-pub no_turn : (written : Ask → List ℕ) (s : MirrorState) (old : UpstreamView) (number : ℕ) → TurnsOn written s s old old number (Err fault.NoMemory)
-no_turn written s old number =
+pub no_turn : (written : Ask → List ℕ) (means : Ask → List ℕ → Understood → Type 0)
+    (s : MirrorState) (old : UpstreamView) (number : ℕ) → TurnsOn written means s s old old number (Err fault.NoMemory)
+no_turn written means s old number =
     record { exchanges = []; turn = asked_none refl (refl, inr refl); told = tells_none old.told; later = omega arith; failed = λ f. absurd (cc) }

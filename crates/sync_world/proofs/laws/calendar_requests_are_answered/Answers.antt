@@ -1,0 +1,6 @@
+use Rattle.negotiate.specs.declared.choosing.Format.TheVariants.{Calendar}
+use Rattle.sync_world.proofs.Requests.{requested}
+use Rattle.sync_world.proofs.laws.calendar_requests_are_answered.Goals as goal
+
+pub returns : goal.returns
+returns c = requested Calendar
