@@ -1,0 +1,2 @@
+mod Judgements
+mod Walks

@@ -1,0 +1,4 @@
+pub mod CalendarShares
+pub mod CalendarTurns
+pub mod FaultText
+pub mod Judging
