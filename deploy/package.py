@@ -38,6 +38,7 @@ FILES = [
     ("deploy/tzdistd-serve", "usr/lib/tzdistd", 0o755),
     ("deploy/tzdistd-mirror", "usr/lib/tzdistd", 0o755),
     ("deploy/tzdistd-console", "usr/lib/tzdistd", 0o755),
+    ("deploy/tzdistd-watch", "usr/lib/tzdistd", 0o755),
     ("tools/pack_zoneinfo.py", "usr/lib/tzdistd", 0o755),
     ("tools/fetch_zoneinfo.py", "usr/lib/tzdistd", 0o755),
     ("deploy/page/index.html", "usr/share/tzdistd/page", 0o644),

@@ -15,6 +15,7 @@ import json
 import os
 import resource
 import shutil
+import subprocess
 import sys
 import tempfile
 import time
@@ -211,6 +212,35 @@ def device(deployed):
     same("then", fetch_zoneinfo.fetch(url, tree).rpartition(", ")[2], "nothing changed")
 
 
+def watching(deployed):
+    """What installs change is handed to a command, also once more where it failed."""
+    heard = os.path.join(deployed.room, "heard")
+    tell, fail = ["sh", "-c", 'cat >>"$1"', "sh", heard], ["false"]
+
+    def watch(command, wish="under Test/"):
+        words = [os.path.join(HERE, "tzdistd-watch"), "tests", wish, *command]
+        done = subprocess.run(words, env=deployed.server.environment, capture_output=True, text=True, timeout=90)
+        return done.returncode, done.stdout + done.stderr
+
+    def told():
+        if not os.path.exists(heard):
+            return []
+        with open(heard) as file:
+            return file.read().splitlines()
+
+    same("a wish that is none", watch(tell, "under"), (1, "unknown\n"))
+    same("the first run", (watch(tell), told()), ((0, ""), []))
+    place = int(deployed.server.say("install", deployed.add_moved("2025e", 3))[1].split()[1].split("-")[0])
+    same("a command that fails", watch(fail)[0], 1)
+    first = f"news {place} Test/Moved"
+    same("the next run", (watch(tell), told()), ((0, ""), [first]))
+    same("one without news", (watch(fail), told()), ((0, ""), [first]))
+    for name, hours in (("2025f", 4), ("2025g", 5)):
+        deployed.server.say("install", deployed.add_moved(name, hours))
+    same("two installs", (watch(tell), told()[1:]), ((0, ""), [f"news {place + k} Test/Moved" for k in (1, 2)]))
+    same("the console", deployed.server.say("news", "2"), (1, "refused 20 NoWatch\n"))
+
+
 def mirror(deployed):
     """A mirror is started, and asked to sync as by its timer; a refusal is told by the status."""
     nothing = {name: value for name, value in deployed.server.environment.items() if name != "UPSTREAM"}
@@ -219,7 +249,7 @@ def mirror(deployed):
     token = deployed.mirror.first_reply().removeprefix("ready ")
     same("its first token", token[:2], "1-")
     same("a sync", deployed.mirror.say("sync"), (0, f"unchanged {token}"))
-    same("an install at the server", deployed.server.say("install", deployed.add_moved("2025e", 3))[0], 0)
+    same("an install at the server", deployed.server.say("install", deployed.add_moved("2025h", 3))[0], 0)
     status, line = deployed.mirror.say("sync")
     same("a sync after it", (status, line[:12]), (0, "installed 2-"))
     with contextlib.closing(http.client.HTTPConnection(HOST, deployed.mirror.port, timeout=20)) as near:
@@ -245,7 +275,7 @@ def main():
     with tempfile.TemporaryDirectory() as room:
         deployed = Deployed(room, program)
         try:
-            for part in (ready, console, Deployed.start_nginx, proxy, cache, load, device, mirror, end):
+            for part in (ready, console, Deployed.start_nginx, proxy, cache, load, device, watching, mirror, end):
                 print(part.__name__.replace("_", " "), flush=True)
                 part(deployed)
         except Failure as fault:
