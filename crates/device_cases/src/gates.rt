@@ -22,6 +22,14 @@ pub fn alone(alloc: Global, row: &Row) -> Answer {
     told(alloc, &left, &right)
 }
 
+/// `gates-turned TURNS`: the same where the second is served first.
+pub fn turned(alloc: Global, row: &Row) -> Answer {
+    let (left, right) = gate_pair(alloc, small(row, 0)?)?;
+    let right = serve(right);
+    let left = serve(left);
+    told(alloc, &left, &right)
+}
+
 /// Answers the requests of the door's connection, each by two bytes, and hands it back.
 fn serve(mut door: GateDoor) -> GateDoor {
     if let Accepted::Given(mut conn) = door.accept() {

@@ -70,6 +70,7 @@ fn alone(alloc: Global, row: &Row) -> Answer {
         "broken" => streams::broken(alloc),
         "writes" => streams::writes(alloc, row),
         "gates-alone" => gates::alone(alloc, row),
+        "gates-turned" => gates::turned(alloc, row),
         _ => Err(CaseFault::Strange),
     }
 }
