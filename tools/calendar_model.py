@@ -533,7 +533,8 @@ def meaning(text, named):
     return re.sub(r"\$\(([^)]*)\)|\\x(..)|\\(.)", one, text)
 
 
-def main():
+def compare(expected):
+    """Compares the table on standard input with what a function says of a kind and its words."""
     named, rows, differ, unknown = {}, 0, 0, 0
     for line in sys.stdin.read().split("\n"):
         if not line or line.startswith("#"):
@@ -558,4 +559,4 @@ if __name__ == "__main__":
     if len(sys.argv) > 1:
         print(carried_text(sys.argv[1]))
     else:
-        main()
+        compare(expected)

@@ -7,9 +7,8 @@ the crates. What it shares with calendar_model.py is days of a year and the form
     reader_model.py < crates/reader_cases/stdin     compares the rows that it knows
 """
 import re
-import sys
 
-from calendar_model import DAY, HI, LO, WEEKDAYS, civil, day_number, falls_in, is_valid, meaning, rule_shown, unfolded_text
+from calendar_model import DAY, HI, LO, WEEKDAYS, civil, compare, day_number, falls_in, is_valid, rule_shown, unfolded_text
 
 MOST_BYTES = 1_048_576
 
@@ -244,26 +243,5 @@ def expected(kind, words):
     return None
 
 
-def main():
-    named, rows, differ, unknown = {}, 0, 0, 0
-    for line in sys.stdin.read().split("\n"):
-        if not line or line.startswith("#"):
-            continue
-        if line.startswith("let "):
-            _, name, text = line.split(" ", 2)
-            named[name] = meaning(text, named)
-            continue
-        front, answer = line.split(" = ", 1)
-        kind, *words = front.split(" ")
-        told = expected(kind, [meaning(word, named) for word in words])
-        rows += 1
-        if told is None:
-            unknown += 1
-        elif told != meaning(answer, named):
-            differ += 1
-            print(f"{front}: this program says {told!r}")
-    print(f"{rows} rows, {differ} differ, {unknown} of kinds that are not told here")
-
-
 if __name__ == "__main__":
-    main()
+    compare(expected)
