@@ -1,5 +1,5 @@
 -- The first onset after a moment: where the state that a footer gives may change next.
-use Rattle.std.specs.Prelude.{◌≡◌, if◌then◌else◌, ℤ, pos, int_le, ◌≤ℤ◌, ◌<ℤ◌, Option, None, Some}
+use Rattle.std.specs.Prelude.{◌≡◌, Bool, false, if◌then◌else◌, ℤ, pos, int_le, ◌≤ℤ◌, ◌<ℤ◌, Option, None, Some}
 use Rattle.jiff_core.specs.Calendar.{IsBetween}
 use Rattle.td_civil.specs.declared.moment_type.Moment.{Moment}
 use Rattle.posix_footer.specs.declared.rule_types.Edge.{Edge}
@@ -46,6 +46,11 @@ abbrev pub earlier : Option Moment → Option Moment → Option Moment
 earlier None other = other
 earlier (Some m) None = Some m
 earlier (Some m) (Some n) = Some (if int_le m.seconds n.seconds then m else n)
+
+-- a start that is there has come by t
+abbrev pub has_started : Option Moment → ℤ → Bool
+has_started None t = false
+has_started (Some start) t = int_le start.seconds t
 
 -- no onset comes after t and not after u
 abbrev pub IsQuiet : DstRule → ℤ → ℤ → ℤ → Type 0

@@ -3,7 +3,8 @@
 //!
 //! [`read`] gives the rule that a text spells, as `SpellsFooter` of `specs/Spelling.antt` says, or
 //! the first fault of the text. [`at`] gives the state of a rule at a moment, which is `state_of`
-//! of `specs/StateAt.antt`, and [`next_onset`] the next moment at which it may change.
+//! of `specs/StateAt.antt`, [`next_onset`] the next moment at which it may change, and
+//! [`next_change`] that moment with the state from then on.
 #![tactic(auto)]
 
 // The rule of a TZ string, and why a text is none.
@@ -29,7 +30,7 @@ pub use laws::{
     day_is_named, day_of_week_form, far_years_are_quiet, footer_is_lawful, onsets_rise,
     state_stays, states_repeat,
 };
-pub use next_edge::next_onset;
+pub use next_edge::{Change, next_change, next_onset};
 pub use onsets::onset;
 pub use reading::read;
 pub use rule_types::{Date, DayForm, DstRule, Edge, Footer};

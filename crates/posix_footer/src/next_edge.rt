@@ -1,14 +1,24 @@
-//! The first onset after a moment.
-ghost use Rattle.std.specs.Prelude.{◌≡◌, ◌≤ℤ◌, ◌<ℤ◌, ◌*ℤ◌, ◌+ℤ◌, pos, Some};
+//! The first onset after a moment, and the state that follows it.
+ghost use Rattle.std.specs.Prelude.{◌≡◌, ◌≤◌, ◌≤ℤ◌, ◌<ℤ◌, ◌*ℤ◌, ◌+ℤ◌, pos, Some};
+ghost use Rattle.std.specs.Prelude.{if◌then◌else◌};
+ghost use Rattle.std.specs.Option.{option_map, IfSome};
 ghost use Rattle.td_civil.specs.Bounds.{HasMeaning};
 ghost use Rattle.jiff_core.specs.Calendar.{IsBetween, days_from_civil};
 ghost use Rattle.posix_footer.specs.Lawful.{IsLawful, IsLawfulRule};
 ghost use Rattle.posix_footer.specs.NextOnset as spec;
+ghost use Rattle.posix_footer.specs.StateAt.{state_by, state_of};
 
 use crate::onsets::onset;
-use crate::state_at::utc_year;
+use crate::state_at::{second_of_day, utc_year};
 use crate::{DstRule, Edge, Footer};
-use td_civil::Moment;
+use td_civil::{Local, Moment};
+
+/// An onset, and the state that follows it.
+#[derive(Debug, Drop)]
+pub struct Change {
+    pub at: Moment,
+    pub state: Local,
+}
 
 /// The first onset after a moment, of either edge and of the years up to 9999, if there is one: the
 /// state that the footer gives stays until then. It need not change then, since daylight saving
@@ -18,21 +28,71 @@ pub fn next_onset(footer: &Footer, t: Moment) -> Option<Moment>
     requires meaning { HasMeaning t.seconds }
     ensures { spec.IsNext footer.now.dst footer.now.std.offset t.seconds result }
 {
-    match &footer.dst {
+    match next_change(footer, t) {
         None => None,
-        Some(rule) => next_of_rule(rule, footer.std.offset, t),
+        Some(change) => Some(change.at),
     }
 }
 
-fn next_of_rule(rule: &DstRule, std: i32, t: Moment) -> Option<Moment>
-    requires lawful { IsLawfulRule std rule.now }
+/// The same onset with the state that follows it, which is the state then, and is known here by the
+/// edge.
+pub fn next_change(footer: &Footer, t: Moment) -> Option<Change>
+    requires lawful { IsLawful footer.now }
     requires meaning { HasMeaning t.seconds }
-    ensures { spec.IsNext (Some rule.now) std t.seconds result }
+    ensures next { spec.IsNext footer.now.dst footer.now.std.offset t.seconds
+        (option_map (λ c. c.at) result) }
+    ensures state { IfSome result (λ c. c.state ≡ state_of footer.now c.at.seconds) }
+{
+    match &footer.dst {
+        None => None,
+        Some(rule) => change_by_rule(&footer.std, rule, t),
+    }
+}
+
+fn change_by_rule(std: &Local, rule: &DstRule, t: Moment) -> Option<Change>
+    requires lawful { IsLawfulRule std.now.offset rule.now }
+    requires meaning { HasMeaning t.seconds }
+    ensures next { spec.IsNext (Some rule.now) std.now.offset t.seconds
+        (option_map (λ c. c.at) result) }
+    ensures state { IfSome result (λ c. c.state ≡ state_by std.now (Some rule.now) c.at.seconds) }
 {
     let year = utc_year(t);
-    let start = next_of_edge(rule, std, year, Edge::Start, t);
-    let end = next_of_edge(rule, std, year, Edge::End, t);
-    earlier(start, end)
+    let first = first_ahead(year, t);
+    let start = next_of_edge(rule, std.offset, year, first, Edge::Start, t);
+    let end = next_of_edge(rule, std.offset, year, first, Edge::End, t);
+    match earlier(start, end) {
+        None => None,
+        Some(at) => Some(Change {
+            at,
+            state: state_from(std, rule, start, at),
+        }),
+    }
+}
+
+/// The state from an onset on, by the next start: daylight saving time where that is the onset.
+fn state_from(std: &Local, rule: &DstRule, start: Option<Moment>, at: Moment) -> Local
+    ensures { result ≡ (if spec.has_started start at.seconds then rule.now.dst else std.now) }
+{
+    match start {
+        Some(start) if start.seconds <= at.seconds => rule.dst.copy(),
+        _ => std.copy(),
+    }
+}
+
+/// How many years ahead from the year before a moment's the onsets begin that may come after the
+/// moment: those of the year before come in the year's first eight days at the latest.
+fn first_ahead(year: i32, t: Moment) -> u8
+    requires year_in { IsBetween (pos 1800) (pos 9998) year }
+    requires meaning { HasMeaning t.seconds }
+    ensures one { result ≤ 1 }
+    ensures late { result ≡ 1 → ((days_from_civil year 1 1 *ℤ pos 86400) +ℤ pos 691_200)
+        ≤ℤ t.seconds }
+{
+    if second_of_day(year, 8) <= t.seconds {
+        1
+    } else {
+        0
+    }
 }
 
 /// The earlier of two moments, where there are two, and else that which there is.
@@ -47,15 +107,26 @@ fn earlier(one: Option<Moment>, two: Option<Moment>) -> Option<Moment>
 }
 
 /// The first onset of an edge after a moment of the year. The onset of two years before the
-/// moment's is never after it, and that of two years after it always is.
-fn next_of_edge(rule: &DstRule, std: i32, year: i32, edge: Edge, t: Moment) -> Option<Moment>
+/// moment's is never after it, and that of two years after it always is. Of the three years
+/// between, those are looked at that come so far ahead or farther.
+fn next_of_edge(
+    rule: &DstRule,
+    std: i32,
+    year: i32,
+    first: u8,
+    edge: Edge,
+    t: Moment,
+) -> Option<Moment>
     requires lawful { IsLawfulRule std rule.now }
     requires year_in { IsBetween (pos 1800) (pos 9998) year }
     requires begun { (days_from_civil year 1 1 *ℤ pos 86400) ≤ℤ t.seconds }
     requires ahead { t.seconds <ℤ (days_from_civil (year +ℤ pos 1) 1 1 *ℤ pos 86400) }
+    requires one { first ≤ 1 }
+    requires late { first ≡ 1 → ((days_from_civil year 1 1 *ℤ pos 86400) +ℤ pos 691_200)
+        ≤ℤ t.seconds }
     ensures { spec.IsNextIfAny rule.now std edge t.seconds result }
 {
-    for ahead in 0..3u8 {
+    for ahead in first..3u8 {
         let candidate = onset(rule, std, year - 1 + i32::from(ahead), edge);
         if t.seconds < candidate.seconds {
             return Some(candidate);

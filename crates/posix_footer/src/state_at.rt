@@ -1,5 +1,5 @@
 //! The state of local time at a moment.
-ghost use Rattle.std.specs.Prelude.{◌≡◌, ◌≤ℤ◌, ◌<ℤ◌, ◌*ℤ◌, ◌+ℤ◌, pos, if◌then◌else◌};
+ghost use Rattle.std.specs.Prelude.{◌≡◌, ◌≤◌, ◌≤ℤ◌, ◌<ℤ◌, ◌*ℤ◌, ◌+ℤ◌, pos, if◌then◌else◌};
 ghost use Rattle.td_civil.specs.Bounds.{HasMeaning};
 ghost use Rattle.jiff_core.specs.Calendar.{IsBetween, days_from_civil};
 ghost use Rattle.posix_footer.specs.Lawful.{IsLawful, IsLawfulRule};
@@ -7,7 +7,7 @@ ghost use Rattle.posix_footer.specs.StateAt as spec;
 
 use crate::onsets::onset;
 use crate::{DstRule, Edge, Footer};
-use td_civil::{Local, Moment, year_of};
+use td_civil::{Local, Moment, new_year_day, year_of};
 
 /// The state of local time that a footer gives at a moment: that which follows the last onset not
 /// after it, whatever the year of that onset. Where a start and an end fall on one moment, the
@@ -47,29 +47,57 @@ fn is_daylight(rule: &DstRule, std: i32, t: Moment) -> bool
         (if result then Edge.Start else Edge.End) }
 {
     let year = utc_year(t);
-    let started = latest(rule, std, year, Edge::Start, t);
-    let ended = latest(rule, std, year, Edge::End, t);
+    let first = first_back(year, t);
+    let started = latest(rule, std, year, first, Edge::Start, t);
+    let ended = latest(rule, std, year, first, Edge::End, t);
     ended <= started
+}
+
+/// How many years back from the year after a moment's the onsets begin that may have come by the
+/// moment: those of the year after come in its last nine days at the earliest.
+fn first_back(year: i32, t: Moment) -> u8
+    requires year_in { IsBetween (pos 1800) (pos 9998) year }
+    requires meaning { HasMeaning t.seconds }
+    ensures one { result ≤ 1 }
+    ensures early { result ≡ 1 → t.seconds
+        <ℤ ((days_from_civil year 1 1 *ℤ pos 86400) +ℤ pos 30_758_400) }
+{
+    if t.seconds < second_of_day(year, 356) {
+        1
+    } else {
+        0
+    }
 }
 
 /// The latest onset of an edge that is not after a moment of the year. The time and the offset move
 /// an onset by less than eight days, and a day form names at most the first day after its year. So
 /// the onset of two years before the moment's is never after it, and that of two years after it
-/// always is.
-fn latest(rule: &DstRule, std: i32, year: i32, edge: Edge, t: Moment) -> i64
+/// always is. Of the three years between, those are looked at that come so far back or farther.
+fn latest(rule: &DstRule, std: i32, year: i32, first: u8, edge: Edge, t: Moment) -> i64
     requires lawful { IsLawfulRule std rule.now }
     requires year_in { IsBetween (pos 1800) (pos 9998) year }
     requires begun { (days_from_civil year 1 1 *ℤ pos 86400) ≤ℤ t.seconds }
     requires ahead { t.seconds <ℤ (days_from_civil (year +ℤ pos 1) 1 1 *ℤ pos 86400) }
+    requires one { first ≤ 1 }
+    requires early { first ≡ 1 → t.seconds
+        <ℤ ((days_from_civil year 1 1 *ℤ pos 86400) +ℤ pos 30_758_400) }
     ensures { spec.IsLatest rule.now std edge t.seconds result }
 {
-    for back in 0..3u8 {
+    for back in first..3u8 {
         let candidate = onset(rule, std, year + 1 - i32::from(back), edge);
         if candidate.seconds <= t.seconds {
             return candidate.seconds;
         }
     }
     onset(rule, std, year - 2, edge).seconds
+}
+
+/// The second at which a day of a year begins in UTC, where days are counted from 0.
+pub(crate) fn second_of_day(year: i32, day: u16) -> i64
+    requires year_in { IsBetween (pos 1800) (pos 9998) year }
+    ensures { result ≡ (days_from_civil year 1 1 +ℤ pos day) *ℤ pos 86400 }
+{
+    (new_year_day(year as i16) + i64::from(day)) * 86_400
 }
 
 /// The year of a moment in UTC.

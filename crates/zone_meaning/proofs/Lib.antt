@@ -1,5 +1,4 @@
 pub mod AlikeBefore
-pub mod ChangeLists
 pub mod Counting
 pub mod Decided
 pub mod Differing

@@ -3,6 +3,8 @@ use Rattle.std.proofs.Common.{◌≡◌, ◌≢◌, ℕ, suc, ◌+◌, ◌<◌, 
 use Rattle.std.specs.Prelude.{ℤ, pos, ◌≤ℤ◌, ◌<ℤ◌, slice_index_or}
 use Rattle.std.proofs.lemmas.Bool.{ne_eqb, eq-eqb}
 use Rattle.jiff_core.proofs.SignedLemmas.{signed_arith}
+use Rattle.std.specs.Option.{option_map, IfSome}
+use Rattle.td_civil.specs.declared.local_time.Local.{Local}
 use Rattle.td_civil.specs.declared.moment_type.Moment.{Moment}
 use Rattle.tzif_reader.specs.declared.zone_file.ZoneFile.{ZoneFile}
 use Rattle.tzif_reader.specs.Layout.{AreRising}
@@ -13,7 +15,9 @@ use Rattle.posix_footer.proofs.lemmas.ChangeLemmas.{footer_stays}
 use Rattle.posix_footer.proofs.lemmas.NextLemmas.{quiet_until, next_later}
 use Rattle.zone_meaning.specs.Kept.{HasTypes}
 use Rattle.zone_meaning.specs.State.{begun, after, state_at}
+use Rattle.zone_meaning.specs.Turns.{IsKnown}
 use Rattle.zone_meaning.specs.Walks.{HaveBegun, IsTurn, IsNextTurn}
+use Rattle.zone_meaning.specs.declared.walk.Turn.{Turn}
 use Rattle.zone_meaning.proofs.Counting.{begun_are}
 
 -- while some transition has not begun
@@ -110,3 +114,14 @@ onset_turn z footer t n (Some m) types h all is =
           (quiet_until footer.dst footer.std.offset t v (Some m) is high));
       begun = subst P same (still_begun z.moments t m.seconds n (omega (arith, signed_arith)) h (λ d more. absurd (omega arith)));
     }
+
+-- what the footer gives then is the zone's state
+pub onset_known : (z : ZoneFile) (footer : Footer) (t : ℤ) (n : ℕ) (next : Option Turn) → HasTypes z → HaveBegun z.moments t n → length z.moments ≤ n
+    → IsNext footer.dst footer.std.offset t (option_map (λ (turn : Turn). turn.at) next)
+    → IfSome next (λ (turn : Turn). turn.state ≡ Some (state_of footer turn.at.seconds)) → IfSome next (IsKnown z (Some footer))
+onset_known z footer t n None types h all is known = tt
+onset_known z footer t n (Some turn) types h all is known =
+    let later = next_later footer.dst footer.std.offset t turn.at is in
+    let there = all_still z t turn.at.seconds n types h all (omega (arith, signed_arith)) in
+    let P : Option Local → Type 0 = λ state. IfSome state (λ s. s ≡ state_at z (Some footer) turn.at.seconds) in
+    subst P (sym known) (sym (all_begun z footer turn.at.seconds there))

@@ -1,4 +1,5 @@
 -- Lemmas that proofs of other crates may cite.
+pub mod ChangeLists
 pub mod Members
 pub mod NameLemmas
 pub mod RangeLemmas

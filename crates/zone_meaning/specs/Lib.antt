@@ -8,6 +8,7 @@ pub mod Observed
 pub mod Difference
 pub mod Alike
 pub mod Walks
+pub mod Turns
 pub mod WalkLeft
 pub mod Names
 pub mod FaultLemmas

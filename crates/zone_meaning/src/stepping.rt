@@ -1,11 +1,14 @@
 //! The steps of a walk.
-ghost use Rattle.std.specs.Prelude.{◌≡◌, ◌≤◌, ◌+◌, min, [], None};
+ghost use Rattle.std.specs.Prelude.{◌≡◌, ◌≤◌, ◌+◌, min, length, [], None};
+ghost use Rattle.std.specs.Option.{IfSome, option_map};
+ghost use Rattle.zone_meaning.specs.State.{state_at};
+ghost use Rattle.zone_meaning.specs.Turns.{IsKnown};
 ghost use Rattle.zone_meaning.specs.Walks.{IsNextStop};
 ghost use Rattle.zone_meaning.specs.WalkLeft.{left, HandsOut, IsFurther, IsSoundWalk, StopsAt};
 
 use crate::lookup::state_when;
-use crate::walk::{Walk, next_turn};
-use td_civil::{Moment, Observance};
+use crate::walk::{Turn, Walk, next_turn};
+use td_civil::{Local, Observance};
 
 /// The count after the next transition, if there is one.
 fn one_more(begun: usize, len: usize) -> usize
@@ -32,39 +35,57 @@ impl<'a> Walk<'a> {
     }
 
     /// The next moment before the end at which the state may change.
-    fn next_stop(&self) -> Option<Moment>
+    fn next_stop(&self) -> Option<Turn>
         requires { IsSoundWalk self.now }
-        ensures { IsNextStop self.now.lists.now self.now.footer.now self.now.at.seconds
-            self.now.end.seconds self.now.begun result }
+        ensures stop { IsNextStop self.now.lists.now self.now.footer.now self.now.at.seconds
+            self.now.end.seconds self.now.begun (option_map (λ turn. turn.at) result) }
+        ensures state { IfSome result (IsKnown self.now.lists.now self.now.footer.now) }
     {
         match next_turn(self.lists, self.footer, self.begun, self.at) {
-            Some(turn) if turn.seconds < self.end.seconds => Some(turn),
+            Some(turn) if turn.at.seconds < self.end.seconds => Some(turn),
             _ => None,
         }
     }
 
     /// Goes on to a moment up to which the state stays, and gives the change if the state changes
     /// there.
-    fn go_on(&mut self, stop: Moment) -> Option<Observance>
+    fn go_on(&mut self, stop: Turn) -> Option<Observance>
         requires sound { IsSoundWalk self.old }
-        requires stop { StopsAt self.old stop.seconds }
+        requires stop { StopsAt self.old stop.at.seconds }
+        requires known { IsKnown self.old.lists.now self.old.footer.now stop }
         ensures sound { IsSoundWalk self.new }
         ensures further { IsFurther self.old self.new }
         ensures left { HandsOut (left self.old) result (left self.new) }
     {
         let begun = one_more(self.begun, self.lists.moments.len());
-        let state = state_when(self.lists, self.footer, begun, stop);
+        let onset = stop.at;
+        let state = self.state_from(stop, begun);
         let same = state.is_same(&self.state);
         let change = Observance {
-            onset: stop,
+            onset,
             from: self.state.offset,
             to: state.offset,
             dst: state.dst,
             name: state.name.copy(),
         };
-        self.at = stop;
+        self.at = onset;
         self.begun = begun;
         self.state = state;
         if same { None } else { Some(change) }
+    }
+
+    /// The state from a moment on by which so many transitions have come.
+    fn state_from(&self, stop: Turn, begun: usize) -> Local
+        requires sound { IsSoundWalk self.now }
+        requires stop { StopsAt self.now stop.at.seconds }
+        requires known { IsKnown self.now.lists.now self.now.footer.now stop }
+        requires begun { begun
+            ≡ min (self.now.begun + 1) (length self.now.lists.now.moments) }
+        ensures { result ≡ state_at self.now.lists.now self.now.footer.now stop.at.seconds }
+    {
+        match stop.state {
+            Some(state) => state,
+            None => state_when(self.lists, self.footer, begun, stop.at),
+        }
     }
 }

@@ -1,8 +1,8 @@
 -- The calendar repeats in 400 years, and with it the state that a footer gives.
-use Rattle.std.proofs.Common.{◌≡◌, ℕ, zero, suc, ◌+◌, ◌-◌, ◌*◌, ◌%◌, ◌≤◌, ◌==◌, nat_le, min, Bool, true, false, ◌&&◌, ◌||◌, cond, not, if◌then◌else◌, refl, sym, ap, ◌∙◌}
+use Rattle.std.proofs.Common.{◌≡◌, ℕ, zero, suc, ◌+◌, ◌-◌, ◌*◌, ◌%◌, ◌≤◌, ◌==◌, nat_le, min, true, false, ◌&&◌, ◌||◌, cond, not, if◌then◌else◌, refl, sym, ap, ◌∙◌}
 use Rattle.std.proofs.Common.{arith, ℤ, pos, neg_ℤ, ◌+ℤ◌, ◌*ℤ◌, ◌-ℤ◌, ◌≤ℤ◌, ◌<ℤ◌, unsigned_abs, int_le, Option, None, Some}
 use Rattle.std.proofs.lemmas.Int.{by_lt_z, ints}
-use Rattle.jiff_core.specs.Calendar.{IsBetween, IsYear, is_leap_year, days_in_month, days_of_years, days_of_months, day_of_year, day_count, days_from_civil}
+use Rattle.jiff_core.specs.Calendar.{IsBetween, is_leap_year, days_in_month, days_of_years, days_of_months, day_of_year, day_count, days_from_civil}
 use Rattle.jiff_core.specs.Calendar.{weekday_number}
 use Rattle.jiff_core.specs.March.{march_days}
 use Rattle.jiff_core.proofs.SignedLemmas.{signed_arith, one_part}

@@ -83,6 +83,22 @@ onset_before rule std y before t at h year there le begun =
     let near = onset_within rule std before at h there in
     omega (arith, signed_arith)
 
+-- up to the last nine days of a year each onset of a later year comes after the moment
+pub onset_after_early : (rule : DstRule) (std y later t : ℤ) (at : Edge) → IsLawfulRule std rule → IsYear y → IsYear later → y <ℤ later
+    → t <ℤ ((days_from_civil y 1 1 *ℤ pos 86400) +ℤ pos 30758400) → t <ℤ onset_of rule std later at
+onset_after_early rule std y later t at h year there lt before =
+    let long = year_is_long y later year lt in
+    let near = onset_within rule std later at h there in
+    omega (arith, signed_arith)
+
+-- and after the first eight days of a year no onset of an earlier year does
+pub onset_before_late : (rule : DstRule) (std y before t : ℤ) (at : Edge) → IsLawfulRule std rule → IsYear before → before <ℤ y
+    → ((days_from_civil y 1 1 *ℤ pos 86400) +ℤ pos 691200) ≤ℤ t → onset_of rule std before at ≤ℤ t
+onset_before_late rule std y before t at h there lt late =
+    let long = year_is_long before y there lt in
+    let near = onset_within rule std before at h there in
+    omega (arith, signed_arith)
+
 -- an onset not after the moment, where each of a later year is after it, is the greatest
 pub latest_is : (rule : DstRule) (std y t m : ℤ) (at : Edge) → IsLawfulRule std rule → IsBetween (pos 1798) (pos 9999) y → m ≡ onset_of rule std y at → m ≤ℤ t
     → ((other : ℤ) → IsBetween (pos 1798) (pos 9999) other → y <ℤ other → t <ℤ onset_of rule std other at)

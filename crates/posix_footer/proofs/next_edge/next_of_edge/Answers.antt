@@ -1,18 +1,23 @@
-use Rattle.std.proofs.Common.{◌≡◌, ◌∙◌, ap, sym, refl, rules, arith, ℕ, ℤ, pos, ◌+ℤ◌, ◌-ℤ◌, ◌<◌, to_z, of_z, to_z-of_z, w32, w64, FitsSigned}
+use Rattle.std.proofs.Common.{inl, inr, ◌≡◌, ◌∙◌, ap, sym, refl, rules, arith, ℕ, ℤ, pos, ◌+ℤ◌, ◌-ℤ◌, ◌<◌, to_z, of_z, to_z-of_z, w32, w64, FitsSigned}
 use Rattle.jiff_core.proofs.SignedLemmas.{signed_arith}
 use Rattle.jiff_core.specs.Calendar.{IsBetween}
+use Rattle.std.proofs.lemmas.Bool.{cases_lt}
 use Rattle.std.proofs.lemmas.Int.{by_lt_z}
 use Rattle.posix_footer.specs.declared.rule_types.Edge.{Edge}
 use Rattle.posix_footer.specs.declared.rule_types.DstRule.{DstRule}
 use Rattle.posix_footer.specs.Onset.{onset_of}
-use Rattle.posix_footer.proofs.lemmas.StateLemmas.{onset_after, onset_before, year_of}
+use Rattle.posix_footer.proofs.lemmas.StateLemmas.{onset_after, onset_before, onset_before_late, year_of}
 use Rattle.posix_footer.proofs.lemmas.NextLemmas.{next_is}
 use Rattle.posix_footer.proofs.next_edge.next_of_edge.Goals as goal
 
 pub loop-ahead-init : goal.loop-ahead-init
 loop-ahead-init c = λ year there lt.
-    rw (to_z-of_z c.ranges.std) (onset_before c.args.rule.now c.args.std c.args.year year c.args.t.seconds c.args.edge c.requires.lawful
-    (omega (arith, signed_arith)) (year_of year there) (omega (arith, signed_arith)) c.requires.begun)
+    rw (to_z-of_z c.ranges.std) (elim (cases_lt c.args.first 1) [
+      | inr one ↦ onset_before_late c.args.rule.now c.args.std c.args.year year c.args.t.seconds c.args.edge c.requires.lawful
+          (year_of year there) (omega (arith, signed_arith)) (c.requires.late (omega (arith, c.requires.one)))
+      | inl other ↦ onset_before c.args.rule.now c.args.std c.args.year year c.args.t.seconds c.args.edge c.requires.lawful
+          (omega (arith, signed_arith)) (year_of year there) (omega (arith, signed_arith)) c.requires.begun
+    ])
 
 -- the year of a candidate
 abbrev candidate_year : ℤ → ℕ → ℤ

@@ -4,7 +4,7 @@ use Rattle.td_civil.specs.declared.local_time.Local.{Local}
 use Rattle.td_civil.specs.declared.local_time.Observance.{Observance}
 use Rattle.zone_meaning.specs.Observed.{observance, observed, changes_between}
 use Rattle.zone_meaning.specs.State.{state_at, zone_state}
-use Rattle.zone_meaning.proofs.ChangeLists.{made_is, observed_is}
+use Rattle.zone_meaning.proofs.lemmas.ChangeLists.{made_is, observed_is}
 use Rattle.zone_meaning.proofs.lemmas.Types.{kept_types, kept_states, state_offset, read_offset}
 use Rattle.zone_meaning.proofs.observing.Changes.new.Goals as goal
 
