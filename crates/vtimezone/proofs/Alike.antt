@@ -1,11 +1,10 @@
 -- Changes that are alike, and the first ones of each set of them.
-use Rattle.std.proofs.Common.{◌≡◌, ◌⊎◌, inl, inr, Bool, true, false, true≢false, not, ◌&&◌, refl, sym, subst, ap, ap₂, ◌∙◌, arith, ℤ, List, [], ◌∷◌, ◌++◌, filter, drop, map, cond}
-use Rattle.std.specs.List.{Contains, AllByRecursion}
+use Rattle.std.proofs.Common.{◌≡◌, inl, inr, Bool, true, false, true≢false, not, refl, sym, subst, ap, ◌∙◌, arith, ℤ, List, [], ◌∷◌, filter, drop, cond}
+use Rattle.std.specs.List.{Contains}
 use Rattle.std.specs.Ordering.{int_eq}
 use Rattle.std.proofs.lemmas.Bool.{cond-true, cond-false, and_from, and_parts}
 use Rattle.std.proofs.lemmas.Int.{ints}
 use Rattle.td_civil.specs.SameLocal.{same_local}
-use Rattle.td_civil.specs.declared.local_time.Local.{Local}
 use Rattle.td_civil.specs.declared.local_time.Observance.{Observance}
 use Rattle.td_civil.proofs.lemmas.SameStates.{same_local_is, same_local_of}
 use Rattle.zone_meaning.specs.RangeLaws.{state_told}

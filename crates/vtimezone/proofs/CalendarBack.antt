@@ -34,10 +34,10 @@ use Rattle.vtimezone.specs.Spelled.{dates_in, part_of_lines, is_end}
 use Rattle.vtimezone.specs.Spelled.{parts_among, inside, zone_spelled}
 use Rattle.vtimezone.specs.Spelled.{calendar_spelled, spelled_by, spelled}
 use Rattle.vtimezone.specs.Values.{dates_text, offset_text, utc_basic, rule_text}
-use Rattle.vtimezone.proofs.NumbersBack.{local_texts, dates_cut}
+use Rattle.vtimezone.proofs.lemmas.NumbersBack.{local_texts, dates_cut}
 use Rattle.vtimezone.proofs.ReadBack.{calendar_read_back}
 use Rattle.vtimezone.proofs.RulesBack.{recur_back}
-use Rattle.vtimezone.proofs.ValuesBack.{local_back, utc_back, offset_back, text_back}
+use Rattle.vtimezone.proofs.lemmas.ValuesBack.{local_back, utc_back, offset_back, text_back}
 
 abbrev pub named : List ℕ → List ℕ → Named
 named name value = record { name = name; value = value }

@@ -1,7 +1,7 @@
 -- One more change joins the parts of those before it.
-use Rattle.std.proofs.Common.{◌≡◌, ℕ, suc, inl, inr, Bool, true, false, true≢false, not, ◌||◌, refl, sym, subst, ap, ap₂, ◌∙◌, ℤ, Option, None, Some, List, [], ◌∷◌, ◌++◌}
+use Rattle.std.proofs.Common.{◌≡◌, inl, inr, Bool, true, false, true≢false, not, ◌||◌, refl, sym, subst, ap, ap₂, ◌∙◌, None, List, [], ◌∷◌, ◌++◌}
 use Rattle.std.proofs.Common.{if◌then◌else◌, filter, drop, map, cond, append_assoc, append-nil}
-use Rattle.std.specs.List.{Contains, list_any, AllByRecursion}
+use Rattle.std.specs.List.{Contains, list_any}
 use Rattle.std.proofs.lemmas.Bool.{cond-true, cond-false}
 use Rattle.std.proofs.lemmas.List.{map-append}
 use Rattle.std.proofs.lemmas.List.Elements.{filter-append}
@@ -9,9 +9,9 @@ use Rattle.td_civil.specs.declared.moment_type.Moment.{Moment}
 use Rattle.td_civil.specs.declared.local_time.Observance.{Observance}
 use Rattle.zone_meaning.proofs.lemmas.Members.{member_first, member_later, member_cases, no_member}
 use Rattle.recurrence.specs.declared.part_types.Part.{Part}
-use Rattle.vtimezone.specs.Grouping.{is_alike, first_ones, dates_among, part_among, grouped}
+use Rattle.vtimezone.specs.Grouping.{is_alike, first_ones, part_among, grouped}
 use Rattle.vtimezone.specs.Gathering.{is_of, part_alone, with_date, joined}
-use Rattle.vtimezone.proofs.Alike.{AreAlike, alike_is, alike_of, alike_back, alike_on, is_itself, unlike_back, unlike_on, no_other, kept_member, first_there}
+use Rattle.vtimezone.proofs.Alike.{alike_is, alike_of, alike_on, is_itself, unlike_back, unlike_on, no_other, kept_member, first_there}
 use Rattle.vtimezone.proofs.Alike.{first_leads, first_of}
 
 -- ---- one more change at the end of a list

@@ -1,12 +1,10 @@
 -- A part of many changes is in force where the part of one of them would be.
-use Rattle.std.proofs.Common.{◌≡◌, ◌⊎◌, inl, inr, refl, sym, subst, ap, ◌∙◌, ℤ, ◌≤ℤ◌, ◌<ℤ◌, Option, None, List, [], ◌∷◌, ◌++◌, filter, drop, map}
+use Rattle.std.proofs.Common.{◌≡◌, ◌⊎◌, inl, inr, refl, sym, subst, ap, ◌∙◌, ℤ, ◌≤ℤ◌, ◌<ℤ◌, List, [], ◌∷◌, ◌++◌, filter, drop, map}
 use Rattle.std.specs.List.{Contains}
 use Rattle.std.proofs.lemmas.List.Elements.{Contains-append_left, Contains-append_right, Contains-append_cases}
 use Rattle.td_civil.specs.declared.moment_type.Moment.{Moment}
 use Rattle.td_civil.specs.declared.local_time.Local.{Local}
 use Rattle.td_civil.specs.declared.local_time.Observance.{Observance}
-use Rattle.zone_meaning.proofs.lemmas.Members.{member_first, member_cases, no_member}
-use Rattle.recurrence.specs.declared.rule_types.Rule.{Rule}
 use Rattle.recurrence.specs.declared.part_types.Part.{Part}
 use Rattle.recurrence.specs.InForce.{state_of_part, IsListed, IsOnset, IsInForce, GivesState}
 use Rattle.vtimezone.specs.Grouping.{is_alike, first_ones, dates_among, part_among, grouped}

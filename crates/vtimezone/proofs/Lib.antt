@@ -10,7 +10,6 @@ pub mod Joined
 pub mod LastBefore
 pub mod Meaning
 pub mod Newest
-pub mod NumbersBack
 pub mod PartsMean
 pub mod ReadBack
 pub mod RuleParts
@@ -18,6 +17,5 @@ pub mod Ruled
 pub mod RulesBack
 pub mod Singles
 pub mod Spellable
-pub mod ValuesBack
 pub mod Whole
 pub mod ZoneRange

@@ -17,7 +17,7 @@ use Rattle.vtimezone.specs.CalendarText.{line, kind_of, start_line, change_lines
 use Rattle.vtimezone.specs.CalendarText.{part_lines, head_lines, alias_lines, end_lines, tail_lines}
 use Rattle.vtimezone.specs.CalendarText.{calendar_lines, calendar, IsLineText, IsReadable}
 use Rattle.vtimezone.specs.Values.{sign_of, seconds_text, dates_text, offset_text, utc_basic, rule_text}
-use Rattle.vtimezone.proofs.NumbersBack.{uncut, uncut-append, IsSeparator, two_uncut, local_uncut, dates_uncut, utc_uncut}
+use Rattle.vtimezone.proofs.lemmas.NumbersBack.{uncut, uncut-append, IsSeparator, two_uncut, local_uncut, dates_uncut, utc_uncut}
 use Rattle.vtimezone.proofs.RulesBack.{rule_on_a_line}
 
 sign_uncut : (z : ℤ) → not (sign_of z == 10) ≡ true

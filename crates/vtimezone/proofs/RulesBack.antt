@@ -1,5 +1,5 @@
 -- Rules that are written are read back.
-use Rattle.std.proofs.Common.{◌≡◌, inl, inr, ℕ, ◌+◌, ◌≤◌, true, refl, sym, ap, ◌∙◌, arith, append_assoc, append-nil, ℤ, pos, negsuc, ◌+ℤ◌, Option, None, Some}
+use Rattle.std.proofs.Common.{◌≡◌, inl, inr, ℕ, ◌≤◌, true, refl, sym, ap, ◌∙◌, arith, append_assoc, append-nil, pos, Option, None, Some}
 use Rattle.std.proofs.Common.{List, [], ◌∷◌, ◌++◌, codes, decimal}
 use Rattle.std.specs.Fmt.{signed_decimal}
 use Rattle.std.specs.Str.{all_ascii_digits}
@@ -7,15 +7,13 @@ use Rattle.std.specs.Option.{IfSome, option_map, option_and_then}
 use Rattle.std.proofs.lemmas.Bool.{cond-true, and_from}
 use Rattle.std.proofs.lemmas.List.Folds.{list_all-append}
 use Rattle.jiff_core.proofs.CalendarLemmas.{days_in_month_bounds}
-use Rattle.jiff_core.proofs.SignedLemmas.{signed_arith, one_part}
 use Rattle.td_civil.specs.declared.moment_type.Moment.{Moment}
 use Rattle.td_civil.specs.Bounds.{IsWithinBounds}
 use Rattle.td_civil.proofs.lemmas.Shown.{bounds_text}
 use Rattle.recurrence.specs.declared.rule_types.Form.{Form}
 use Rattle.recurrence.specs.declared.rule_types.Form.TheVariants as form
 use Rattle.recurrence.specs.declared.rule_types.Rule.{Rule}
-use Rattle.recurrence.specs.Valid.{IsValidForm, IsFirstDay, IsMonth, IsOrdinal}
-use Rattle.jiff_core.specs.Calendar.{days_in_month}
+use Rattle.recurrence.specs.Valid.{IsValidForm, IsMonth}
 use Rattle.recurrence.specs.AllRead.{all_read, put_before}
 use Rattle.recurrence.specs.FormFields.{form_read}
 use Rattle.recurrence.specs.PartFields.{recur_with}
@@ -28,10 +26,10 @@ use Rattle.vtimezone.specs.ReadRules.{month_in, months_in, numbers_in, days_in, 
 use Rattle.vtimezone.specs.ReadValues.{utc_in}
 use Rattle.vtimezone.specs.Values.{utc_basic, seven_numbers, by_month, by_weekday, by_nth_weekday, by_month_day, by_month_days, by_year_days}
 use Rattle.vtimezone.specs.Values.{form_text, until_text, rule_text}
-use Rattle.vtimezone.proofs.ValuesBack.{utc_back}
-use Rattle.vtimezone.proofs.NumbersBack.{cut_last, uncut, uncut-append, after_each, are_uncut, cut_each, joined_uncut, EndsWord, signed_uncut}
-use Rattle.vtimezone.proofs.NumbersBack.{weekday_uncut, utc_uncut}
-use Rattle.vtimezone.proofs.NumbersBack.{one_number_back, seven_back, seven_uncut, one_day}
+use Rattle.vtimezone.proofs.lemmas.ValuesBack.{utc_back}
+use Rattle.vtimezone.proofs.lemmas.NumbersBack.{cut_last, uncut, uncut-append, after_each, are_uncut, cut_each, joined_uncut, EndsWord, signed_uncut}
+use Rattle.vtimezone.proofs.lemmas.NumbersBack.{weekday_uncut, utc_uncut}
+use Rattle.vtimezone.proofs.lemmas.NumbersBack.{one_number_back, seven_back, seven_uncut, one_day}
 
 -- ---- the words of a rule
 

@@ -1,14 +1,13 @@
 -- The single parts of a range, one for each of its observances.
-use Rattle.std.proofs.Common.{◌≡◌, ◌≢◌, ◌⊎◌, true, false, inl, inr, refl, sym, subst, ap, ◌∙◌, arith, ℤ, pos, ◌-ℤ◌, ◌≤ℤ◌, ◌<ℤ◌, None, List, [], ◌∷◌, map}
+use Rattle.std.proofs.Common.{◌≡◌, ◌≢◌, ◌⊎◌, true, false, inl, inr, refl, sym, subst, ap, ◌∙◌, ℤ, pos, ◌-ℤ◌, ◌<ℤ◌, None, List, [], ◌∷◌, map}
 use Rattle.std.specs.List.{Contains}
-use Rattle.jiff_core.proofs.SignedLemmas.{signed_arith}
 use Rattle.td_civil.specs.SameLocal.{same_local}
 use Rattle.td_civil.specs.declared.moment_type.Moment.{Moment}
 use Rattle.td_civil.specs.declared.local_time.Local.{Local}
 use Rattle.td_civil.specs.declared.local_time.Observance.{Observance}
 use Rattle.td_civil.proofs.lemmas.SameStates.{same_local_is, other_local}
 use Rattle.zone_meaning.specs.Observed.{change_at, first_at, observed}
-use Rattle.zone_meaning.specs.RangeLaws.{IsChangeBetween, AreObserved, state_told}
+use Rattle.zone_meaning.specs.RangeLaws.{IsChangeBetween, state_told}
 use Rattle.zone_meaning.proofs.lemmas.Members.{member_first, member_later, member_cases, no_member}
 use Rattle.zone_meaning.proofs.lemmas.RangeLemmas.{change_onset, first_onset, change_told, first_told, one_onset, are_observed}
 use Rattle.recurrence.specs.declared.part_types.Part.{Part}

@@ -1,6 +1,6 @@
 -- Values of content lines, read: local times, moments, offsets and texts (RFC 5545, sections 3.3.5,
 -- 3.3.11 and 3.3.14).
-use Rattle.std.specs.Prelude.{ℕ, ◌+◌, ◌*◌, ◌==◌, nat_le, nat_lt, List, [], ◌∷◌, length, take, drop}
+use Rattle.std.specs.Prelude.{ℕ, ◌+◌, ◌*◌, ◌==◌, nat_lt, List, [], ◌∷◌, length, take, drop}
 use Rattle.std.specs.Prelude.{codes, Bool, true, false, not, ◌&&◌, ◌||◌, if◌then◌else◌, ℤ, pos}
 use Rattle.std.specs.Prelude.{neg_ℤ, Option, None, Some, slice_index}
 use Rattle.std.specs.Option.{option_map}

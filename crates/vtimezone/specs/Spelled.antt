@@ -3,14 +3,13 @@
 -- colon and a value. A component is lines from its BEGIN to its END, first properties and then the
 -- components in it: a calendar has one time zone, and that has a part for each of its groups.
 -- Names stand in capitals and have no parameters. A text with any other line spells nothing.
-use Rattle.std.specs.Prelude.{ℕ, ◌+◌, ◌-◌, ◌*◌, ◌==◌, List, [], ◌∷◌, ◌++◌, codes, length, take}
-use Rattle.std.specs.Prelude.{drop, Bool, true, false, not, ◌&&◌, ◌||◌, if◌then◌else◌, ℤ, ◌-ℤ◌}
+use Rattle.std.specs.Prelude.{ℕ, ◌-◌, ◌==◌, List, [], ◌∷◌, ◌++◌, codes, length, take}
+use Rattle.std.specs.Prelude.{drop, Bool, true, false, not, ◌&&◌, ◌||◌, if◌then◌else◌, ℤ}
 use Rattle.std.specs.Prelude.{Option, None, Some}
 use Rattle.std.specs.List.{list_all, flat_map, take_while}
 use Rattle.std.specs.Option.{option_map, option_and_then}
 use Rattle.std.specs.Result.{result_ok}
 use Rattle.std.specs.Str.{bytes_eq}
-use Rattle.td_civil.specs.declared.moment_type.Moment.{Moment}
 use Rattle.ical_lines.specs.Unfolding.{unfolded}
 use Rattle.recurrence.specs.declared.part_types.Part.{Part}
 use Rattle.recurrence.specs.AllRead.{put_before, all_read}

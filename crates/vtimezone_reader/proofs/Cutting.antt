@@ -1,7 +1,7 @@
 -- Texts, cut at separators.
-use Rattle.std.proofs.Common.{◌≡◌, ℕ, zero, suc, ◌+◌, ◌<◌, ◌==◌, Bool, true, false, not, if◌then◌else◌, refl, sym, ap, subst, ◌∙◌, arith, List, [], ◌∷◌, ◌++◌, length, take, drop, Option, None, Some}
-use Rattle.std.specs.List.{slice_split, onto_first}
-use Rattle.std.proofs.lemmas.Bool.{cond_both, cond-true, cond-false}
+use Rattle.std.proofs.Common.{◌≡◌, ℕ, suc, ◌<◌, ◌==◌, Bool, true, false, if◌then◌else◌, refl, sym, ap, subst, ◌∙◌, arith, List, [], ◌∷◌}
+use Rattle.std.proofs.Common.{length, take, drop, Option, None, Some}
+use Rattle.std.specs.List.{onto_first}
 use Rattle.vtimezone.specs.Cutting.{cut_at}
 use Rattle.vtimezone_reader.specs.Pieces.{pieces, before, after, length_before}
 
@@ -33,7 +33,8 @@ after_some s (b ∷ bs) h = by_case (b == s) (after_some s bs) h
 pub cut_is : (s : ℕ) (text : List ℕ) → cut_at s text ≡ before s text ∷ pieces s (after s text)
 cut_is s [] = refl
 cut_is s (b ∷ bs) =
-    elim (b == s) as (λ v. (if v then ([] ∷ cut_at s bs) else onto_first b (cut_at s bs)) ≡ (if v then [] else b ∷ before s bs) ∷ pieces s (if v then Some bs else after s bs))
+    elim (b == s) as (λ v. (if v then ([] ∷ cut_at s bs) else onto_first b (cut_at s bs)) ≡ (if v then [] else b ∷ before s bs) ∷ pieces s
+    (if v then Some bs else after s bs))
     [ true ↦ refl | false ↦ ap (onto_first b) (cut_is s bs) ]
 
 pub record IsCut (s : ℕ) (text front : List ℕ) (next : Option (List ℕ)) : Type 0 where

@@ -1,8 +1,8 @@
 -- Numbers in a row, as far as they were read.
-use Rattle.std.proofs.Common.{◌≡◌, ℕ, ◌+◌, ◌==◌, Bool, true, false, if◌then◌else◌, refl, sym, ap, ◌∙◌, arith, ℤ, List, [], ◌∷◌, Option, None, Some}
+use Rattle.std.proofs.Common.{◌≡◌, ℕ, ◌+◌, ◌==◌, false, refl, sym, ap, ◌∙◌, arith, ℤ, List, [], ◌∷◌, Option, None}
 use Rattle.std.proofs.lemmas.Bool.{cond_both}
 use Rattle.vtimezone_reader.specs.declared.rule_words.Days.{Days}
-use Rattle.vtimezone_reader.specs.RuleWords.{number_in, is_next, days_ended, days_after}
+use Rattle.vtimezone_reader.specs.RuleWords.{number_in, is_next, days_after}
 
 beyond : (places : ℕ) (first : ℤ) (n : ℕ) (ts : List (List ℕ)) → days_after places first (8 + n) ts ≡ None
 unfolding days_after

@@ -1,16 +1,16 @@
 -- The days of a rule as a test, and as a relation.
-use Rattle.std.proofs.Common.{◌≡◌, ◌⊎◌, inl, inr, ℕ, ◌+◌, ◌-◌, ◌/◌, ◌≤◌, ◌<◌, ◌==◌, nat_le, nat_lt, Bool, true, false, ◌&&◌, refl, sym, ap, ◌∙◌, subst, arith}
-use Rattle.std.proofs.Common.{ℤ, pos, negsuc, ◌+ℤ◌, ◌-ℤ◌, ◌*ℤ◌, ◌≤ℤ◌, ◌<ℤ◌, unsigned_abs}
+use Rattle.std.proofs.Common.{◌≡◌, ℕ, ◌+◌, ◌≤◌, ◌==◌, nat_le, true, ◌&&◌, ap, ◌∙◌, subst, arith}
+use Rattle.std.proofs.Common.{ℤ, pos, negsuc, ◌+ℤ◌, ◌≤ℤ◌, unsigned_abs}
 use Rattle.std.proofs.lemmas.Bool.{and_from, and_parts, le-leb, eq-eqb}
 use Rattle.std.proofs.lemmas.Bool.Decides.{nat_tests}
 use Rattle.jiff_core.proofs.SignedLemmas.{signed_arith, one_part}
 use Rattle.jiff_core.specs.Calendar.{days_in_month, days_in_year, day_of_year, days_from_civil, IsCivilDate, IsYear}
 use Rattle.jiff_core.proofs.CalendarLemmas.{days_from_civil-day_count, day_count-year_is}
-use Rattle.td_civil.specs.Calendar.{Civil, date_of}
-use Rattle.td_civil.proofs.lemmas.Counting.{IsDated, HasCount, date_of_counts, date_of_number, one_date}
+use Rattle.td_civil.specs.Calendar.{Civil}
+use Rattle.td_civil.proofs.lemmas.Counting.{IsDated, date_of_counts, date_of_number, one_date}
 use Rattle.recurrence.specs.declared.rule_types.Form.{Form}
 use Rattle.recurrence.specs.declared.rule_types.Form.TheVariants as form
-use Rattle.recurrence.specs.Falls.{IsNth, IsAmongDays, IsWeekday, HasDate, Falls, IsOfYear}
+use Rattle.recurrence.specs.Falls.{IsNth, IsAmongDays, HasDate, Falls, IsOfYear}
 use Rattle.vtimezone_reader.specs.FallsOn.{date_of_day, is_nth, is_among_days, is_weekday, has_date, falls_on}
 
 nth_is : (nth : ℤ) (length day : ℕ) → is_nth nth length day ≡ true → IsNth nth length day

@@ -1,5 +1,6 @@
 -- The names of a footer have 32 bytes at most.
-use Rattle.std.proofs.Common.{◌≡◌, ◌⊎◌, inl, inr, ℕ, ◌≤◌, ◌==◌, Bool, true, false, if◌then◌else◌, refl, sym, ap, subst, ◌∙◌, arith, Option, None, Some, Result, Ok, Err, List, length}
+use Rattle.std.proofs.Common.{◌≡◌, ◌⊎◌, inl, inr, ℕ, ◌≤◌, ◌==◌, Bool, true, false, if◌then◌else◌, refl, ap, subst, arith, Option, None, Some, Result}
+use Rattle.std.proofs.Common.{Ok, Err, List, length}
 use Rattle.std.specs.Prelude.{ok_or}
 use Rattle.std.specs.Option.{IfSome}
 use Rattle.td_base.specs.FirstFault.{◌>>=◌}
@@ -72,13 +73,15 @@ rule_dst size dst rest rule e =
     (λ second. date_at size second >>= λ end. Last one.value.0 end) rule one.gives in
     let three = bound (date_at size two.value) (λ end. Last one.value.0 end) rule two.gives in
     ap (λ (r : DstRule). r.dst)
-    (ok_if (length three.value.1 == 0) (record { dst = dst; start = one.value.0; end = three.value.0 }) rule (fault.Rest (place size three.value.1)) three.gives)
+    (ok_if (length three.value.1 == 0) (record { dst = dst; start = one.value.0; end = three.value.0 }) rule (fault.Rest (place size three.value.1))
+    three.gives)
 
 pub record HasShortNames (f : Footer) : Type 0 where
   pub std : length f.std.name ≤ 32
   pub dst : IfSome f.dst (λ r. length r.dst.name ≤ 32)
 
-some_short : (std dst : Local) (rule : DstRule) (f : Footer) → record { std = std; dst = Some rule } ≡ f → dst ≡ rule.dst → length std.name ≤ 32 → length dst.name ≤ 32
+some_short : (std dst : Local) (rule : DstRule) (f : Footer) → record { std = std; dst = Some rule } ≡ f → dst ≡ rule.dst → length std.name ≤ 32
+    → length dst.name ≤ 32
     → HasShortNames f
 some_short std dst rule f is same first second =
     let P : Local → Type 0 = λ l. length l.name ≤ 32 in

@@ -1,18 +1,17 @@
 -- Onsets of parts that are not after a moment.
-use Rattle.std.proofs.Common.{◌≡◌, ◌⊎◌, inl, inr, ℕ, ◌<◌, Bool, true, false, ◌||◌, refl, sym, ap, ◌∙◌, subst, arith, ℤ, pos, ◌+ℤ◌, ◌-ℤ◌, ◌≤ℤ◌, Option, None, Some, List, [], ◌∷◌, length, get_or}
+use Rattle.std.proofs.Common.{◌≡◌, ◌⊎◌, inl, inr, ℕ, ◌<◌, true, ◌||◌, sym, ap, subst, arith, ℤ, ◌≤ℤ◌, Option, None}
+use Rattle.std.proofs.Common.{Some, List, [], ◌∷◌, length, get_or}
 use Rattle.std.specs.List.{AllByRecursion}
 use Rattle.std.specs.Option.{IfSome}
 use Rattle.std.specs.Ordering.{int_eq}
-use Rattle.std.proofs.lemmas.Int.{ints}
 use Rattle.std.proofs.lemmas.List.Folds.{list_any_at}
 use Rattle.jiff_core.proofs.SignedLemmas.{signed_arith}
 use Rattle.td_civil.specs.declared.moment_type.Moment.{Moment}
 use Rattle.td_civil.specs.declared.moment_type.TheConstants.{LO}
 use Rattle.recurrence.specs.declared.part_types.Part.{Part}
-use Rattle.vtimezone_reader.specs.Observing.{any_onset}
 use Rattle.vtimezone_reader.specs.Onsets.{is_among, is_onset_of, has_onset}
 use Rattle.vtimezone_reader.specs.Sound.{IsMeant, IsSoundPart}
-use Rattle.vtimezone_reader.specs.Turns.{IsOnsetBy, HasBegun, IsBeforeOnset}
+use Rattle.vtimezone_reader.specs.Turns.{IsOnsetBy, HasBegun}
 use Rattle.vtimezone_reader.proofs.LeastOnset.{start_is}
 use Rattle.vtimezone_reader.proofs.RuleOnsets.{onset_from_start}
 use Rattle.vtimezone_reader.proofs.Tests.{either_is, or_left, or_right, int_same}
@@ -66,9 +65,3 @@ begun_by parts p i t None lt is h = tt
 begun_by parts p i t (Some m) lt is h =
     let P : Part → Type 0 = λ q. has_onset q m.seconds ≡ true in
     record { onset = list_any_at (λ q. has_onset q m.seconds) parts i p lt (subst P is h.onset); by = h.by; low = h.low }
-
-pub before_begun : (parts : List Part) (t m before : ℤ) → HasBegun parts t m → before ≡ m -ℤ pos 1 → IsBeforeOnset parts t before
-before_begun parts t m before h is =
-    let back : m ≡ before +ℤ pos 1 = omega (arith, signed_arith, is) in
-    let P : ℤ → Type 0 = λ v. HasBegun parts t v in
-    inr (subst P back h)

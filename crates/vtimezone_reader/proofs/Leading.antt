@@ -1,5 +1,5 @@
 -- Lines that lead from one place to another.
-use Rattle.std.proofs.Common.{◌≡◌, ℕ, suc, ◌+◌, ◌-◌, nat_lt, Bool, true, false, ◌&&◌, if◌then◌else◌, List, [], ◌∷◌, ◌++◌, length}
+use Rattle.std.proofs.Common.{◌≡◌, ℕ, suc, ◌+◌, nat_lt, Bool, true, false, ◌&&◌, if◌then◌else◌, List, [], ◌∷◌, ◌++◌, length}
 use Rattle.std.proofs.Common.{refl, ap, ◌∙◌, append_assoc, None, Some, Ok}
 use Rattle.std.specs.List.{list_all}
 use Rattle.std.proofs.lemmas.Bool.{cond-true, and_from, and_parts}
@@ -24,7 +24,8 @@ leads_on a b c xs ys one two n rest =
     let second = two first.0 rest in
     (second.0, ap (lines_read n a) (append_assoc xs ys rest) ∙ first.1 ∙ second.1)
 
-more_read : (n : ℕ) (s : Standing) (line : List ℕ) (lines : List (List ℕ)) → lines_read n s (line ∷ lines) ≡ (line_read n s line >>= λ now. lines_read (n + 1) now lines)
+more_read : (n : ℕ) (s : Standing) (line : List ℕ) (lines : List (List ℕ))
+    → lines_read n s (line ∷ lines) ≡ (line_read n s line >>= λ now. lines_read (n + 1) now lines)
 unfolding lines_read
 more_read n s line lines = refl
 
@@ -55,7 +56,8 @@ valued name value e =
     let long = length_named name value both.1 in
     let rest : drop (name_length (line name value)) (line name value) ≡ 58 ∷ value =
     ap (λ n. drop n (line name value)) long ∙ drop-append_seam name (58 ∷ value) in
-    ap (λ n. if nat_lt 0 n && ends_name (drop (name_length (line name value)) (line name value)) then after_colon false (drop (name_length (line name value)) (line name value)) else None) long
+    ap (λ n. if nat_lt 0 n && ends_name (drop (name_length (line name value)) (line name value)) then after_colon false
+    (drop (name_length (line name value)) (line name value)) else None) long
     ∙ ap (λ t. if nat_lt 0 (length name) && ends_name t then after_colon false t else None) rest
     ∙ cond-true (nat_lt 0 (length name) && true) (after_colon false (58 ∷ value)) None (and_from _ true both.0 refl)
     ∙ colon_first value

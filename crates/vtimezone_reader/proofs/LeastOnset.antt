@@ -1,5 +1,6 @@
 -- The least onset of parts.
-use Rattle.std.proofs.Common.{◌≡◌, ◌⊎◌, inl, inr, ℕ, ◌+◌, ◌≤◌, ◌<◌, Bool, true, false, ◌||◌, refl, sym, ap, ◌∙◌, subst, arith, ℤ, ◌≤ℤ◌, ◌<ℤ◌, List, length, take, get_or}
+use Rattle.std.proofs.Common.{◌≡◌, ◌⊎◌, inl, inr, ℕ, ◌+◌, ◌≤◌, ◌<◌, true, false, ◌||◌, refl, sym, ap, ◌∙◌, subst, arith, ℤ, ◌≤ℤ◌, List, length}
+use Rattle.std.proofs.Common.{take, get_or}
 use Rattle.std.specs.Int.{int_min}
 use Rattle.std.specs.Ordering.{int_eq}
 use Rattle.std.proofs.lemmas.Int.{ints, by_lt_z}
@@ -81,7 +82,8 @@ least_all p i first all h = record {
     | inl x ↦ h.least v (ap (λ (ds : List Moment). int_eq p.start.seconds v || is_among ds v) (take_all i p.dates all) ∙ x)
     | inr x ↦
         let from = onset_from_start p v x in
-        let start = h.least p.start.seconds (or_left (int_eq p.start.seconds p.start.seconds) (is_among (take i p.dates) p.start.seconds) (int_eq_of p.start.seconds p.start.seconds refl)) in
+        let start = h.least p.start.seconds
+        (or_left (int_eq p.start.seconds p.start.seconds) (is_among (take i p.dates) p.start.seconds) (int_eq_of p.start.seconds p.start.seconds refl)) in
         omega (arith, signed_arith, from, start)
   ];
 }
@@ -104,8 +106,9 @@ among_more parts i p first own now lt at h mine e =
         | inl x ↦ subst P (sym x) h.is
         | inr x ↦ subst P (sym x) (list_any_at (λ q. has_onset q own) parts i p lt (subst Q at mine.is))
       ];
-      least = λ v on. elim (either_is (any_onset (take i parts) v) (has_onset (get_or parts i p) v) (sym (list_any_more (λ q. has_onset q v) parts i p lt) ∙ on)) [
-        | inl x ↦ let from = h.least v x in omega (arith, signed_arith, low, from)
-        | inr x ↦ let from = mine.least v (ap (λ q. has_onset q v) at ∙ x) in omega (arith, signed_arith, also, from)
-      ];
+      least = λ v on. elim (either_is (any_onset (take i parts) v) (has_onset (get_or parts i p) v)
+          (sym (list_any_more (λ q. has_onset q v) parts i p lt) ∙ on)) [
+            | inl x ↦ let from = h.least v x in omega (arith, signed_arith, low, from)
+            | inr x ↦ let from = mine.least v (ap (λ q. has_onset q v) at ∙ x) in omega (arith, signed_arith, also, from)
+          ];
     }

@@ -1,4 +1,3 @@
-pub mod ChangeLists
 pub mod Counted
 pub mod Cutting
 pub mod DaysRead

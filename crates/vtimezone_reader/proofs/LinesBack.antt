@@ -1,5 +1,5 @@
 -- The lines of a calendar that was written lead to the calendar.
-use Rattle.std.proofs.Common.{◌≡◌, ℕ, ◌+◌, ◌-◌, ◌<◌, ◌≤◌, nat_le, nat_lt, Bool, true, false, not, ◌&&◌, if◌then◌else◌, List, [], ◌∷◌, ◌++◌, length}
+use Rattle.std.proofs.Common.{◌≡◌, ℕ, ◌<◌, ◌≤◌, nat_le, nat_lt, Bool, true, false, not, ◌&&◌, if◌then◌else◌, List, [], ◌∷◌, ◌++◌, length}
 use Rattle.std.proofs.Common.{codes, refl, sym, ap, ◌∙◌, subst, arith, append_assoc, append-nil, Option, None, Some, Ok}
 use Rattle.std.specs.List.{AllByRecursion, flat_map, list_all}
 use Rattle.std.specs.Option.{IfSome}
@@ -10,7 +10,6 @@ use Rattle.td_base.proofs.lemmas.PlainLemmas.{identifier_is_plain}
 use Rattle.td_civil.specs.declared.moment_type.Moment.{Moment}
 use Rattle.td_civil.specs.Bounds.{IsWithinBounds}
 use Rattle.td_civil.proofs.lemmas.Shown.{bounds_text}
-use Rattle.ical_lines.specs.Lines.{written}
 use Rattle.ical_lines.specs.Unfolding.{is_feed, unfolded}
 use Rattle.recurrence.specs.declared.part_types.Part.{Part}
 use Rattle.vtimezone_reader.specs.declared.calendar_type.Calendar.{Calendar}
@@ -25,7 +24,7 @@ use Rattle.vtimezone_reader.specs.ReadLines.{lines_read, of_lines, calendar_in}
 use Rattle.vtimezone.specs.ReadValues.{utc_in}
 use Rattle.vtimezone.specs.Values.{utc_basic}
 use Rattle.vtimezone_reader.specs.Written.{IsWrittenPart, written_calendar}
-use Rattle.vtimezone_reader.proofs.ValuesBack.{utc_back}
+use Rattle.vtimezone.proofs.lemmas.ValuesBack.{utc_back}
 use Rattle.vtimezone_reader.proofs.Leading.{Leads, leads_nothing, leads_on, leads_line}
 use Rattle.vtimezone_reader.proofs.PartsBack.{part_leads, valid_rule}
 
@@ -76,7 +75,8 @@ until_step : (z : OpenZone) (text : List ℕ) (m : Moment) → z.until ≡ None 
 unfolding step in_zone zone_line is_word
 until_step z text m none e = rw (none, e) refl
 
-end_zone_step : (z : OpenZone) (c : Calendar) → has_part z ≡ true → calendar_of z ≡ Ok c → step (at.InZone z) (codes "END") (codes "VTIMEZONE") ≡ Ok (at.AfterZone c)
+end_zone_step : (z : OpenZone) (c : Calendar) → has_part z ≡ true → calendar_of z ≡ Ok c
+    → step (at.InZone z) (codes "END") (codes "VTIMEZONE") ≡ Ok (at.AfterZone c)
 unfolding step in_zone is_word
 end_zone_step z c some e = rw (some, e) refl
 

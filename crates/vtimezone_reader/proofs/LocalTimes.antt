@@ -8,7 +8,7 @@ use Rattle.std.proofs.lemmas.Bool.Decides.{nat_tests}
 use Rattle.std.proofs.lemmas.List.{get_or-take, get_or-drop, length-take, length-drop, take_all}
 use Rattle.std.proofs.lemmas.Slice.Eq.{bytes_eq-Decides}
 use Rattle.td_civil.specs.Reading.{is_stamp, moment_in}
-use Rattle.td_civil.specs.Stamp.{moment_at, spelling, two_digits, four_digits}
+use Rattle.td_civil.specs.Stamp.{moment_at, spelling, two_digits}
 use Rattle.vtimezone.specs.ReadValues.{fields_in, is_date_time, local_in, is_hours, size_in, signed_by, offset_in}
 use Rattle.vtimezone_reader.specs.Separated.{separated}
 

@@ -1,5 +1,5 @@
 -- The lines of a part that was written lead to the part.
-use Rattle.std.proofs.Common.{◌≡◌, ℕ, ◌+◌, ◌-◌, Bool, true, false, List, [], ◌∷◌, ◌++◌}
+use Rattle.std.proofs.Common.{◌≡◌, ℕ, Bool, true, false, List, [], ◌∷◌, ◌++◌}
 use Rattle.std.proofs.Common.{codes, refl, sym, ap, ◌∙◌, subst, arith, ℤ, ◌+ℤ◌, ◌-ℤ◌, unsigned_abs, Option, None, Some, Ok}
 use Rattle.std.specs.List.{AllByRecursion}
 use Rattle.std.specs.Option.{IfSome, option_map, option_and_then}
@@ -30,10 +30,10 @@ use Rattle.vtimezone.specs.Cutting.{cut_at}
 use Rattle.vtimezone.specs.ReadValues.{offset_in}
 use Rattle.vtimezone.specs.Values.{dates_text, offset_text, rule_text}
 use Rattle.vtimezone_reader.specs.Written.{HasLast, IsWrittenPart}
-use Rattle.vtimezone_reader.proofs.ValuesBack.{local_back, offset_back}
+use Rattle.vtimezone.proofs.lemmas.ValuesBack.{local_back, offset_back}
 use Rattle.vtimezone_reader.proofs.RulesBack.{recur_back, meant_back}
 use Rattle.vtimezone_reader.proofs.Leading.{Leads, leads_nothing, leads_on, leads_line}
-use Rattle.vtimezone_reader.proofs.NumbersBack.{local_texts, dates_cut}
+use Rattle.vtimezone.proofs.lemmas.NumbersBack.{local_texts, dates_cut}
 
 -- ---- the lines of a part
 
@@ -42,7 +42,8 @@ unfolding step in_zone is_word
 begin_step z true = refl
 begin_step z false = refl
 
-start_step : (z : OpenZone) (p : OpenPart) (value : List ℕ) → p.start ≡ None → step (at.InPart z p) (codes "DTSTART") value ≡ Ok (at.InPart z (record p { start = Some value }))
+start_step : (z : OpenZone) (p : OpenPart) (value : List ℕ) → p.start ≡ None
+    → step (at.InPart z p) (codes "DTSTART") value ≡ Ok (at.InPart z (record p { start = Some value }))
 unfolding step in_part part_line is_word
 start_step z p value none = rw none refl
 
@@ -83,10 +84,12 @@ same_kind false = refl
 in_part_end : (z : OpenZone) (p : OpenPart) (part : Part) → part_of p ≡ Ok part → in_part z p (codes "END") (kind_of p.dst) ≡ Ok (at.InZone (with_part z part))
 unfolding in_part
 in_part_end z p part e =
-    cond-true (ends (codes "END") (kind_of p.dst) (kind_of p.dst)) (part_of p >>= λ q. Ok (at.InZone (with_part z q))) _ (and_from _ _ end_is_end (same_kind p.dst))
+    cond-true (ends (codes "END") (kind_of p.dst) (kind_of p.dst)) (part_of p >>= λ q. Ok (at.InZone (with_part z q))) _
+    (and_from _ _ end_is_end (same_kind p.dst))
     ∙ ap (λ r. r >>= λ q. Ok (at.InZone (with_part z q))) e
 
-end_step : (z : OpenZone) (p : OpenPart) (part : Part) → part_of p ≡ Ok part → step (at.InPart z p) (codes "END") (kind_of p.dst) ≡ Ok (at.InZone (with_part z part))
+end_step : (z : OpenZone) (p : OpenPart) (part : Part) → part_of p ≡ Ok part
+    → step (at.InPart z p) (codes "END") (kind_of p.dst) ≡ Ok (at.InZone (with_part z part))
 unfolding step
 end_step z p part e = in_part_end z p part e
 
@@ -142,12 +145,14 @@ change_leads z p h =
     leads_on (at.InPart z none) (at.InPart z one) (at.InPart z (changed p)) (l1 ∷ []) (l2 ∷ l3 ∷ l4 ∷ [])
     (leads_line (at.InPart z none) (at.InPart z one) (codes "DTSTART") (local_text_of p.start.seconds p.from) refl (start_step z none _ refl))
     (leads_on (at.InPart z one) (at.InPart z two) (at.InPart z (changed p)) (l2 ∷ []) (l3 ∷ l4 ∷ [])
-    (leads_line (at.InPart z one) (at.InPart z two) (codes "TZOFFSETFROM") (offset_text p.from) refl (from_step z one _ p.from refl (offset_back p.from h.sound.from)))
+    (leads_line (at.InPart z one) (at.InPart z two) (codes "TZOFFSETFROM") (offset_text p.from) refl
+    (from_step z one _ p.from refl (offset_back p.from h.sound.from)))
     (leads_on (at.InPart z two) (at.InPart z three) (at.InPart z (changed p)) (l3 ∷ []) (l4 ∷ [])
     (leads_line (at.InPart z two) (at.InPart z three) (codes "TZOFFSETTO") (offset_text p.to) refl (to_step z two _ p.to refl (offset_back p.to h.sound.to)))
     (leads_line (at.InPart z three) (at.InPart z (changed p)) (codes "TZNAME") p.name refl (name_step z three p.name refl h.name))))
 
-date_leads : (z : OpenZone) (p : OpenPart) (ms : List Moment) (o : ℤ) → p.dates ≡ [] → Leads (at.InPart z p) (date_lines ms o) (at.InPart z (record p { dates = local_texts ms o }))
+date_leads : (z : OpenZone) (p : OpenPart) (ms : List Moment) (o : ℤ) → p.dates ≡ []
+    → Leads (at.InPart z p) (date_lines ms o) (at.InPart z (record p { dates = local_texts ms o }))
 unfolding date_lines
 date_leads z p [] o none =
     let same : record p { dates = [] } ≡ p = rw (sym none) refl in
@@ -157,7 +162,8 @@ date_leads z p (m ∷ ms) o none =
     leads_line (at.InPart z p) (at.InPart z (record p { dates = local_texts (m ∷ ms) o })) (codes "RDATE") (dates_text m ms o) refl
     (dates_step z p _ (local_texts (m ∷ ms) o) none (dates_cut m ms o))
 
-rule_leads : (z : OpenZone) (p : OpenPart) (rule : Option Rule) (until : Option Moment) → p.recur ≡ None → IfSome rule (λ r. IsValidForm r.form) → HasLast rule until
+rule_leads : (z : OpenZone) (p : OpenPart) (rule : Option Rule) (until : Option Moment) → p.recur ≡ None → IfSome rule (λ r. IsValidForm r.form)
+    → HasLast rule until
     → Leads (at.InPart z p) (rule_lines rule until) (at.InPart z (record p { recur = recur_of_part rule until }))
 unfolding rule_lines
 rule_leads z p None until none h last =
@@ -165,7 +171,8 @@ rule_leads z p None until none h last =
     let To : OpenPart → Type 0 = λ q. Leads (at.InPart z p) [] (at.InPart z q) in
     subst To (sym same) (leads_nothing (at.InPart z p))
 rule_leads z p (Some rule) until none h last =
-    leads_line (at.InPart z p) (at.InPart z (record p { recur = Some (record { form = rule.form; until = until }) })) (codes "RRULE") (rule_text rule until) refl
+    leads_line (at.InPart z p) (at.InPart z (record p { recur = Some (record { form = rule.form; until = until }) })) (codes "RRULE") (rule_text rule until)
+    refl
     (rule_step z p _ (record { form = rule.form; until = until }) none (recur_back rule until h (is_valid_of rule.form h) last))
 
 rule_again : (p : Part) (rule : Option Rule) → HasStartTime p rule → option_map (rule_at (p.start.seconds +ℤ p.from)) (recur_of_part rule p.until) ≡ rule

@@ -1,7 +1,6 @@
 -- Days that no month has.
-use Rattle.std.proofs.Common.{◌≡◌, ℕ, zero, suc, ◌+◌, ◌<◌, ◌≤◌, Bool, true, false, refl, sym, ap, ◌∙◌, arith, ℤ, pos, negsuc, ◌<ℤ◌, Option, None, Some, if◌then◌else◌}
+use Rattle.std.proofs.Common.{◌≡◌, ℕ, refl, sym, arith, ℤ, pos, negsuc, ◌<ℤ◌, Option, None, Some}
 use Rattle.std.proofs.lemmas.Bool.{cond_both, cond-false}
-use Rattle.jiff_core.specs.Calendar.{days_in_month}
 use Rattle.jiff_core.proofs.CalendarLemmas.{days_in_month_bounds}
 use Rattle.jiff_core.proofs.SignedLemmas.{signed_arith}
 use Rattle.recurrence.specs.declared.rule_types.Form.{Form}
@@ -38,13 +37,16 @@ days_low month weekday None (negsuc n) h = refl
 
 days_high : (month weekday : ℕ) (nth : Option ℤ) (z : ℤ) → pos 31 <ℤ z → None ≡ valid_only (month_days_form month weekday nth z)
 days_high month weekday (Some nth) z h = refl
-days_high month weekday None (pos n) h = refused (form.MonthDays month n weekday) (λ v. omega (arith, signed_arith, v.1, h, days_in_month_bounds (pos 2001) month))
+days_high month weekday None (pos n) h = refused (form.MonthDays month n weekday)
+    (λ v. omega (arith, signed_arith, v.1, h, days_in_month_bounds (pos 2001) month))
 days_high month weekday None (negsuc n) h = refl
 
 pub days_below : (month : ℕ) (days : Days) (d : WeekDay) → days.first <ℤ pos 1 → None ≡ valid_only (seven_of_month month days d)
 days_below month days d h =
-    cond_both days.seven (month_days_form month d.weekday d.nth days.first) None (λ o. None ≡ valid_only o) (λ _. days_low month d.weekday d.nth days.first h) (λ _. refl)
+    cond_both days.seven (month_days_form month d.weekday d.nth days.first) None (λ o. None ≡ valid_only o) (λ _. days_low month d.weekday d.nth days.first h)
+    (λ _. refl)
 
 pub days_above : (month : ℕ) (days : Days) (d : WeekDay) → pos 31 <ℤ days.first → None ≡ valid_only (seven_of_month month days d)
 days_above month days d h =
-    cond_both days.seven (month_days_form month d.weekday d.nth days.first) None (λ o. None ≡ valid_only o) (λ _. days_high month d.weekday d.nth days.first h) (λ _. refl)
+    cond_both days.seven (month_days_form month d.weekday d.nth days.first) None (λ o. None ≡ valid_only o) (λ _. days_high month d.weekday d.nth days.first h)
+    (λ _. refl)

@@ -1,9 +1,9 @@
 -- Where the onsets of a rule come next: in the year that clocks show, or in the one after it.
-use Rattle.std.proofs.Common.{◌≡◌, ◌⊎◌, inl, inr, ℕ, ◌+◌, ◌≤◌, ◌<◌, Bool, true, false, ◌&&◌, refl, sym, ap, ◌∙◌, subst, arith}
-use Rattle.std.proofs.Common.{ℤ, pos, negsuc, neg_ℤ, ◌+ℤ◌, ◌-ℤ◌, ◌*ℤ◌, ◌≤ℤ◌, ◌<ℤ◌, int_le, int_lt, unsigned_abs, Option, None, Some, if◌then◌else◌}
+use Rattle.std.proofs.Common.{◌≡◌, inl, inr, ℕ, ◌≤◌, ◌<◌, true, false, ◌&&◌, refl, sym, subst, arith}
+use Rattle.std.proofs.Common.{ℤ, pos, negsuc, neg_ℤ, ◌+ℤ◌, ◌-ℤ◌, ◌*ℤ◌, ◌≤ℤ◌, ◌<ℤ◌, int_le, int_lt, Option, None, Some}
 use Rattle.std.specs.Int.{int_div_euclid, int_rem_euclid}
 use Rattle.std.specs.Ordering.{int_eq}
-use Rattle.std.proofs.lemmas.Bool.{and_from, and_parts, cond_both, cond-true, cond-false}
+use Rattle.std.proofs.lemmas.Bool.{and_from, and_parts, cond_both}
 use Rattle.std.proofs.lemmas.Int.{ints, by_lt_z}
 use Rattle.jiff_core.specs.Calendar.{days_from_civil, days_in_year, IsYear, IsWithin}
 use Rattle.std.specs.Option.{IfSome}
@@ -14,11 +14,11 @@ use Rattle.td_civil.specs.declared.moment_type.Moment.{Moment}
 use Rattle.td_civil.specs.declared.moment_type.TheConstants.{LO, HI}
 use Rattle.recurrence.specs.declared.part_types.Part.{Part}
 use Rattle.recurrence.specs.declared.rule_types.Rule.{Rule}
-use Rattle.recurrence.specs.declared.rule_types.Form.{Form}
 use Rattle.recurrence.specs.Falls.{Falls, IsOfYear}
 use Rattle.recurrence.specs.Occurs.{moment_of}
 use Rattle.vtimezone_reader.specs.FallsOn.{falls_on}
-use Rattle.vtimezone_reader.specs.Observing.{NoneBetween, IsNextAt, IsNext, IsOnsetIn, IsYearShown, IsOnsetAfter, IsLate, IsFromTo, kept, kept_if, kept_until, later}
+use Rattle.vtimezone_reader.specs.Observing.{NoneBetween, IsNext, IsOnsetIn, IsYearShown, IsOnsetAfter, IsLate, IsFromTo, kept, kept_if, kept_until}
+use Rattle.vtimezone_reader.specs.Observing.{later}
 use Rattle.vtimezone_reader.specs.Onsets.{day_shown, is_rule_onset, is_onset_of, is_not_after}
 use Rattle.vtimezone_reader.specs.Sound.{IsSoundPart, HasStartTime}
 use Rattle.vtimezone_reader.proofs.Falling.{IsDay, falls_is, falls_on_of}
@@ -195,7 +195,8 @@ none_to_end p rule t y m end h past last bound v later before =
     let Starts : ℤ → Type 0 = λ k. at.day <ℤ days_from_civil (k +ℤ pos 1) 1 1 in
     let offset = h.offset in
     let moment = at.moment in
-    let is = this_is p rule t y m v h at later (subst Starts (sym same) (omega (arith, signed_arith, moment, offset, before, bound, days_from_civil-day_count, day_count-end))) in
+    let is = this_is p rule t y m v h at later
+    (subst Starts (sym same) (omega (arith, signed_arith, moment, offset, before, bound, days_from_civil-day_count, day_count-end))) in
     omega (arith, signed_arith, is, past, later))
 
 -- the next moment of the rule, kept where it comes before the end and not after the last one
@@ -245,7 +246,8 @@ onset_from_start p v e = by_rule p.rule e
 pub passing : (p : Part) (rule : Rule) (y m : ℤ) → rule.second < 86400 → pos 1800 ≤ℤ y → y ≤ℤ pos 9999 → p.start.seconds ≤ℤ m → IsOnsetIn rule p.from y m
     → is_not_after p.until m ≡ true → is_rule_onset p rule m ≡ true
 passing p rule (pos n) m second low high start h until =
-    onset_passes p rule n h.day m second (omega (arith, signed_arith, high)) (year_days (pos n) h.day low high h.occurs.within) h.occurs.within h.occurs.falls h.moment_is start until
+    onset_passes p rule n h.day m second (omega (arith, signed_arith, high)) (year_days (pos n) h.day low high h.occurs.within) h.occurs.within h.occurs.falls
+    h.moment_is start until
 passing p rule (negsuc n) m second low high start h until = absurd (omega (arith, signed_arith, low))
 
 -- the next moment of the rule
@@ -278,7 +280,8 @@ rule_next p rule t end y this after h next bound =
     by_next (Some m) more past =
         let sooner = next_is_later p rule t y this.seconds m.seconds h more.1 in
         kept_next p rule t end m (none_before_next p rule t y this.seconds m.seconds h past more.0 more.1) sooner
-        (λ until. passing p rule (y +ℤ pos 1) m.seconds h.second (omega (arith, signed_arith, low)) (next_high more.0) (omega (arith, signed_arith, start, sooner)) more.1 until)
+        (λ until. passing p rule (y +ℤ pos 1) m.seconds h.second (omega (arith, signed_arith, low)) (next_high more.0)
+        (omega (arith, signed_arith, start, sooner)) more.1 until)
 
 pub searched : (p : Part) (rule : Rule) (t y m : ℤ) → IsSoundPart p → p.rule ≡ Some rule → p.start.seconds ≤ℤ t → IsYearShown p.from t y
     → IsOnsetIn rule p.from y m → IsSearched p rule t y m

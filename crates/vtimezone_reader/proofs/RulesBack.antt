@@ -1,11 +1,11 @@
 -- Rules that are written are read back.
-use Rattle.std.proofs.Common.{◌≡◌, inl, inr, ℕ, ◌+◌, ◌≤◌, ◌<◌, Bool, true, false, ◌&&◌, if◌then◌else◌, refl, sym, ap, ◌∙◌, arith, append_assoc, append-nil, ℤ, pos, negsuc, ◌+ℤ◌}
-use Rattle.std.proofs.Common.{unsigned_abs, ◌^◌, Option, None, Some, List, [], ◌∷◌, ◌++◌, codes, decimal}
+use Rattle.std.proofs.Common.{◌≡◌, inr, ℕ, ◌+◌, ◌≤◌, true, false, refl, sym, ap, ◌∙◌, arith, append_assoc, append-nil, ℤ}
+use Rattle.std.proofs.Common.{pos, negsuc, ◌+ℤ◌}
+use Rattle.std.proofs.Common.{unsigned_abs, Option, None, Some, List, [], ◌∷◌, ◌++◌, codes, decimal}
 use Rattle.std.specs.Fmt.{signed_decimal}
-use Rattle.std.specs.Option.{IfSome, option_map, option_and_then}
+use Rattle.std.specs.Option.{IfSome, option_and_then}
 use Rattle.std.proofs.lemmas.Bool.{cond-true, and_from}
 use Rattle.std.proofs.lemmas.List.Folds.{list_all-append}
-use Rattle.std.proofs.lemmas.Bool.Decides.{nat_tests}
 use Rattle.std.proofs.lemmas.Int.{ints}
 use Rattle.jiff_core.proofs.CalendarLemmas.{days_in_month_bounds}
 use Rattle.jiff_core.proofs.SignedLemmas.{signed_arith, one_part}
@@ -24,16 +24,17 @@ use Rattle.vtimezone_reader.specs.declared.rule_words.WeekDay.{WeekDay}
 use Rattle.vtimezone_reader.specs.declared.rule_words.Words.{Words}
 use Rattle.td_civil.proofs.lemmas.Shown.{bounds_text}
 use Rattle.std.proofs.Common.{int_le, int_lt, ◌≤ℤ◌, ◌<ℤ◌}
-use Rattle.vtimezone_reader.specs.declared.rule_words.Recur.{Recur}
 use Rattle.vtimezone_reader.specs.ContentLines.{is_word}
-use Rattle.vtimezone_reader.specs.RuleWords.{month_in, days_in, day_in, weekday_in, moment_meant, day_read, word_read, words_read, no_words, form_of, valid_only, recur_with, recur_of, recur_in}
+use Rattle.vtimezone_reader.specs.RuleWords.{month_in, days_in, day_in, moment_meant, day_read, word_read, words_read, no_words, form_of}
+use Rattle.vtimezone_reader.specs.RuleWords.{valid_only, recur_with, recur_of, recur_in}
 use Rattle.vtimezone_reader.specs.ValidForms.{is_valid_form}
 use Rattle.recurrence.specs.Weekdays.{weekday_name}
 use Rattle.vtimezone.specs.Values.{utc_basic, seven_numbers, by_month, by_weekday, by_nth_weekday, by_month_day, by_month_days, by_year_days}
 use Rattle.vtimezone.specs.Values.{form_text, until_text, rule_text}
-use Rattle.vtimezone_reader.proofs.ValuesBack.{month_back, utc_back, weekday_back}
-use Rattle.vtimezone_reader.proofs.NumbersBack.{cut_last, uncut, uncut-append, after_each, are_uncut, cut_each, signed_uncut, weekday_uncut, utc_uncut}
-use Rattle.vtimezone_reader.proofs.NumbersBack.{IsShort, AreShort, one_number_back, seven_back, seven_uncut, weekday_alone, nth_weekday}
+use Rattle.vtimezone.proofs.lemmas.ValuesBack.{utc_back}
+use Rattle.vtimezone_reader.proofs.ValuesBack.{month_back}
+use Rattle.vtimezone.proofs.lemmas.NumbersBack.{uncut, uncut-append, after_each, are_uncut, cut_each, signed_uncut, weekday_uncut, utc_uncut}
+use Rattle.vtimezone_reader.proofs.NumbersBack.{IsShort, one_number_back, seven_back, seven_uncut, weekday_alone, nth_weekday}
 
 -- ---- the words of a rule
 
@@ -158,7 +159,13 @@ abbrev form_words_say : Form → Words
 form_words_say (form.NthDay month nth weekday) =
     record no_words { yearly = true; month = Some month; weekday = Some (record { nth = Some nth; weekday = weekday }) }
 form_words_say (form.MonthDays month first weekday) =
-    record no_words { yearly = true; month = Some month; month_days = Some (record { first = pos first; seven = true }); weekday = Some (record { nth = None; weekday = weekday }) }
+    record no_words {
+      yearly = true;
+      month = Some month;
+      month_days = Some (record { first = pos first; seven = true });
+      weekday = Some
+          (record { nth = None; weekday = weekday });
+    }
 form_words_say (form.YearDays first weekday) =
     record no_words { yearly = true; year_days = Some (record { first = first; seven = true }); weekday = Some (record { nth = None; weekday = weekday }) }
 form_words_say (form.FixedDate month day) =
@@ -236,32 +243,36 @@ form_again (form.FixedDate month day) = refl
 recur_again : (f : Form) (until : Option Moment) → is_valid_form f ≡ true
     → recur_of (record (form_words_say f) { until = until }) ≡ Some (record { form = f; until = until })
 unfolding recur_of
-recur_again (form.NthDay month nth weekday) until e = ap (λ o. recur_with until (valid_only o)) (form_again (form.NthDay month nth weekday)) ∙ ap (recur_with until) (cond-true _ _ None e)
-recur_again (form.MonthDays month first weekday) until e = ap (λ o. recur_with until (valid_only o)) (form_again (form.MonthDays month first weekday)) ∙ ap (recur_with until) (cond-true _ _ None e)
-recur_again (form.YearDays first weekday) until e = ap (λ o. recur_with until (valid_only o)) (form_again (form.YearDays first weekday)) ∙ ap (recur_with until) (cond-true _ _ None e)
-recur_again (form.FixedDate month day) until e = ap (λ o. recur_with until (valid_only o)) (form_again (form.FixedDate month day)) ∙ ap (recur_with until) (cond-true _ _ None e)
+recur_again (form.NthDay month nth weekday) until e = ap (λ o. recur_with until (valid_only o)) (form_again (form.NthDay month nth weekday))
+    ∙ ap (recur_with until) (cond-true _ _ None e)
+recur_again (form.MonthDays month first weekday) until e = ap (λ o. recur_with until (valid_only o)) (form_again (form.MonthDays month first weekday))
+    ∙ ap (recur_with until) (cond-true _ _ None e)
+recur_again (form.YearDays first weekday) until e = ap (λ o. recur_with until (valid_only o)) (form_again (form.YearDays first weekday))
+    ∙ ap (recur_with until) (cond-true _ _ None e)
+recur_again (form.FixedDate month day) until e = ap (λ o. recur_with until (valid_only o)) (form_again (form.FixedDate month day))
+    ∙ ap (recur_with until) (cond-true _ _ None e)
 
 form_uncut : (f : Form) → IsValidForm f → are_uncut 59 (form_words f) ≡ true
 form_uncut (form.NthDay month nth weekday) h =
     let place = place_short nth h.1 in
-    and_from _ _ (signed_uncut 59 (pos month) (inr refl) (small_month month h.0))
-    (and_from _ true (uncut-append 59 (signed_decimal nth) (weekday_name weekday) (signed_uncut 59 nth (inr refl) place.small)
-    (weekday_uncut 59 weekday (inr refl) h.2)) refl)
+    and_from _ _ (signed_uncut 59 (pos month) (inr (inr refl)) (small_month month h.0))
+    (and_from _ true (uncut-append 59 (signed_decimal nth) (weekday_name weekday) (signed_uncut 59 nth (inr (inr refl)) place.small)
+    (weekday_uncut 59 weekday (inr (inr refl)) h.2)) refl)
 form_uncut (form.MonthDays month first weekday) h =
-    and_from _ _ (signed_uncut 59 (pos month) (inr refl) (small_month month h.0))
+    and_from _ _ (signed_uncut 59 (pos month) (inr (inr refl)) (small_month month h.0))
     (and_from _ _ (seven_uncut (pos first) 2 (λ k le. month_days_short month first k h.1.0 h.1.1 le))
-    (and_from _ true (weekday_uncut 59 weekday (inr refl) h.2) refl))
+    (and_from _ true (weekday_uncut 59 weekday (inr (inr refl)) h.2) refl))
 form_uncut (form.YearDays first weekday) h =
-    and_from _ _ (seven_uncut first 3 (first_small first h.0)) (and_from _ true (weekday_uncut 59 weekday (inr refl) h.1) refl)
+    and_from _ _ (seven_uncut first 3 (first_small first h.0)) (and_from _ true (weekday_uncut 59 weekday (inr (inr refl)) h.1) refl)
 form_uncut (form.FixedDate month day) h =
     let long = days_in_month_bounds (pos 2001) month in
     let date = small_number day h.1.0 (omega (arith, h.1, long)) in
-    and_from _ _ (signed_uncut 59 (pos month) (inr refl) (small_month month h.0))
-    (and_from _ true (signed_uncut 59 (pos day) (inr refl) date.small) refl)
+    and_from _ _ (signed_uncut 59 (pos month) (inr (inr refl)) (small_month month h.0))
+    (and_from _ true (signed_uncut 59 (pos day) (inr (inr refl)) date.small) refl)
 
 until_uncut : (until : Option Moment) → are_uncut 59 (until_words until) ≡ true
 until_uncut None = refl
-until_uncut (Some last) = and_from _ true (utc_uncut 59 last.seconds (inr refl)) refl
+until_uncut (Some last) = and_from _ true (utc_uncut 59 last.seconds (inr (inr refl))) refl
 
 -- the text of a rule is read as the rule
 pub recur_back : (rule : Rule) (until : Option Moment) → IsValidForm rule.form → is_valid_form rule.form ≡ true → IfSome until (λ m. HasMeaning m.seconds)

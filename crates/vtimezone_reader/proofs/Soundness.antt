@@ -1,7 +1,8 @@
 -- What is read is sound.
-use Rattle.std.proofs.Common.{◌≡◌, ◌⊎◌, inl, inr, ℕ, zero, suc, ◌+◌, ◌*◌, ◌-◌, ◌<◌, ◌≤◌, ◌==◌, nat_lt, nat_le, Bool, true, false, not, ◌&&◌, ◌||◌, if◌then◌else◌, List, [], ◌∷◌, ◌++◌, length}
-use Rattle.std.proofs.Common.{codes, refl, sym, ap, ◌∙◌, subst, arith, ℤ, pos, negsuc, neg_ℤ, ◌+ℤ◌, ◌-ℤ◌, ◌≤ℤ◌, ◌<ℤ◌, int_le, int_lt, unsigned_abs, Option, None, Some, Result, Ok, Err, IfOk}
-use Rattle.std.specs.Int.{int_rem_euclid}
+use Rattle.std.proofs.Common.{◌≡◌, ℕ, ◌+◌, ◌*◌, ◌<◌, ◌==◌, nat_lt, Bool, true, false, not, ◌&&◌}
+use Rattle.std.proofs.Common.{if◌then◌else◌, List, [], ◌∷◌, ◌++◌, length}
+use Rattle.std.proofs.Common.{codes, refl, subst, arith, ℤ, pos, neg_ℤ, ◌+ℤ◌, ◌-ℤ◌, int_le, int_lt, Option}
+use Rattle.std.proofs.Common.{None, Some, Result, Ok, Err, IfOk}
 use Rattle.std.specs.List.{AllByRecursion}
 use Rattle.std.specs.Option.{IfSome, option_map, option_and_then}
 use Rattle.std.proofs.lemmas.Bool.{cond_both, and_parts}
@@ -15,11 +16,9 @@ use Rattle.td_civil.specs.Bounds.{HasMeaning, has_meaning}
 use Rattle.td_civil.specs.Reading.{two_at}
 use Rattle.td_civil.specs.declared.moment_type.TheConstants.{LO, HI}
 use Rattle.recurrence.specs.declared.part_types.Part.{Part}
-use Rattle.recurrence.specs.declared.rule_types.Rule.{Rule}
 use Rattle.recurrence.specs.declared.rule_types.Form.{Form}
 use Rattle.recurrence.specs.Valid.{IsValidForm}
 use Rattle.vtimezone.specs.CalendarText.{kind_of}
-use Rattle.vtimezone.specs.Cutting.{cut_at}
 use Rattle.vtimezone.specs.ReadValues.{local_in, seconds_in, is_hours, size_in, signed_by, offset_in, utc_in}
 use Rattle.vtimezone_reader.specs.ValidForms.{is_valid_form}
 use Rattle.ical_lines.specs.Unfolding.{unfolded}
@@ -37,17 +36,19 @@ use Rattle.vtimezone_reader.specs.declared.standing.Standing.{Standing}
 use Rattle.vtimezone_reader.specs.declared.standing.Standing.TheVariants as at
 use Rattle.vtimezone_reader.proofs.Validity.{valid_is}
 use Rattle.vtimezone_reader.specs.ContentLines.{is_word, name_of, value_of}
-use Rattle.vtimezone_reader.specs.PartLines.{set_once, begun_part, name_with, more_line, part_line, rule_at, part_with, part_if, part_of}
-use Rattle.vtimezone_reader.specs.ReadLines.{begun_zone, identifier_in, zone_line, with_part, has_part, calendar_if, calendar_of, begins, ends, is_mark, stays, in_zone, in_part, step}
+use Rattle.vtimezone_reader.specs.PartLines.{set_once, more_line, part_line, rule_at, part_with, part_if, part_of}
+use Rattle.vtimezone_reader.specs.ReadLines.{identifier_in, zone_line, has_part, calendar_if, calendar_of, begins, ends, is_mark}
+use Rattle.vtimezone_reader.specs.ReadLines.{in_zone, in_part, step}
 use Rattle.vtimezone_reader.specs.ReadLines.{at_line, step_if, line_read, ended_at, lines_read, of_lines, calendar_in}
-use Rattle.vtimezone_reader.specs.RuleWords.{recur_in, recur_of, recur_with, valid_only, words_read}
+use Rattle.vtimezone_reader.specs.RuleWords.{recur_in, recur_of, recur_with, valid_only}
 use Rattle.vtimezone_reader.specs.Sound.{IsMeant, HasStartTime, IsSoundPart, IsSoundCalendar}
 use Rattle.vtimezone_reader.specs.TimeTexts.{moment_if, moment_by, moments_by}
 use Rattle.vtimezone_reader.proofs.SoundSteps.{IsSoundOpen, IsSoundZone, IsSoundStanding}
 
 -- ---- results that hold
 
-bind_ok : {A B E : Type 0} (r : Result A E) (f : A → Result B E) (P : A → Type 0) (Q : B → Type 0) → IfOk r P → ((x : A) → P x → IfOk (f x) Q) → IfOk (r >>= f) Q
+bind_ok : {A B E : Type 0} (r : Result A E) (f : A → Result B E) (P : A → Type 0) (Q : B → Type 0) → IfOk r P → ((x : A) → P x → IfOk (f x) Q)
+    → IfOk (r >>= f) Q
 bind_ok (Ok x) f P Q h k = k x h
 bind_ok (Err e) f P Q h k = tt
 
@@ -147,7 +148,8 @@ with_sound p from to (Some start) (Some dates) a b r s d = record {
 }
   where
     timed : (recur : Option Recur) → IfSome recur (λ r. IsValidForm r.form)
-        → HasStartTime (record { dst = p.dst; start = start; from = from; to = to; name = []; rule = None; until = None; dates = [] }) (option_map (rule_at (start.seconds +ℤ from)) recur)
+        → HasStartTime (record { dst = p.dst; start = start; from = from; to = to; name = []; rule = None; until = None; dates = [] })
+        (option_map (rule_at (start.seconds +ℤ from)) recur)
     timed None h = tt
     timed (Some r) h = (h, omega (arith, signed_arith))
 
@@ -167,7 +169,8 @@ more_sound : (p : OpenPart) (name value : List ℕ) → IsSoundOpen p → IfOk (
 unfolding more_line
 more_sound p name value h =
     if_ok (is_word name (codes "RRULE")) _ _ IsSoundOpen
-    (bind_ok (set_once p.recur fault.Rule (recur_in value)) _ (λ r. IsValidForm r.form) IsSoundOpen (once_ok p.recur fault.Rule (recur_in value) _ (recur_valid value))
+    (bind_ok (set_once p.recur fault.Rule (recur_in value)) _ (λ r. IsValidForm r.form) IsSoundOpen
+    (once_ok p.recur fault.Rule (recur_in value) _ (recur_valid value))
     (λ r valid. record { from = h.from; to = h.to; recur = valid }))
     (if_ok (is_word name (codes "RDATE")) _ _ IsSoundOpen (record { from = h.from; to = h.to; recur = h.recur })
     (if_ok (is_word name (codes "TZNAME")) _ _ IsSoundOpen (record { from = h.from; to = h.to; recur = h.recur }) h))
@@ -178,7 +181,8 @@ line_sound p name value h =
     if_ok (is_word name (codes "DTSTART")) _ _ IsSoundOpen
     (bind_ok (set_once p.start fault.Value (Some value)) _ (λ v. Unit {0}) IsSoundOpen (any_ok _) (λ v _. record { from = h.from; to = h.to; recur = h.recur }))
     (if_ok (is_word name (codes "TZOFFSETFROM")) _ _ IsSoundOpen
-    (bind_ok (set_once p.from fault.Value (offset_in value)) _ (IsWithin 86399) IsSoundOpen (once_ok p.from fault.Value (offset_in value) _ (offset_within value))
+    (bind_ok (set_once p.from fault.Value (offset_in value)) _ (IsWithin 86399) IsSoundOpen
+    (once_ok p.from fault.Value (offset_in value) _ (offset_within value))
     (λ v within. record { from = within; to = h.to; recur = h.recur }))
     (if_ok (is_word name (codes "TZOFFSETTO")) _ _ IsSoundOpen
     (bind_ok (set_once p.to fault.Value (offset_in value)) _ (IsWithin 86399) IsSoundOpen (once_ok p.to fault.Value (offset_in value) _ (offset_within value))
@@ -219,7 +223,8 @@ in_zone_sound z name value h =
     if_ok (begins name value (codes "STANDARD")) _ _ IsSoundStanding (h, record { from = tt; to = tt; recur = tt })
     (if_ok (begins name value (codes "DAYLIGHT")) _ _ IsSoundStanding (h, record { from = tt; to = tt; recur = tt })
     (if_test_ok (ends name value (codes "VTIMEZONE") && has_part z) _ _ IsSoundStanding
-    (λ e. bind_ok (calendar_of z) _ IsSoundCalendar IsSoundStanding (if_calendar z z.tzid ((and_parts (ends name value (codes "VTIMEZONE")) (has_part z) e).1) h) (λ c sound. sound))
+    (λ e. bind_ok (calendar_of z) _ IsSoundCalendar IsSoundStanding
+    (if_calendar z z.tzid ((and_parts (ends name value (codes "VTIMEZONE")) (has_part z) e).1) h) (λ c sound. sound))
     (if_ok (is_mark name) _ _ IsSoundStanding tt
     (bind_ok (zone_line z name value) _ IsSoundZone IsSoundStanding (same_parts z name value h) (λ now sound. sound)))))
 

@@ -1,8 +1,9 @@
 -- Lists that grow by turns.
-use Rattle.std.proofs.Common.{◌≡◌, ◌⊎◌, inl, inr, ℕ, zero, suc, ◌+◌, ◌≤◌, ◌<◌, Bool, true, false, ◌&&◌, ◌||◌, refl, sym, ap, ◌∙◌, subst, arith, append_assoc, append-nil}
-use Rattle.std.proofs.Common.{ℤ, pos, ◌+ℤ◌, ◌≤ℤ◌, ◌<ℤ◌, int_lt, Option, None, Some, List, [], ◌∷◌, ◌++◌, length, take, get_or}
+use Rattle.std.proofs.Common.{◌≡◌, ◌⊎◌, inl, inr, ℕ, zero, suc, ◌+◌, ◌≤◌, ◌<◌, Bool, true, false, ◌&&◌, ◌||◌, refl, sym, ap, ◌∙◌, subst, arith, append_assoc}
+use Rattle.std.proofs.Common.{append-nil}
+use Rattle.std.proofs.Common.{ℤ, pos, ◌+ℤ◌, ◌≤ℤ◌, ◌<ℤ◌, int_lt, None, Some, List, [], ◌∷◌, ◌++◌, length, take, get_or}
 use Rattle.std.specs.Int.{int_max}
-use Rattle.std.specs.List.{Contains, list_any}
+use Rattle.std.specs.List.{Contains}
 use Rattle.std.specs.List.Sorted.{IsPermutation}
 use Rattle.std.specs.Ordering.{int_eq}
 use Rattle.std.proofs.lemmas.Bool.{and_from, and_parts}
@@ -19,7 +20,7 @@ use Rattle.recurrence.specs.declared.rule_types.Rule.{Rule}
 use Rattle.vtimezone_reader.specs.declared.turns.Turn.{Turn}
 use Rattle.vtimezone_reader.specs.Observing.{NoneBetween, IsNextAt}
 use Rattle.vtimezone_reader.specs.Onsets.{is_among, is_rule_onset, is_onset_of, has_onset}
-use Rattle.vtimezone_reader.specs.Turns.{turn_at, IsTurnOf, AddsTurns, falls_later, IsTurnAmong, AreTurns}
+use Rattle.vtimezone_reader.specs.Turns.{turn_at, IsTurnOf, AddsTurns, falls_later, AreTurns}
 use Rattle.vtimezone_reader.proofs.Tests.{not_true, either_is, or_left, or_right, int_same, int_eq_of, lt_is, lt_of, not_lt}
 
 abbrev either : (ℤ → Bool) → (ℤ → Bool) → ℤ → Bool
@@ -69,8 +70,10 @@ adds_both f g place t end xs ys zs a b = record {
   added = a.added ++ b.added;
   is = b.is ∙ ap (λ l. l ++ b.added) a.is ∙ append_assoc xs a.added b.added;
   each = λ x there. elim (Contains-append_cases a.added b.added x there) [
-    | inl one ↦ let is = a.each x one in record { part_is = is.part_is; passes = or_left (f x.onset.seconds) (g x.onset.seconds) is.passes; after = is.after; before = is.before }
-    | inr two ↦ let is = b.each x two in record { part_is = is.part_is; passes = or_right (f x.onset.seconds) (g x.onset.seconds) is.passes; after = is.after; before = is.before }
+    | inl one ↦ let is = a.each x one in record
+        { part_is = is.part_is; passes = or_left (f x.onset.seconds) (g x.onset.seconds) is.passes; after = is.after; before = is.before }
+    | inr two ↦ let is = b.each x two in record
+        { part_is = is.part_is; passes = or_right (f x.onset.seconds) (g x.onset.seconds) is.passes; after = is.after; before = is.before }
   ];
   every = λ v low high e. elim (either_is (f v) (g v) e) [
     | inl one ↦ Contains-append_left a.added b.added (turn_at v place) (a.every v low high one)
@@ -78,7 +81,8 @@ adds_both f g place t end xs ys zs a b = record {
   ];
 }
 
-pub adds_same : (f g : ℤ → Bool) (place : ℕ) (t end : ℤ) (xs ys : List Turn) → ((v : ℤ) → g v ≡ f v) → AddsTurns f place t end xs ys → AddsTurns g place t end xs ys
+pub adds_same : (f g : ℤ → Bool) (place : ℕ) (t end : ℤ) (xs ys : List Turn) → ((v : ℤ) → g v ≡ f v) → AddsTurns f place t end xs ys
+    → AddsTurns g place t end xs ys
 adds_same f g place t end xs ys same a = record {
   added = a.added;
   is = a.is;
@@ -106,9 +110,6 @@ adds_moment m t end place xs low high =
 
 -- ---- dates
 
-pub adds_no_date : (place : ℕ) (t end : ℤ) (xs : List Turn) → AddsTurns (is_among []) place t end xs xs
-adds_no_date place t end xs = adds_none (is_among []) place t end xs (λ v low high. refl)
-
 pub adds_date : (dates : List Moment) (i : ℕ) (e : Moment) (place : ℕ) (t end : ℤ) (xs ys zs : List Turn) → i < length dates
     → AddsTurns (is_among (take i dates)) place t end xs ys → AddsTurns (λ v. int_eq (get_or dates i e).seconds v) place t end ys zs
     → AddsTurns (is_among (take (i + 1) dates)) place t end xs zs
@@ -118,9 +119,6 @@ adds_date dates i e place t end xs ys zs lt a b =
     (adds_both (is_among (take i dates)) (λ v. int_eq (get_or dates i e).seconds v) place t end xs ys zs a b)
 
 -- ---- onsets of a rule, one after another
-
-pub adds_begin : (test : ℤ → Bool) (place : ℕ) (from : ℤ) (xs : List Turn) → AddsTurns test place from (from +ℤ pos 1) xs xs
-adds_begin test place from xs = adds_none test place from (from +ℤ pos 1) xs (λ v low high. absurd (omega (arith, signed_arith, low, high)))
 
 pub adds_next : (test : ℤ → Bool) (place : ℕ) (from at end m : ℤ) (xs ys : List Turn) → from ≤ℤ at → IsNextAt test at end m
     → AddsTurns test place from (at +ℤ pos 1) xs ys → AddsTurns test place from (m +ℤ pos 1) xs (ys ++ turn_at m place ∷ [])
@@ -137,7 +135,13 @@ adds_next test place from at end m xs ys begun next a =
         | inr two ↦
             let same : turn_at m place ≡ x = sym (only_member x (turn_at m place) two) in
             let P : Turn → Type 0 = λ y. IsTurnOf test place from (m +ℤ pos 1) y in
-            subst P same (record { part_is = refl; passes = next.passes; after = omega (arith, signed_arith, begun, later); before = omega (arith, signed_arith) })
+            subst P same (record {
+              part_is = refl;
+              passes = next.passes;
+              after = omega (arith, signed_arith, begun, later);
+              before = omega
+                  (arith, signed_arith);
+            })
       ];
       every = λ v low high e.
           by_lt_z v (at +ℤ pos 1)
@@ -244,12 +248,6 @@ adds_part p place t end xs ys zs ws from a b c =
     (adds_both _ (falls_later p) place t end xs zs ws (adds_both _ (is_among p.dates) place t end xs ys zs a b) c)
 
 -- ---- all parts
-
-pub are_none : (parts : List Part) (t end : ℤ) → AreTurns parts 0 t end []
-are_none parts t end = record {
-  each = λ x there. absurd (no_member x there);
-  every = λ place v lt low high e. absurd (omega arith);
-}
 
 pub are_more : (parts : List Part) (n : ℕ) (p : Part) (t end : ℤ) (xs ys : List Turn) → n < length parts → p ≡ get_or parts n p
     → AreTurns parts n t end xs → AddsTurns (has_onset p) n t end xs ys → AreTurns parts (n + 1) t end ys

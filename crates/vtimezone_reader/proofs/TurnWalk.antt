@@ -1,6 +1,7 @@
 -- A walk over the turns of a range.
-use Rattle.std.proofs.Common.{◌≡◌, ◌≢◌, ◌⊎◌, inl, inr, ℕ, zero, suc, ◌+◌, ◌-◌, ◌≤◌, ◌<◌, Bool, true, false, ◌||◌, refl, sym, ap, ◌∙◌, subst, arith, max, if◌then◌else◌}
-use Rattle.std.proofs.Common.{ℤ, pos, ◌+ℤ◌, ◌-ℤ◌, ◌≤ℤ◌, ◌<ℤ◌, unsigned_abs, Option, None, Some, List, [], ◌∷◌, ◌++◌, length, get_or}
+use Rattle.std.proofs.Common.{◌≡◌, ◌≢◌, ◌⊎◌, inl, inr, ℕ, zero, suc, ◌+◌, ◌≤◌, ◌<◌, true, false, refl, sym, ap, ◌∙◌, subst, arith, max}
+use Rattle.std.proofs.Common.{if◌then◌else◌}
+use Rattle.std.proofs.Common.{ℤ, pos, ◌+ℤ◌, ◌-ℤ◌, ◌≤ℤ◌, ◌<ℤ◌, unsigned_abs, None, Some, List, [], ◌∷◌, ◌++◌, length, get_or}
 use Rattle.std.specs.List.{Contains}
 use Rattle.std.specs.List.Sorted.{IsNonDecreasingBy}
 use Rattle.std.specs.Option.{option_or}
@@ -17,9 +18,9 @@ use Rattle.vtimezone_reader.specs.declared.turns.Turn.{Turn}
 use Rattle.td_civil.specs.declared.local_time.Observance.{Observance}
 use Rattle.recurrence.specs.InForce.{state_of_part}
 use Rattle.zone_meaning.specs.Observed.{changes_between}
-use Rattle.vtimezone_reader.specs.Observing.{NoneBetween, IsNextAt, IsTurnAt, any_onset, change_if}
+use Rattle.vtimezone_reader.specs.Observing.{NoneBetween, IsTurnAt, any_onset, change_if}
 use Rattle.vtimezone_reader.specs.Onsets.{has_onset, begun_at, no_state, calendar_state}
-use Rattle.vtimezone_reader.specs.Turns.{turn_at, IsTurnAmong, AreTurns, since, HaveCome, AreAt, AreTogether, HasBegun, IsBeforeOnset, IsStateOr}
+use Rattle.vtimezone_reader.specs.Turns.{turn_at, AreTurns, since, HaveCome, AreAt, AreTogether, IsBeforeOnset, IsStateOr}
 use Rattle.vtimezone_reader.proofs.States.{none_begun, no_state_before}
 use Rattle.vtimezone_reader.proofs.TurnLists.{by_lt_n}
 use Rattle.vtimezone_reader.proofs.Walk.{turn_state, listed_more, listed_all, still_state}
@@ -81,7 +82,8 @@ rises parts n t end turns low are rising i j d le lt =
     (rising i j d le lt)
 
 -- before the next turn no part has an onset
-none_ahead : (parts : List Part) (t end at u : ℤ) (n : ℕ) (turns : List Turn) → AreTurns parts (length parts) t end turns → HaveCome turns at n → t ≤ℤ at → u ≤ℤ end
+none_ahead : (parts : List Part) (t end at u : ℤ) (n : ℕ) (turns : List Turn) → AreTurns parts (length parts) t end turns → HaveCome turns at n → t ≤ℤ at
+    → u ≤ℤ end
     → ((k : ℕ) (d : Turn) → n ≤ k → k < length turns → u ≤ℤ (get_or turns k d).onset.seconds) → NoneBetween (any_onset parts) at u
 none_ahead parts t end at u n turns are come begun by ahead v later before =
     not_true (any_onset parts v) (λ e.
@@ -203,7 +205,8 @@ turn_next parts t end at m n to part turns w lt both =
         before = before;
         passes = place_any parts m part inside there.passes;
         none = none_ahead parts t end at m n turns w.are w.come begun (omega (arith, signed_arith, before))
-            (λ k d low high. let on = first d in let rise = rises parts (length parts) t end turns w.low w.are w.rising n k d low high in omega (arith, signed_arith, on, rise));
+            (λ k d low high. let on = first d in let rise = rises parts (length parts) t end turns w.low w.are w.rising n k d low high in omega
+            (arith, signed_arith, on, rise));
       };
       inside = inside;
       part = λ d. begun_is parts m part inside there.passes (λ j more within_parts has.
@@ -266,7 +269,8 @@ walk_inside parts t turns n to part state w lt both =
     let d = turn_at (pos 0) 0 in
     (turn_next parts w.from (t +ℤ pos 1) w.at (get_or turns n d).onset.seconds n to part turns w.walked lt (both d)).inside
 
-pub walk_goes_on : (parts : List Part) (t : ℤ) (turns : List Turn) (n to part : ℕ) (state now : Local) (p : Part) → IsWalkedTo parts t turns n state → n < length turns
+pub walk_goes_on : (parts : List Part) (t : ℤ) (turns : List Turn) (n to part : ℕ) (state now : Local) (p : Part) → IsWalkedTo parts t turns n state
+    → n < length turns
     → ((d : Turn) → AreTogether turns n to (get_or turns n d).onset.seconds part) → p ≡ get_or parts part p → now ≡ state_of_part p
     → IsWalkedTo parts t turns to now
 walk_goes_on parts t turns n to part state now p w lt both is told =
@@ -317,7 +321,14 @@ pub list_begins : (parts : List Part) (t end : ℤ) (turns : List Turn) (state :
     → IsListedTo parts t end turns 0 state out (out ++ changes_between (calendar_state parts) t end)
 list_begins parts t end turns state out low range are rising is = record {
   at = t;
-  walked = record { low = omega (arith, signed_arith, low); are = are; rising = rising; begun = omega (arith, signed_arith); come = come_first parts t end turns are };
+  walked = record {
+    low = omega (arith, signed_arith, low);
+    are = are;
+    rising = rising;
+    begun = omega (arith, signed_arith);
+    come = come_first parts t end
+        turns are;
+  };
   ahead = range;
   state_is = is;
   listed = refl;
@@ -330,7 +341,8 @@ list_inside parts t end turns n to part before out all w lt both =
     let d = turn_at (pos 0) 0 in
     (turn_next parts t end w.at (get_or turns n d).onset.seconds n to part turns w.walked lt (both d)).inside
 
-pub list_goes_on : (parts : List Part) (t end : ℤ) (turns : List Turn) (n to part : ℕ) (before now : Local) (p : Part) (x : Turn) (out more all : List Observance)
+pub list_goes_on : (parts : List Part) (t end : ℤ) (turns : List Turn) (n to part : ℕ) (before now : Local) (p : Part) (x : Turn)
+    (out more all : List Observance)
     → IsListedTo parts t end turns n before out all → n < length turns → x ≡ get_or turns n x
     → ((d : Turn) → AreTogether turns n to (get_or turns n d).onset.seconds part) → p ≡ get_or parts part p → now ≡ state_of_part p
     → more ≡ out ++ change_if x.onset before now → IsListedTo parts t end turns to now more all

@@ -1,5 +1,5 @@
 -- Whether a rule falls on one day of each year: the test, and what it says.
-use Rattle.std.proofs.Common.{◌≡◌, ◌↔◌, ℕ, ◌+◌, ◌≤◌, ◌==◌, nat_le, Bool, true, false, ◌&&◌, if◌then◌else◌, refl, sym, arith, ℤ, pos, negsuc}
+use Rattle.std.proofs.Common.{◌≡◌, ◌↔◌, ℕ, ◌+◌, ◌≤◌, nat_le, Bool, true, false, ◌&&◌, if◌then◌else◌, sym, arith, ℤ, pos, negsuc}
 use Rattle.std.proofs.Common.{None, Some}
 use Rattle.std.specs.Bool.{IsTrue}
 use Rattle.std.proofs.lemmas.Bool.{and_from, and_parts, cond-true, cond-false, le-leb, eq-eqb}
@@ -76,7 +76,8 @@ is_valid_of (form.FixedDate month date) h =
 pub valid_kept : (f : Form) (b : Bool) → (IsTrue b ↔ IsValid (record { form = f; second = 0 })) → b ≡ true → Some f ≡ (if is_valid_form f then Some f else None)
 valid_kept f b tells e = sym (cond-true (is_valid_form f) (Some f) None (is_valid_of f (tells.0 e).form))
 
-pub invalid_left : (f : Form) (b : Bool) → (IsTrue b ↔ IsValid (record { form = f; second = 0 })) → b ≡ false → None ≡ (if is_valid_form f then Some f else None)
+pub invalid_left : (f : Form) (b : Bool) → (IsTrue b ↔ IsValid (record { form = f; second = 0 })) → b ≡ false
+    → None ≡ (if is_valid_form f then Some f else None)
 invalid_left f b tells e =
     sym (cond-false (is_valid_form f) (Some f) None (not_true (is_valid_form f) (λ valid.
     let yes : b ≡ true = tells.1 (record { form = valid_is f valid; second = omega arith }) in

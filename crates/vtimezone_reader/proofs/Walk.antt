@@ -1,8 +1,9 @@
 -- A walk from onset to onset.
-use Rattle.std.proofs.Common.{◌≡◌, ◌≢◌, ℕ, ◌<◌, Bool, true, false, if◌then◌else◌, List, [], ◌∷◌, ◌++◌, get_or, refl, sym, ap, ◌∙◌, subst, arith, append_assoc, append-nil}
-use Rattle.std.proofs.Common.{ℤ, pos, ◌+ℤ◌, ◌-ℤ◌, ◌≤ℤ◌, ◌<ℤ◌, unsigned_abs, Option, None, Some}
+use Rattle.std.proofs.Common.{◌≡◌, ℕ, List, [], ◌∷◌, ◌++◌, get_or, refl, sym, ap, ◌∙◌, arith, append_assoc}
+use Rattle.std.proofs.Common.{append-nil}
+use Rattle.std.proofs.Common.{ℤ, pos, ◌+ℤ◌, ◌-ℤ◌, ◌≤ℤ◌, ◌<ℤ◌, Some}
 use Rattle.std.proofs.lemmas.Bool.{cond_both}
-use Rattle.jiff_core.proofs.SignedLemmas.{signed_arith, one_part}
+use Rattle.jiff_core.proofs.SignedLemmas.{signed_arith}
 use Rattle.td_civil.specs.declared.moment_type.Moment.{Moment}
 use Rattle.td_civil.specs.declared.moment_type.TheConstants.{LO}
 use Rattle.td_civil.specs.declared.local_time.Local.{Local}
@@ -11,11 +12,11 @@ use Rattle.td_civil.specs.SameLocal.{same_local}
 use Rattle.td_civil.proofs.lemmas.SameStates.{same_local_is, other_local}
 use Rattle.recurrence.specs.declared.part_types.Part.{Part}
 use Rattle.recurrence.specs.InForce.{state_of_part}
-use Rattle.zone_meaning.specs.Observed.{observance, change_at, first_at, changes_between, observed}
+use Rattle.zone_meaning.specs.Observed.{observance, first_at, changes_between, observed}
 use Rattle.zone_meaning.specs.Walks.{StaysUntil}
-use Rattle.vtimezone_reader.proofs.ChangeLists.{none_left, same_left, change_left, change_is}
+use Rattle.zone_meaning.proofs.lemmas.ChangeLists.{none_left, same_left, change_left, change_is}
 use Rattle.vtimezone_reader.specs.Observing.{NoneBetween, IsTurnAt, any_onset, change_if}
-use Rattle.vtimezone_reader.specs.Onsets.{begun_at, calendar_state}
+use Rattle.vtimezone_reader.specs.Onsets.{calendar_state}
 use Rattle.vtimezone_reader.proofs.States.{state_begun, stays_until}
 
 -- the state at a turn is that of its part
@@ -29,7 +30,8 @@ turn_state parts t end m place p now low h is state =
 turn_listed : (state : ℤ → Local) (t end : ℤ) (m : Moment) (before now : Local) → t <ℤ m.seconds → m.seconds <ℤ end → StaysUntil state t m.seconds
     → before ≡ state t → now ≡ state m.seconds → change_if m before now ++ changes_between state m.seconds end ≡ changes_between state t end
 turn_listed state t end m before now later inside stays old new =
-    cond_both (same_local now before) [] (observance m.seconds before.offset now ∷ []) (λ l. l ++ changes_between state m.seconds end ≡ changes_between state t end)
+    cond_both (same_local now before) [] (observance m.seconds before.offset now ∷ [])
+    (λ l. l ++ changes_between state m.seconds end ≡ changes_between state t end)
     (λ e. sym (same_left state t m.seconds end later inside stays (sym new ∙ same_local_is now before e ∙ old)))
     (λ e. ap (λ (o : Observance). o ∷ changes_between state m.seconds end)
     (ap (λ (s : Local). observance m.seconds s.offset now) old ∙ ap (observance m.seconds (state t).offset) new ∙ change_is state t m.seconds later stays)
@@ -54,7 +56,8 @@ listed_all parts out all t end low before none whole =
     sym (ap (λ l. out ++ l) (none_left (calendar_state parts) t end before (stays_until parts t end low none)) ∙ append-nil out) ∙ whole
 
 -- no onset comes up to a moment: the state is still that before
-pub still_state : (parts : List Part) (at t after : ℤ) (state : Local) → (LO -ℤ pos 1) ≤ℤ at → at <ℤ after → after ≡ t +ℤ pos 1 → NoneBetween (any_onset parts) at after
+pub still_state : (parts : List Part) (at t after : ℤ) (state : Local) → (LO -ℤ pos 1) ≤ℤ at → at <ℤ after → after ≡ t +ℤ pos 1
+    → NoneBetween (any_onset parts) at after
     → state ≡ calendar_state parts at → state ≡ calendar_state parts t
 still_state parts at t after state low before is none old =
     old ∙ sym (stays_until parts at after low none t (omega (arith, signed_arith, is, before)) (omega (arith, signed_arith, is)))

@@ -1,5 +1,6 @@
 -- The names of a zone's states are visible, and have 32 bytes at most.
-use Rattle.std.proofs.Common.{◌≡◌, ℕ, zero, suc, ◌+◌, ◌≤◌, ◌<◌, ◌==◌, nat_le, Bool, true, false, ◌&&◌, if◌then◌else◌, refl, sym, ap, ◌∙◌, arith, ℤ, pos, Option, None, Some, Result, Ok, Err, List, [], ◌∷◌, length, get_or, slice_index}
+use Rattle.std.proofs.Common.{◌≡◌, ℕ, zero, suc, ◌≤◌, ◌==◌, nat_le, true, false, ◌&&◌, refl, arith, ℤ, pos, Option}
+use Rattle.std.proofs.Common.{None, Some, Result, Ok, Err, List, [], ◌∷◌, length, get_or, slice_index}
 use Rattle.std.specs.List.{AllByRecursion, list_all}
 use Rattle.std.specs.Option.{IfSome}
 use Rattle.std.specs.Result.{result_ok}

@@ -1,5 +1,5 @@
 -- The observances that the parts of a zone tell are those of the zone.
-use Rattle.std.proofs.Common.{◌≡◌, ℕ, zero, suc, ◌-◌, List, ◌∷◌, refl, ap, ◌∙◌, arith, ℤ, pos, ◌+ℤ◌, ◌-ℤ◌, ◌≤ℤ◌, ◌<ℤ◌, unsigned_abs, None}
+use Rattle.std.proofs.Common.{◌≡◌, ℕ, zero, suc, ◌-◌, List, refl, arith, ℤ, pos, ◌+ℤ◌, ◌-ℤ◌, ◌≤ℤ◌, ◌<ℤ◌, unsigned_abs, None}
 use Rattle.std.specs.List.{All, AllByRecursion}
 use Rattle.jiff_core.proofs.SignedLemmas.{signed_arith, one_part}
 use Rattle.td_civil.specs.Bounds.{HasMeaning}
@@ -7,7 +7,6 @@ use Rattle.td_civil.specs.Calendar.{stamp_of}
 use Rattle.td_civil.specs.declared.moment_type.Moment.{Moment}
 use Rattle.td_civil.specs.declared.moment_type.TheConstants.{LO, HI}
 use Rattle.td_civil.specs.declared.local_time.Local.{Local}
-use Rattle.td_civil.specs.declared.local_time.Observance.{Observance}
 use Rattle.tzif_reader.specs.Cut.{lists_of}
 use Rattle.posix_footer.specs.Carried.{IsCarriedIfAny}
 use Rattle.zone_meaning.specs.Observed.{change_at, first_at, changes_after, changes_between, observed}

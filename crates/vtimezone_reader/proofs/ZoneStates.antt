@@ -1,6 +1,7 @@
 -- The parts of a zone give, by their latest onsets, the zone's states.
-use Rattle.std.proofs.Common.{◌≡◌, ◌⊎◌, inl, inr, ℕ, zero, suc, ◌+◌, ◌≤◌, ◌<◌, Bool, true, false, not, ◌&&◌, ◌||◌, if◌then◌else◌, refl, sym, ap, ◌∙◌, subst, arith}
-use Rattle.std.proofs.Common.{ℤ, pos, ◌+ℤ◌, ◌-ℤ◌, ◌*ℤ◌, ◌≤ℤ◌, ◌<ℤ◌, int_lt, unsigned_abs, Option, None, Some, List, [], ◌∷◌, ◌++◌, length, map, get_or}
+use Rattle.std.proofs.Common.{◌≡◌, ◌⊎◌, inl, inr, ℕ, ◌<◌, Bool, true, false, not, ◌&&◌, ◌||◌, if◌then◌else◌, refl, sym, ap, ◌∙◌, subst}
+use Rattle.std.proofs.Common.{arith}
+use Rattle.std.proofs.Common.{ℤ, pos, ◌+ℤ◌, ◌-ℤ◌, ◌*ℤ◌, ◌≤ℤ◌, ◌<ℤ◌, int_lt, Option, None, Some, List, [], ◌∷◌, ◌++◌, length, map, get_or}
 use Rattle.std.specs.List.{All, AllByRecursion, Contains}
 use Rattle.std.specs.Ordering.{int_eq}
 use Rattle.std.specs.Option.{option_or}
@@ -8,7 +9,7 @@ use Rattle.std.proofs.lemmas.Bool.{cond_both, cond-true}
 use Rattle.std.proofs.lemmas.Int.{ints}
 use Rattle.std.proofs.lemmas.List.{get_or_default}
 use Rattle.jiff_core.specs.Calendar.{IsWithin, IsYear}
-use Rattle.jiff_core.proofs.SignedLemmas.{signed_arith, one_part}
+use Rattle.jiff_core.proofs.SignedLemmas.{signed_arith}
 use Rattle.td_civil.specs.Bounds.{HasMeaning, IsWithinBounds}
 use Rattle.td_civil.specs.declared.moment_type.Moment.{Moment}
 use Rattle.td_civil.specs.declared.moment_type.TheConstants.{LO, HI}
@@ -31,18 +32,18 @@ use Rattle.zone_meaning.specs.Observed.{observed}
 use Rattle.zone_meaning.proofs.lemmas.Members.{member_first, member_later, member_cases}
 use Rattle.recurrence.specs.declared.part_types.Part.{Part}
 use Rattle.recurrence.specs.declared.rule_types.Rule.{Rule}
-use Rattle.recurrence.specs.Falls.{Falls, IsOfYear}
-use Rattle.recurrence.specs.InForce.{state_of_part, NotAfter, IsRuleOnset, IsListed, IsOnsetBy, IsOnset, IsInForce, GivesState}
-use Rattle.recurrence.specs.Occurs.{FallsAt, AreRulesOf, moment_of}
+use Rattle.recurrence.specs.Falls.{IsOfYear}
+use Rattle.recurrence.specs.InForce.{NotAfter, IsRuleOnset, IsOnsetBy, IsOnset, GivesState}
+use Rattle.recurrence.specs.Occurs.{AreRulesOf}
 use Rattle.recurrence.specs.RuleOfDate.{rule_of}
 use Rattle.recurrence.specs.Spellable.{IsSpellable}
 use Rattle.vtimezone.specs.Grouping.{first_ones, part_among, grouped}
-use Rattle.vtimezone.specs.PartsOf.{rule_part, rule_part_if, rule_parts, rules_if_any, rules_of, parts_from, year_begin, changes_end}
+use Rattle.vtimezone.specs.PartsOf.{rule_part, rule_parts, rules_if_any, rules_of, parts_from, year_begin, changes_end}
 use Rattle.vtimezone_reader.specs.FallsOn.{date_of_day}
 use Rattle.vtimezone_reader.specs.Observing.{NoneBetween, any_onset}
 use Rattle.vtimezone_reader.specs.Onsets.{is_among, is_not_after, is_rule_onset, is_onset_of, has_onset, begun_at, calendar_state}
 use Rattle.vtimezone_reader.proofs.Falling.{IsDay, falls_is, civil_date}
-use Rattle.vtimezone_reader.proofs.RuleOnsets.{IsRuleAt, rule_at, onset_passes}
+use Rattle.vtimezone_reader.proofs.RuleOnsets.{rule_at, onset_passes}
 use Rattle.vtimezone_reader.proofs.States.{none_begun, state_begun, stays_until}
 use Rattle.vtimezone_reader.proofs.TurnWalk.{any_place, place_any}
 use Rattle.vtimezone_reader.proofs.YearShown.{date_in_year}
@@ -80,7 +81,8 @@ grouped_plain os = groups_plain os (first_ones os)
 abbrev pub KeepOnsets : Type 0
 KeepOnsets = (rule : DstRule) (std : ℤ) → IsLawfulRule std rule → is_carried_rule rule ≡ true → AreRulesOf std rule (rule_of rule.start) (rule_of rule.end)
 
-module _ (keeps : KeepOnsets) (std : Local) (rule : DstRule) (y0 : ℤ) (lawful : IsLawfulRule std.offset rule) (carried : is_carried_rule rule ≡ true) (year : IsYear y0) where
+module _ (keeps : KeepOnsets) (std : Local) (rule : DstRule) (y0 : ℤ) (lawful : IsLawfulRule std.offset rule) (carried : is_carried_rule rule ≡ true)
+    (year : IsYear y0) where
   part_plain : (at : Edge) → IsPlain (rule_part std rule y0 at None)
   unfolding rule_part
   part_plain edge.Start =
@@ -89,7 +91,13 @@ module _ (keeps : KeepOnsets) (std : Local) (rule : DstRule) (y0 : ℤ) (lawful 
       record {
         no_dates = refl;
         second = rules.start_valid.second;
-        start = record { day = falls.day; falls = falls.occurs.falls; moment_is = sym falls.moment_is; from_start = omega (arith, signed_arith); not_after = tt };
+        start = record {
+          day = falls.day;
+          falls = falls.occurs.falls;
+          moment_is = sym falls.moment_is;
+          from_start = omega (arith, signed_arith);
+          not_after = tt;
+        };
       }
   part_plain edge.End =
       let rules = keeps rule std.offset lawful carried in
@@ -97,7 +105,13 @@ module _ (keeps : KeepOnsets) (std : Local) (rule : DstRule) (y0 : ℤ) (lawful 
       record {
         no_dates = refl;
         second = rules.end_valid.second;
-        start = record { day = falls.day; falls = falls.occurs.falls; moment_is = sym falls.moment_is; from_start = omega (arith, signed_arith); not_after = tt };
+        start = record {
+          day = falls.day;
+          falls = falls.occurs.falls;
+          moment_is = sym falls.moment_is;
+          from_start = omega (arith, signed_arith);
+          not_after = tt;
+        };
       }
 
   parts_plain : AllByRecursion IsPlain (rule_parts std rule y0 None)

@@ -1,6 +1,7 @@
 -- The parts of a zone, without an end, are read back when they are written.
-use Rattle.std.proofs.Common.{◌≡◌, ◌⊎◌, inl, inr, ℕ, zero, suc, ◌+◌, ◌-◌, ◌≤◌, ◌<◌, Bool, true, false, not, ◌&&◌, cond, if◌then◌else◌, refl, sym, ap, subst, ◌∙◌, arith}
-use Rattle.std.proofs.Common.{ℤ, pos, neg_ℤ, ◌+ℤ◌, ◌*ℤ◌, ◌≤ℤ◌, ◌<ℤ◌, int_lt, Option, None, Some, List, [], ◌∷◌, ◌++◌, length, map, filter, drop}
+use Rattle.std.proofs.Common.{◌≡◌, inl, inr, ℕ, suc, ◌-◌, ◌≤◌, Bool, true, false, not, ◌&&◌, cond, refl, sym, ap, subst}
+use Rattle.std.proofs.Common.{◌∙◌, arith}
+use Rattle.std.proofs.Common.{ℤ, pos, ◌+ℤ◌, ◌≤ℤ◌, ◌<ℤ◌, int_lt, Option, None, Some, List, [], ◌∷◌, ◌++◌, length, map, filter, drop}
 use Rattle.std.specs.List.{All, AllByRecursion, Contains, list_all}
 use Rattle.std.specs.Option.{IfSome}
 use Rattle.std.specs.Prelude.{slice_index_or, slice_get}
@@ -8,7 +9,7 @@ use Rattle.std.proofs.lemmas.Bool.{cond_both, and_parts}
 use Rattle.std.proofs.lemmas.Int.{by_lt_z, int_max_is}
 use Rattle.std.proofs.lemmas.List.Folds.{list_all-append}
 use Rattle.std.proofs.lemmas.Option.{slice_get-get_or}
-use Rattle.jiff_core.specs.Calendar.{days_from_civil, IsYear, IsBetween}
+use Rattle.jiff_core.specs.Calendar.{IsYear}
 use Rattle.jiff_core.proofs.SignedLemmas.{signed_arith}
 use Rattle.td_civil.specs.Bounds.{HasMeaning, IsWithinBounds}
 use Rattle.td_civil.specs.Calendar.{stamp_of}
@@ -23,7 +24,6 @@ use Rattle.tzif_reader.proofs.lemmas.Whole.{zone_file_of}
 use Rattle.posix_footer.specs.Carried.{is_all_year, is_carried_rule, beyond_if_any, IsCarriedIfAny}
 use Rattle.posix_footer.specs.Lawful.{IsLawfulRule, IsLawfulIfAny}
 use Rattle.posix_footer.specs.Onset.{onset_of}
-use Rattle.posix_footer.specs.StateAt.{state_after}
 use Rattle.posix_footer.specs.declared.rule_types.DstRule.{DstRule}
 use Rattle.posix_footer.specs.declared.rule_types.Edge.{Edge}
 use Rattle.posix_footer.specs.declared.rule_types.Edge.TheVariants as edge
@@ -44,7 +44,7 @@ use Rattle.recurrence.specs.declared.part_types.Part.{Part}
 use Rattle.recurrence.specs.declared.rule_types.Rule.{Rule}
 use Rattle.recurrence.proofs.lemmas.AllYear.{year_9999}
 use Rattle.recurrence.proofs.lemmas.InYear.{onset_in_year}
-use Rattle.vtimezone.specs.Grouping.{is_alike, first_ones, dates_among, part_among, grouped}
+use Rattle.vtimezone.specs.Grouping.{is_alike, first_ones, part_among, grouped}
 use Rattle.vtimezone.specs.PartsOf.{rule_part, rule_parts, rules_if_any, rules_of, parts_from, year_begin}
 use Rattle.vtimezone.specs.ZoneParts.{latest, rule_year, range_parts}
 use Rattle.vtimezone_reader.specs.PartLines.{name_in}
@@ -150,7 +150,8 @@ told_well file a e o h names lt by there =
           record {
             onset = omega (arith, signed_arith, onset, before, by);
             name = name_read o.name
-                (told_short o (state change.moment) (ap state_told change.change_is ∙ change_told state change.moment) (zone_short file change.moment h)) printable;
+                (told_short o (state change.moment) (ap state_told change.change_is ∙ change_told state change.moment) (zone_short file change.moment h))
+                printable;
           }
     ]
 
@@ -198,7 +199,8 @@ grouped_kept os all = groups_kept os (first_ones os) all (first_well os all)
 
 -- ---- the parts of rules
 
-module _ (std : Local) (rule : DstRule) (y0 : ℤ) (lawful : IsLawfulRule std.offset rule) (carried : is_carried_rule rule ≡ true) (year : IsYear y0) (low : y0 <ℤ pos 9999)
+module _ (std : Local) (rule : DstRule) (y0 : ℤ) (lawful : IsLawfulRule std.offset rule) (carried : is_carried_rule rule ≡ true) (year : IsYear y0)
+    (low : y0 <ℤ pos 9999)
     (std_name : name_in std.name ≡ Some std.name) (dst_name : name_in rule.dst.name ≡ Some rule.dst.name) where
   onset_before : (at : Edge) → onset_of rule std.offset y0 at <ℤ HI
   onset_before at =
@@ -232,7 +234,8 @@ if_any_kept std (Some rule) n lawful carried short names =
     (omega (arith, signed_arith), omega (arith, signed_arith, lt)) lt (name_read std.name short.std both.0) (name_read rule.dst.name short.dst last.0))
     (λ ge. tt))
 
-rules_kept : (footer : Option Footer) (n : ℕ) → IsLawfulAndCarried footer → IfSome footer HasShortNames → list_all is_printable_name (footer_names footer) ≡ true
+rules_kept : (footer : Option Footer) (n : ℕ) → IsLawfulAndCarried footer → IfSome footer HasShortNames
+    → list_all is_printable_name (footer_names footer) ≡ true
     → AllByRecursion IsKept (rules_of footer (pos n +ℤ pos 1) None)
 rules_kept None n h short names = tt
 rules_kept (Some footer) n h short names = if_any_kept footer.std footer.dst n h.0.rule h.1 short names
@@ -259,7 +262,8 @@ zone_kept file from h names carried meaning =
     let os = observed (zone_state file) a e in
     kept_both (grouped os) (rules_of (footer_meant (lists_of file).footer) (pos n +ℤ pos 1) None)
     (grouped_kept os (all_members os (λ o there. told_well file a e o h names after by there)))
-    (rules_kept (footer_meant (lists_of file).footer) n (lawful_footer (lists_of file).footer carried) (meant_short (lists_of file).footer) (names_of_footer file names))
+    (rules_kept (footer_meant (lists_of file).footer) n (lawful_footer (lists_of file).footer carried) (meant_short (lists_of file).footer)
+    (names_of_footer file names))
 
 meant_dates : (ds : List Moment) → All (λ d. IsWithinBounds d.seconds) ds → AllByRecursion (λ (d : Moment). d.seconds <ℤ HI) ds → AllByRecursion IsMeant ds
 meant_dates [] h k = tt
@@ -290,7 +294,8 @@ written_parts : (ps : List Part) → All IsSpellable ps → AllByRecursion IsKep
 written_parts [] h k = tt
 written_parts (p ∷ ps) h k = (written_part p (h 0 p (omega arith)) k.0, written_parts ps (λ i e lt. h (suc i) e (omega (arith, lt))) k.1)
 
-pub zone_written : (file : List ℕ) (from : Moment) → zone_fault file ≡ None → has_printable_names file ≡ true → IsCarriedIfAny (footer_meant (lists_of file).footer)
+pub zone_written : (file : List ℕ) (from : Moment) → zone_fault file ≡ None → has_printable_names file ≡ true
+    → IsCarriedIfAny (footer_meant (lists_of file).footer)
     → HasMeaning from.seconds → All IsSpellable (range_parts file (record { from = from; until = None }))
     → AllByRecursion IsWrittenPart (range_parts file (record { from = from; until = None }))
 zone_written file from h names carried meaning spelled =

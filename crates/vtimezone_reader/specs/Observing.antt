@@ -1,5 +1,6 @@
 -- The observances of a calendar in a range, and where its onsets come next.
-use Rattle.std.specs.Prelude.{◌≡◌, ◌⊎◌, ℕ, List, [], ◌∷◌, Bool, true, false, if◌then◌else◌, int_lt, int_le, ℤ, pos}
+use Rattle.std.specs.Prelude.{◌≡◌, ◌⊎◌, ℕ, List, [], ◌∷◌, Bool, true, false, if◌then◌else◌, int_lt}
+use Rattle.std.specs.Prelude.{ℤ, pos}
 use Rattle.std.specs.Prelude.{◌<◌, length, slice_index_or, ◌+ℤ◌, ◌≤ℤ◌, ◌<ℤ◌, Option, None, Some}
 use Rattle.std.specs.List.{list_any}
 use Rattle.std.specs.Option.{IfSome}
@@ -12,7 +13,8 @@ use Rattle.jiff_core.specs.Calendar.{days_from_civil}
 use Rattle.recurrence.specs.declared.part_types.Part.{Part}
 use Rattle.recurrence.specs.declared.rule_types.Rule.{Rule}
 use Rattle.recurrence.specs.Occurs.{IsOccurrence, moment_of}
-use Rattle.vtimezone_reader.specs.Onsets.{day_shown, is_not_after, is_rule_onset, has_onset, begun_at}
+use Rattle.vtimezone_reader.specs.Onsets.{day_shown, is_not_after, is_rule_onset, has_onset}
+use Rattle.vtimezone_reader.specs.Onsets.{begun_at}
 use Rattle.vtimezone_reader.specs.Onsets.{calendar_state}
 
 -- the observances from a to before b

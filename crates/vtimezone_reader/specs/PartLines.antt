@@ -1,5 +1,5 @@
 -- The lines of a part of a time zone (RFC 5545, section 3.6.5): STANDARD or DAYLIGHT.
-use Rattle.std.specs.Prelude.{ℕ, nat_le, List, [], ◌∷◌, ◌++◌, length, codes, Bool, ◌&&◌, ℤ, ◌+ℤ◌}
+use Rattle.std.specs.Prelude.{ℕ, nat_le, List, [], ◌++◌, length, codes, Bool, ◌&&◌, ℤ, ◌+ℤ◌}
 use Rattle.std.specs.Prelude.{Option, None, Some, Result, Ok, Err, if◌then◌else◌}
 use Rattle.std.specs.List.{list_all}
 use Rattle.std.specs.Option.{option_map, option_and_then}

@@ -5,7 +5,6 @@ use Rattle.std.specs.Prelude.{ℕ, ◌+◌, nat_lt, List, [], ◌∷◌, ◌++�
 use Rattle.std.specs.Prelude.{◌&&◌, ◌||◌, if◌then◌else◌, Option, None, Some, Result, Ok, Err}
 use Rattle.td_base.specs.FirstFault.{◌>>=◌}
 use Rattle.td_base.specs.Names.{is_identifier}
-use Rattle.td_civil.specs.declared.moment_type.Moment.{Moment}
 use Rattle.ical_lines.specs.Unfolding.{unfolded}
 use Rattle.ical_lines.specs.declared.line_fault.BadLine.{BadLine}
 use Rattle.recurrence.specs.declared.part_types.Part.{Part}

@@ -1,7 +1,8 @@
 -- Rules of each year, read (RFC 5545, section 3.3.10): words between semicolons, each a name, `=`
 -- and a value, in any order and each name once.
-use Rattle.std.specs.Prelude.{ℕ, zero, suc, ◌+◌, ◌-◌, ◌==◌, nat_le, List, [], ◌∷◌, length, take, drop}
-use Rattle.std.specs.Prelude.{codes, Bool, true, false, not, ◌&&◌, ◌||◌, if◌then◌else◌, ℤ, pos}
+use Rattle.std.specs.Prelude.{ℕ, ◌+◌, ◌-◌, ◌==◌, nat_le, List, [], ◌∷◌, length, take}
+use Rattle.std.specs.Prelude.{drop}
+use Rattle.std.specs.Prelude.{codes, Bool, true, false, not, ◌&&◌, if◌then◌else◌, ℤ, pos}
 use Rattle.std.specs.Prelude.{negsuc, ◌+ℤ◌, Option, None, Some}
 use Rattle.std.specs.Option.{option_map, option_and_then, is_some}
 use Rattle.std.specs.Ordering.{int_eq}

@@ -1,4 +1,4 @@
-use Rattle.std.proofs.Common.{◌≡◌, codes, to_z-of_z}
+use Rattle.std.proofs.Common.{codes, to_z-of_z}
 use Rattle.vtimezone.specs.Values.{dates_text}
 use Rattle.vtimezone.proofs.DateLine.{three_pieces}
 use Rattle.vtimezone.proofs.calendar_text.append_date_line.Goals as goal

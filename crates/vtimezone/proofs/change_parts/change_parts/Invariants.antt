@@ -1,5 +1,4 @@
-use Rattle.std.proofs.Common.{◌≡◌, ◌++◌, List, length}
-use Rattle.td_civil.specs.declared.local_time.Observance.{Observance}
+use Rattle.std.proofs.Common.{length}
 use Rattle.zone_meaning.specs.Observed.{observed}
 use Rattle.zone_meaning.specs.State.{zone_state}
 use Rattle.vtimezone.proofs.Gathered.{AreGathered}

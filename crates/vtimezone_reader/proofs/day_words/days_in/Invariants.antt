@@ -1,6 +1,5 @@
 use Rattle.std.proofs.Common.{◌≡◌, ◌≤◌, ◌<◌}
 use Rattle.std.specs.Option.{option_copied}
-use Rattle.vtimezone.specs.Cutting.{cut_at}
 use Rattle.vtimezone_reader.specs.Pieces.{pieces}
 use Rattle.vtimezone_reader.specs.RuleWords.{days_after, days_in}
 use Rattle.vtimezone_reader.proofs.Counted.{count_of}

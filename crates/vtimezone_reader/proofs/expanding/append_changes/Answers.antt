@@ -1,4 +1,4 @@
-use Rattle.std.proofs.Common.{◌≡◌, ◌<◌, ◌≤◌, length, rules}
+use Rattle.std.proofs.Common.{◌<◌, ◌≤◌, length, rules}
 use Rattle.vtimezone_reader.proofs.TurnWalk.{list_begins, list_inside, list_goes_on, list_ends}
 use Rattle.vtimezone_reader.proofs.expanding.append_changes.Goals as goal
 

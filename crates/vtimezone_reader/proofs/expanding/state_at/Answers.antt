@@ -1,4 +1,4 @@
-use Rattle.std.proofs.Common.{◌≡◌, ◌<◌, ◌≤◌, length, rules}
+use Rattle.std.proofs.Common.{◌<◌, ◌≤◌, length, rules}
 use Rattle.vtimezone_reader.proofs.TurnWalk.{walk_begins, walk_inside, walk_goes_on, walk_ends}
 use Rattle.vtimezone_reader.proofs.expanding.state_at.Goals as goal
 

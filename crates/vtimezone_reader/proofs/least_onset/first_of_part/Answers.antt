@@ -14,4 +14,5 @@ loop-date-preserved c =
 
 pub returns : goal.returns
 returns c =
-    least_all c.args.part.now c.loop-date.date-index c.loop-date.first.seconds (rw c.as_slice-date-items.ensures at c.loop-date-test.false) c.loop-date.invariant
+    least_all c.args.part.now c.loop-date.date-index c.loop-date.first.seconds (rw c.as_slice-date-items.ensures at c.loop-date-test.false)
+    c.loop-date.invariant

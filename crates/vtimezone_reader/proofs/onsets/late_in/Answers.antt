@@ -1,4 +1,4 @@
-use Rattle.std.proofs.Common.{rules, arith, FitsSigned, w32, to_z-of_z}
+use Rattle.std.proofs.Common.{arith, FitsSigned, w32, to_z-of_z}
 use Rattle.jiff_core.proofs.SignedLemmas.{signed_arith}
 use Rattle.vtimezone_reader.proofs.RuleOnsets.{late_kept}
 use Rattle.vtimezone_reader.proofs.onsets.late_in.Goals as goal

@@ -1,4 +1,4 @@
-use Rattle.std.proofs.Common.{◌≡◌, rules, arith, pos, ◌+ℤ◌, ◌≤ℤ◌, FitsSigned, w32, w64, to_z-of_z, to_z, of_z, sym, ◌∙◌}
+use Rattle.std.proofs.Common.{◌≡◌, rules, arith, ◌+ℤ◌, FitsSigned, w32, w64, to_z-of_z}
 use Rattle.jiff_core.proofs.SignedLemmas.{signed_arith}
 use Rattle.jiff_core.specs.Calendar.{days_from_civil}
 use Rattle.vtimezone_reader.specs.Onsets.{day_shown}

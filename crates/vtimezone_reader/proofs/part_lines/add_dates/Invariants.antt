@@ -1,4 +1,4 @@
-use Rattle.std.proofs.Common.{◌≡◌, ◌++◌, ◌+◌, length, suc}
+use Rattle.std.proofs.Common.{◌≡◌, ◌++◌}
 use Rattle.std.specs.Option.{option_copied}
 use Rattle.vtimezone.specs.Cutting.{cut_at}
 use Rattle.vtimezone_reader.specs.Pieces.{pieces}

@@ -9,5 +9,6 @@ returns-then-not-is_before c =
 
 pub returns : goal.returns
 returns c =
-    adds_later c.args.part.now c.args.rule.now c.args.place c.args.t.seconds c.args.end.seconds c.later-from.result.seconds _ _ c.requires.rule c.later-from.ensures
+    adds_later c.args.part.now c.args.rule.now c.args.place c.args.t.seconds c.args.end.seconds c.later-from.result.seconds _ _ c.requires.rule
+    c.later-from.ensures
     c.in_ok-add_falls.ensures

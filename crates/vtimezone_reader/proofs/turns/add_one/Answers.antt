@@ -11,4 +11,5 @@ returns-then-not-is_before-2 c = adds_late c.args.moment.seconds c.args.t.second
 pub returns : goal.returns
 returns c =
     rw c.in_ok-push.ensures.items
-    (adds_moment c.args.moment c.args.t.seconds c.args.end.seconds c.args.place c.args.turns.now.items (sym c.if-not-is_before.ensures) (sym c.if-not-is_before-2.ensures))
+    (adds_moment c.args.moment c.args.t.seconds c.args.end.seconds c.args.place c.args.turns.now.items (sym c.if-not-is_before.ensures)
+    (sym c.if-not-is_before-2.ensures))

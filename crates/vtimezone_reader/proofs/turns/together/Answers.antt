@@ -6,7 +6,8 @@ turns-init c = at_first c.args.turns.now c.args.from c.nth-first.result c.requir
 
 pub turns-preserved : goal.turns-preserved
 turns-preserved c =
-    at_next c.args.turns.now c.args.from c.turns.to c.turns.part c.later_part-part.result c.nth-first.result c.nth-turn.result c.turns.invariant c.turns-test.true
+    at_next c.args.turns.now c.args.from c.turns.to c.turns.part c.later_part-part.result c.nth-first.result c.nth-turn.result c.turns.invariant
+    c.turns-test.true
     c.nth-turn.ensures c.if-not-is_at.ensures c.later_part-part.ensures
 
 pub returns-then-not-is_at-clause-turns : goal.returns-then-not-is_at-clause-turns

@@ -1,22 +1,15 @@
 -- Values that are written are read back.
-use Rattle.std.proofs.Common.{◌≡◌, ◌≢◌, ℕ, zero, suc, ◌+◌, ◌*◌, ◌-◌, ◌/◌, ◌%◌, ◌^◌, ◌<◌, ◌≤◌, ◌==◌}
+use Rattle.std.proofs.Common.{◌≡◌, ℕ, suc, ◌+◌, ◌*◌, ◌-◌, ◌/◌, ◌%◌, ◌≤◌, ◌==◌}
 use Rattle.std.proofs.Common.{nat_lt, true, false, not, ◌&&◌, if◌then◌else◌, refl, sym, ap, subst}
-use Rattle.std.proofs.Common.{◌∙◌, arith, ℤ, pos, negsuc, neg_ℤ, ◌+ℤ◌, int_lt, unsigned_abs}
-use Rattle.std.proofs.Common.{None, Some, List, [], ◌∷◌, ◌++◌, length, take, drop, decimal, get_or}
+use Rattle.std.proofs.Common.{◌∙◌, arith, ℤ, pos, negsuc, ◌+ℤ◌, int_lt}
+use Rattle.std.proofs.Common.{None, Some, List, [], ◌∷◌, ◌++◌, take, drop}
 use Rattle.std.specs.Char.{is_ascii_digit}
-use Rattle.std.specs.Fmt.{signed_decimal}
 use Rattle.std.specs.List.{list_all}
 use Rattle.std.specs.Str.{all_ascii_digits}
-use Rattle.std.specs.Str.Parse.{digits_value, starts_with_minus, without_leading_plus}
-use Rattle.std.specs.Str.Parse.{without_leading_sign, signed_digits_value}
-use Rattle.std.proofs.lemmas.Bool.{cond_both, cond-true, cond-false, and_from, and_parts, le-leb}
+use Rattle.std.proofs.lemmas.Bool.{cond_both, cond-true, cond-false, and_from, and_parts}
 use Rattle.std.proofs.lemmas.Bool.{lt-ltb}
 use Rattle.std.proofs.lemmas.Bool.Decides.{nat_tests}
 use Rattle.std.proofs.lemmas.Int.{ints}
-use Rattle.std.proofs.lemmas.Fmt.{digits_decimal, digits_value-decimal, length-decimal-le}
-use Rattle.std.proofs.lemmas.Fmt.{decimal_nonempty}
-use Rattle.std.proofs.lemmas.Str.Parse.{IsNumeralModel, numerals_by_value, tells_all_ascii_digits}
-use Rattle.std.proofs.lemmas.Str.Parse.{not_in_digits, without_leading_plus_none}
 use Rattle.jiff_core.specs.Calendar.{IsWithin}
 use Rattle.jiff_core.proofs.CalendarLemmas.{days_in_month_bounds}
 use Rattle.jiff_core.proofs.SignedLemmas.{signed_arith}
@@ -36,38 +29,38 @@ use Rattle.vtimezone.specs.Values.{sign_of, seconds_text, offset_text, utc_basic
 
 -- ---- local times and moments
 
-digit : (n : ℕ) → is_ascii_digit (48 + n % 10) ≡ true
+pub digit : (n : ℕ) → is_ascii_digit (48 + n % 10) ≡ true
 digit n = grind (arith, nat_tests)
 
-one_more : (b : ℕ) (bs : List ℕ) → is_ascii_digit b ≡ true → all_ascii_digits bs ≡ true → all_ascii_digits (b ∷ bs) ≡ true
+pub one_more : (b : ℕ) (bs : List ℕ) → is_ascii_digit b ≡ true → all_ascii_digits bs ≡ true → all_ascii_digits (b ∷ bs) ≡ true
 one_more b bs x y = and_from (is_ascii_digit b) (all_ascii_digits bs) x y
 
-two_more : (n : ℕ) (bs : List ℕ) → all_ascii_digits bs ≡ true → all_ascii_digits (two_digits n ++ bs) ≡ true
+pub two_more : (n : ℕ) (bs : List ℕ) → all_ascii_digits bs ≡ true → all_ascii_digits (two_digits n ++ bs) ≡ true
 two_more n bs h = one_more (48 + n / 10 % 10) ((48 + n % 10) ∷ bs) (digit (n / 10)) (one_more (48 + n % 10) bs (digit n) h)
 
-six_digits : (a b c : ℕ) → all_ascii_digits (two_digits a ++ (two_digits b ++ (two_digits c ++ []))) ≡ true
+pub six_digits : (a b c : ℕ) → all_ascii_digits (two_digits a ++ (two_digits b ++ (two_digits c ++ []))) ≡ true
 six_digits a b c = two_more a (two_digits b ++ (two_digits c ++ [])) (two_more b (two_digits c ++ []) (two_more c [] refl))
 
-date_digits : (s : Stamp) → all_ascii_digits (take 8 (basic_spelling s)) ≡ true
+pub date_digits : (s : Stamp) → all_ascii_digits (take 8 (basic_spelling s)) ≡ true
 date_digits s =
     let rest = two_digits s.year ++ (two_digits s.month ++ (two_digits s.day ++ [])) in
     one_more (48 + s.year / 1000 % 10) ((48 + s.year / 100 % 10) ∷ rest) (digit (s.year / 1000))
     (one_more (48 + s.year / 100 % 10) rest (digit (s.year / 100)) (six_digits s.year s.month s.day))
 
-is_written : (s : Stamp) → is_date_time (basic_spelling s) ≡ true
+pub is_written : (s : Stamp) → is_date_time (basic_spelling s) ≡ true
 is_written s =
     let text = basic_spelling s in
     and_from (all_ascii_digits (take 8 text) && true) (all_ascii_digits (drop 9 text))
     (and_from (all_ascii_digits (take 8 text)) true (date_digits s) refl) (six_digits s.hour s.minute s.second)
 
-fields_back : (s : Stamp) → IsStamp s → fields_in (basic_spelling s) ≡ s
+pub fields_back : (s : Stamp) → IsStamp s → fields_in (basic_spelling s) ≡ s
 fields_back s h =
     let longest = days_in_month_bounds (pos s.year) s.month in
     let last : s.day ≤ 31 = omega (arith, h.day, longest) in
     same_fields (fields_in (basic_spelling s)) s (four_back s.year h.year) (two_back s.month (omega (arith, h.month))) (two_back s.day (omega arith))
     (two_back s.hour (omega (arith, h.hour))) (two_back s.minute (omega (arith, h.minute))) (two_back s.second (omega (arith, h.second)))
 
-stamp_back : (s : Stamp) → IsStamp s → local_in (basic_spelling s) ≡ Some (moment_at s)
+pub stamp_back : (s : Stamp) → IsStamp s → local_in (basic_spelling s) ≡ Some (moment_at s)
 unfolding local_in
 stamp_back s h =
     let text = basic_spelling s in
@@ -81,7 +74,7 @@ pub local_back : (m o : ℤ) → HasText (m +ℤ o) → local_in (local_text_of 
 unfolding local_text_of
 local_back m o h = stamp_back (stamp_of (m +ℤ o)) (stamp_of_valid (m +ℤ o) h) ∙ ap Some (sym (stamp_of_moment (m +ℤ o) h))
 
-no_offset : (m : ℤ) → m +ℤ pos 0 ≡ m
+pub no_offset : (m : ℤ) → m +ℤ pos 0 ≡ m
 no_offset m = omega (arith, signed_arith)
 
 pub utc_back : (m : Moment) → HasText m.seconds → utc_in (utc_basic m.seconds) ≡ Some m
@@ -96,32 +89,32 @@ utc_back m h =
 -- ---- offsets
 
 -- the digits of hours, minutes and seconds
-abbrev hours : ℕ → List ℕ
+abbrev pub hours : ℕ → List ℕ
 hours n = two_digits (n / 3600) ++ two_digits (n % 3600 / 60)
 
-is_hours_4 : (n : ℕ) → n ≤ 86399 → is_hours (hours n ++ []) ≡ true
+pub is_hours_4 : (n : ℕ) → n ≤ 86399 → is_hours (hours n ++ []) ≡ true
 is_hours_4 n h =
     let h24 : nat_lt (10 * (48 + n / 3600 / 10 % 10 - 48) + (48 + n / 3600 % 10 - 48)) 24 ≡ true = lt-ltb _ _ (omega arith) in
     let m60 : nat_lt (10 * (48 + n % 3600 / 60 / 10 % 10 - 48) + (48 + n % 3600 / 60 % 10 - 48)) 60 ≡ true = lt-ltb _ _ (omega arith) in
     and_from _ true (and_from _ _ (and_from _ _ (two_more (n / 3600) (two_digits (n % 3600 / 60)) (two_more (n % 3600 / 60) [] refl)) h24) m60) refl
 
-is_hours_6 : (n : ℕ) → n ≤ 86399 → is_hours (hours n ++ two_digits (n % 60)) ≡ true
+pub is_hours_6 : (n : ℕ) → n ≤ 86399 → is_hours (hours n ++ two_digits (n % 60)) ≡ true
 is_hours_6 n h =
     let h24 : nat_lt (10 * (48 + n / 3600 / 10 % 10 - 48) + (48 + n / 3600 % 10 - 48)) 24 ≡ true = lt-ltb _ _ (omega arith) in
     let m60 : nat_lt (10 * (48 + n % 3600 / 60 / 10 % 10 - 48) + (48 + n % 3600 / 60 % 10 - 48)) 60 ≡ true = lt-ltb _ _ (omega arith) in
     let s60 : nat_lt (10 * (48 + n % 60 / 10 % 10 - 48) + (48 + n % 60 % 10 - 48)) 60 ≡ true = lt-ltb _ _ (omega arith) in
     and_from _ _ (and_from _ _ (and_from _ _ (six_digits (n / 3600) (n % 3600 / 60) (n % 60)) h24) m60) s60
 
-size_4 : (n : ℕ) → n ≤ 86399 → n % 60 ≡ 0 → size_in (hours n ++ []) ≡ n
+pub size_4 : (n : ℕ) → n ≤ 86399 → n % 60 ≡ 0 → size_in (hours n ++ []) ≡ n
 size_4 n h e = omega (arith, two_back (n / 3600) (omega arith), two_back (n % 3600 / 60) (omega arith))
 
-size_6 : (n : ℕ) → n ≤ 86399 → size_in (hours n ++ two_digits (n % 60)) ≡ n
+pub size_6 : (n : ℕ) → n ≤ 86399 → size_in (hours n ++ two_digits (n % 60)) ≡ n
 size_6 n h = omega (arith, two_back (n / 3600) (omega arith), two_back (n % 3600 / 60) (omega arith), two_back (n % 60) (omega arith))
 
-is_zero : (n : ℕ) → (n == 0) ≡ true → n ≡ 0
+pub is_zero : (n : ℕ) → (n == 0) ≡ true → n ≡ 0
 is_zero n e = grind (arith, nat_tests)
 
-hours_back : (sign n : ℕ) → n ≤ 86399 → offset_in (sign ∷ (hours n ++ seconds_text (n % 60))) ≡ signed_by sign n
+pub hours_back : (sign n : ℕ) → n ≤ 86399 → offset_in (sign ∷ (hours n ++ seconds_text (n % 60))) ≡ signed_by sign n
 unfolding offset_in
 hours_back sign n h =
     cond_both (n % 60 == 0) [] (two_digits (n % 60)) (λ t. offset_in (sign ∷ (hours n ++ t)) ≡ signed_by sign n)
@@ -130,13 +123,13 @@ hours_back sign n h =
     (λ some. cond-true (is_hours (hours n ++ two_digits (n % 60))) (signed_by sign (size_in (hours n ++ two_digits (n % 60)))) None (is_hours_6 n h)
     ∙ ap (signed_by sign) (size_6 n h))
 
-sign_pos : (n : ℕ) → sign_of (pos n) ≡ 43
+pub sign_pos : (n : ℕ) → sign_of (pos n) ≡ 43
 sign_pos n = cond-false (int_lt (pos n) (pos 0)) 45 43 (grind (arith, ints))
 
-sign_neg : (n : ℕ) → sign_of (negsuc n) ≡ 45
+pub sign_neg : (n : ℕ) → sign_of (negsuc n) ≡ 45
 sign_neg n = cond-true (int_lt (negsuc n) (pos 0)) 45 43 (grind (arith, ints))
 
-minus : (n : ℕ) → signed_by 45 (suc n) ≡ Some (negsuc n)
+pub minus : (n : ℕ) → signed_by 45 (suc n) ≡ Some (negsuc n)
 minus n = cond-true (not (suc n == 0)) (Some (negsuc n)) None (grind (arith, nat_tests))
 
 pub offset_back : (z : ℤ) → IsWithin 86399 z → offset_in (offset_text z) ≡ Some z
@@ -148,7 +141,7 @@ offset_back (negsuc n) h =
 
 -- ---- texts
 
-safe_clean : (b : ℕ) → is_safe b ≡ true → (b == 92) ≡ false
+pub safe_clean : (b : ℕ) → is_safe b ≡ true → (b == 92) ≡ false
 safe_clean b h = grind (arith, nat_tests)
 
 pub text_back : (t : List ℕ) → IsSafe t → text_value t ≡ Some t

@@ -1,18 +1,13 @@
 -- Numbers and weekdays between commas are read back, and hold no semicolon.
-use Rattle.std.proofs.Common.{◌≡◌, ◌⊎◌, inl, inr, ℕ, zero, suc, ◌+◌, ◌-◌, ◌/◌, ◌%◌, ◌^◌, ◌<◌, ◌≤◌}
+use Rattle.std.proofs.Common.{◌≡◌, ◌⊎◌, inl, inr, ℕ, zero, suc, ◌+◌, ◌/◌, ◌%◌, ◌^◌, ◌<◌, ◌≤◌}
 use Rattle.std.proofs.Common.{◌==◌, Bool, true, false, not, refl, ap, subst, ◌∙◌, arith}
-use Rattle.std.proofs.Common.{append_assoc, append-nil, ℤ, pos, negsuc, ◌+ℤ◌, unsigned_abs, Option}
-use Rattle.std.proofs.Common.{None, Some, List, [], ◌∷◌, ◌++◌, codes, map, decimal}
+use Rattle.std.proofs.Common.{append_assoc, append-nil, ℤ, pos, negsuc, ◌+ℤ◌, unsigned_abs}
+use Rattle.std.proofs.Common.{Some, List, [], ◌∷◌, ◌++◌, codes, map, decimal}
 use Rattle.std.specs.Fmt.{signed_decimal}
 use Rattle.std.specs.List.{list_all, onto_first}
-use Rattle.std.specs.Option.{option_map}
-use Rattle.std.proofs.lemmas.List.{length-append}
-use Rattle.std.proofs.Math.Seq.{take-append_seam, drop-append_seam}
-use Rattle.std.specs.Ordering.{int_eq}
 use Rattle.std.proofs.lemmas.Bool.{cond-true, cond-false, and_from, and_parts}
 use Rattle.std.proofs.lemmas.Bool.Decides.{nat_tests}
-use Rattle.std.proofs.lemmas.Int.{ints}
-use Rattle.std.proofs.lemmas.Fmt.{decimal_by_steps, decimal_nonempty}
+use Rattle.std.proofs.lemmas.Fmt.{decimal_by_steps}
 use Rattle.std.proofs.lemmas.List.Folds.{list_all-append}
 use Rattle.jiff_core.proofs.SignedLemmas.{signed_arith}
 use Rattle.td_civil.specs.Calendar.{stamp_of, local_text_of}
@@ -36,10 +31,10 @@ uncut s text = list_all (λ b. not (b == s)) text
 pub uncut-append : (s : ℕ) (a b : List ℕ) → uncut s a ≡ true → uncut s b ≡ true → uncut s (a ++ b) ≡ true
 uncut-append s a b x y = list_all-append (λ b. not (b == s)) a b ∙ and_from (uncut s a) (uncut s b) x y
 
-other : (b s : ℕ) → not (b == s) ≡ true → (b == s) ≡ false
+pub other : (b s : ℕ) → not (b == s) ≡ true → (b == s) ≡ false
 other b s h = grind (arith, nat_tests)
 
-cut_more : (s : ℕ) (x y : List ℕ) → uncut s x ≡ true → cut_at s (x ++ s ∷ y) ≡ x ∷ cut_at s y
+pub cut_more : (s : ℕ) (x y : List ℕ) → uncut s x ≡ true → cut_at s (x ++ s ∷ y) ≡ x ∷ cut_at s y
 cut_more s [] y h = cond-true (s == s) ([] ∷ cut_at s y) (onto_first s (cut_at s y)) (grind (arith, nat_tests))
 cut_more s (b ∷ bs) y h =
     let both = and_parts (not (b == s)) (uncut s bs) h in
@@ -83,7 +78,7 @@ EndsWord s = (s ≡ 10) ⊎ (s ≡ 59)
 abbrev pub IsSeparator : ℕ → Type 0
 IsSeparator s = (s ≡ 44) ⊎ EndsWord s
 
-digit_uncut : (s n : ℕ) → IsSeparator s → n < 10 → not (48 + n == s) ≡ true
+pub digit_uncut : (s n : ℕ) → IsSeparator s → n < 10 → not (48 + n == s) ≡ true
 digit_uncut s n (inl is) h = grind (arith, nat_tests)
 digit_uncut s n (inr (inl is)) h = grind (arith, nat_tests)
 digit_uncut s n (inr (inr is)) h = grind (arith, nat_tests)
@@ -91,17 +86,17 @@ digit_uncut s n (inr (inr is)) h = grind (arith, nat_tests)
 pub byte_uncut : (s b : ℕ) → not (b == s) ≡ true → uncut s (b ∷ []) ≡ true
 byte_uncut s b h = and_from (not (b == s)) true h refl
 
-decimal_uncut : (s n : ℕ) → IsSeparator s → n < 2 ^ 64 → uncut s (decimal n) ≡ true
+pub decimal_uncut : (s n : ℕ) → IsSeparator s → n < 2 ^ 64 → uncut s (decimal n) ≡ true
 decimal_uncut s n is h =
     decimal_by_steps (λ m ds. uncut s ds ≡ true) (λ m lt. byte_uncut s (48 + m) (digit_uncut s m is lt))
     (λ m ds le e. uncut-append s ds ((48 + m % 10) ∷ []) e (byte_uncut s (48 + m % 10) (digit_uncut s (m % 10) is (omega arith)))) n h
 
-minus_uncut : (s : ℕ) → IsSeparator s → not (45 == s) ≡ true
+pub minus_uncut : (s : ℕ) → IsSeparator s → not (45 == s) ≡ true
 minus_uncut s (inl is) = rw is refl
 minus_uncut s (inr (inl is)) = rw is refl
 minus_uncut s (inr (inr is)) = rw is refl
 
-comma_uncut : (s : ℕ) → EndsWord s → not (44 == s) ≡ true
+pub comma_uncut : (s : ℕ) → EndsWord s → not (44 == s) ≡ true
 comma_uncut s (inl is) = rw is refl
 comma_uncut s (inr is) = rw is refl
 
@@ -110,12 +105,12 @@ signed_uncut s (pos n) is h = decimal_uncut s n is (omega (arith, signed_arith))
 signed_uncut s (negsuc n) is h =
     and_from (not (45 == s)) (uncut s (decimal (suc n))) (minus_uncut s is) (decimal_uncut s (suc n) is (omega (arith, signed_arith)))
 
-letter_uncut : (s b : ℕ) → IsSeparator s → 65 ≤ b → not (b == s) ≡ true
+pub letter_uncut : (s b : ℕ) → IsSeparator s → 65 ≤ b → not (b == s) ≡ true
 letter_uncut s b (inl is) le = grind (arith, nat_tests)
 letter_uncut s b (inr (inl is)) le = grind (arith, nat_tests)
 letter_uncut s b (inr (inr is)) le = grind (arith, nat_tests)
 
-letters_uncut : (s a b : ℕ) → IsSeparator s → 65 ≤ a → 65 ≤ b → uncut s (a ∷ b ∷ []) ≡ true
+pub letters_uncut : (s a b : ℕ) → IsSeparator s → 65 ≤ a → 65 ≤ b → uncut s (a ∷ b ∷ []) ≡ true
 letters_uncut s a b is one two =
     and_from (not (a == s)) (uncut s (b ∷ [])) (letter_uncut s a is one) (byte_uncut s b (letter_uncut s b is two))
 
@@ -135,7 +130,7 @@ two_uncut s n is =
     and_from (not (48 + n / 10 % 10 == s)) (uncut s ((48 + n % 10) ∷ [])) (digit_uncut s (n / 10 % 10) is (omega arith))
     (byte_uncut s (48 + n % 10) (digit_uncut s (n % 10) is (omega arith)))
 
-four_uncut : (s n : ℕ) → IsSeparator s → uncut s (four_digits n) ≡ true
+pub four_uncut : (s n : ℕ) → IsSeparator s → uncut s (four_digits n) ≡ true
 four_uncut s n is =
     and_from (not (48 + n / 1000 % 10 == s)) (uncut s ((48 + n / 100 % 10) ∷ two_digits n)) (digit_uncut s (n / 1000 % 10) is (omega arith))
     (and_from (not (48 + n / 100 % 10 == s)) (uncut s (two_digits n)) (digit_uncut s (n / 100 % 10) is (omega arith)) (two_uncut s n is))
@@ -168,11 +163,11 @@ utc_uncut s m is =
 abbrev pub local_texts : List Moment → ℤ → List (List ℕ)
 local_texts dates offset = map (λ d. local_text_of d.seconds offset) dates
 
-dates_are : (dates : List Moment) (offset : ℤ) → more_dates dates offset ≡ after_each 44 (local_texts dates offset)
+pub dates_are : (dates : List Moment) (offset : ℤ) → more_dates dates offset ≡ after_each 44 (local_texts dates offset)
 dates_are [] offset = refl
 dates_are (d ∷ ds) offset = ap (λ t. (44 ∷ local_text_of d.seconds offset) ++ t) (dates_are ds offset)
 
-locals_uncut : (s : ℕ) (dates : List Moment) (offset : ℤ) → IsSeparator s → are_uncut s (local_texts dates offset) ≡ true
+pub locals_uncut : (s : ℕ) (dates : List Moment) (offset : ℤ) → IsSeparator s → are_uncut s (local_texts dates offset) ≡ true
 locals_uncut s [] offset is = refl
 locals_uncut s (d ∷ ds) offset is =
     and_from (uncut s (local_text_of d.seconds offset)) (are_uncut s (local_texts ds offset)) (local_uncut s d.seconds offset is)
@@ -202,31 +197,31 @@ one_number_back places most z h =
     ∙ read_more (number_in places most) (signed_decimal z) [] z [] (short_back places most z h) refl
 
 -- the texts of n numbers in a row from the kth after this one
-abbrev texts_after : ℤ → ℕ → ℕ → List (List ℕ)
+abbrev pub texts_after : ℤ → ℕ → ℕ → List (List ℕ)
 texts_after z k zero = []
 texts_after z k (suc n) = signed_decimal (z +ℤ pos k) ∷ texts_after z (suc k) n
 
-abbrev next_texts : ℤ → List (List ℕ)
+abbrev pub next_texts : ℤ → List (List ℕ)
 next_texts z = texts_after z 1 6
 
-seven_are : (z : ℤ) → seven_numbers z ≡ signed_decimal z ++ after_each 44 (next_texts z)
+pub seven_are : (z : ℤ) → seven_numbers z ≡ signed_decimal z ++ after_each 44 (next_texts z)
 unfolding seven_numbers next_number
 seven_are z = simp (append_assoc, append-nil)
 
-texts_uncut : (s : ℕ) (z : ℤ) (k n : ℕ) (places most : ℕ) → IsSeparator s → AreShort places most z → k + n ≤ 7 → are_uncut s (texts_after z k n) ≡ true
+pub texts_uncut : (s : ℕ) (z : ℤ) (k n : ℕ) (places most : ℕ) → IsSeparator s → AreShort places most z → k + n ≤ 7 → are_uncut s (texts_after z k n) ≡ true
 texts_uncut s z k zero places most is h le = refl
 texts_uncut s z k (suc n) places most is h le =
     and_from (uncut s (signed_decimal (z +ℤ pos k))) (are_uncut s (texts_after z (suc k) n))
     (signed_uncut s (z +ℤ pos k) is ((h k (omega arith)).small)) (texts_uncut s z (suc k) n places most is h (omega arith))
 
-texts_read : (z : ℤ) (k n : ℕ) (places most : ℕ) → AreShort places most z → k + n ≤ 7
+pub texts_read : (z : ℤ) (k n : ℕ) (places most : ℕ) → AreShort places most z → k + n ≤ 7
     → all_read (number_in places most) (texts_after z k n) ≡ Some (numbers_after z k n)
 texts_read z k zero places most h le = refl
 texts_read z k (suc n) places most h le =
     read_more (number_in places most) (signed_decimal (z +ℤ pos k)) (texts_after z (suc k) n) (z +ℤ pos k) (numbers_after z (suc k) n)
     (short_back places most (z +ℤ pos k) (h k (omega arith))) (texts_read z (suc k) n places most h (omega arith))
 
-no_more : (z : ℤ) → z +ℤ pos 0 ≡ z
+pub no_more : (z : ℤ) → z +ℤ pos 0 ≡ z
 no_more z = omega (arith, signed_arith)
 
 pub seven_back : (z : ℤ) (places most : ℕ) → AreShort places most z → numbers_in places most (seven_numbers z) ≡ Some (z ∷ next_numbers z)
