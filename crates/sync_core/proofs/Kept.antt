@@ -8,7 +8,7 @@ use Rattle.std.specs.BTreeMap.{insert_entry, is_at}
 use Rattle.std.specs.BTreeSet.{insert_key}
 use Rattle.std.specs.Option.{option_or}
 use Rattle.td_base.specs.Views.{File, file_at}
-use Rattle.std.specs.Map.{keys_of, values_of}
+use Rattle.std.specs.Map.{keys_of, lookup, values_of}
 use Rattle.std.specs.Ordering.{nat_cmp, match_ordering}
 use Rattle.std.specs.Cmp.Lexicographic.{slice_cmp, nat_list_eq_equiv}
 use Rattle.std.specs.Str.{bytes_eq}
@@ -18,7 +18,7 @@ use Rattle.json_forms.specs.declared.zone_list.ListZone.{ListZone}
 use Rattle.sync_core.specs.Keeping.{by_name, has_listed_name}
 use Rattle.sync_core.specs.Mirrors.{MirrorState, ZoneFile, entry_name, file_name, files_kept}
 use Rattle.sync_core.specs.Names.{put_in, put_all, at_text}
-use Rattle.sync_core.specs.Published.{bytes_of}
+use Rattle.sync_core.specs.Published.{bytes_of, file_bytes}
 use Rattle.sync_core.specs.Steps.{after_file, is_alias, kept_entries, kept_files, rising_zones}
 use Rattle.sync_core.specs.Steps.{with_changes}
 use Rattle.sync_core.proofs.lemmas.Puts.{turned, same_text, Rising, rising_filter, rising_put_all}
@@ -53,6 +53,20 @@ map-put f text x (y ∷ ys) =
 
 abbrev one_file : List ℕ × List ℕ → ZoneFile
 one_file e = record { tzid = e.0; bytes = e.1 }
+
+-- a file that is looked up in the map
+pub file_found : (tzid : List ℕ) (es : List (List ℕ × List ℕ)) (found : Option (List ℕ)) → found ≡ lookup (is_at (slice_cmp nat_cmp tzid)) es
+    → found ≡ file_bytes (files_kept es) tzid
+file_found tzid es found is = is ∙ each es
+  where
+    step : (b : Bool) (e : List ℕ × List ℕ) (rest : Option (List ℕ)) (files : Option ZoneFile) → rest ≡ option_map bytes_of files
+        → cond b (Some e.1) rest ≡ option_map bytes_of (cond b (Some (one_file e)) files)
+    step true e rest files same = refl
+    step false e rest files same = same
+
+    each : (es : List (List ℕ × List ℕ)) → lookup (is_at (slice_cmp nat_cmp tzid)) es ≡ file_bytes (files_kept es) tzid
+    each [] = refl
+    each (e ∷ es) = rw (is_eq-slice_cmp tzid e.0) (step (bytes_eq tzid e.0) e _ (at_text file_name (files_kept es) tzid) (each es))
 
 -- a file put into the map
 pub file_put : (tzid bytes : List ℕ) (es : List (List ℕ × List ℕ))

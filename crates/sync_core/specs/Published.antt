@@ -45,7 +45,10 @@ manifest_of s = manifest_with (newest s.entries) s.entries
 abbrev pub bytes_of : ZoneFile → List ℕ
 bytes_of f = f.bytes
 
+-- the bytes of the file with a name
+abbrev pub file_bytes : List ZoneFile → List ℕ → Option (List ℕ)
+file_bytes files tzid = option_map bytes_of (at_text file_name files tzid)
+
 -- the store has the files by their names, and no others
 abbrev pub HasFiles : List File → List ZoneFile → Type 0
-HasFiles stored files =
-    (path : List ℕ) → file_at stored path ≡ option_map bytes_of (at_text file_name files path)
+HasFiles stored files = (path : List ℕ) → file_at stored path ≡ file_bytes files path

@@ -1,7 +1,8 @@
-ghost use Rattle.std.specs.Prelude.{◌≡◌, [], None, IfOk, IsOk, OnOk, OnErr};
+ghost use Rattle.std.specs.Prelude.{◌≡◌, [], map, None, IfOk, IsOk, OnOk, OnErr, option_copied};
+ghost use Rattle.catalogue.specs.Order.{IsRising};
 ghost use Rattle.td_base.specs.declared.report.Ask.TheVariants as ask;
-ghost use Rattle.sync_core.specs.Mirrors.{ask_of, empty_mirror};
-ghost use Rattle.sync_core.specs.Published.{HasFiles, manifest_of};
+ghost use Rattle.sync_core.specs.Mirrors.{ask_of, empty_mirror, entry_name};
+ghost use Rattle.sync_core.specs.Published.{HasFiles, file_bytes, manifest_of};
 ghost use Rattle.sync_core.specs.Steps as steps;
 ghost use Rattle.sync_core.specs.declared.heard_type.Heard.TheVariants as said;
 ghost use Rattle.sync_core.specs.declared.heard_type.Settled.TheVariants.{Holds};
@@ -94,6 +95,22 @@ impl Mirror {
     pub fn lose(&mut self)
         ensures { self.new ≡ self.old }
     {}
+
+    /// The zones that are known, rising by identifier.
+    pub fn entries(&self) -> &[ListZone]
+        ensures entries { result.now ≡ self.now.entries }
+        ensures rising { IsRising (map entry_name result.now) }
+    {
+        self.entries.as_slice()
+    }
+
+    /// What is kept as the file of the zone with this identifier.
+    #[tactic(auto, using(crate::proofs::Kept::file_found))]
+    pub fn file(&self, tzid: &Bytes) -> Option<&Bytes>
+        ensures { option_copied result ≡ file_bytes self.now.files tzid.now }
+    {
+        self.files.get(tzid)
+    }
 
     /// The release that is held: its manifest, and a store that has each zone's file by the zone's
     /// identifier.

@@ -30,8 +30,8 @@ action_asked (ask.List None) = asked.List param.Absent
 action_asked (ask.List (Some token)) = asked.List (param.Once token)
 action_asked (ask.Get name) = asked.Get name param.Absent param.Absent
 
--- the media type of a zone's data in a format (RFC 5545, section 8.1; RFC 9636, section 9; RFC 7265,
--- section 7)
+-- the media type of a zone's data in a format (RFC 5545, section 8.1; RFC 9636, section 9; RFC
+-- 7265, section 7)
 abbrev pub media_type : Format → List ℕ
 media_type format.Calendar = codes "text/calendar"
 media_type format.Tzif = codes "application/tzif"

@@ -63,8 +63,8 @@ pub fn mirrors_hold_releases()
         → HoldsLast action_service v.mirror (take n w.history) }
 {}
 
-/// The same of a mirror that asks for calendars in the place of files: it holds exactly the calendars
-/// of the zones of the last of these n releases.
+/// The same of a mirror that asks for calendars in the place of files: it holds exactly the
+/// calendars of the zones of the last of these n releases.
 pub fn mirrors_hold_calendars()
     ensures { (H : List ReleaseData) (steps : List WorldStep) (w v : SyncWorld) (n : ℕ)
         (sent : Sent) (h : Heard)

@@ -222,12 +222,14 @@ module _ (written : Ask → List ℕ) (means : Ask → List ℕ → Understood �
       subst (λ (v : MirrorState). left lists (length v.pending) < left lists (length t.pending)) (sym state)
       (file_left lists (length t.pending) (length (sync_step t h).pending) fewer)
 
-  pub list_leaves : HearsInKind means → TurnsOn written means t u now new number (Ok took.List) → left (lists + 1) (length u.pending) < left lists (length t.pending)
+  pub list_leaves : HearsInKind means → TurnsOn written means t u now new number (Ok took.List)
+      → left (lists + 1) (length u.pending) < left lists (length t.pending)
   list_leaves kind o =
       let i = is_taken took.List o.exchanges o.turn in
       list_pends i.h i.state (listed_by (ask_of t) (settles t i.h) i.by).1 (pends t i.h (kind (ask_of t) i.x.answer i.h i.is_meant))
 
-  pub file_leaves : HearsInKind means → TurnsOn written means t u now new number (Ok took.File) → left lists (length u.pending) < left lists (length t.pending)
+  pub file_leaves : HearsInKind means → TurnsOn written means t u now new number (Ok took.File)
+      → left lists (length u.pending) < left lists (length t.pending)
   file_leaves kind o =
       let i = is_taken took.File o.exchanges o.turn in
       file_pends i.h i.state (got_by (ask_of t) (settles t i.h) i.by).1 (pends t i.h (kind (ask_of t) i.x.answer i.h i.is_meant))
