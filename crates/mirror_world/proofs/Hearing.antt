@@ -28,8 +28,10 @@ use Rattle.mirror.specs.Understanding.{Means, too_long, short, body_heard, list_
 use Rattle.mirror.specs.declared.limits.TheConstants.{MOST_ANSWER}
 use Rattle.mirror.specs.declared.understood_type.Understood.{Understood}
 use Rattle.mirror.specs.declared.understood_type.Understood.TheVariants as understood
-use Rattle.sync_world.specs.Hearing.{IsHeardIn, IsHeardOver}
-use Rattle.mirror_world.specs.Answers.{IsAnsweredOver, reply_over}
+use Rattle.negotiate.specs.declared.choosing.Format.{Format}
+use Rattle.negotiate.specs.declared.choosing.Format.TheVariants.{Tzif}
+use Rattle.sync_world.specs.Hearing.{IsDataHeardOver, IsHeardIn, IsHeardOver}
+use Rattle.mirror_world.specs.Answers.{IsAnsweredOver, IsDataAnsweredOver, reply_over}
 use Rattle.mirror_world.proofs.Replying.{body_fits, is_read, plain}
 use Rattle.mirror_world.proofs.Shapes.{IsPlainAnswer, action_plain}
 
@@ -128,8 +130,9 @@ whole n text few = by (cases_lt (length text) n)
     by (inr le) = let same = length-take-le n text le in absurd (omega (arith, same, few))
 
 -- an answer that is not cut is the reply
-reply_whole : (G : List ReleaseData) (a : Ask) (x : Exchange) (o : IsAnsweredOver G a x) → length x.answer < MOST_ANSWER → x.answer ≡ reply_over G o.head
-reply_whole G a x o few =
+reply_whole : (f : Format) (G : List ReleaseData) (a : Ask) (x : Exchange) (o : IsDataAnsweredOver f G a x) → length x.answer < MOST_ANSWER
+    → x.answer ≡ reply_over G o.head
+reply_whole f G a x o few =
     let cut : x.answer ≡ take MOST_ANSWER (reply_over G o.head) = o.is_answer ∙ ap (λ n. take n (reply_over G o.head)) o.most in
     cut ∙ whole MOST_ANSWER (reply_over G o.head) (subst (λ l. length l < MOST_ANSWER) cut few)
 
@@ -143,29 +146,38 @@ reply_read answer close k few =
     subst (λ b. IsReading (reply b false close) (Ok (read_of b))) (sym k.is) (is_read k.status k.kind k.tag k.body close k.is_plain k.passes small)
 
 -- so it is read as the answer of the action
-pub answer_read : (G : List ReleaseData) (a : Ask) (x : Exchange) (o : IsAnsweredOver G a x) → length x.answer < MOST_ANSWER
+pub answer_read : (f : Format) (G : List ReleaseData) (a : Ask) (x : Exchange) (o : IsDataAnsweredOver f G a x) → length x.answer < MOST_ANSWER
     → IsReading x.answer (Ok (read_of (action G Primary o.head)))
-answer_read G a x o few =
+answer_read f G a x o few =
     let answer = action G Primary o.head in
     let bytes : x.answer ≡ reply answer false o.head.close =
-    reply_whole G a x o few ∙ ap (λ head_only. reply answer head_only o.head.close) o.is_request.is_get in
+    reply_whole f G a x o few ∙ ap (λ head_only. reply answer head_only o.head.close) o.is_request.is_get in
     subst (λ l. IsReading l (Ok (read_of answer))) (sym bytes)
-    (reply_read answer o.head.close (action_plain G a o.head o.is_request.asks_so) (subst (λ l. length l < MOST_ANSWER) bytes few))
+    (reply_read answer o.head.close (action_plain f G a o.head o.is_request.asks_so) (subst (λ l. length l < MOST_ANSWER) bytes few))
 
 abbrev MeansHeard : Ask → List ℕ → Heard → Type 0
 MeansHeard a answer h = Means a answer (understood.Hears h)
 
-pub heard_in : (G : List ReleaseData) (a : Ask) (x : Exchange) (h : Heard) (o : IsAnsweredOver G a x) → MeansHeard a x.answer h
+pub heard_in : (f : Format) (G : List ReleaseData) (a : Ask) (x : Exchange) (h : Heard) (o : IsDataAnsweredOver f G a x) → MeansHeard a x.answer h
     → IsHeardIn a (action G Primary o.head) h
-heard_in G a x h o (too_long m e) = absurd (cc)
-heard_in G a x h o (short r m k e) =
+heard_in f G a x h o (too_long m e) = absurd (cc)
+heard_in f G a x h o (short r m k e) =
     in_reply a (action G Primary o.head) h
-    (e ∙ ap (reading_heard a) (one_reading x.answer r (Ok (read_of (action G Primary o.head))) k (answer_read G a x o m)))
+    (e ∙ ap (reading_heard a) (one_reading x.answer r (Ok (read_of (action G Primary o.head))) k (answer_read f G a x o m)))
 
+pub data_heard : (f : Format) (G : List ReleaseData) (a : Ask) (x : Exchange) (h : Heard) → IsDataAnsweredOver f G a x
+    → Means a x.answer (understood.Hears h) → IsDataHeardOver f G a h
+data_heard f G a x h o means = record { head = o.head; asks_so = o.is_request.asks_so; hears = heard_in f G a x h o means }
+
+pub data_means : (f : Format) (G : List ReleaseData) (a : Ask) (x : Exchange) (h : Heard) (o : IsDataAnsweredOver f G a x) → length x.answer < MOST_ANSWER
+    → IsHeardIn a (action G Primary o.head) h → Means a x.answer (understood.Hears h)
+data_means f G a x h o few k =
+    short (Ok (read_of (action G Primary o.head))) few (answer_read f G a x o few) (sym (reply_so a (action G Primary o.head) h k))
+
+-- the same of TZif files
 pub heard_over : (G : List ReleaseData) (a : Ask) (x : Exchange) (h : Heard) → IsAnsweredOver G a x → Means a x.answer (understood.Hears h) → IsHeardOver G a h
-heard_over G a x h o means = record { head = o.head; asks_so = o.is_request.asks_so; hears = heard_in G a x h o means }
+heard_over G a x h o means = data_heard Tzif G a x h o means
 
 pub means_so : (G : List ReleaseData) (a : Ask) (x : Exchange) (h : Heard) (o : IsAnsweredOver G a x) → length x.answer < MOST_ANSWER
     → IsHeardIn a (action G Primary o.head) h → Means a x.answer (understood.Hears h)
-means_so G a x h o few k =
-    short (Ok (read_of (action G Primary o.head))) few (answer_read G a x o few) (sym (reply_so a (action G Primary o.head) h k))
+means_so G a x h o few k = data_means Tzif G a x h o few k

@@ -1,12 +1,11 @@
 -- The laws of a mirror, from the law of the world.
-use Rattle.std.proofs.Common.{◌≡◌, ◌≢◌, ℕ, ◌<◌, ◌≤◌, Some, List, [], ◌∷◌, ◌++◌, length, take, drop, Result, sym, ap, ◌∙◌, subst, arith, append_assoc}
-use Rattle.std.proofs.Common.{length-append, take-append-drop}
+use Rattle.std.proofs.Common.{◌≡◌, ◌≢◌, ℕ, ◌<◌, ◌≤◌, Some, List, [], ◌∷◌, ◌++◌, length, take, Result, ap, ◌∙◌, subst, arith}
+use Rattle.std.proofs.Common.{length-append}
 use Rattle.td_base.specs.declared.report.Ask.{Ask}
 use Rattle.td_base.specs.declared.report.Role.TheVariants.{Primary}
 use Rattle.td_base.specs.declared.upstream.Exchange.{Exchange}
 use Rattle.catalogue.specs.Histories.{IsHistory}
 use Rattle.catalogue.specs.Releases.{ReleaseData}
-use Rattle.catalogue.proofs.lemmas.Growing.{history_grown}
 use Rattle.zone_meaning.specs.Sound.{IsSound}
 use Rattle.http_request.specs.declared.head.Head.{Head}
 use Rattle.actions.specs.Action.{action}
@@ -22,16 +21,16 @@ use Rattle.mirror.specs.declared.understood_type.Understood.TheVariants as under
 use Rattle.sync_world.specs.Hearing.{IsHeadOf, IsHeardIn, IsHeardOver, action_service}
 use Rattle.sync_world.specs.Holding.{HoldsLast, SaysHolds}
 use Rattle.sync_world.specs.Primaries.{AsksSinceKept, IsPlace}
-use Rattle.sync_world.specs.Worlds as world
-use Rattle.sync_world.specs.Worlds.{IsAnswer, Leads, LeadsTo, Sent, SyncWorld, WorldStep, world_begun}
+use Rattle.sync_world.specs.Worlds.{IsAnswer, Leads, Sent, SyncWorld, WorldStep, world_begun}
 use Rattle.mirror_world.specs.Answers.{AreAnswered, IsAnswered, IsAnsweredOver}
 use Rattle.mirror_world.specs.Follows.{FollowsFrom}
 use Rattle.mirror_world.specs.Logs.{Logs}
 use Rattle.mirror_world.specs.Runs.{HoldInTurn, IsUnderstood, Share, SyncsInTurn, all_taken}
-use Rattle.mirror_world.proofs.Following.{followed}
+use Rattle.mirror_world.proofs.lemmas.Following.{followed}
+use Rattle.mirror_world.proofs.lemmas.Histories.{front_history, stays_history}
 use Rattle.mirror_world.proofs.Hearing.{heard_over, means_so}
-use Rattle.mirror_world.proofs.Syncing.{OneMeaning, after_all, in_turn, is_understood, walk_holds}
-use Rattle.mirror_world.proofs.Worlds.{SentStands, begins, grows, led, stood_on}
+use Rattle.mirror_world.proofs.lemmas.Syncing.{OneMeaning, after_all, in_turn, is_understood, walk_holds}
+use Rattle.mirror_world.proofs.lemmas.Worlds.{SentStands, begins, grows, led, stood_on}
 
 -- the law of the world of a primary and a mirror
 abbrev pub WorldsHold : Type 0
@@ -51,27 +50,6 @@ module _ (law : WorldsHold) (H : List ReleaseData) (steps : List WorldStep) (xs 
   longer =
       let k = grows IsSound IsAnsweredOver Means (world_begun H) steps xs v logs in
       omega (arith, ap length k.is ∙ length-append H k.more)
-
--- the history stays one
-module _ (hears : List ReleaseData → Ask → Heard → Type 0) where
-  step_history : (w : SyncWorld) (step : WorldStep) (u : SyncWorld) → LeadsTo IsSound hears w step u → IsHistory IsSound w.history → IsHistory IsSound u.history
-  step_history w (world.install r) u is h = subst (λ (z : SyncWorld). IsHistory IsSound z.history) (sym is.1) (history_grown IsSound w.history r h is.0)
-  step_history w world.asks u is h = subst (λ (z : SyncWorld). IsHistory IsSound z.history) (sym is) h
-  step_history w (world.answer n) u is h = subst (λ (z : SyncWorld). IsHistory IsSound z.history) (sym (is.2).is_taken) h
-  step_history w world.refuse_token u is h = subst (λ (z : SyncWorld). IsHistory IsSound z.history) (sym (is.2).is_taken) h
-  step_history w world.lose u is h = subst (λ (z : SyncWorld). IsHistory IsSound z.history) (sym is) h
-  step_history w world.restart u is h = subst (λ (z : SyncWorld). IsHistory IsSound z.history) (sym is) h
-  step_history w world.restart_empty u is h = subst (λ (z : SyncWorld). IsHistory IsSound z.history) (sym is) h
-
-  stays_history : (w : SyncWorld) (steps : List WorldStep) (v : SyncWorld) → Leads IsSound hears w steps v → IsHistory IsSound w.history
-      → IsHistory IsSound v.history
-  stays_history w [] v is h = subst (λ (z : SyncWorld). IsHistory IsSound z.history) (sym is) h
-  stays_history w (step ∷ steps) v is h = stays_history is.0 steps v is.2 (step_history w step is.0 is.1 h)
-
--- so do its first releases
-front_history : (H : List ReleaseData) (n : ℕ) → IsHistory IsSound H → IsHistory IsSound (take n H)
-front_history H n h before r after e =
-    h before r (after ++ drop n H) (sym (take-append-drop n H) ∙ ap (λ G. G ++ drop n H) e ∙ append_assoc before (r ∷ after) (drop n H))
 
 pub go_on : (H : List ReleaseData) (steps : List WorldStep) (xs : List Exchange) (v : SyncWorld) (n : ℕ) → IsHistory IsSound H
     → Logs IsSound IsAnsweredOver Means (world_begun H) steps xs v → (length H ≤ length v.history) × IsHistory IsSound (take n v.history)

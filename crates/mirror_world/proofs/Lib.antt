@@ -1,10 +1,8 @@
+pub mod lemmas
 mod Values
 mod Replying
 mod Shapes
 mod Hearing
-mod Worlds
-mod Following
-mod Syncing
 mod Stating
 mod Passing
 mod Held

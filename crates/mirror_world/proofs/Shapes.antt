@@ -23,7 +23,8 @@ use Rattle.json_forms.specs.declared.problem_type.Problem.{Problem}
 use Rattle.json_forms.specs.declared.problem_type.Problem.TheVariants as problem
 use Rattle.negotiate.specs.Choices.{chosen_format, quality_of}
 use Rattle.negotiate.specs.Qualities.{largest_for, quality_in, quality_value}
-use Rattle.negotiate.specs.declared.choosing.Format.TheVariants.{Tzif}
+use Rattle.negotiate.specs.declared.choosing.Format.{Format}
+use Rattle.negotiate.specs.declared.choosing.Format.TheVariants as format
 use Rattle.td_base.specs.Texts.{pieces, trim}
 use Rattle.target.specs.declared.asked_types.Param.TheVariants as param
 use Rattle.actions.specs.Action.{action, answer_for}
@@ -31,7 +32,7 @@ use Rattle.actions.specs.Bounds.{bounds_in, end_bound, start_bound}
 use Rattle.actions.specs.Documents.{with_document, with_problem}
 use Rattle.actions.specs.Getting.{format_answer, get_answer, zone_answer}
 use Rattle.actions.specs.Listing.{changes_since, change_list, list_answer, list_body}
-use Rattle.sync_world.specs.Hearing.{IsHeadOf, action_asked}
+use Rattle.sync_world.specs.Hearing.{IsDataHeadOf, action_asked, media_type, whole_data}
 use Rattle.mirror_world.proofs.Replying.{IsPlainStatus, TagPasses, plain}
 use Rattle.mirror_world.proofs.Values.{both, first, second}
 
@@ -84,12 +85,13 @@ joined_pass : (xs ys : List ℕ) → list_all is_value_byte xs ≡ true → list
 joined_pass xs ys h k =
     list_all-append is_value_byte xs ys ∙ both (list_all is_value_byte xs) (list_all is_value_byte ys) h k
 
-quoted_passes : (tag : List ℕ) → IsPlain tag → list_all is_value_byte (codes "\"" ++ tag ++ codes "." ++ codes "t" ++ [] ++ codes "\"") ≡ true
-quoted_passes tag h =
-    joined_pass (codes "\"" ++ tag ++ codes "." ++ codes "t" ++ []) (codes "\"")
-    (joined_pass (codes "\"" ++ tag ++ codes "." ++ codes "t") []
-    (joined_pass (codes "\"" ++ tag ++ codes ".") (codes "t")
-    (joined_pass (codes "\"" ++ tag) (codes ".") (joined_pass (codes "\"") tag refl (plain_passes tag h)) refl) refl) refl) refl
+quoted_passes : (tag mark : List ℕ) → IsPlain tag → list_all is_value_byte mark ≡ true
+    → list_all is_value_byte (codes "\"" ++ tag ++ codes "." ++ mark ++ [] ++ codes "\"") ≡ true
+quoted_passes tag mark h k =
+    joined_pass (codes "\"" ++ tag ++ codes "." ++ mark ++ []) (codes "\"")
+    (joined_pass (codes "\"" ++ tag ++ codes "." ++ mark) []
+    (joined_pass (codes "\"" ++ tag ++ codes ".") mark
+    (joined_pass (codes "\"" ++ tag) (codes ".") (joined_pass (codes "\"") tag refl (plain_passes tag h)) refl) k) refl) refl
 
 -- an entry at any place has the tag of its content
 tag_at : (H : List ReleaseData) (last : ReleaseData) (cs : List ContentData) (i : ℕ) (e : EntryData) → slice_get (map (entry_of H last) cs) i ≡ Some e
@@ -120,43 +122,65 @@ unfolding list_answer
 list_plain H head None = document (list_body H (λ _. true))
 list_plain H head (Some since) = changes_plain H (place_of H since)
 
--- ---- files
+-- ---- the data of zones
 
-tzif_chosen : chosen_format (Some (codes "application/tzif")) ≡ Some Tzif
+format_chosen : (f : Format) → chosen_format (Some (media_type f)) ≡ Some f
 unfolding chosen_format quality_of largest_for pieces trim quality_in quality_value
-tzif_chosen = refl
+format_chosen format.Calendar = refl
+format_chosen format.Tzif = refl
+format_chosen format.CalendarJson = refl
 
-tzif_plain : (name : List ℕ) (e : EntryData) → IsPlain e.tag → IsPlainAnswer (format_answer (Some Tzif) name e None param.Absent param.Absent)
+data_plain : (f : Format) (name : List ℕ) (e : EntryData) → IsPlain e.tag → IsPlainAnswer (format_answer (Some f) name e None param.Absent param.Absent)
 unfolding bounds_in start_bound end_bound Rattle.actions.specs.Tags.data_tag
-tzif_plain name e tag = record {
+data_plain format.Calendar name e tag = record {
+  status = 200;
+  kind = kind.Calendar;
+  tag = Some (codes "\"" ++ e.tag ++ codes "." ++ codes "c2" ++ [] ++ codes "\"");
+  body = whole_data format.Calendar name e.content;
+  is = refl;
+  is_plain = inl refl;
+  passes = quoted_passes e.tag (codes "c2") tag refl;
+}
+data_plain format.Tzif name e tag = record {
   status = 200;
   kind = kind.Tzif;
   tag = Some (codes "\"" ++ e.tag ++ codes "." ++ codes "t" ++ [] ++ codes "\"");
   body = e.content.file;
   is = refl;
   is_plain = inl refl;
-  passes = quoted_passes e.tag tag;
+  passes = quoted_passes e.tag (codes "t") tag refl;
+}
+data_plain format.CalendarJson name e tag = record {
+  status = 200;
+  kind = kind.CalendarJson;
+  tag = Some (codes "\"" ++ e.tag ++ codes "." ++ codes "j" ++ [] ++ codes "\"");
+  body = whole_data format.CalendarJson name e.content;
+  is = refl;
+  is_plain = inl refl;
+  passes = quoted_passes e.tag (codes "j") tag refl;
 }
 
-zone_plain : (name : List ℕ) (o : Option EntryData) → ((e : EntryData) → o ≡ Some e → IsPlain e.tag)
-    → IsPlainAnswer (zone_answer name o (Some (codes "application/tzif")) None param.Absent param.Absent)
-zone_plain name None tags = refusal problem.TzidNotFound
-zone_plain name (Some e) tags =
-    subst (λ f. IsPlainAnswer (format_answer f name e None param.Absent param.Absent)) (sym tzif_chosen) (tzif_plain name e (tags e refl))
+zone_plain : (f : Format) (name : List ℕ) (o : Option EntryData) → ((e : EntryData) → o ≡ Some e → IsPlain e.tag)
+    → IsPlainAnswer (zone_answer name o (Some (media_type f)) None param.Absent param.Absent)
+zone_plain f name None tags = refusal problem.TzidNotFound
+zone_plain f name (Some e) tags =
+    subst (λ (g : Option Format). IsPlainAnswer (format_answer g name e None param.Absent param.Absent)) (sym (format_chosen f))
+    (data_plain f name e (tags e refl))
 
-file_plain : (H : List ReleaseData) (head : Head) (name : List ℕ) → head.accept ≡ Some (codes "application/tzif") → head.none_match ≡ None
+got_plain : (f : Format) (H : List ReleaseData) (head : Head) (name : List ℕ) → head.accept ≡ Some (media_type f) → head.none_match ≡ None
     → IsPlainAnswer (answer_for H Primary head (action_asked (ask.Get name)))
 unfolding get_answer
-file_plain H head name accept held =
+got_plain f H head name accept held =
     let o = option_and_then (slice_get (meta H)) (place_named H name) in
-    let two = zone_plain name o (tag_found H name) in
-    let one = subst (λ f. IsPlainAnswer (zone_answer name o (Some (codes "application/tzif")) f param.Absent param.Absent)) (sym held) two in
+    let two = zone_plain f name o (tag_found H name) in
+    let one = subst (λ l. IsPlainAnswer (zone_answer name o (Some (media_type f)) l param.Absent param.Absent)) (sym held) two in
     subst (λ a. IsPlainAnswer (zone_answer name o a head.none_match param.Absent param.Absent)) (sym accept) one
 
-answer_plain : (H : List ReleaseData) (a : Ask) (head : Head) → IsHeadOf a head → IsPlainAnswer (answer_for H Primary head (action_asked a))
-answer_plain H (ask.List since) head k = list_plain H head since
-answer_plain H (ask.Get name) head k = file_plain H head name k.accept k.none_match
+answer_plain : (f : Format) (H : List ReleaseData) (a : Ask) (head : Head) → IsDataHeadOf f a head
+    → IsPlainAnswer (answer_for H Primary head (action_asked a))
+answer_plain f H (ask.List since) head k = list_plain H head since
+answer_plain f H (ask.Get name) head k = got_plain f H head name k.accept k.none_match
 
-pub action_plain : (H : List ReleaseData) (a : Ask) (head : Head) → IsHeadOf a head → IsPlainAnswer (action H Primary head)
+pub action_plain : (f : Format) (H : List ReleaseData) (a : Ask) (head : Head) → IsDataHeadOf f a head → IsPlainAnswer (action H Primary head)
 unfolding action
-action_plain H a head k = subst (λ asked. IsPlainAnswer (answer_for H Primary head asked)) (sym k.target) (answer_plain H a head k)
+action_plain f H a head k = subst (λ asked. IsPlainAnswer (answer_for H Primary head asked)) (sym k.target) (answer_plain f H a head k)

@@ -9,26 +9,37 @@ use Rattle.http_request.specs.declared.head.Head.{Head}
 use Rattle.http_answer.specs.Replies.{reply}
 use Rattle.actions.specs.Action.{action}
 use Rattle.mirror.specs.declared.limits.TheConstants.{MOST_ANSWER}
-use Rattle.sync_world.specs.Hearing.{IsHeadOf}
+use Rattle.negotiate.specs.declared.choosing.Format.{Format}
+use Rattle.negotiate.specs.declared.choosing.Format.TheVariants.{Tzif}
+use Rattle.sync_world.specs.Hearing.{IsDataHeadOf}
 use Rattle.sync_world.specs.Worlds.{Sent, SyncWorld}
 
 -- the reply of a primary with a history to a request, after which the connection may close
 abbrev pub reply_over : List ReleaseData → Head → List ℕ
 reply_over G head = reply (action G Primary head) head.head_only head.close
 
--- the bytes of a request are one head, and nothing follows it: the head of a GET that asks so
-pub record IsRequestFor (a : Ask) (request : List ℕ) (head : Head) : Type 0 where
+-- the bytes of a request are one head, and nothing follows it: the head of a GET that asks so, and
+-- for zones in the format
+pub record IsDataRequestFor (f : Format) (a : Ask) (request : List ℕ) (head : Head) : Type 0 where
   pub reads : Asks request (head ∷ []) (Rest [])
   pub is_get : head.head_only ≡ false
-  pub asks_so : IsHeadOf a head
+  pub asks_so : IsDataHeadOf f a head
 
 -- the request of the exchange asks so, and its answer is the reply of a primary with the history,
 -- of which no more bytes are taken than a mirror takes at the most
-pub record IsAnsweredOver (G : List ReleaseData) (a : Ask) (x : Exchange) : Type 0 where
+pub record IsDataAnsweredOver (f : Format) (G : List ReleaseData) (a : Ask) (x : Exchange)
+    : Type 0 where
   pub head : Head
-  pub is_request : IsRequestFor a x.request head
+  pub is_request : IsDataRequestFor f a x.request head
   pub most : x.most ≡ MOST_ANSWER
   pub is_answer : x.answer ≡ take x.most (reply_over G head)
+
+-- the same of TZif files
+abbrev pub IsRequestFor : Ask → List ℕ → Head → Type 0
+IsRequestFor a request head = IsDataRequestFor Tzif a request head
+
+abbrev pub IsAnsweredOver : List ReleaseData → Ask → Exchange → Type 0
+IsAnsweredOver G a x = IsDataAnsweredOver Tzif G a x
 
 -- what is outstanding in a world is answered by the exchange, over the first n releases of the
 -- primary, no fewer than it had when the ask was first sent

@@ -4,6 +4,7 @@ ghost use Rattle.std.specs.Prelude.{Ok};
 ghost use Rattle.std.specs.Prelude.{Result};
 ghost use Rattle.td_base.specs.Views.{File};
 ghost use Rattle.td_base.specs.declared.report.Ask.{Ask};
+ghost use Rattle.td_base.specs.declared.report.Role.TheVariants.{Primary};
 ghost use Rattle.td_base.specs.declared.upstream.Exchange.{Exchange};
 ghost use Rattle.catalogue.specs.Histories.{IsHistory};
 ghost use Rattle.catalogue.specs.Lookups.{zones_of};
@@ -11,6 +12,8 @@ ghost use Rattle.catalogue.specs.Releases.{ReleaseData};
 ghost use Rattle.zone_meaning.specs.Sound.{IsSound};
 ghost use Rattle.release_check.specs.Before.{Before, before_of};
 ghost use Rattle.release_check.specs.Folder.{examined_in};
+ghost use Rattle.negotiate.specs.declared.choosing.Format.{Format};
+ghost use Rattle.actions.specs.Action.{action};
 ghost use Rattle.http_client.specs.Requests.{request_text};
 ghost use Rattle.http_request.specs.declared.head.Head.{Head};
 ghost use Rattle.sync_core.specs.Mirrors.{MirrorState, ask_of, empty_mirror};
@@ -23,11 +26,12 @@ ghost use Rattle.mirror.specs.Understanding.{Means};
 ghost use Rattle.mirror.specs.declared.limits.TheConstants.{MOST_ANSWER};
 ghost use Rattle.mirror.specs.declared.sync_fault.SyncFault.{SyncFault};
 ghost use Rattle.mirror.specs.declared.understood_type.Understood.TheVariants as understood;
-ghost use Rattle.sync_world.specs.Hearing.{IsHeardOver, action_service};
+ghost use Rattle.sync_world.specs.Hearing.{IsDataHeardOver, IsHeardIn, IsHeardOver, action_service};
 ghost use Rattle.sync_world.specs.Holding.{HoldsLast, SaysHolds};
 ghost use Rattle.sync_world.specs.Primaries.{AsksSinceKept, IsPlace};
 ghost use Rattle.sync_world.specs.Worlds.{Sent, SyncWorld, WorldStep, world_begun};
-ghost use Rattle.mirror_world.specs.Answers.{AreAnswered, IsAnswered, IsAnsweredOver, IsRequestFor};
+ghost use Rattle.mirror_world.specs.Answers.{AreAnswered, IsAnswered, IsAnsweredOver};
+ghost use Rattle.mirror_world.specs.Answers.{IsDataAnsweredOver, IsRequestFor};
 ghost use Rattle.mirror_world.specs.Asking.{IsAskable};
 ghost use Rattle.mirror_world.specs.Contents.{MayFollow, contents_of_state};
 ghost use Rattle.mirror_world.specs.Follows.{FollowsFrom};
@@ -53,6 +57,20 @@ pub fn requests_ask()
 pub fn answers_are_heard_in_bytes()
     ensures { (G : List ReleaseData) (a : Ask) (x : Exchange) (h : Heard) → IsAnsweredOver G a x
         → Means a x.answer (understood.Hears h) → IsHeardOver G a h }
+{}
+
+/// The same where zones are asked for in any format.
+pub fn data_is_heard_in_bytes()
+    ensures { (f : Format) (G : List ReleaseData) (a : Ask) (x : Exchange) (h : Heard)
+        → IsDataAnsweredOver f G a x → Means a x.answer (understood.Hears h)
+        → IsDataHeardOver f G a h }
+{}
+
+/// And what is heard in the answer of the action is what an exchange means that is not cut.
+pub fn data_is_meant_in_bytes()
+    ensures { (f : Format) (G : List ReleaseData) (a : Ask) (x : Exchange) (h : Heard)
+        → (o : IsDataAnsweredOver f G a x) → length x.answer < MOST_ANSWER
+        → IsHeardIn a (action G Primary o.head) h → Means a x.answer (understood.Hears h) }
 {}
 
 /// The answers that a world brings to its mirror, which begins with nothing, are those of a primary

@@ -2,7 +2,7 @@ use Rattle.http_client.specs.Requests.{request_text}
 use Rattle.mirror.specs.Understanding.{Means}
 use Rattle.sync_world.specs.Hearing.{action_service}
 use Rattle.mirror_world.specs.Answers.{IsAnsweredOver}
-use Rattle.mirror_world.proofs.Syncing.{share_holds}
+use Rattle.mirror_world.proofs.lemmas.Syncing.{share_holds}
 use Rattle.mirror_world.proofs.laws.syncs_hold.Goals as goal
 
 pub returns : goal.returns

@@ -16,7 +16,7 @@ use Rattle.sync_world.specs.Worlds as world
 use Rattle.sync_world.specs.Worlds.{IsAnswer, Leads, Sent, SyncWorld, WorldStep, world_begun}
 use Rattle.mirror_world.specs.Follows.{FollowsFrom, HearsAt}
 use Rattle.mirror_world.specs.Logs.{Brings, Logs, Reaches, RefusesToken}
-use Rattle.mirror_world.proofs.Worlds.{IsLonger, SentStands, Stands, answer_of, begins, grows, leads_on, rests, step_led, stood}
+use Rattle.mirror_world.proofs.lemmas.Worlds.{IsLonger, SentStands, Stands, answer_of, begins, grows, leads_on, rests, step_led, stood}
 
 no_hold : (s : MirrorState) → SaysHolds s heard.BadToken → ⊥
 no_hold s says = absurd (cc)

@@ -1,0 +1,13 @@
+mod Named
+mod Told
+mod Sound
+mod Worlds
+mod Kept
+mod Fewer
+mod ChangeMoments
+mod LineSizes
+mod PartSizes
+mod GroupSizes
+mod ZoneSizes
+mod Ends
+mod Following

@@ -1,0 +1,5 @@
+-- Lemmas that proofs of other crates may cite.
+pub mod Worlds
+pub mod Following
+pub mod Syncing
+pub mod Histories
