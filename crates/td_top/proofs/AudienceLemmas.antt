@@ -1,5 +1,6 @@
 -- What the lines that ask for news of installs make of a talk.
-use Rattle.std.proofs.Common.{◌≡◌, ℕ, zero, suc, ◌+◌, ◌<◌, ◌≤◌, List, [], ◌∷◌, ◌++◌, length, Option, None, Some, inl, inr, ◌⊎◌, refl, sym, subst, ap, ◌∙◌, arith}
+use Rattle.std.proofs.Common.{◌≡◌, ℕ, zero, suc, ◌+◌, ◌<◌, ◌≤◌, List, [], ◌∷◌, ◌++◌, length, Option, None, Some, inl, inr, ◌⊎◌, refl, sym, subst, ap, ◌∙◌}
+use Rattle.std.proofs.Common.{arith}
 use Rattle.std.proofs.lemmas.Bool.{cases_lt}
 use Rattle.std.specs.Option.{option_map}
 use Rattle.std.proofs.lemmas.List.{length_push}
@@ -13,7 +14,7 @@ use Rattle.console.specs.Replies.{news_text, reply_text}
 use Rattle.console.specs.declared.line.Line.{Line}
 use Rattle.console.specs.declared.line.Line.TheVariants as line
 use Rattle.console.specs.declared.said.Said.TheVariants as said
-use Rattle.installer.specs.Views.{InstallerView, with_subscribers}
+use Rattle.installer.specs.Views.{with_subscribers}
 use Rattle.subscribers.specs.FaultText.{fault_text}
 use Rattle.subscribers.specs.News.{numbered}
 use Rattle.subscribers.specs.Views.{SubscriberView, changed_numbered, emptied, newcomer}
@@ -23,7 +24,7 @@ use Rattle.subscribers.specs.declared.wish.Wish.{Wish}
 use Rattle.td_top.specs.Growth.{GrowthView}
 use Rattle.td_top.specs.Replies.{SaysWhy, nobody_text}
 use Rattle.td_top.specs.Sessions.{AnswersLine, LaterSession}
-use Rattle.td_top.specs.Talk.{GetsAnswer, Talk, TakesMemory, full, heard, no_memory, nobody, told_news, watched}
+use Rattle.td_top.specs.Operator.{GetsAnswer, Talk, TakesMemory, full, heard, no_memory, nobody, told_news, watched}
 use Rattle.td_top.specs.declared.session.Session.{Session}
 use Rattle.td_top.proofs.GrowthLemmas.{growth_refl}
 use Rattle.td_top.proofs.LineLemmas.{session_refl, stays}

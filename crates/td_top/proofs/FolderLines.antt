@@ -17,7 +17,7 @@ use Rattle.td_top.specs.Folders.{InstallsFolder, installed, refused, starved, un
 use Rattle.td_top.specs.Growth.{by_folder, folders}
 use Rattle.td_top.specs.Replies.{SaysRefused, last_token}
 use Rattle.td_top.specs.Sessions.{AnswersLine, LaterSession}
-use Rattle.td_top.specs.Talk.{heard_by, with_joined}
+use Rattle.td_top.specs.Operator.{heard_by, with_joined}
 use Rattle.td_top.specs.declared.session.Session.{Session}
 use Rattle.td_top.proofs.Installing.{gives, gives_fault}
 use Rattle.td_top.proofs.LineLemmas.{is_done}

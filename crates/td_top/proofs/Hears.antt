@@ -1,5 +1,5 @@
 -- What the lines of a talk are to those who hear of installs.
-use Rattle.std.proofs.Common.{◌≡◌, ℕ, ◌==◌, List, [], ◌∷◌, ◌++◌, true, IfSome, inl, inr, Option, None, Some, refl, sym, ap, ◌∙◌, subst}
+use Rattle.std.proofs.Common.{◌≡◌, ℕ, List, [], ◌∷◌, ◌++◌, IfSome, inl, inr, Option, None, Some, refl, sym, ap, ◌∙◌, subst}
 use Rattle.std.proofs.lemmas.Bool.{eq-eqb}
 use Rattle.admission.specs.declared.rules.Chosen.{Chosen}
 use Rattle.td_base.specs.Upstreams.{UpstreamView}
@@ -21,7 +21,8 @@ use Rattle.td_top.specs.Folders as folder
 use Rattle.td_top.specs.Following.{SaysStated, SyncsMirror}
 use Rattle.td_top.specs.Following as follow
 use Rattle.td_top.specs.Growth.{GrowthView, Handles, by_folder, by_sync}
-use Rattle.td_top.specs.Talk.{GetsAnswer, IsUnknown, Talk, Talks, full, grown, handled, more, no_memory, nobody, none, quit, status, talk_begun, told_news, unknown, watched}
+use Rattle.td_top.specs.Operator.{GetsAnswer, IsUnknown, Talk, Talks, full, grown, handled, more, no_memory, nobody, none, quit, status, talk_begun, told_news}
+use Rattle.td_top.specs.Operator.{unknown, watched}
 
 -- ---- several events
 
@@ -129,7 +130,8 @@ talk_heard whole t u asked told (more v w x before said next answer talks goes g
       one.2 ∙ ap (λ a. after a one.0) first.2 ∙ sym (after_more (audience v) first.0 one.0),
     )
 
-pub tells_each_change : (whole opening : List ReleaseData) (growth : GrowthView) (asked : List Line) (told : List (List ℕ)) (last : Talk) → Talks whole (talk_begun opening growth) asked told last
+pub tells_each_change : (whole opening : List ReleaseData) (growth : GrowthView) (asked : List Line) (told : List (List ℕ)) (last : Talk)
+    → Talks whole (talk_begun opening growth) asked told last
     → TellsEachChange opening asked told last
 tells_each_change whole opening growth asked told last talks =
     let so = talk_heard whole (talk_begun opening growth) last asked told talks in

@@ -28,7 +28,7 @@ use Rattle.release_check.specs.Folder.{FolderGives}
 -- ---- rows
 
 -- one item more
-pub taken_more : (dirs : List (List ℕ)) (i : ℕ) (d : List ℕ) → i < length dirs → d ≡ get_or dirs i d → take (i + 1) dirs ≡ take i dirs ++ d ∷ []
+pub taken_more : {X : Type 0} (dirs : List X) (i : ℕ) (d : X) → i < length dirs → d ≡ get_or dirs i d → take (i + 1) dirs ≡ take i dirs ++ d ∷ []
 taken_more dirs i d less is = sym (take_next dirs i d d less is refl)
 
 -- an item between those before it and those after it

@@ -21,3 +21,7 @@ pub mod RunLemmas
 pub mod RuleLemmas
 pub mod LoadLemmas
 pub mod BesideLemmas
+pub mod CalendarLemmas
+pub mod CalendarRuns
+pub mod KeptCalendars
+pub mod PrimaryLines

@@ -19,7 +19,7 @@ use Rattle.zone_meaning.specs.ZoneHistories.{HasZoneHistory}
 use Rattle.td_top.specs.Growth.{GrowthView, Handles, LaterGrowth}
 use Rattle.td_top.specs.Replies.{last_token}
 use Rattle.td_top.specs.Sessions.{AnswersLine, LaterSession, StandsAt}
-use Rattle.td_top.specs.Talk.{GetsAnswer, IsUnknown, Talk, TakesMemory, grown, handled, heard_by, least_after, no_memory, quit, status, unknown, with_joined}
+use Rattle.td_top.specs.Operator.{GetsAnswer, IsUnknown, Talk, TakesMemory, grown, handled, heard_by, least_after, no_memory, quit, status, unknown, with_joined}
 use Rattle.td_top.specs.declared.session.Session.{Session}
 use Rattle.td_top.proofs.GrowthLemmas.{growth_refl}
 

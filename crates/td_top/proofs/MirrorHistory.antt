@@ -29,8 +29,8 @@ use Rattle.sync_world.specs.Worlds.{SyncWorld, WorldStep, world_begun}
 use Rattle.td_top.specs.Following.{SaysStated, StatesAfter, SyncsAs, SyncsMirror, faulted, faulted_starved, installed, refused, settled, starved, unchanged}
 use Rattle.td_top.specs.Growth.{GrowthView, Handles, by_folder, by_sync, following}
 use Rattle.td_top.specs.MirrorHistory.{FollowsPrimary, IsOfPrimary, IsStated, Publish, all_exchanges, joined, kept, none}
-use Rattle.td_top.specs.Talk.{GetsAnswer, Talk, Talks, full, handled, no_memory, nobody, quit, status, talk_begun, told_news, unknown, watched, with_joined}
-use Rattle.td_top.specs.Talk as talk
+use Rattle.td_top.specs.Operator.{GetsAnswer, Talk, Talks, full, handled, no_memory, nobody, quit, status, talk_begun, told_news, unknown, watched, with_joined}
+use Rattle.td_top.specs.Operator as talk
 use Rattle.zone_meaning.specs.Sound.{IsSound}
 
 -- what is known of a mirror and its primary

@@ -181,12 +181,20 @@ pub reaches_server : {U : Type 0} (seen : U → UpstreamView) (before now : Netw
 reaches_server seen before now address server h = record { new = h.fits; told = reached_told seen before.content now.content address server h.told }
 
 -- a call that failed gave nothing
-not_told : {U : Type 0} (seen : U → UpstreamView) (before now : Option NetworkContent) (address : List ℕ) → ReachTold seen before now address made.Failed
+pub not_told : {U : Type 0} (seen : U → UpstreamView) (before now : Option NetworkContent) (address : List ℕ) → ReachTold seen before now address made.Failed
     → CalledTold before now
 not_told seen (Some before) (Some now) address h = h
 not_told seen (Some before) None address h = absurd h
 not_told seen None (Some now) address h = absurd h
 not_told seen None None address h = tt
+
+-- nor did one for which there was no memory
+pub not_called : {U : Type 0} (seen : U → UpstreamView) (before now : Option NetworkContent) (address : List ℕ)
+    → ReachTold seen before now address made.NoMemory → CalledTold before now
+not_called seen (Some before) (Some now) address h = h
+not_called seen (Some before) None address h = absurd h
+not_called seen None (Some now) address h = absurd h
+not_called seen None None address h = tt
 
 -- ---- a whole run
 

@@ -29,7 +29,7 @@ use Rattle.td_base.proofs.lemmas.Beginnings.{prefix_self}
 use Rattle.td_top.specs.ConsoleBeside.{BesideView, Halted, Ran}
 use Rattle.td_top.specs.Running.Server.{CalledTold, ConnsTold, IsDone, OpensDoors, OpenedTold}
 use Rattle.td_top.specs.Running.Server.{ServesDoor, ServesDoors, no_door, one_more}
-use Rattle.td_top.specs.Talk.{Talks, heard, talk_begun}
+use Rattle.td_top.specs.Operator.{Talks, heard, talk_begun}
 use Rattle.td_top.specs.Talking.{AnswersOperator, ComesTo, LaterScene, Scene, Talked}
 use Rattle.td_top.specs.Works.{AreWorks, HasSeen}
 use Rattle.td_top.specs.declared.talking.TalkEnd.{TalkEnd}
@@ -39,7 +39,8 @@ use Rattle.td_top.proofs.Hears.{tells_each_change}
 -- ---- the talk
 
 -- over the history that was published, of which the console's desk has seen no more
-pub operated : (before now : Scene) (ended : TalkEnd) → before.session.installer.subscribers ≡ [] → IsPrefix now.session.desk.seen now.session.installer.list → Talked before now ended
+pub operated : (before now : Scene) (ended : TalkEnd) → before.session.installer.subscribers ≡ [] → IsPrefix now.session.desk.seen now.session.installer.list
+    → Talked before now ended
     → AnswersOperator (history_of before.session.installer.list) (history_of now.session.installer.list) before.console now.console ended
 operated before now ended nobody seen t =
     let whole : List ReleaseData = history_of now.session.installer.list in

@@ -26,7 +26,7 @@ use Rattle.td_top.specs.Growth.{GrowthView}
 use Rattle.td_top.specs.Replies.{last_token}
 use Rattle.td_top.specs.Sessions.{AnswersLine, BeginsWhole, LaterSession}
 use Rattle.td_top.specs.Site.{console}
-use Rattle.td_top.specs.Talk.{KeepsTalking, more, none}
+use Rattle.td_top.specs.Operator.{KeepsTalking, more, none}
 use Rattle.td_top.specs.Talking.{ComesTo, IsAt, IsNeeded, LaterScene, Scene, TalksOver, at_ready, at_reply, begun_at, scene, talk_text}
 use Rattle.td_top.specs.TalkingSteps.{FeedsHeld, FeedsTalk, HasNone, IsNextLine, Reaches, SaysBye}
 use Rattle.td_top.specs.TalkingSteps.{SaysText}

@@ -10,7 +10,7 @@ use Rattle.subscribers.specs.Hearing.{Audience, Event, after, after_all, cleared
 use Rattle.subscribers.specs.News.{news, numbered}
 use Rattle.subscribers.specs.declared.wish.Wish.{Wish}
 use Rattle.td_top.specs.Replies.{last_token}
-use Rattle.td_top.specs.Talk.{Talk}
+use Rattle.td_top.specs.Operator.{Talk}
 
 -- a history of which nobody hears
 abbrev pub unheard : List ReleaseData → Audience

@@ -1,6 +1,7 @@
 -- The words of the command line, what they ask for, and the commands that the code makes of them.
 use Rattle.std.specs.Prelude.{ℕ, ◌<◌, ◌≤◌, List, [], ◌∷◌, length, codes, ⊤, Bool, ℤ, pos}
 use Rattle.std.specs.Prelude.{true, false, not, ◌&&◌, ◌||◌, ◌==◌, nat_le, if◌then◌else◌}
+use Rattle.std.specs.Prelude.{int_le, int_lt, ◌≤ℤ◌, ◌<ℤ◌}
 use Rattle.std.specs.Prelude.{Option, None, Some, option_and_then}
 use Rattle.std.specs.Option.{option_map}
 use Rattle.std.specs.List.{list_all, list_any}
@@ -11,8 +12,13 @@ use Rattle.admission.specs.declared.rules.RuleKind.TheVariants as kind
 use Rattle.td_base.specs.Names.{IsPlain, is_path_word}
 use Rattle.console.specs.Words.{meant_moment, number_in}
 use Rattle.td_civil.specs.Bounds.{HasMeaning}
+use Rattle.td_civil.specs.Reading.{moment_in}
+use Rattle.td_civil.specs.declared.moment_type.TheConstants.{LO, HI}
 use Rattle.td_top.specs.declared.command.Command.{Command}
 use Rattle.td_top.specs.declared.command.Command.TheVariants as command
+use Rattle.td_top.specs.declared.command.TheConstants.{ADDRESS_LIMIT, MOST_FOLDERS}
+use Rattle.td_top.specs.declared.command.TheConstants.{MOST_RELEASES, MOST_WORKERS}
+use Rattle.td_top.specs.declared.command.rules.TheConstants.{MOST_CHANGED}
 
 -- what words ask for
 pub data Asked : Type 0 where
@@ -22,19 +28,16 @@ pub data Asked : Type 0 where
   serve : List ℕ → ℕ → List Chosen → List (List ℕ) → Asked
   mirror : List ℕ → ℕ → List ℕ → Asked
   load : ℕ → Asked
+  calmirror : List ℕ → ℤ → ℤ → Asked
 
 -- what is printed for words that are no command
 unfoldable pub usage_line : List ℕ
-usage_line = codes "usage: tzdistd answer|serve|mirror|check|at|load\n"
-
--- the most folders that a command takes
-abbrev pub most_folders : ℕ
-most_folders = 64
+usage_line = codes "usage: tzdistd answer|serve|mirror|check|at|load|calmirror\n"
 
 -- at least one word and no more than there may be folders, each of which may name one
 unfoldable pub are_folders : List (List ℕ) → Bool
 are_folders words =
-    nat_le 1 (length words) && nat_le (length words) most_folders && list_all is_path_word words
+    nat_le 1 (length words) && nat_le (length words) MOST_FOLDERS && list_all is_path_word words
 
 -- the command over folders, where the words name some
 abbrev pub over_folders : (List (List ℕ) → Asked) → List (List ℕ) → Option Asked
@@ -52,25 +55,13 @@ is_address_byte b =
     (nat_le 65 b && nat_le b 90) || (nat_le 97 b && nat_le b 122) || (nat_le 48 b && nat_le b 57)
     || (b == 46) || (b == 58) || (b == 45) || (b == 91) || (b == 93)
 
--- 1 to 255 such bytes that do not begin with a dash
+-- at least one such byte, as many as an address may have at most, and no dash at the front
 abbrev pub is_address : List ℕ → Bool
 is_address [] = false
 is_address (b ∷ bs) =
-    not (b == 45) && nat_le (length (b ∷ bs)) 255 && list_all is_address_byte (b ∷ bs)
-
--- the most workers
-abbrev pub most_workers : ℕ
-most_workers = 64
-
--- the most releases of a load
-abbrev pub most_releases : ℕ
-most_releases = 1_000
+    not (b == 45) && nat_le (length (b ∷ bs)) ADDRESS_LIMIT && list_all is_address_byte (b ∷ bs)
 
 -- ---- the rules for releases
-
--- the most zones that a rule may let a release change
-abbrev pub most_changed : ℕ
-most_changed = 4_096
 
 -- at most so many zones may change
 abbrev pub max_changed : ℕ → Chosen
@@ -84,7 +75,7 @@ no_past_change m = record { kind = kind.NoPastChange; number = m }
 abbrev pub rule_of : List ℕ → List ℕ → Option Chosen
 rule_of name value =
     if bytes_eq name (codes "--max-changed")
-    then option_map max_changed (number_in 0 most_changed value)
+    then option_map max_changed (number_in 0 MOST_CHANGED value)
     else if bytes_eq name (codes "--no-past-change")
     then option_map no_past_change (meant_moment value) else None
 
@@ -134,7 +125,7 @@ serve_of (address ∷ workers ∷ words) =
     if is_address address
     then option_and_then
     (λ n. option_and_then (over_ruled (serve address n)) (if_once (rules_then words)))
-    (number_in 1 most_workers workers)
+    (number_in 1 MOST_WORKERS workers)
     else None
 serve_of _ = None
 
@@ -142,14 +133,33 @@ serve_of _ = None
 abbrev pub mirror_of : List (List ℕ) → Option Asked
 mirror_of (address ∷ workers ∷ upstream ∷ []) =
     if is_address address && is_address upstream
-    then option_map (λ n. mirror address n upstream) (number_in 1 most_workers workers)
+    then option_map (λ n. mirror address n upstream) (number_in 1 MOST_WORKERS workers)
     else None
 mirror_of _ = None
 
 -- `load NUMBER`
 abbrev pub load_of : List (List ℕ) → Option Asked
-load_of (number ∷ []) = option_map load (number_in 1 most_releases number)
+load_of (number ∷ []) = option_map load (number_in 1 MOST_RELEASES number)
 load_of _ = None
+
+-- a moment, if it comes after another, and not after the last one that has a text here
+abbrev pub if_after : ℤ → ℤ → Option ℤ
+if_after start m = if int_lt start m && int_le m HI then Some m else None
+
+-- the moment that a word spells, if it comes after another; it may be 9999-01-01T00:00:00Z itself
+abbrev pub end_after : ℤ → List ℕ → Option ℤ
+end_after start word = option_and_then (if_after start) (moment_in word)
+
+-- the range that two words spell
+abbrev pub over_range : List ℕ → List ℕ → ℤ → Option Asked
+over_range upstream end start = option_map (calmirror upstream start) (end_after start end)
+
+-- `calmirror UPSTREAM START END`
+abbrev pub calmirror_of : List (List ℕ) → Option Asked
+calmirror_of (upstream ∷ start ∷ end ∷ []) =
+    if is_address upstream
+    then option_and_then (over_range upstream end) (meant_moment start) else None
+calmirror_of _ = None
 
 -- the command that the words spell: its name first, and then what stands after it
 abbrev pub command_of : List (List ℕ) → Option Asked
@@ -160,7 +170,8 @@ command_of (name ∷ words) =
     else if bytes_eq name (codes "at") then at_of words
     else if bytes_eq name (codes "serve") then serve_of words
     else if bytes_eq name (codes "mirror") then mirror_of words
-    else if bytes_eq name (codes "load") then load_of words else None
+    else if bytes_eq name (codes "load") then load_of words
+    else if bytes_eq name (codes "calmirror") then calmirror_of words else None
 
 -- ---- the code's commands
 
@@ -174,15 +185,22 @@ plain_command (command.Serve address workers rules folders) =
 plain_command (command.Mirror address workers upstream) =
     mirror address.now workers upstream.now
 plain_command (command.Load number) = load number
+plain_command (command.MirrorCalendars upstream start end) =
+    calmirror upstream.now start.seconds end.seconds
 
--- a command names a folder to serve, its moment has a meaning, its workers are few, the server that
--- it follows has a plain address, and a load has some releases and not too many
+-- a range that has a meaning
+abbrev pub IsRange : ℤ → ℤ → Type 0
+IsRange start end = (LO ≤ℤ start) × (start <ℤ end) × (end ≤ℤ HI)
+
+-- a command names a folder to serve, its moment and its range have a meaning, its workers are few,
+-- the server that it follows has a plain address, and a load has some releases and not too many
 abbrev pub IsMeantCommand : Command → Type 0
 IsMeantCommand (command.Answer folders) = 0 < length folders.now
 IsMeantCommand (command.Check folders) = ⊤
 IsMeantCommand (command.At file moment) = HasMeaning moment.seconds
 IsMeantCommand (command.Serve address workers rules folders) =
-    (workers ≤ most_workers) × (0 < length folders.now)
+    (workers ≤ MOST_WORKERS) × (0 < length folders.now)
 IsMeantCommand (command.Mirror address workers upstream) =
-    (workers ≤ most_workers) × IsPlain upstream.now
-IsMeantCommand (command.Load number) = (1 ≤ number) × (number ≤ most_releases)
+    (workers ≤ MOST_WORKERS) × IsPlain upstream.now
+IsMeantCommand (command.Load number) = (1 ≤ number) × (number ≤ MOST_RELEASES)
+IsMeantCommand (command.MirrorCalendars upstream start end) = IsRange start.seconds end.seconds

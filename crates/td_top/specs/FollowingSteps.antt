@@ -12,7 +12,7 @@ use Rattle.td_top.specs.Folders.{IsRefusal}
 use Rattle.td_top.specs.Following.{SaysStated, StatesAfter}
 use Rattle.td_top.specs.Growth.{GrowthView, following}
 use Rattle.td_top.specs.Sessions.{LaterSession}
-use Rattle.td_top.specs.Talk.{heard_by, with_joined}
+use Rattle.td_top.specs.Operator.{heard_by, with_joined}
 use Rattle.td_top.specs.declared.following.Follow.{Follow}
 use Rattle.td_top.specs.declared.session.Session.{Session}
 

@@ -8,7 +8,7 @@ pub mod Replies
 pub mod Following
 pub mod Growth
 pub mod Site
-pub mod Talk
+pub mod Operator
 pub mod Audiences
 pub mod Sessions
 pub mod Talking

@@ -1,5 +1,6 @@
 -- How a run ends, command by command, over all that is outside it.
 pub mod Answering
+pub mod CalendarMirroring
 pub mod Checking
 pub mod Loading
 pub mod Mirroring
@@ -9,10 +10,12 @@ use Rattle.std.specs.Prelude.{◌≡◌, ℕ, ℤ, List, [], Option, None, Some}
 use Rattle.admission.specs.declared.rules.Chosen.{Chosen}
 use Rattle.td_base.specs.DoorViews.{DoorView}
 use Rattle.td_base.specs.Upstreams.{UpstreamView}
-use Rattle.td_top.specs.Command.{Asked, answer, at, check, load, mirror, serve, usage_line}
+use Rattle.td_top.specs.Command.{Asked, answer, at, calmirror, check, load, mirror, serve}
+use Rattle.td_top.specs.Command.{usage_line}
 use Rattle.td_top.specs.Outside.{IsAlone, LaterWorld, World}
 use Rattle.td_top.specs.Printing.{Printed}
 use Rattle.td_top.specs.Running.Answering.{Answers}
+use Rattle.td_top.specs.Running.CalendarMirroring.{MirrorsCalendars}
 use Rattle.td_top.specs.Running.Checking.{Checks}
 use Rattle.td_top.specs.Running.Loading.{LoadEnds}
 use Rattle.td_top.specs.Running.Mirroring.{Mirrors}
@@ -65,6 +68,11 @@ pub data RunEnds (asked : Option Asked) (before after : World) : List DoorView
       → LoadEnds n before.outside after.outside end
       → after.outside.store ≡ before.outside.store
       → IsAlone before after → RunEnds asked before after [] None end
+  mirrored_calendars : (upstream : List ℕ) (start last : ℤ) (up : Option UpstreamView)
+      (end : Status) → asked ≡ Some (calmirror upstream start last)
+      → MirrorsCalendars upstream start last before after up end
+      → after.outside.store ≡ before.outside.store → after.spawner ≡ before.spawner
+      → RunEnds asked before after [] up end
 
 -- a run ended, and nothing else was done to the outside than calls do
 pub record RunEndsLater (asked : Option Asked) (before after : World) (doors : List DoorView)

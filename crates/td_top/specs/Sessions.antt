@@ -5,7 +5,7 @@ use Rattle.catalogue.specs.Releases.{ReleaseData}
 use Rattle.console.specs.declared.line.Line.{Line}
 use Rattle.catalogue.specs.Holdings.{history_of}
 use Rattle.td_top.specs.Growth.{GrowthView, LaterGrowth}
-use Rattle.td_top.specs.Talk.{GetsAnswer, Talk}
+use Rattle.td_top.specs.Operator.{GetsAnswer, Talk}
 use Rattle.td_top.specs.declared.session.Session.{Session}
 
 -- what was published is published, and what was seen was seen

@@ -18,7 +18,7 @@ use Rattle.td_top.specs.Audiences.{TellsEachChange}
 use Rattle.td_top.specs.Replies.{last_token}
 use Rattle.td_top.specs.Sessions.{BeginsWhole, LaterSession, StandsAt}
 use Rattle.td_top.specs.Site.{ConsoleView, LaterConsole}
-use Rattle.td_top.specs.Talk.{KeepsTalking, Talk, Talks, heard, talk_begun}
+use Rattle.td_top.specs.Operator.{KeepsTalking, Talk, Talks, heard, talk_begun}
 use Rattle.td_top.specs.declared.session.Session.{Session}
 use Rattle.td_top.specs.declared.talking.TalkEnd.{TalkEnd}
 use Rattle.td_top.specs.declared.talking.TalkEnd.TheVariants as end

@@ -1,9 +1,10 @@
-ghost use Rattle.std.specs.Prelude.{◌≡◌, ◌<◌, [], ◌∷◌, length, IfSome, IsTrue};
+ghost use Rattle.std.specs.Prelude.{◌≡◌, ◌<◌, ◌<ℤ◌, ◌≤ℤ◌, [], ◌∷◌, length, IfSome, IsTrue};
 ghost use Rattle.std.specs.List.{list_all};
 ghost use Rattle.std.specs.Option.{option_map};
 ghost use Rattle.td_base.specs.Names.{is_path_word};
 ghost use Rattle.td_top.specs.Command.{IsMeantCommand, answer, are_folders, at_of, check};
-ghost use Rattle.td_top.specs.Command.{command_of, is_address, is_address_byte, load_of};
+ghost use Rattle.td_top.specs.Command.{calmirror_of, command_of, end_after, if_after};
+ghost use Rattle.td_top.specs.Command.{is_address, is_address_byte, load_of};
 ghost use Rattle.td_top.specs.Command.{mirror_of, over_folders};
 ghost use Rattle.td_top.specs.Command.{plain_command, serve_of};
 
@@ -12,19 +13,19 @@ pub(crate) mod rules;
 use crate::command::rules::{Choice, read_rules};
 use console::{meant_moment, read_number};
 use td_base::{Bytes, is_path_word};
-use td_civil::Moment;
+use td_civil::{HI, Moment, moment_of};
 
 /// The most folders of a command.
-const MOST_FOLDERS: usize = 64;
+pub(crate) const MOST_FOLDERS: usize = 64;
 
 /// The most bytes of a network address.
-const ADDRESS_LIMIT: usize = 255;
+pub(crate) const ADDRESS_LIMIT: usize = 255;
 
 /// The most workers.
-const MOST_WORKERS: u64 = 64;
+pub(crate) const MOST_WORKERS: u64 = 64;
 
 /// The most releases of a load.
-const MOST_RELEASES: u64 = 1_000;
+pub(crate) const MOST_RELEASES: u64 = 1_000;
 
 /// What the words ask for.
 #[derive(Drop)]
@@ -60,6 +61,12 @@ pub enum Command<'a> {
     Load {
         number: u32,
     },
+    /// Get the calendars of the server at an address, and print what they tell of a range.
+    MirrorCalendars {
+        upstream: &'a [u8],
+        start: Moment,
+        end: Moment,
+    },
 }
 
 /// The command that the words spell, if they are of the grammar.
@@ -90,6 +97,8 @@ fn read_named<'a>(name: &[u8], words: &'a [Bytes]) -> Option<Command<'a>>
         read_mirror(words)
     } else if name == b"load".as_slice() {
         read_load(words)
+    } else if name == b"calmirror".as_slice() {
+        read_calmirror(words)
     } else {
         None
     }
@@ -261,5 +270,62 @@ fn read_load(words: &[Bytes]) -> Option<Command<'_>>
             Some(Command::Load { number })
         }
         _ => None,
+    }
+}
+
+/// `calmirror UPSTREAM START END`
+fn read_calmirror(words: &[Bytes]) -> Option<Command<'_>>
+    ensures spelled { option_map plain_command result ≡ calmirror_of words.now }
+    ensures meant { IfSome result IsMeantCommand }
+{
+    match words {
+        [upstream, start, end] => {
+            calendars_in(upstream.as_slice(), start.as_slice(), end.as_slice())
+        }
+        _ => None,
+    }
+}
+
+/// The command over the calendars of a server, if the words may name its address and spell a range.
+fn calendars_in<'a>(upstream: &'a [u8], start: &[u8], end: &[u8]) -> Option<Command<'a>>
+    ensures spelled { option_map plain_command result
+        ≡ calmirror_of (upstream.now ∷ start.now ∷ end.now ∷ []) }
+    ensures meant { IfSome result IsMeantCommand }
+{
+    if !is_address(upstream) {
+        return None;
+    }
+    let start = meant_moment(start)?;
+    let end = end_after(start, end)?;
+    Some(Command::MirrorCalendars {
+        upstream,
+        start,
+        end,
+    })
+}
+
+/// The moment that a word spells, if it comes after the start of a range. It may be the end of the
+/// moments that have a meaning.
+fn end_after(start: Moment, word: &[u8]) -> Option<Moment>
+    ensures value { option_map (λ m. m.seconds) result ≡ end_after start.seconds word.now }
+    ensures later { IfSome result (λ m. start.seconds <ℤ m.seconds) }
+    ensures within { IfSome result (λ m. m.seconds ≤ℤ HI) }
+{
+    match moment_of(word) {
+        Ok(moment) => if_after(start, moment),
+        Err(_) => None,
+    }
+}
+
+/// The moment, if it comes after the start and within the bounds.
+fn if_after(start: Moment, moment: Moment) -> Option<Moment>
+    ensures value { option_map (λ m. m.seconds) result ≡ if_after start.seconds moment.seconds }
+    ensures later { IfSome result (λ m. start.seconds <ℤ m.seconds) }
+    ensures within { IfSome result (λ m. m.seconds ≤ℤ HI) }
+{
+    if start.seconds < moment.seconds && moment.seconds <= HI {
+        Some(moment)
+    } else {
+        None
     }
 }

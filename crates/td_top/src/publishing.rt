@@ -23,8 +23,8 @@ impl Session {
         ensures found { Installs (S.seen store.old) (S.seen store.new) dir.now
             asked.now.rules.chosen (history_of self.old.installer.list)
             (λ u. history_of self.new.installer.list) result }
-        ensures grown { OnOk result (GrowsBy asked.now.rules.chosen (history_of self.old.installer.list)
-            (history_of self.new.installer.list)) }
+        ensures grown { OnOk result (GrowsBy asked.now.rules.chosen
+            (history_of self.old.installer.list) (history_of self.new.installer.list)) }
         ensures refused { OnErr result (self.new.installer.list ≡ self.old.installer.list) }
         ensures heard { OnOk result (self.new.installer.subscribers
             ≡ all_hear (history_of self.new.installer.list) self.old.installer.subscribers) }

@@ -12,6 +12,7 @@ ghost use Rattle.td_top.specs.declared.status.Status.{Status};
 
 // The commands.
 pub(crate) mod answering;
+pub(crate) mod calendar_mirroring;
 pub(crate) mod checking;
 pub(crate) mod loading;
 pub(crate) mod mirroring;
@@ -24,6 +25,7 @@ use crate::opening::Plan;
 use crate::outcome::{Ending, Outcome};
 use crate::printing::print;
 use crate::running::answering::{AnswerPlan, answer};
+use crate::running::calendar_mirroring::{CalendarPlan, mirror_calendars};
 use crate::running::checking::check_folders;
 use crate::running::loading::{LoadPlan, load};
 use crate::running::mirroring::{MirrorPlan, mirror_server};
@@ -39,7 +41,7 @@ use subscribers::Want;
 use td_base::{Bytes, Door, Network, Role, Sink, Source, Spawner, Store};
 
 /// The line that is printed for words that are no command.
-const USAGE: &[u8] = b"usage: tzdistd answer|serve|mirror|check|at|load\n";
+const USAGE: &[u8] = b"usage: tzdistd answer|serve|mirror|check|at|load|calmirror\n";
 
 /// Does what the words of a command line ask for, over a store of files, an input and an output,
 /// and, to serve connections, over a network and a spawner of workers. It gives the status with
@@ -54,7 +56,8 @@ const USAGE: &[u8] = b"usage: tzdistd answer|serve|mirror|check|at|load\n";
 /// syncs first and whenever the operator asks for that, and without rules. `check DIR..` checks
 /// folders as one history, with a line for each. `at FILE MOMENT` prints the state of a zone file
 /// at a moment. `load NUMBER` makes so many releases, serves requests after each in memory, and
-/// prints what was counted.
+/// prints what was counted. `calmirror UPSTREAM START END` gets the calendars of another server,
+/// and prints what each tells of a range.
 ///
 /// The operator of `serve` and `mirror` may ask to hear which zones later releases change, by
 /// wishes, and is told when it asks for the news.
@@ -190,6 +193,20 @@ where
                 wants: tests.wants,
             };
             Ending::closed(alloc, load(rt, alloc, &plan, site.output))
+        }
+        Some(
+            Command::MirrorCalendars {
+                upstream,
+                start,
+                end,
+            },
+        ) => {
+            let plan = CalendarPlan {
+                upstream,
+                start,
+                end,
+            };
+            mirror_calendars(alloc, &plan, site.net, site.output)
         }
         None => Ending::closed(alloc, usage(site.output)),
     }

@@ -2,7 +2,7 @@ ghost use Rattle.std.specs.Prelude.{◌≡◌, ◌≤◌, length};
 ghost use Rattle.console.specs.Steps.{most_held};
 ghost use Rattle.td_base.specs.Views.{LaterSource};
 ghost use Rattle.td_top.specs.ConsoleBeside.{scene_of, steady};
-ghost use Rattle.td_top.specs.Talk.{is_quit};
+ghost use Rattle.td_top.specs.Operator.{is_quit};
 ghost use Rattle.td_top.specs.Talking.{ComesTo};
 ghost use Rattle.td_top.specs.TalkingSteps.{FeedsTalk, SaysBye, SaysText, TakesLine, TalksOn};
 ghost use Rattle.td_top.specs.TalkingSteps.{Turns, most_waiting};

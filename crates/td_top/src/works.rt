@@ -74,14 +74,7 @@ pub fn learn_all<D: Drop + Door>(
         } = done;
         desk.learn(ended.receipt()?);
         doors.push(door)?;
-        worn = is_either(worn, one);
+        worn |= one;
     }
     Ok((doors, worn))
-}
-
-/// Whether one of the two holds.
-fn is_either(one: bool, other: bool) -> bool
-    ensures { result ≡ (one || other) }
-{
-    one || other
 }

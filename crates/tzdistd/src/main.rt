@@ -111,12 +111,7 @@ fn out_of_memory(rt: &HostRuntime) -> ExitCode {
 
 /// Why one of the doors failed last, if one did.
 fn door_failure(doors: &[RealDoor<HostRuntime>]) -> Option<ErrorKind> {
-    for door in doors {
-        if let Some(kind) = door.failure() {
-            return Some(kind);
-        }
-    }
-    None
+    doors.iter().find_map(RealDoor::failure)
 }
 
 /// Why an exchange with the server that was followed failed last, if one did.

@@ -17,7 +17,7 @@ use td_base::{Bytes, NoMemory};
 const KINDS: usize = 2;
 
 /// The most zones that a rule may let a release change.
-const MOST_CHANGED: u64 = 4_096;
+pub(crate) const MOST_CHANGED: u64 = 4_096;
 
 /// The rules that a command names: at most one of each kind, in the order in which they are asked.
 /// They stand in fixed room, so that words are read without memory. Contracts see the list of them.

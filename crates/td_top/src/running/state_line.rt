@@ -14,10 +14,11 @@ use itoa::Buffer;
 use std::alloc::Global;
 use td_base::{Bytes, FileRead, NoMemory, Sink, Store};
 use td_civil::{Local, Moment};
+use tzif_reader::MOST_BYTES;
 use zone_meaning::{ZoneFault, at, zone_of};
 
 /// One byte more than a zone file may have, so that a longer one is seen to be longer.
-const ZONE_ROOM: u64 = 65_537;
+const ZONE_ROOM: u64 = MOST_BYTES as u64 + 1;
 
 /// Prints the state of a zone file at a moment, or why there is none.
 pub fn state_at<S: Store, K: Sink>(
@@ -80,7 +81,7 @@ fn state_line(alloc: Global, state: &Local) -> Result<Bytes, NoMemory>
 }
 
 /// The word for daylight saving or standard time, between blanks.
-fn kind_word(dst: bool) -> &'static [u8]
+pub(crate) fn kind_word(dst: bool) -> &'static [u8]
     ensures { result.now ≡ (if dst then codes " dst " else codes " std ") }
 {
     if dst { b" dst " } else { b" std " }

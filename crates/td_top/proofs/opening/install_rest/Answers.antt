@@ -19,7 +19,8 @@ loop-folder-preserved g c =
     record {
       later = store_trans _ _ _ c.loop-folder.invariant.later found.later;
       session = session_trans _ _ _ c.loop-folder.invariant.session c.install.ensures.later;
-      nobody = λ none. c.in_ok-install.ensures.heard ∙ ap (λ s. all_hear (history_of c.install.new.self.installer.list) s) (c.loop-folder.invariant.nobody none);
+      nobody = λ none. c.in_ok-install.ensures.heard
+          ∙ ap (λ s. all_hear (history_of c.install.new.self.installer.list) s) (c.loop-folder.invariant.nobody none);
       extends = rest_more _ _ _ _ c.args.folders.now c.loop-folder.folder-index c.folder-item.result (history_of c.args.session.now.installer.list)
           (history_of c.loop-folder.session.installer.list) (history_of c.install.new.self.installer.list)
           (λ u. history_of c.install.new.self.installer.list) c.in_ok-install.field-0 c.loop-folder-test.true c.folder-item.is

@@ -6,7 +6,8 @@ use Rattle.td_top.proofs.opening.open_all.Goals as goal
 pub returns-in_err-installer-clause-all : goal.returns-in_err-installer-clause-all
 returns-in_err-installer-clause-all g c =
     let row = headed c.args.folders.now c.index-folders-0.result c.requires.folders c.index-folders-0.is in
-    let refused = all_refused _ _ c.args.asked.now.rules.chosen c.index-folders-0.result (drop 1 c.args.folders.now) c.args.folders.now _ c.in_err-installer.field-0.0 row
+    let refused = all_refused _ _ c.args.asked.now.rules.chosen c.index-folders-0.result (drop 1 c.args.folders.now) c.args.folders.now _
+    c.in_err-installer.field-0.0 row
     (rw c.as_slice-first.ensures at c.in_err-installer.ensures.found) in
     search (refused, rules)
 

@@ -71,3 +71,12 @@ mirror_server-requires-clause-plain g c =
 pub returns-in-Some-Mirror-clause-ends : goal.returns-in-Some-Mirror-clause-ends
 returns-in-Some-Mirror-clause-ends g c =
     runs_as _ _ _ _ _ _ _ (rw c.in-Some-Mirror.field-0-is at c.in-Some-Mirror.ensures.spelled) (c.mirror_server.ensures.ends (g.S.Store.seen c.args.store.now))
+
+pub returns-in-Some-MirrorCalendars-clause-ends : goal.returns-in-Some-MirrorCalendars-clause-ends
+returns-in-Some-MirrorCalendars-clause-ends g c =
+    runs_as _ _ _ _ _ _ _ (rw c.in-Some-MirrorCalendars.field-0-is at c.in-Some-MirrorCalendars.ensures.spelled)
+    (c.mirror_calendars.ensures (g.S.Store.seen c.args.store.now) (g.C.Source.seen c.args.site.now.input.now) (g.W.Spawner.faults c.args.site.now.spawner.now))
+
+pub mirror_calendars-requires : goal.mirror_calendars-requires
+mirror_calendars-requires g c =
+    let meant = rw c.in-Some-MirrorCalendars.field-0-is at c.in-Some-MirrorCalendars.ensures.meant in search (meant, rules)

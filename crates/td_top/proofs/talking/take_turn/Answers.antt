@@ -1,4 +1,4 @@
-use Rattle.std.proofs.Common.{refl, sym, ◌∙◌}
+use Rattle.std.proofs.Common.{sym, ◌∙◌}
 use Rattle.td_top.proofs.LineLemmas.{is_quit, said_as, starved}
 use Rattle.td_top.proofs.TalkLemmas.{line_turn, quit_turn, read_turn}
 use Rattle.td_top.proofs.TurnLemmas.{is_last, keeps_talking, takes_memory}

@@ -1,4 +1,4 @@
-use Rattle.std.proofs.Common.{rules, ◌≡◌, [], ap, subst, ◌∙◌}
+use Rattle.std.proofs.Common.{rules, ◌≡◌, [], refl, ap, subst, ◌∙◌}
 use Rattle.std.proofs.lemmas.List.{nil_from_length}
 use Rattle.std.proofs.lemmas.List.Elements.{All-push, All-rest}
 use mathlib.Core.List.{IsPrefix}
@@ -16,7 +16,7 @@ loop-done-preserved g c =
           before.invariant.pairs;
       kept = c.receipt.ensures.kept ∙ before.invariant.kept;
       doors = doors_more before.yielded c.in-Some.done before.doors.items c.push.new.self.items before.invariant.doors c.in_ok-push.ensures.items;
-      worn = any_more (λ d. d.worn) before.yielded c.in-Some.done before.worn c.is_either-worn.result before.invariant.worn c.is_either-worn.ensures;
+      worn = any_more (λ d. d.worn) before.yielded c.in-Some.done before.worn _ before.invariant.worn refl;
       seen = All-push (λ d. IsPrefix d.desk.seen c.args.ended.now.list) before.yielded c.in-Some.done before.invariant.seen
           (subst (λ l. IsPrefix c.in-Some.done.desk.seen l) ((c.learn.ensures.whole told.2).0 ∙ (told.0 ∙ ap (λ e. e.list) before.invariant.kept))
           c.learn.ensures.seen);

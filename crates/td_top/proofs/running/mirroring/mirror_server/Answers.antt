@@ -12,12 +12,15 @@ returns-in-Given-clause-ends g c = λ store. rw (c.after.ensures.doors, c.after.
 
 pub returns-in-Failed-clause-ends : goal.returns-in-Failed-clause-ends
 returns-in-Failed-clause-ends g c = λ store.
-    ran_unreached c.args.plan.now.address.now c.args.plan.now.workers c.args.plan.now.upstream.now store _ _ _ _ g.N.Door.Door.seen g.N.Up.Upstream.seen _ _ _ _ _
+    ran_unreached c.args.plan.now.address.now c.args.plan.now.workers c.args.plan.now.upstream.now store _ _ _ _ g.N.Door.Door.seen g.N.Up.Upstream.seen _ _ _
+    _ _
     c.closed.ensures.status c.closed.ensures.doors c.closed.ensures.up c.in-Failed.ensures.reaches.later
-    (unreached_ends c.args.plan.now.address.now c.args.plan.now.workers c.args.plan.now.upstream.now store _ _ _ _ g.N.Up.Upstream.seen _ c.in-Failed.ensures.reaches)
+    (unreached_ends c.args.plan.now.address.now c.args.plan.now.workers c.args.plan.now.upstream.now store _ _ _ _ g.N.Up.Upstream.seen _
+    c.in-Failed.ensures.reaches)
 
 pub returns-in-NoMemory-clause-ends : goal.returns-in-NoMemory-clause-ends
 returns-in-NoMemory-clause-ends g c = λ store.
-    ran_unreached c.args.plan.now.address.now c.args.plan.now.workers c.args.plan.now.upstream.now store _ _ _ _ g.N.Door.Door.seen g.N.Up.Upstream.seen _ _ _ _ _
+    ran_unreached c.args.plan.now.address.now c.args.plan.now.workers c.args.plan.now.upstream.now store _ _ _ _ g.N.Door.Door.seen g.N.Up.Upstream.seen _ _ _
+    _ _
     c.closed-in-NoMemory.ensures.status c.closed-in-NoMemory.ensures.doors c.closed-in-NoMemory.ensures.up c.in-NoMemory.ensures.reaches.later
     (out_of_memory None)

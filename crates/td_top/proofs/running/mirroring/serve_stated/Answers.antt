@@ -5,7 +5,8 @@ use Rattle.td_top.proofs.running.mirroring.serve_stated.Goals as goal
 
 pub returns-in-Ok-open_stated-clause-ends : goal.returns-in-Ok-open_stated-clause-ends
 returns-in-Ok-open_stated-clause-ends g c =
-    stated_served c.args.follow.now.host.now c.args.plan.now.address.now c.args.plan.now.workers c.args.follow.now.mirror _ _ _ _ _ c.in-Ok-open_stated.ensures.stated
+    stated_served c.args.follow.now.host.now c.args.plan.now.address.now c.args.plan.now.workers c.args.follow.now.mirror _ _ _ _ _
+    c.in-Ok-open_stated.ensures.stated
     (served_as _ _ _ _ _ _ _ _ _ c.in-Ok.ensures c.serve_opened.ensures.ends)
 
 pub returns-clause-ends : goal.returns-clause-ends

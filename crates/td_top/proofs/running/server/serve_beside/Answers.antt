@@ -41,7 +41,16 @@ returns-in-NotStarted g c =
     let halted = c.in-NotStarted.ensures.beside in
     let unstarted = beside_unstarted g.D.Door.seen _ _ c.args.staff.works.items _ _ _ _ halted c.in-NotStarted.ensures.refusal c.run_beside-pool.ensures.later
     c.give_up-in-NotStarted.ensures.status c.give_up-in-NotStarted.ensures.doors in
-    search (unstarted, ap (λ v. v.rules) halted, ap (λ v. v.lent.1) halted, ap (λ v. v.lent.2) halted, ap (λ v. v.lent.3) halted, ap (λ v. v.lent.0) halted, rules)
+    search (
+      unstarted,
+      ap (λ v. v.rules) halted,
+      ap (λ v. v.lent.1) halted,
+      ap (λ v. v.lent.2) halted,
+      ap (λ v. v.lent.3) halted,
+      ap (λ v. v.lent.0)
+          halted,
+      rules,
+    )
 
 pub returns : goal.returns
 returns g c =

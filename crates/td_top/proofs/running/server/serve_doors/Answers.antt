@@ -23,7 +23,8 @@ returns-clause-ends g c =
     ran_alone g.N.Door.Door.seen g.N.Up.Upstream.seen (ServesNothing plan.rules.now plan.folders.now)
     (Some (serve c.args.serving.now.address.now c.args.serving.now.workers plan.rules.now plan.folders.now)) _ _ _ _ _ _ _ _
     c.closed-in-Err.ensures.status c.closed-in-Err.ensures.doors c.closed-in-Err.ensures.up
-    (ends_nothing plan.rules.now plan.folders.now c.in-Err.fault _ _ _ _ _ _ (rw (c.new-asked.ensures, c.in-Ok.ensures) at c.in-Err.ensures.all) c.refuse_install.ensures)
+    (ends_nothing plan.rules.now plan.folders.now c.in-Err.fault _ _ _ _ _ _ (rw (c.new-asked.ensures, c.in-Ok.ensures) at c.in-Err.ensures.all)
+    c.refuse_install.ensures)
     (λ none alone. served c.args.serving.now.address.now c.args.serving.now.workers plan.rules.now plan.folders.now _ _ refl (nothing _ none alone))
 
 pub returns-in_default-clause-ends : goal.returns-in_default-clause-ends

@@ -1,0 +1,134 @@
+-- How the run of a mirror of calendars ends.
+use Rattle.std.proofs.Common.{◌≡◌, ◌≢◌, ℕ, ◌≤◌, List, [], map, inl, inr, Option, None, Some, Ok, Err, refl, sym, ap, subst, arith}
+use Rattle.std.specs.Option.{option_map}
+use Rattle.std.specs.Prelude.{ℤ}
+use Rattle.td_base.specs.DoorViews.{DoorView, NetworkView}
+use Rattle.td_base.specs.Upstreams.{Reaches, UpstreamView}
+use Rattle.td_base.specs.Views.{LaterSink, SinkView, SourceView, StoreView}
+use Rattle.td_base.specs.declared.network.Made.TheVariants as made
+use Rattle.td_base.specs.declared.transfer.Written.TheVariants as written
+use Rattle.td_base.proofs.lemmas.LaterLemmas.{source_refl, store_refl, writes_all_later}
+use Rattle.mirror.specs.declared.sync_fault.SyncFault.TheVariants as sync
+use Rattle.calendar_mirror.specs.FaultText.{fault_text}
+use Rattle.calendar_mirror.specs.declared.sync_fault.CalendarSyncFault.{CalendarSyncFault}
+use Rattle.calendar_mirror.specs.declared.sync_fault.CalendarSyncFault.TheVariants as fault
+use Rattle.sync_core.specs.Mirrors.{MirrorState, empty_mirror}
+use Rattle.zone_meaning.specs.Observed.{IsRange}
+use Rattle.td_top.specs.Command.{calmirror}
+use Rattle.td_top.specs.Outside.{outside, world}
+use Rattle.td_top.specs.Printing.{refused_line}
+use Rattle.td_top.specs.Running.{RunEndsLater, mirrored_calendars}
+use Rattle.td_top.specs.Running.CalendarMirroring.{MirrorsCalendars, PrintsCalendars, SyncsCalendars, all, cut, unreached}
+use Rattle.td_top.specs.Running.CalendarMirroring.{unreached_starved}
+use Rattle.td_top.specs.Running.CalendarMirroring as page
+use Rattle.td_top.specs.Running.Mirroring.{ReachesServer}
+use Rattle.td_top.specs.Running.CalendarMirroring.CalendarSteps.{RefusesCalendars, SyncedEnds, SyncsOnce}
+use Rattle.td_top.specs.Running.CalendarMirroring.CalendarSteps as steps
+use Rattle.td_top.specs.Tells.{Tells}
+use Rattle.td_top.specs.declared.status.Status.{Status}
+use Rattle.td_top.specs.declared.status.Status.TheVariants as status
+use Rattle.td_top.proofs.Endings.{left_sink, printed_later}
+use Rattle.td_top.proofs.PrimaryLines.{CalendarLaws, primary_printed}
+use Rattle.td_top.proofs.MirrorRuns.{not_called, not_told, reaches_server}
+
+-- ---- a sync
+
+-- a sync that ended by a fault ends a run by its text, unless memory ran out
+pub refuses_calendars : (f : CalendarSyncFault) (old new : SinkView) (is : Status) → f ≢ fault.Sync sync.NoMemory
+    → Tells status.NotSynced (refused_line (fault_text f)) old new is → RefusesCalendars f old new is
+refuses_calendars (fault.Sync sync.NoMemory) old new is memory tells = absurd (memory refl)
+refuses_calendars f old new is memory tells = tells
+
+module _ (host : List ℕ) (start end : ℤ) (first last : UpstreamView) where
+  calendars_later : (s : MirrorState) (old new : SinkView) (is : Status) → PrintsCalendars s start end old new is → LaterSink old new
+  calendars_later s old new is (all lines rising tell writes) = writes_all_later old new lines written.Whole writes
+  calendars_later s old new is (cut zones rest lines are tell writes) = writes_all_later old new lines written.Cut writes
+  calendars_later s old new is (page.part zones rest lines are tell writes) = writes_all_later old new lines written.Whole writes
+
+  pub synced : (s : MirrorState) (old new : SinkView) (is : Status) → SyncsCalendars host empty_mirror s first last (Ok tt)
+      → PrintsCalendars s start end old new is → SyncsOnce host start end first last old new is
+  synced s old new is h prints = record { ends = steps.printed s is h prints; later = calendars_later s old new is prints }
+
+  starved : (old new : SinkView) (is : Status) → is ≡ status.NoMemory → new ≡ old → SyncsOnce host start end first last old new is
+  starved old new is same left =
+      subst (λ x. SyncsOnce host start end first last old new x) (sym same) (record { ends = steps.starved left; later = left_sink old new left })
+
+  told : (s : MirrorState) (e : CalendarSyncFault) (old new : SinkView) (is : Status) → SyncsCalendars host empty_mirror s first last (Err e)
+      → e ≢ fault.Sync sync.NoMemory → Tells status.NotSynced (refused_line (fault_text e)) old new is → SyncsOnce host start end first last old new is
+  told s e old new is h some (inl printed) = record {
+    ends = steps.not_synced s e is h some printed;
+    later = printed_later status.NotSynced is (refused_line (fault_text e)) old new printed;
+  }
+  told s e old new is h some (inr left) = starved old new is left.0 left.1
+
+  pub not_synced : (s : MirrorState) (e : CalendarSyncFault) (old new : SinkView) (is : Status) → SyncsCalendars host empty_mirror s first last (Err e)
+      → RefusesCalendars e old new is → SyncsOnce host start end first last old new is
+  not_synced s (fault.Sync sync.NoMemory) old new is h left = starved old new is left.0 left.1
+  not_synced s e old new is h tells = told s e old new is h (λ none. cc) tells
+
+-- ---- a whole run
+
+module _ (upstream : List ℕ) (start end : ℤ) (store : StoreView) (i : SourceView) (o : SinkView) (n : NetworkView) (r : ℕ) where
+  ends_by : (first last : UpstreamView) (p : SinkView) (m : NetworkView) (is : Status) → ReachesServer n m upstream first
+      → CalendarLaws → IsRange start end → SyncedEnds upstream start end first last o p is
+      → MirrorsCalendars upstream start end (world (outside store i o) n r) (world (outside store i p) m r) (Some last) is
+  ends_by first last p m is reaches laws range (steps.printed s end_is h prints) =
+      page.printed first last s end_is reaches h prints refl
+      (primary_printed laws start end range upstream s h.taken h.untaken o p end_is h.ends prints)
+  ends_by first last p m is reaches laws range (steps.not_synced s e end_is h some line) =
+      page.not_synced first last s e end_is reaches h some (record { printed = line; input = refl; spawner = refl })
+  ends_by first last p m is reaches laws range (steps.starved left) = page.starved first last reaches (refl, left)
+
+  ran : (p : SinkView) (m : NetworkView) (up : Option UpstreamView) (is : Status) → n.faults ≤ m.faults → LaterSink o p
+      → MirrorsCalendars upstream start end (world (outside store i o) n r) (world (outside store i p) m r) up is
+      → RunEndsLater (Some (calmirror upstream start end)) (world (outside store i o) n r) (world (outside store i p) m r) [] up is
+  ran p m up is later sink h = record {
+    ends = mirrored_calendars upstream start end up is refl h refl refl;
+    later = record {
+      outside = record { store = store_refl store; input = source_refl i; output = sink };
+      network = later;
+      spawner = omega arith;
+    };
+  }
+
+  -- as the caller of the run sees it
+  module _ {D U : Type 0} (door : D → DoorView) (seen : U → UpstreamView) (p : SinkView) (m : NetworkView) where
+    shown : (doors : List D) (up : Option U) (told : Option UpstreamView) (is given : Status) → given ≡ is → doors ≡ [] → option_map seen up ≡ told
+        → RunEndsLater (Some (calmirror upstream start end)) (world (outside store i o) n r) (world (outside store i p) m r) [] told is
+        → RunEndsLater (Some (calmirror upstream start end)) (world (outside store i o) n r) (world (outside store i p) m r) (map door doors)
+        (option_map seen up) given
+    shown doors up told is given same no_doors ups h =
+        subst (λ ds. RunEndsLater (Some (calmirror upstream start end)) (world (outside store i o) n r) (world (outside store i p) m r) (map door ds)
+        (option_map seen up) given) (sym no_doors)
+        (subst (λ u. RunEndsLater (Some (calmirror upstream start end)) (world (outside store i o) n r) (world (outside store i p) m r) [] u given) (sym ups)
+        (subst (λ x. RunEndsLater (Some (calmirror upstream start end)) (world (outside store i o) n r) (world (outside store i p) m r) [] told x) (sym same)
+        h))
+
+    pub ran_synced : (reached : U) (first : UpstreamView) (server : U) (doors : List D) (up : Option U) (is given : Status) → first ≡ seen reached
+        → Reaches seen n m upstream (made.Given reached) → SyncsOnce upstream start end first (seen server) o p is → given ≡ is → doors ≡ []
+        → up ≡ Some server → CalendarLaws → IsRange start end
+        → RunEndsLater (Some (calmirror upstream start end)) (world (outside store i o) n r) (world (outside store i p) m r) (map door doors)
+        (option_map seen up) given
+    ran_synced reached first server doors up is given begun reaches h same no_doors ups laws range =
+        shown doors up (Some (seen server)) is given same no_doors (ap (λ u. option_map seen u) ups)
+        (ran p m (Some (seen server)) is reaches.later h.later
+        (ends_by first (seen server) p m is
+        (subst (λ (u : UpstreamView). ReachesServer n m upstream u) (sym begun) (reaches_server seen n m upstream reached reaches)) laws range h.ends))
+
+    pub ran_unreached : (doors : List D) (up : Option U) (is given : Status) → p ≡ o → n.faults ≤ m.faults
+        → MirrorsCalendars upstream start end (world (outside store i o) n r) (world (outside store i o) m r) None is → given ≡ is → doors ≡ []
+        → up ≡ None
+        → RunEndsLater (Some (calmirror upstream start end)) (world (outside store i o) n r) (world (outside store i p) m r) (map door doors)
+        (option_map seen up) given
+    ran_unreached doors up is given left later h same no_doors ups =
+        shown doors up None is given same no_doors (ap (λ u. option_map seen u) ups)
+        (ran p m None is later (left_sink o p left)
+        (subst (λ (v : SinkView). MirrorsCalendars upstream start end (world (outside store i o) n r) (world (outside store i v) m r) None is) (sym left) h))
+
+  pub unreached_ends : {U : Type 0} (seen : U → UpstreamView) (m : NetworkView) → Reaches seen n m upstream made.Failed
+      → MirrorsCalendars upstream start end (world (outside store i o) n r) (world (outside store i o) m r) None status.NoNetwork
+  unreached_ends seen m h = unreached (refl, refl) (not_told seen n.content m.content upstream h.told) (h.failed refl)
+
+  pub starved_ends : {U : Type 0} (seen : U → UpstreamView) (m : NetworkView) → Reaches seen n m upstream made.NoMemory
+      → MirrorsCalendars upstream start end (world (outside store i o) n r) (world (outside store i o) m r) None status.NoMemory
+  starved_ends seen m h = unreached_starved (refl, refl) (not_called seen n.content m.content upstream h.told)
