@@ -477,10 +477,10 @@ def unfolded_text(text):
             return f"1 BadLine {at}"
         at += len(line)
         if lines and line[0] in " \t":
-            lines[-1] += line[1:-2]
+            lines[-1].append(line[1:-2])
         else:
-            lines.append(line[:-2])
-    return "".join(line + "|" for line in lines)
+            lines.append([line[:-2]])
+    return "".join("".join(pieces) + "|" for pieces in lines)
 
 
 def cut(text):

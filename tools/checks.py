@@ -17,7 +17,7 @@ from served import DATA, PROGRAM, Failure, slim_zone
 # What a busy machine may add to a time, and how long anything else may take. No check measures speed.
 SLACK, LONG = 40, 60
 
-USAGE = b"usage: tzdistd answer|serve|mirror|check|at|load\n"
+USAGE = b"usage: tzdistd answer|serve|mirror|check|at|load|calmirror\n"
 ZONES = "/tzdist/zones"
 TZIF = "Accept: application/tzif"
 

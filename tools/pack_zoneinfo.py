@@ -316,7 +316,9 @@ def pack(options):
     zones = zones_of_files(tree) if text is None else zones_of_source(text, tree)
     check_limits(zones)
     files = checked_files(tree, zones)
-    version = options.version or (version_of_source(text) if text else None)
+    version = options.version
+    if version is None and text:
+        version = version_of_source(text)
     stamp = options.stamp or newest_change(tree, zones)
     check_labels(version, stamp, options.publisher)
     labels = {"publisher": options.publisher, "version": version, "stamp": stamp}

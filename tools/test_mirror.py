@@ -289,6 +289,49 @@ def follows(program):
         same("the primary's status", primary.quit(), 0)
 
 
+def calendar(name, *lines):
+    """A calendar of a zone that is at UTC from 1800 on, with these lines in its one part."""
+    part = ["BEGIN:STANDARD", "DTSTART:18000101T000000", "TZOFFSETFROM:+0000", "TZOFFSETTO:+0000", "TZNAME:UTC", *lines, "END:STANDARD"]
+    whole = ["BEGIN:VCALENDAR", "BEGIN:VTIMEZONE", f"TZID:{name}", *part, "END:VTIMEZONE", "END:VCALENDAR", ""]
+    return "\r\n".join(whole).encode()
+
+
+def prints(program, address, status, *lines):
+    """Fails where the calendars of a server do not tell these lines of the year 2025."""
+    words = ["calmirror", address, "2025-01-01T00:00:00Z", "2026-01-01T00:00:00Z"]
+    *seen, errors = ran(program, *words)
+    same("the calendars", seen, [status, b"".join(line.encode() + b"\n" for line in lines)])
+    holds(f"standard error: {errors!r}", errors.startswith(COMPLAINT) if GONE in lines else not errors)
+
+
+def calendars(program):
+    """The calendars of a server, and of servers that give others."""
+    with Served(["data/a", "data/b"], program=program) as primary, Fake(Way(primary.port)) as way:
+        east = ["2025-01-01T00:00:00Z -18000 -18000 std EST", "2025-03-09T07:00:00Z -18000 -14400 dst EDT", "2025-11-02T06:00:00Z -14400 -18000 std EST"]
+        prints(program, way.address, 0, "zone America/New_York", *east, "zone Etc/UTC", "2025-01-01T00:00:00Z 0 0 std UTC")
+        wanted = [
+            f"GET {target} HTTP/1.0\r\nHost: {way.address}\r\nAccept: {form}\r\nConnection: close\r\n\r\n".encode()
+            for target, form in [
+                (ZONES, "application/json"),
+                (f"{ZONES}/America%2FNew_York", "text/calendar"),
+                (f"{ZONES}/Etc%2FUTC", "text/calendar"),
+                (f"{ZONES}?changedsince={SECOND}", "application/json"),
+            ]
+        ]
+        same("the requests", way.requests, wanted)
+        same("the status", primary.quit(), 0)
+    for text, status, lines in (
+        (calendar("Test/One"), 0, ["zone Test/One", "2025-01-01T00:00:00Z 0 0 std UTC"]),
+        (calendar("Test/one"), 7, ["refused 6 WrongName 2"]),
+        (calendar("Test/One", "RRULE:FREQ=MONTHLY"), 7, ["refused 5 BadCalendar 2 5 Rule 8"]),
+        (slim_zone(1), 7, ["refused 5 BadCalendar 2 1 Line 0"]),
+        (calendar("Test/One", "X-MORE:" + "x" * 1_048_576), 7, ["refused 5 BadCalendar 2 7 TooLarge"]),
+    ):
+        with Fake(one_zone(**{f"{ZONES}/Test%2FOne": reply(text)})) as upstream:
+            prints(program, upstream.address, status, *lines)
+    prints(program, address_of(free_port()), 7, GONE)
+
+
 def console(program):
     """The lines of a mirror's console, and what it says of itself."""
     with Fake(one_zone()) as upstream:
@@ -697,6 +740,7 @@ CHECKS = [
     recovers,
     retires,
     aliases,
+    calendars,
     console,
     names,
     keeps_serving,

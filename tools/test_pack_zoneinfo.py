@@ -145,7 +145,7 @@ class Packing(unittest.TestCase):
             ("--version", ""),
             ("--publisher", "a" * 65),
         ]
-        for flag, value in flags[:3] + flags[4:]:
+        for flag, value in flags:
             with self.subTest(value):
                 self.refused(flag, flag, value)
         self.refused("leap table expires", "--leap-seconds")
