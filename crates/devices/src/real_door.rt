@@ -50,6 +50,13 @@ impl<R: Clock> RealDoor<R> {
         self.failure
     }
 
+    /// How often an accept failed.
+    pub fn faults(&self) -> u64
+        ensures { result ≡ self.now.faults }
+    {
+        self.faults
+    }
+
     /// How many connections rest at it.
     pub fn resting(&self) -> usize {
         self.hall.resting()

@@ -109,9 +109,10 @@ fn out_of_memory(rt: &HostRuntime) -> ExitCode {
     exit_code(OUT_OF_MEMORY)
 }
 
-/// Why one of the doors failed last, if one did.
+/// Why the door that failed most often did so last, if one failed: where one is worn, it is that.
 fn door_failure(doors: &[RealDoor<HostRuntime>]) -> Option<ErrorKind> {
-    doors.iter().find_map(RealDoor::failure)
+    let most = doors.iter().max_by_key(|door| door.faults())?;
+    most.failure()
 }
 
 /// Why an exchange with the server that was followed failed last, if one did.
