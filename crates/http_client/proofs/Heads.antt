@@ -18,8 +18,9 @@ use Rattle.percent_encoding.specs.AsciiSet.{should_percent_encode}
 use Rattle.percent_encoding.proofs.PercentLemmas.{All-percent_encode, IsEscapeByte}
 use Rattle.td_base.specs.declared.report.Ask.{Ask}
 use Rattle.td_base.specs.declared.report.Ask.TheVariants as ask
-use Rattle.http_client.specs.Requests.{accepted, escaped, is_unreserved, request_line, request_text, target_of}
-use Rattle.http_client.specs.SentHeads.{IsSentHead, is_visible, is_visible_text}
+use Rattle.http_client.specs.CalendarRequests.{calendar_accepted, calendar_request_text}
+use Rattle.http_client.specs.Requests.{accepted, escaped, is_unreserved, request_line, request_text, target_of, text_with}
+use Rattle.http_client.specs.SentHeads.{IsSentCalendarHead, IsSentHead, IsSentHeadOf, is_visible, is_visible_text}
 use Rattle.http_client.specs.declared.requesting.TheConstants.{ESCAPED}
 use Rattle.http_client.proofs.Escapes.{escapes, text_escaped}
 
@@ -106,9 +107,9 @@ printed target host media =
     joined (codes "GET ") target (codes " HTTP/1.0") (codes "\r\n") (codes "Host: ") host (codes "Accept: ") media (codes "Connection: close\r\n")
     (codes "\r\nConnection: close\r\n\r\n") refl
 
-is_written : (host : List ℕ) (a : Ask) → request_text host a ≡ print_request (head_with (target_of a) host (accepted a)) ++ []
-unfolding request_text request_line
-is_written host a = printed (target_of a) host (accepted a)
+is_written : (media host : List ℕ) (a : Ask) → text_with media host a ≡ print_request (head_with (target_of a) host media) ++ []
+unfolding request_line
+is_written media host a = printed (target_of a) host media
 
 value_passes : (v : List ℕ) → is_visible_text v ≡ true → All (λ b. is_value_byte b ≡ true) (32 ∷ v)
 value_passes v h =
@@ -140,6 +141,11 @@ unfolding accepted
 media_visible (ask.List token) = refl
 media_visible (ask.Get name) = refl
 
+calendar_media_visible : (a : Ask) → is_visible_text (calendar_accepted a) ≡ true
+unfolding calendar_accepted
+calendar_media_visible (ask.List token) = refl
+calendar_media_visible (ask.Get name) = refl
+
 escaped_visible : (text : List ℕ) → All IsVisible (escaped text)
 escaped_visible text = subst (All IsVisible) (text_escaped text) (All-percent_encode IsVisible ESCAPED text kept_visible escape_visible)
 
@@ -152,13 +158,13 @@ target_visible (ask.List None) = (omega arith, AllPass-from_list_all is_visible 
 target_visible (ask.List (Some token)) = (omega arith, path_visible (codes "/tzdist/zones?changedsince=") token refl)
 target_visible (ask.Get name) = (omega arith, path_visible (codes "/tzdist/zones/") name refl)
 
-is_head : (host : List ℕ) (a : Ask) → is_visible_text host ≡ true → IsRequestHead (head_with (target_of a) host (accepted a))
-is_head host a h =
+is_head : (media host : List ℕ) (a : Ask) → is_visible_text media ≡ true → is_visible_text host ≡ true → IsRequestHead (head_with (target_of a) host media)
+is_head media host a m h =
     let target = target_visible a in
     let small = All-weaker IsVisible (λ b. b < 128) of_ascii (target_of a) target.1 in
     let close : is_visible_text (codes "close") ≡ true = refl in
     let one = field_with (codes "Host") host in
-    let two = field_with (codes "Accept") (accepted a) in
+    let two = field_with (codes "Accept") media in
     let three = field_with (codes "Connection") (codes "close") in
     record {
       method = (omega arith, AllPass-from_list_all is_token_byte (codes "GET") method_token);
@@ -166,7 +172,7 @@ is_head host a h =
       target_text = IsUtf8-from_ascii (target_of a) (IsAscii-from_all (target_of a) small);
       minor = omega arith;
       fields = All-cons IsField one (two ∷ three ∷ []) (named (codes "Host") host (omega arith) host_token h)
-          (All-cons IsField two (three ∷ []) (named (codes "Accept") (accepted a) (omega arith) accept_token (media_visible a))
+          (All-cons IsField two (three ∷ []) (named (codes "Accept") media (omega arith) accept_token m)
           (All-cons IsField three [] (named (codes "Connection") (codes "close") (omega arith) connection_token close) (All-nil IsField)));
     }
 
@@ -174,14 +180,23 @@ fields_are : (host media : List ℕ) → is_visible_text host ≡ true → is_vi
     → map name_and_value (head_with [] host media).fields ≡ (codes "Host", host) ∷ (codes "Accept", media) ∷ (codes "Connection", codes "close") ∷ []
 fields_are host media h m = rw (trimmed host h, trimmed media m, trimmed (codes "close") refl) refl
 
-pub sent_head : (host : List ℕ) (a : Ask) → is_visible_text host ≡ true → (h : RequestHead) × IsSentHead host a h
-sent_head host a h = (
-  head_with (target_of a) host (accepted a),
+head_of : (text media host : List ℕ) (a : Ask) → text ≡ text_with media host a → is_visible_text media ≡ true → is_visible_text host ≡ true
+    → (h : RequestHead) × IsSentHeadOf text media host a h
+head_of text media host a is m h = (
+  head_with (target_of a) host media,
   record {
-    reads = (is_head host a h, is_written host a);
+    reads = (is_head media host a m h, is ∙ is_written media host a);
     method = refl;
     target = refl;
     minor = refl;
-    fields = fields_are host (accepted a) h (media_visible a);
+    fields = fields_are host media h m;
   },
 )
+
+pub sent_head : (host : List ℕ) (a : Ask) → is_visible_text host ≡ true → (h : RequestHead) × IsSentHead host a h
+unfolding request_text
+sent_head host a h = head_of (request_text host a) (accepted a) host a refl (media_visible a) h
+
+pub sent_calendar_head : (host : List ℕ) (a : Ask) → is_visible_text host ≡ true → (h : RequestHead) × IsSentCalendarHead host a h
+unfolding calendar_request_text
+sent_calendar_head host a h = head_of (calendar_request_text host a) (calendar_accepted a) host a refl (calendar_media_visible a) h

@@ -39,9 +39,12 @@ enclosed front text end = front ++ (text ++ end)
 unfoldable pub request_line : Ask → List ℕ
 request_line a = enclosed (codes "GET ") (target_of a) (codes " HTTP/1.0\r\n")
 
--- the head of a request at a host, after whose answer the connection closes
-unfoldable pub request_text : List ℕ → Ask → List ℕ
-request_text host a =
+-- the head of a request at a host for a media type, after whose answer the connection closes
+abbrev pub text_with : List ℕ → List ℕ → Ask → List ℕ
+text_with media host a =
     request_line a
     ++ (enclosed (codes "Host: ") host (codes "\r\n")
-    ++ enclosed (codes "Accept: ") (accepted a) (codes "\r\nConnection: close\r\n\r\n"))
+    ++ enclosed (codes "Accept: ") media (codes "\r\nConnection: close\r\n\r\n"))
+
+unfoldable pub request_text : List ℕ → Ask → List ℕ
+request_text host a = text_with (accepted a) host a

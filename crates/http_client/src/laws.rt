@@ -3,7 +3,7 @@ ghost use Rattle.std.specs.Prelude.{◌≡◌, ℕ, List, Result, IsTrue};
 ghost use Rattle.httparse.specs.Grammar.{RequestHead};
 ghost use Rattle.td_base.specs.declared.report.Ask.{Ask};
 ghost use Rattle.http_client.specs.Replies.{IsReading};
-ghost use Rattle.http_client.specs.SentHeads.{IsSentHead, is_visible_text};
+ghost use Rattle.http_client.specs.SentHeads.{IsSentCalendarHead, IsSentHead, is_visible_text};
 ghost use Rattle.http_client.specs.declared.reply.BadReply.{BadReply};
 ghost use Rattle.http_client.specs.declared.reply.Reply.{Reply};
 
@@ -17,4 +17,10 @@ pub fn one_reading()
 pub fn requests_are_heads()
     ensures { (host : List ℕ) (a : Ask) → IsTrue (is_visible_text host)
         → (h : RequestHead) × IsSentHead host a h }
+{}
+
+/// The same of a request of a mirror that keeps calendars.
+pub fn calendar_requests_are_heads()
+    ensures { (host : List ℕ) (a : Ask) → IsTrue (is_visible_text host)
+        → (h : RequestHead) × IsSentCalendarHead host a h }
 {}

@@ -23,7 +23,7 @@ mod laws;
 mod send_sync;
 
 pub use calendar_requesting::request_calendar;
-pub use laws::{one_reading, requests_are_heads};
+pub use laws::{calendar_requests_are_heads, one_reading, requests_are_heads};
 pub use limits::MOST_FIELDS;
 pub use reading::read;
 pub use reply::{BadReply, Reply};

@@ -10,7 +10,8 @@ use Rattle.std.proofs.lemmas.List.Sums.{list_all-from_AllPass}
 use Rattle.std.proofs.lemmas.List.Elements.{All-weaker}
 use Rattle.td_base.specs.declared.report.Ask.{Ask}
 use Rattle.td_base.specs.declared.report.Ask.TheVariants as ask
-use Rattle.http_client.specs.Requests.{accepted, escaped, request_line, request_text, target_of}
+use Rattle.http_client.specs.CalendarRequests.{calendar_accepted}
+use Rattle.http_client.specs.Requests.{accepted, escaped, request_line, target_of, text_with}
 use Rattle.http_request.specs.Ends.{end_among, feeds, fits, head_lines_from, window}
 use Rattle.http_request.specs.Judging.{is_host, is_host_byte}
 use Rattle.mirror_world.specs.Asking.{IsAskable, text_asked}
@@ -76,21 +77,21 @@ line_one a = codes "GET " ++ (target_of a ++ codes " HTTP/1.0\r")
 abbrev line_two : List ℕ → List ℕ
 line_two host = codes "Host: " ++ (host ++ codes "\r")
 
-abbrev line_three : Ask → List ℕ
-line_three a = codes "Accept: " ++ (accepted a ++ codes "\r")
+abbrev line_three : List ℕ → List ℕ
+line_three media = codes "Accept: " ++ (media ++ codes "\r")
 
-abbrev pub lines_of : List ℕ → Ask → List (List ℕ)
-lines_of host a = line_one a ∷ line_two host ∷ line_three a ∷ codes "Connection: close\r" ∷ codes "\r" ∷ []
+abbrev pub lines_of : List ℕ → List ℕ → Ask → List (List ℕ)
+lines_of media host a = line_one a ∷ line_two host ∷ line_three media ∷ codes "Connection: close\r" ∷ codes "\r" ∷ []
 
 joined : (get target version host_name host media_name media return rest : List ℕ)
     → (get ++ (target ++ (version ++ (10 ∷ [])))) ++ ((host_name ++ (host ++ (return ++ (10 ∷ [])))) ++ (media_name ++ (media ++ (return ++ (10 ∷ rest)))))
     ≡ (get ++ (target ++ version)) ++ (10 ∷ ((host_name ++ (host ++ return)) ++ (10 ∷ ((media_name ++ (media ++ return)) ++ (10 ∷ rest)))))
 joined get target version host_name host media_name media return rest = simp append_assoc
 
-pub is_written : (host : List ℕ) (a : Ask) → request_text host a ≡ text_of (lines_of host a)
-unfolding request_text request_line
-is_written host a =
-    joined (codes "GET ") (target_of a) (codes " HTTP/1.0\r") (codes "Host: ") host (codes "Accept: ") (accepted a) (codes "\r")
+pub is_written : (media host : List ℕ) (a : Ask) → text_with media host a ≡ text_of (lines_of media host a)
+unfolding request_line
+is_written media host a =
+    joined (codes "GET ") (target_of a) (codes " HTTP/1.0\r") (codes "Host: ") host (codes "Accept: ") media (codes "\r")
     (codes "Connection: close\r\n\r\n")
 
 quiet_line : (text : List ℕ) → All (λ b. is_quiet b ≡ true) text → is_line text ≡ true
@@ -108,11 +109,6 @@ target_line (ask.List None) = refl
 target_line (ask.List (Some token)) = append_line (codes "/tzdist/zones?changedsince=") (escaped token) refl (quiet_line (escaped token) (escaped_quiet token))
 target_line (ask.Get name) = append_line (codes "/tzdist/zones/") (escaped name) refl (quiet_line (escaped name) (escaped_quiet name))
 
-media_line : (a : Ask) → is_line (accepted a) ≡ true
-unfolding accepted
-media_line (ask.List token) = refl
-media_line (ask.Get name) = refl
-
 host_byte_line : (b : ℕ) → is_host_byte b ≡ true → not (b == 10) ≡ true
 host_byte_line b h = grind (arith, nat_tests)
 
@@ -124,11 +120,11 @@ host_line (b ∷ bs) h =
 framed_line : (front text end : List ℕ) → is_line front ≡ true → is_line text ≡ true → is_line end ≡ true → is_line (front ++ (text ++ end)) ≡ true
 framed_line front text end f t e = append_line front (text ++ end) f (append_line text end t e)
 
-pub all_lines : (host : List ℕ) (a : Ask) → is_host host ≡ true → list_all is_line (lines_of host a) ≡ true
-all_lines host a h =
+pub all_lines : (media host : List ℕ) (a : Ask) → is_line media ≡ true → is_host host ≡ true → list_all is_line (lines_of media host a) ≡ true
+all_lines media host a m h =
     both (is_line (line_one a)) _ (framed_line (codes "GET ") (target_of a) (codes " HTTP/1.0\r") refl (target_line a) refl)
     (both (is_line (line_two host)) _ (framed_line (codes "Host: ") host (codes "\r") refl (host_line host h) refl)
-    (both (is_line (line_three a)) _ (framed_line (codes "Accept: ") (accepted a) (codes "\r") refl (media_line a) refl) refl))
+    (both (is_line (line_three media)) _ (framed_line (codes "Accept: ") media (codes "\r") refl m refl) refl))
 
 -- ---- where the head ends
 
@@ -141,9 +137,9 @@ last_place l₁ l₂ l₃ n is =
     let one = length-append l₁ (10 ∷ (l₂ ++ (10 ∷ (l₃ ++ (10 ∷ codes "Connection: close\r\n\r\n"))))) in
     omega (arith, is, one, two, three)
 
-end_is : (host : List ℕ) (a : Ask) → end_among false 0 (lines_of host a) ≡ Some (length (text_of (lines_of host a)))
+end_is : (media host : List ℕ) (a : Ask) → end_among false 0 (lines_of media host a) ≡ Some (length (text_of (lines_of media host a)))
 unfolding end_among
-end_is host a = ap Some (last_place (line_one a) (line_two host) (line_three a) (length (text_of (lines_of host a))) refl)
+end_is media host a = ap Some (last_place (line_one a) (line_two host) (line_three media) (length (text_of (lines_of media host a))) refl)
 
 target_short : (a : Ask) → length (target_of a) ≤ 27 + 3 * length (text_asked a)
 unfolding target_of
@@ -152,40 +148,54 @@ target_short (ask.List (Some token)) =
     omega (arith, escaped_short token, length-append (codes "/tzdist/zones?changedsince=") (escaped token))
 target_short (ask.Get name) = omega (arith, escaped_short name, length-append (codes "/tzdist/zones/") (escaped name))
 
-media_short : (a : Ask) → length (accepted a) ≤ 16
-unfolding accepted
-media_short (ask.List token) = omega arith
-media_short (ask.Get name) = omega arith
-
-text_short : (host : List ℕ) (a : Ask) → length host + 3 * length (text_asked a) ≤ 16000 → length (text_of (lines_of host a)) ≤ 16384
-text_short host a k =
+text_short : (media host : List ℕ) (a : Ask) → length media ≤ 16 → length host + 3 * length (text_asked a) ≤ 16000
+    → length (text_of (lines_of media host a)) ≤ 16384
+text_short media host a m k =
     let t = target_short a in
-    let m = media_short a in
     let line₁ = length-append (codes "GET ") (target_of a ++ codes " HTTP/1.0\r") in
     let end₁ = length-append (target_of a) (codes " HTTP/1.0\r") in
     let line₂ = length-append (codes "Host: ") (host ++ codes "\r") in
     let end₂ = length-append host (codes "\r") in
-    let line₃ = length-append (codes "Accept: ") (accepted a ++ codes "\r") in
-    let end₃ = length-append (accepted a) (codes "\r") in
-    let whole = last_place (line_one a) (line_two host) (line_three a) (length (text_of (lines_of host a))) refl in
+    let line₃ = length-append (codes "Accept: ") (media ++ codes "\r") in
+    let end₃ = length-append media (codes "\r") in
+    let whole = last_place (line_one a) (line_two host) (line_three media) (length (text_of (lines_of media host a))) refl in
     omega (arith, k, t, m, line₁, end₁, line₂, end₂, line₃, end₃, whole)
 
 le_test : (m n : ℕ) → m ≤ n → nat_le m n ≡ true
 le_test m n le = grind (arith, nat_tests)
 
-module _ (host : List ℕ) (a : Ask) (askable : IsAskable host a) where
+-- a media type that fits in a line of a request
+pub record FitsInLine (media : List ℕ) : Type 0 where
+  pub line : is_line media ≡ true
+  pub short : length media ≤ 16
+
+pub accepted_fits : (a : Ask) → FitsInLine (accepted a)
+unfolding accepted
+accepted_fits (ask.List token) = record { line = refl; short = omega arith }
+accepted_fits (ask.Get name) = record { line = refl; short = omega arith }
+
+pub calendar_accepted_fits : (a : Ask) → FitsInLine (calendar_accepted a)
+unfolding calendar_accepted
+calendar_accepted_fits (ask.List token) = record { line = refl; short = omega arith }
+calendar_accepted_fits (ask.Get name) = record { line = refl; short = omega arith }
+
+module _ (media host : List ℕ) (a : Ask) (media_fits : FitsInLine media) (askable : IsAskable host a) where
   abbrev text : List ℕ
-  text = text_of (lines_of host a)
+  text = text_of (lines_of media host a)
+
+  lines_so : list_all is_line (lines_of media host a) ≡ true
+  lines_so = all_lines media host a media_fits.line askable.is_host
 
   fits_so : fits text (length text) ≡ true
   fits_so =
       let count : feeds (take (length text) text) ≡ 5 =
-      ap feeds (take_all (length text) text (omega arith)) ∙ all_feeds (lines_of host a) (all_lines host a askable.is_host) in
-      both (nat_le (length text) 16384) (nat_le (feeds (take (length text) text)) 66) (le_test (length text) 16384 (text_short host a askable.fits))
+      ap feeds (take_all (length text) text (omega arith)) ∙ all_feeds (lines_of media host a) lines_so in
+      both (nat_le (length text) 16384) (nat_le (feeds (take (length text) text)) 66)
+      (le_test (length text) 16384 (text_short media host a media_fits.short askable.fits))
       (le_test (feeds (take (length text) text)) 66 (omega (arith, count)))
 
   pub window_is : window text ≡ Some (length text)
   window_is =
       ap (λ lines. option_and_then (λ n. cond (fits text n) (Some n) None) (end_among false 0 lines))
-      (lines_are (lines_of host a) (all_lines host a askable.is_host))
-      ∙ ap (λ o. option_and_then (λ n. cond (fits text n) (Some n) None) o) (end_is host a) ∙ ap (λ t. cond t (Some (length text)) None) fits_so
+      (lines_are (lines_of media host a) lines_so)
+      ∙ ap (λ o. option_and_then (λ n. cond (fits text n) (Some n) None) o) (end_is media host a) ∙ ap (λ t. cond t (Some (length text)) None) fits_so

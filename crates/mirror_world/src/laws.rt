@@ -13,7 +13,9 @@ ghost use Rattle.zone_meaning.specs.Sound.{IsSound};
 ghost use Rattle.release_check.specs.Before.{Before, before_of};
 ghost use Rattle.release_check.specs.Folder.{examined_in};
 ghost use Rattle.negotiate.specs.declared.choosing.Format.{Format};
+ghost use Rattle.negotiate.specs.declared.choosing.Format.TheVariants.{Calendar};
 ghost use Rattle.actions.specs.Action.{action};
+ghost use Rattle.http_client.specs.CalendarRequests.{calendar_request_text};
 ghost use Rattle.http_client.specs.Requests.{request_text};
 ghost use Rattle.http_request.specs.declared.head.Head.{Head};
 ghost use Rattle.sync_core.specs.Mirrors.{MirrorState, ask_of, empty_mirror};
@@ -31,7 +33,7 @@ ghost use Rattle.sync_world.specs.Holding.{HoldsLast, SaysHolds};
 ghost use Rattle.sync_world.specs.Primaries.{AsksSinceKept, IsPlace};
 ghost use Rattle.sync_world.specs.Worlds.{Sent, SyncWorld, WorldStep, world_begun};
 ghost use Rattle.mirror_world.specs.Answers.{AreAnswered, IsAnswered, IsAnsweredOver};
-ghost use Rattle.mirror_world.specs.Answers.{IsDataAnsweredOver, IsRequestFor};
+ghost use Rattle.mirror_world.specs.Answers.{IsDataAnsweredOver, IsDataRequestFor, IsRequestFor};
 ghost use Rattle.mirror_world.specs.Asking.{IsAskable};
 ghost use Rattle.mirror_world.specs.Contents.{MayFollow, contents_of_state};
 ghost use Rattle.mirror_world.specs.Follows.{FollowsFrom};
@@ -39,7 +41,7 @@ ghost use Rattle.mirror_world.specs.Logs.{Logs};
 ghost use Rattle.mirror_world.specs.Runs.{HoldInTurn, HoldsAt, IsUnderstood, Share, SyncsInTurn};
 ghost use Rattle.mirror_world.specs.Runs.{all_taken};
 
-use http_client::requests_are_heads;
+use http_client::{calendar_requests_are_heads, requests_are_heads};
 use mirror::one_meaning;
 use sync_world::{mirrors_hold_releases, requests_are_answered};
 use target::asks_by_name;
@@ -50,6 +52,15 @@ pub fn requests_ask()
         → (head : Head) × IsRequestFor a (request_text host a) head }
 {
     requests_are_heads();
+    asks_by_name();
+}
+
+/// The same of a request of a mirror that keeps calendars, which asks for zones as calendars.
+pub fn calendar_requests_ask()
+    ensures { (host : List ℕ) (a : Ask) → IsAskable host a
+        → (head : Head) × IsDataRequestFor Calendar a (calendar_request_text host a) head }
+{
+    calendar_requests_are_heads();
     asks_by_name();
 }
 
