@@ -21,7 +21,7 @@ use Rattle.posix_footer.specs.Carried.{is_carried_rule}
 use Rattle.recurrence.specs.RuleOfDate.{rule_of}
 use Rattle.recurrence.specs.Occurs.{FallsAt, moment_of}
 use Rattle.recurrence.specs.InForce.{state_of_part, NotAfter, IsRuleOnset, IsOnsetBy, IsOnset, IsInForce}
-use Rattle.vtimezone.proofs.Whole.{IsUntil, IsRulePart, AreRuleParts}
+use Rattle.vtimezone.proofs.lemmas.Whole.{IsUntil, IsRulePart, AreRuleParts}
 use Rattle.vtimezone.specs.PartsOf.{offset_before, date_of_edge}
 use Rattle.vtimezone.specs.Ranges.{IsBeforeEnd}
 use Rattle.recurrence.proofs.lemmas.Onsets.{keeps_onsets}

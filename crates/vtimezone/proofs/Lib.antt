@@ -3,7 +3,6 @@ pub mod Alike
 pub mod CalendarBack
 pub mod CarriedPair
 pub mod DateLine
-pub mod Gathered
 pub mod Grouped
 pub mod InForce
 pub mod Joined
@@ -17,5 +16,3 @@ pub mod Ruled
 pub mod RulesBack
 pub mod Singles
 pub mod Spellable
-pub mod Whole
-pub mod ZoneRange

@@ -12,7 +12,7 @@ use Rattle.posix_footer.specs.declared.rule_types.DstRule.{DstRule}
 use Rattle.recurrence.specs.declared.rule_types.Rule.{Rule}
 use Rattle.recurrence.specs.declared.part_types.Part.{Part}
 use Rattle.recurrence.specs.InForce.{state_of_part, IsOnsetBy, IsOnset, IsInForce}
-use Rattle.vtimezone.proofs.Whole.{AreSingles, IsWhole}
+use Rattle.vtimezone.proofs.lemmas.Whole.{AreSingles, IsWhole}
 use Rattle.vtimezone.specs.Ranges.{IsBeforeEnd}
 use Rattle.vtimezone.proofs.InForce.{AreParts, means_from, single_before}
 use Rattle.vtimezone.proofs.Singles.{one_listed}

@@ -15,7 +15,7 @@ use Rattle.posix_footer.specs.Lawful.{IsLawfulRule, IsLawfulIfAny}
 use Rattle.posix_footer.specs.StateAt.{state_by}
 use Rattle.recurrence.specs.declared.part_types.Part.{Part}
 use Rattle.posix_footer.specs.Carried.{is_carried_rule, is_all_year, beyond_if_any}
-use Rattle.vtimezone.proofs.Whole.{AreSingles, IsWhole, IsRange, IsLawfulAndCarried, Means}
+use Rattle.vtimezone.proofs.lemmas.Whole.{AreSingles, IsWhole, IsRange, IsLawfulAndCarried, Means}
 use Rattle.vtimezone.specs.Ranges.{IsBeforeEnd, IsEndOf}
 use Rattle.vtimezone.specs.PartsOf.{rule_parts, changes_end, rules_if_any, rules_of, parts_from}
 use Rattle.recurrence.proofs.lemmas.AllYear.{all_year_daylight, year_9999}

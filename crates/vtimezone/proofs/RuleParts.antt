@@ -17,7 +17,7 @@ use Rattle.posix_footer.specs.Onset.{onset_of}
 use Rattle.posix_footer.proofs.lemmas.StateLemmas.{onset_rises}
 use Rattle.recurrence.specs.declared.part_types.Part.{Part}
 use Rattle.posix_footer.specs.Carried.{is_carried_rule}
-use Rattle.vtimezone.proofs.Whole.{IsLastBefore, IsUntil, IsRulePart, AreRuleParts}
+use Rattle.vtimezone.proofs.lemmas.Whole.{IsLastBefore, IsUntil, IsRulePart, AreRuleParts}
 use Rattle.vtimezone.specs.Ranges.{IsBeforeEnd}
 use Rattle.vtimezone.specs.PartsOf.{last_before, rule_part, part_until, rule_part_if, rule_parts}
 use Rattle.recurrence.proofs.lemmas.InYear.{onset_in_year, onsets_ordered}

@@ -12,7 +12,7 @@ use Rattle.zone_meaning.proofs.lemmas.Members.{member_first, member_later, membe
 use Rattle.zone_meaning.proofs.lemmas.RangeLemmas.{change_onset, first_onset, change_told, first_told, one_onset, are_observed}
 use Rattle.recurrence.specs.declared.part_types.Part.{Part}
 use Rattle.recurrence.specs.InForce.{state_of_part, IsOnset}
-use Rattle.vtimezone.proofs.Whole.{AreSingles}
+use Rattle.vtimezone.proofs.lemmas.Whole.{AreSingles}
 
 -- the part of one change alone
 abbrev pub single_of : Observance → Part

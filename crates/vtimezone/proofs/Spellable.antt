@@ -54,8 +54,8 @@ use Rattle.vtimezone.proofs.CalendarBack.{calendar_back}
 use Rattle.vtimezone.proofs.InForce.{first_not_later}
 use Rattle.vtimezone.proofs.LastBefore.{lt_is}
 use Rattle.vtimezone.proofs.PartsMean.{end_after, end_most, not_beyond}
-use Rattle.vtimezone.proofs.Whole.{IsLawfulAndCarried}
-use Rattle.vtimezone.proofs.ZoneRange.{zone_range, begin_most, lawful_footer}
+use Rattle.vtimezone.proofs.lemmas.Whole.{IsLawfulAndCarried}
+use Rattle.vtimezone.proofs.lemmas.ZoneRange.{zone_range, begin_most, lawful_footer}
 
 all_none : All IsSpellable []
 all_none = λ k d lt. absurd (omega arith)

@@ -1,8 +1,8 @@
+pub mod lemmas
 pub mod Counted
 pub mod Cutting
 pub mod DaysRead
 pub mod Falling
-pub mod FooterNames
 pub mod LateOnsets
 pub mod Leading
 pub mod LeastOnset
@@ -24,7 +24,6 @@ pub mod Validity
 pub mod ValuesBack
 pub mod Walk
 pub mod YearShown
-pub mod ZoneNames
 pub mod ZoneObserved
 pub mod ZoneStates
 pub mod ZoneWritten

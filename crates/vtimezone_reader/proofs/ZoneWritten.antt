@@ -50,9 +50,9 @@ use Rattle.vtimezone.specs.ZoneParts.{latest, rule_year, range_parts}
 use Rattle.vtimezone_reader.specs.PartLines.{name_in}
 use Rattle.vtimezone_reader.specs.Sound.{IsMeant, HasStartTime}
 use Rattle.vtimezone_reader.specs.Written.{HasLast, IsWrittenPart}
-use Rattle.vtimezone_reader.proofs.FooterNames.{HasShortNames}
+use Rattle.vtimezone_reader.proofs.lemmas.FooterNames.{HasShortNames}
 use Rattle.vtimezone_reader.proofs.Tests.{lt_is}
-use Rattle.vtimezone_reader.proofs.ZoneNames.{IsShort, meant_short, zone_short, name_read}
+use Rattle.vtimezone_reader.proofs.lemmas.ZoneNames.{IsShort, meant_short, zone_short, name_read}
 use Rattle.vtimezone_reader.proofs.ZoneStates.{not_beyond, IsLawfulAndCarried, lawful_footer}
 
 -- what is read back beyond what can be spelled

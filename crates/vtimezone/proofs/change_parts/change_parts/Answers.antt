@@ -1,4 +1,4 @@
-use Rattle.vtimezone.proofs.Gathered.{gathered_begin, gathered_next}
+use Rattle.vtimezone.proofs.lemmas.Gathered.{gathered_begin, gathered_next}
 use Rattle.vtimezone.proofs.change_parts.change_parts.Goals as goal
 
 pub loop-change-init : goal.loop-change-init

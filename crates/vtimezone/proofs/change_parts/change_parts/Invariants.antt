@@ -1,7 +1,7 @@
 use Rattle.std.proofs.Common.{length}
 use Rattle.zone_meaning.specs.Observed.{observed}
 use Rattle.zone_meaning.specs.State.{zone_state}
-use Rattle.vtimezone.proofs.Gathered.{AreGathered}
+use Rattle.vtimezone.proofs.lemmas.Gathered.{AreGathered}
 use Rattle.vtimezone.proofs.change_parts.change_parts.Given as goal
 
 -- the parts so far are those of the changes that are not left

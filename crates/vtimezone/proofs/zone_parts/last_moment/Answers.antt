@@ -3,7 +3,7 @@ use Rattle.td_civil.specs.Bounds.{HasMeaning}
 use Rattle.tzif_reader.specs.declared.zone_file.ZoneFile.{ZoneFile}
 use Rattle.tzif_reader.specs.Cut.{lists_of}
 use Rattle.vtimezone.specs.ZoneParts.{latest}
-use Rattle.vtimezone.proofs.ZoneRange.{latest_meant}
+use Rattle.vtimezone.proofs.lemmas.ZoneRange.{latest_meant}
 use Rattle.vtimezone.proofs.zone_parts.last_moment.Goals as goal
 
 pub returns-clause-meaning : goal.returns-clause-meaning

@@ -3,7 +3,7 @@ use Rattle.jiff_core.proofs.SignedLemmas.{signed_arith}
 use Rattle.vtimezone.specs.PartsOf.{year_begin, changes_end}
 use Rattle.vtimezone.specs.Ranges.{end_in}
 use Rattle.vtimezone.proofs.PartsMean.{end_after, end_most}
-use Rattle.vtimezone.proofs.ZoneRange.{begin_most}
+use Rattle.vtimezone.proofs.lemmas.ZoneRange.{begin_most}
 use Rattle.vtimezone.proofs.zone_parts.listed.Goals as goal
 
 pub change_parts-requires : goal.change_parts-requires

@@ -5,7 +5,7 @@ use Rattle.recurrence.specs.InForce.{GivesState}
 use Rattle.zone_meaning.specs.State.{zone_state}
 use Rattle.recurrence.specs.Spellable.{IsSpellable}
 use Rattle.vtimezone.proofs.Spellable.{some_parts, parts_spellable}
-use Rattle.vtimezone.proofs.ZoneRange.{zone_parts_mean}
+use Rattle.vtimezone.proofs.lemmas.ZoneRange.{zone_parts_mean}
 use Rattle.vtimezone.proofs.zone_parts.parts.Goals as goal
 
 pub returns-clause-means : goal.returns-clause-means

@@ -1,7 +1,7 @@
 use Rattle.std.proofs.Common.{◌∙◌, ap, arith, pos, ◌+ℤ◌, ◌<ℤ◌, w32, FitsSigned, to_z-of_z}
 use Rattle.jiff_core.proofs.SignedLemmas.{signed_arith}
 use Rattle.td_civil.specs.Calendar.{stamp_of}
-use Rattle.vtimezone.proofs.ZoneRange.{rule_year_is}
+use Rattle.vtimezone.proofs.lemmas.ZoneRange.{rule_year_is}
 use Rattle.vtimezone.proofs.zone_parts.rule_year.Goals as goal
 
 pub year_of-requires : goal.year_of-requires

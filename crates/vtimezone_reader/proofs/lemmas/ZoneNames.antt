@@ -22,7 +22,7 @@ use Rattle.zone_meaning.specs.Faults.{zone_fault}
 use Rattle.zone_meaning.specs.Names.{is_printable_name}
 use Rattle.zone_meaning.specs.State.{begun, after, state_at, footer_meant, zone_state}
 use Rattle.vtimezone_reader.specs.PartLines.{is_visible, name_in}
-use Rattle.vtimezone_reader.proofs.FooterNames.{HasShortNames, footer_short}
+use Rattle.vtimezone_reader.proofs.lemmas.FooterNames.{HasShortNames, footer_short}
 
 abbrev pub IsShort : Local → Type 0
 IsShort s = length s.name ≤ 32

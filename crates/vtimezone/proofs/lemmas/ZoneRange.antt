@@ -29,7 +29,7 @@ use Rattle.zone_meaning.proofs.lemmas.RuleLemmas.{zone_follows}
 use Rattle.recurrence.specs.InForce.{GivesState}
 use Rattle.recurrence.specs.declared.part_types.Range.{Range}
 use Rattle.vtimezone.specs.Ranges.{IsEndOf, IsAmong, end_in}
-use Rattle.vtimezone.proofs.Whole.{IsRange, IsLawfulAndCarried, goes_on}
+use Rattle.vtimezone.proofs.lemmas.Whole.{IsRange, IsLawfulAndCarried, goes_on}
 use Rattle.recurrence.proofs.lemmas.AllYear.{year_9999}
 use Rattle.posix_footer.specs.Grammar.{footer_in}
 use Rattle.posix_footer.specs.declared.footer_fault.FooterFault.{FooterFault}

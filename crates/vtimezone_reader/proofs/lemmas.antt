@@ -1,0 +1,3 @@
+-- Lemmas that proofs of other crates may cite.
+pub mod FooterNames
+pub mod ZoneNames
