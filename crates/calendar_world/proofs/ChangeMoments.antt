@@ -40,8 +40,8 @@ use Rattle.zone_meaning.specs.Observed.{observed}
 use Rattle.zone_meaning.specs.State.{after, begun, footer_meant, state_at, zone_state}
 use Rattle.vtimezone.specs.PartsOf.{year_begin}
 use Rattle.vtimezone.specs.ZoneParts.{latest, rule_year}
-use Rattle.vtimezone.proofs.Whole.{IsLawfulAndCarried}
-use Rattle.vtimezone.proofs.ZoneRange.{begin_most, lawful_footer, zone_range}
+use Rattle.vtimezone.proofs.lemmas.Whole.{IsLawfulAndCarried}
+use Rattle.vtimezone.proofs.lemmas.ZoneRange.{begin_most, lawful_footer, zone_range}
 use Rattle.calendar_world.proofs.Fewer.{IsAmong, few_observed}
 
 -- ---- transitions

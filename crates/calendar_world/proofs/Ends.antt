@@ -37,10 +37,10 @@ not_unreadable place h e = absurd (cc)
 not_refused : (status : ℕ) (h : Heard) → judged.Sound (understood.Refuses status) ≡ hears h → ⊥
 not_refused status h e = absurd (cc)
 
-not_bad : (f : CalendarFault) (h : Heard) → judged.BadCalendar f ≡ hears h → ⊥
+pub not_bad : (f : CalendarFault) (h : Heard) → judged.BadCalendar f ≡ hears h → ⊥
 not_bad f h e = absurd (cc)
 
-not_wrong : (h : Heard) → judged.WrongName ≡ hears h → ⊥
+pub not_wrong : (h : Heard) → judged.WrongName ≡ hears h → ⊥
 not_wrong h e = absurd (cc)
 
 module _ (fits : Fits) (read : IsRead) (told : IsTold) (heard_so : AreHeard) (one : OneMeaning) (written : Ask → List ℕ) (s t : MirrorState) where

@@ -80,7 +80,7 @@ of_judged a (understood.Hears k) h e = ap understood.Hears (of_heard a k h e)
 of_judged a (understood.Unreadable place) h e = absurd (cc)
 of_judged a (understood.Refuses status) h e = absurd (cc)
 
-sound_means : (a : Ask) (answer : List ℕ) (h : Heard) → MeansSound a answer (understood.Hears h) → Means a answer (understood.Hears h)
+pub sound_means : (a : Ask) (answer : List ℕ) (h : Heard) → MeansSound a answer (understood.Hears h) → Means a answer (understood.Hears h)
 sound_means a answer h j = subst (Means a answer) (of_judged a j.0 h j.2) j.1
 
 -- an answer is one thing alone
@@ -90,7 +90,7 @@ OneJudgement = (a : Ask) (answer : List ℕ) (j k : Judged) → IsJudged a answe
 same_sound : (u v : Understood) → judged.Sound u ≡ judged.Sound v → u ≡ v
 same_sound u v e = cc
 
-one_sound : OneJudgement → (a : Ask) (answer : List ℕ) (u v : Understood) → MeansSound a answer u → MeansSound a answer v → u ≡ v
+pub one_sound : OneJudgement → (a : Ask) (answer : List ℕ) (u v : Understood) → MeansSound a answer u → MeansSound a answer v → u ≡ v
 one_sound one a answer u v p q = same_sound u v (one a answer (judged.Sound u) (judged.Sound v) p q)
 
 -- ---- what is kept is what a primary serves
@@ -165,12 +165,12 @@ module _ (law : WorldsHold) (one : OneJudgement) (heard_so : HeardInBytes) (writ
   leads : Leads IsSound IsCalendarHeardOver (world_begun H) steps w
   leads = led IsSound IsCalendarAnsweredOver MeansSound IsCalendarHeardOver heard_over (world_begun H) steps taken w logs
 
-  longer : length H ≤ length w.history
+  pub longer : length H ≤ length w.history
   longer =
       let k = grows IsSound IsCalendarAnsweredOver MeansSound (world_begun H) steps taken w logs in
       omega (arith, ap length k.is ∙ length-append H k.more)
 
-  follows : FollowsFrom IsCalendarAnsweredOver MeansSound calendar_service w.history (length H) empty_mirror taken w.mirror
+  pub follows : FollowsFrom IsCalendarAnsweredOver MeansSound calendar_service w.history (length H) empty_mirror taken w.mirror
   follows =
       followed IsSound IsCalendarAnsweredOver MeansSound IsCalendarHeardOver calendar_service heard_over H
       (λ made v u n sent h on answer says. last_held u.mirror (take n v.history) (law H made v u n sent h history some on answer says)) steps taken w logs

@@ -10,7 +10,7 @@ use Rattle.zone_meaning.specs.Observed.{change_at, changes_after, changes_betwee
 use Rattle.vtimezone.specs.CalendarText.{part_lines}
 use Rattle.vtimezone.specs.Gathering.{is_of, joined, part_alone, with_date}
 use Rattle.vtimezone.specs.Grouping.{first_ones, grouped}
-use Rattle.vtimezone.proofs.Gathered.{grouped_push}
+use Rattle.vtimezone.proofs.lemmas.Gathered.{grouped_push}
 use Rattle.calendar_world.proofs.LineSizes.{cost, cost_both}
 use Rattle.calendar_world.proofs.PartSizes.{IsShortPart, part_cost, part_size}
 

@@ -11,3 +11,4 @@ mod GroupSizes
 mod ZoneSizes
 mod Ends
 mod Following
+mod Settling

@@ -26,8 +26,8 @@ use Rattle.vtimezone.specs.PartsOf.{parts_from, rule_part, rule_parts, rules_if_
 use Rattle.vtimezone.specs.ZoneParts.{range_parts, rule_year}
 use Rattle.vtimezone_reader.specs.Written.{parts_after}
 use Rattle.vtimezone_reader.specs.declared.calendar_type.TheConstants.{MOST_BYTES}
-use Rattle.vtimezone_reader.proofs.FooterNames.{HasShortNames}
-use Rattle.vtimezone_reader.proofs.ZoneNames.{meant_short, zone_short}
+use Rattle.vtimezone_reader.proofs.lemmas.FooterNames.{HasShortNames}
+use Rattle.vtimezone_reader.proofs.lemmas.ZoneNames.{meant_short, zone_short}
 use Rattle.calendar_world.proofs.ChangeMoments.{few_told}
 use Rattle.calendar_world.proofs.GroupSizes.{AreFew, IsNamedShort, costs_both, few_parts, fewer, parts_cost, parts_size}
 use Rattle.calendar_world.proofs.LineSizes.{cost, cost_both, written_size}

@@ -1,5 +1,5 @@
 -- The exchanges of a mirror of calendars with a primary, and how a sync does not end over these.
-use Rattle.std.specs.Prelude.{ℕ, ◌<◌, List, [], ◌∷◌, length, take, Result, Err, ⊤}
+use Rattle.std.specs.Prelude.{ℕ, ◌<◌, List, [], ◌∷◌, length, take, Result, Ok, Err, ⊤}
 use Rattle.td_base.specs.declared.report.Ask.{Ask}
 use Rattle.td_base.specs.declared.upstream.Exchange.{Exchange}
 use Rattle.catalogue.specs.Histories.{IsHistory}
@@ -35,6 +35,13 @@ IsUnderstood (Err (fault.Sync (sync.Refused exchange status))) = ⊥
 IsUnderstood (Err (fault.BadCalendar exchange why)) = ⊥
 IsUnderstood (Err (fault.WrongName exchange)) = ⊥
 IsUnderstood result = ⊤
+
+-- a sync of calendars ended well, or for the network or for memory alone
+abbrev pub IsSettled : Result (Unit {0}) CalendarSyncFault → Type 0
+IsSettled (Ok done) = ⊤
+IsSettled (Err (fault.Sync sync.UpstreamFault)) = ⊤
+IsSettled (Err (fault.Sync sync.NoMemory)) = ⊤
+IsSettled result = ⊥
 
 -- a sync that took the answers of these exchanges ended well over the first n releases of a
 -- primary: the last was answered over these, and the mirror holds exactly the calendars of the last

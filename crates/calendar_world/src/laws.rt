@@ -1,5 +1,5 @@
 //! The laws, each the contract of a function that does nothing.
-ghost use Rattle.std.specs.Prelude.{◌≡◌, ◌≤◌, ℕ, List, Option, None, Some, IfSome, length, true};
+ghost use Rattle.std.specs.Prelude.{◌≡◌, ◌≤◌, ◌++◌, ℕ, List, Option, None, Some, IfSome, length, true};
 ghost use Rattle.std.specs.Prelude.{Result, Ok};
 ghost use Rattle.td_base.specs.Names.{is_identifier};
 ghost use Rattle.td_base.specs.declared.report.Ask.{Ask};
@@ -26,8 +26,9 @@ ghost use Rattle.calendar_mirror.specs.declared.sync_fault.CalendarSyncFault.{Ca
 ghost use Rattle.sync_world.specs.Calendars.{HoldsCalendars, IsCalendarHeardOver};
 ghost use Rattle.sync_world.specs.Worlds.{IsAnswer, Leads, Sent, SyncWorld, WorldStep, world_begun};
 ghost use Rattle.mirror_world.specs.Logs.{Logs};
+ghost use Rattle.mirror_world.specs.Settling.{SettlesSecond};
 ghost use Rattle.calendar_world.specs.Endings.{AreAnswered, HoldsAt, IsCalendarAnsweredOver};
-ghost use Rattle.calendar_world.specs.Endings.{IsUnderstood};
+ghost use Rattle.calendar_world.specs.Endings.{IsSettled, IsUnderstood};
 ghost use Rattle.calendar_world.specs.Reading.{IsCalendarAnswer, KeepsCalendar};
 
 use calendar_mirror::one_judgement;
@@ -97,6 +98,23 @@ pub fn syncs_are_understood()
     calendars_fit();
     zone_is_read();
     zone_is_told();
+    one_meaning();
+    one_judgement();
+}
+
+/// Where the second answer to a list among the exchanges of a primary is an empty list of changes,
+/// a sync over them ends well, but for the network or for memory: whatever calendars they bring are
+/// taken, and no further list is asked for.
+pub fn syncs_settle()
+    ensures { (host : List ℕ) (t : MirrorState) (taken untaken xs more : List Exchange)
+        (result : Result (Unit {0}) CalendarSyncFault)
+        → SettlesSecond IsCalendarAnsweredOver xs → taken ++ untaken ≡ xs ++ more
+        → CalendarSyncEnds (calendar_request_text host) empty_mirror t taken untaken result
+        → IsSettled result }
+{
+    mirrors_hold_calendars();
+    data_is_heard_in_bytes();
+    answers_are_sound();
     one_meaning();
     one_judgement();
 }

@@ -14,5 +14,5 @@ mod laws;
 
 pub use laws::{
     answers_are_sound, calendars_are_read, calendars_are_told, calendars_fit, syncs_are_understood,
-    syncs_hold,
+    syncs_hold, syncs_settle,
 };

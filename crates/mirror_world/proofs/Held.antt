@@ -1,15 +1,19 @@
 -- The laws of a mirror, from the law of the world.
-use Rattle.std.proofs.Common.{◌≡◌, ◌≢◌, ℕ, ◌<◌, ◌≤◌, Some, List, [], ◌∷◌, ◌++◌, length, take, Result, ap, ◌∙◌, subst, arith}
-use Rattle.std.proofs.Common.{length-append}
+use Rattle.std.proofs.Common.{◌≡◌, ◌≢◌, ℕ, ◌<◌, ◌≤◌, Some, List, [], ◌∷◌, ◌++◌, length, take, Result, Ok, ap, ◌∙◌, subst, arith}
+use Rattle.std.proofs.Common.{length-append, length-take}
+use Rattle.td_base.specs.Views.{File}
 use Rattle.td_base.specs.declared.report.Ask.{Ask}
 use Rattle.td_base.specs.declared.report.Role.TheVariants.{Primary}
 use Rattle.td_base.specs.declared.upstream.Exchange.{Exchange}
 use Rattle.catalogue.specs.Histories.{IsHistory}
 use Rattle.catalogue.specs.Releases.{ReleaseData}
 use Rattle.zone_meaning.specs.Sound.{IsSound}
+use Rattle.release_check.specs.Before.{Before, before_of}
+use Rattle.release_check.specs.Folder.{examined_in}
 use Rattle.http_request.specs.declared.head.Head.{Head}
 use Rattle.actions.specs.Action.{action}
 use Rattle.sync_core.specs.Mirrors.{MirrorState, ask_of, empty_mirror}
+use Rattle.sync_core.specs.Published.{HasFiles, manifest_of}
 use Rattle.sync_core.specs.Steps.{sync_step}
 use Rattle.sync_core.specs.declared.heard_type.Heard.{Heard}
 use Rattle.sync_core.specs.declared.heard_type.Heard.TheVariants as heard
@@ -23,13 +27,14 @@ use Rattle.sync_world.specs.Holding.{HoldsLast, SaysHolds}
 use Rattle.sync_world.specs.Primaries.{AsksSinceKept, IsPlace}
 use Rattle.sync_world.specs.Worlds.{IsAnswer, Leads, Sent, SyncWorld, WorldStep, world_begun}
 use Rattle.mirror_world.specs.Answers.{AreAnswered, IsAnswered, IsAnsweredOver}
+use Rattle.mirror_world.specs.Contents.{MayFollow}
 use Rattle.mirror_world.specs.Follows.{FollowsFrom}
 use Rattle.mirror_world.specs.Logs.{Logs}
 use Rattle.mirror_world.specs.Runs.{HoldInTurn, IsUnderstood, Share, SyncsInTurn, all_taken}
 use Rattle.mirror_world.proofs.lemmas.Following.{followed}
 use Rattle.mirror_world.proofs.lemmas.Histories.{front_history, stays_history}
 use Rattle.mirror_world.proofs.Hearing.{heard_over, means_so}
-use Rattle.mirror_world.proofs.lemmas.Syncing.{OneMeaning, after_all, in_turn, is_understood, walk_holds}
+use Rattle.mirror_world.proofs.lemmas.Syncing.{OneMeaning, after_all, in_turn, is_understood, share_holds, walk_holds}
 use Rattle.mirror_world.proofs.lemmas.Worlds.{SentStands, begins, grows, led, stood_on}
 
 -- the law of the world of a primary and a mirror
@@ -116,3 +121,26 @@ all_understood law requests one written H steps w shares s t taken untaken resul
         let k : AreAnswered w (x ∷ []) = subst (AreAnswered w) is answered in
         let found = understood_so requests H steps (all_taken shares ++ taken) w k.0 k.1 x history some logs k.2 k.3 in
         (found.0, found.1)
+
+-- what a mirror that holds a release states passes wherever it may follow
+abbrev pub HeldPass : Type 0
+HeldPass =
+    (G : List ReleaseData) (s : MirrorState) (files : List File) (before : Before) → IsHistory IsSound G → 1 ≤ length G → HoldsLast action_service s G
+    → HasFiles files s.files → MayFollow before (manifest_of s) → (r : ReleaseData) × (examined_in files [] before (manifest_of s) ≡ Ok r)
+
+some_first : (G : List ReleaseData) (n : ℕ) → 1 ≤ n → n ≤ length G → 1 ≤ length (take n G)
+some_first G n low upto = omega (arith, low, upto, length-take n G)
+
+pub first_passes : (law : WorldsHold) (one : OneMeaning Means) (pass : HeldPass) (t : MirrorState) → MayFollow (before_of []) (manifest_of t)
+    → (written : Ask → List ℕ) (taken untaken rest : List Exchange) (files : List File) (result : Result (Unit {0}) SyncFault) (H : List ReleaseData)
+    (steps : List WorldStep) (v : SyncWorld) → IsHistory IsSound H → 1 ≤ length H → Logs IsSound IsAnsweredOver Means (world_begun H) steps (taken ++ rest) v
+    → SyncEnds written Means empty_mirror t taken untaken result → result ≡ Ok tt → HasFiles files t.files
+    → (r : ReleaseData) × (examined_in files [] (before_of []) (manifest_of t) ≡ Ok r)
+first_passes law one pass t may written taken untaken rest files result H steps v history some logs ends good has =
+    let long = longer law H steps (taken ++ rest) v history some logs in
+    let k = share_holds written IsAnsweredOver Means one action_service v.history (length H) empty_mirror t v.mirror taken untaken rest result long
+    (follows law H steps (taken ++ rest) v history some logs) ends in
+    let from : length H ≤ k.0 = (k.1).from in
+    let low : 1 ≤ k.0 = omega (arith, some, from) in
+    pass (take k.0 v.history) t files (before_of []) (go_on H steps (taken ++ rest) v k.0 history logs).1 (some_first v.history k.0 low (k.1).upto)
+    ((k.1).holds good) has may

@@ -2,4 +2,5 @@
 pub mod Worlds
 pub mod Following
 pub mod Syncing
+pub mod Settling
 pub mod Histories

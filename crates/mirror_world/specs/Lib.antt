@@ -4,3 +4,4 @@ pub mod Contents
 pub mod Follows
 pub mod Logs
 pub mod Runs
+pub mod Settling

@@ -40,6 +40,7 @@ ghost use Rattle.mirror_world.specs.Follows.{FollowsFrom};
 ghost use Rattle.mirror_world.specs.Logs.{Logs};
 ghost use Rattle.mirror_world.specs.Runs.{HoldInTurn, HoldsAt, IsUnderstood, Share, SyncsInTurn};
 ghost use Rattle.mirror_world.specs.Runs.{all_taken};
+ghost use Rattle.mirror_world.specs.Settling.{IsSettled, SecondListIsEmpty, SettlesSecond};
 
 use http_client::{calendar_requests_are_heads, requests_are_heads};
 use mirror::one_meaning;
@@ -181,6 +182,40 @@ pub fn syncs_are_understood()
     mirrors_hold_releases();
     requests_are_answered();
     one_meaning();
+}
+
+/// A sync of a mirror that holds nothing, over exchanges of which the second answer to a list is an
+/// empty list of changes, ends well, but for the network or for memory; and where it ends well, it
+/// took no more than these.
+pub fn syncs_settle()
+    ensures ends { (host : List ℕ) (t : MirrorState) (taken untaken xs more : List Exchange)
+        (result : Result (Unit {0}) SyncFault) → SecondListIsEmpty Means xs
+        → taken ++ untaken ≡ xs ++ more
+        → SyncEnds (request_text host) Means empty_mirror t taken untaken result
+        → IsSettled result }
+    ensures takes { (host : List ℕ) (t : MirrorState) (taken untaken xs more : List Exchange)
+        (result : Result (Unit {0}) SyncFault) → SecondListIsEmpty Means xs
+        → taken ++ untaken ≡ xs ++ more
+        → SyncEnds (request_text host) Means empty_mirror t taken untaken result
+        → result ≡ Ok tt → (rest : List Exchange) × (xs ≡ taken ++ rest) }
+{
+    one_meaning();
+}
+
+/// So what the mirror states after a sync that ended well over the exchanges of a primary passes
+/// the check of a first release.
+pub fn settled_mirrors_pass()
+    ensures { (host : List ℕ) (t : MirrorState) (taken untaken xs more : List Exchange)
+        (files : List File) (result : Result (Unit {0}) SyncFault)
+        → SettlesSecond IsAnsweredOver xs → taken ++ untaken ≡ xs ++ more
+        → SyncEnds (request_text host) Means empty_mirror t taken untaken result → result ≡ Ok tt
+        → HasFiles files t.files
+        → (r : ReleaseData) × (examined_in files [] (before_of []) (manifest_of t) ≡ Ok r) }
+{
+    mirrors_hold_releases();
+    one_meaning();
+    syncs_settle();
+    held_releases_pass();
 }
 
 /// A mirror that holds a release exactly states the contents of it.

@@ -12,6 +12,6 @@ mod laws;
 pub use laws::{
     answers_are_heard_in_bytes, answers_are_understood, calendar_requests_ask, contents_are_held,
     data_is_heard_in_bytes, data_is_meant_in_bytes, held_releases_pass, histories_go_on,
-    mirrors_follow, mirrors_hold_in_turn, releases_are_held, requests_ask, syncs_are_understood,
-    syncs_hold, walks_hold,
+    mirrors_follow, mirrors_hold_in_turn, releases_are_held, requests_ask, settled_mirrors_pass,
+    syncs_are_understood, syncs_hold, syncs_settle, walks_hold,
 };

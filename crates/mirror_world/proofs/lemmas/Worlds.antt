@@ -10,7 +10,7 @@ use Rattle.sync_core.specs.declared.heard_type.Heard.{Heard}
 use Rattle.mirror.specs.declared.understood_type.Understood.{Understood}
 use Rattle.mirror.specs.declared.understood_type.Understood.TheVariants as understood
 use Rattle.sync_world.specs.Worlds as world
-use Rattle.sync_world.specs.Worlds.{IsAnswer, Leads, LeadsTo, Sent, SyncWorld, WorldStep, sent_then, world_after, world_begun}
+use Rattle.sync_world.specs.Worlds.{IsAnswer, Leads, LeadsTo, Sent, SyncWorld, WorldStep, sent_then, world_begun}
 use Rattle.mirror_world.specs.Logs.{Brings, Logs, Reaches}
 
 -- what is outstanding is what the mirror asks, and was first sent when the history had so many releases
