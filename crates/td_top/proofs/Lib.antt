@@ -25,3 +25,4 @@ pub mod CalendarLemmas
 pub mod CalendarRuns
 pub mod KeptCalendars
 pub mod PrimaryLines
+pub mod Completing

@@ -178,7 +178,8 @@ reached_told seen None None address server h = tt
 
 pub reaches_server : {U : Type 0} (seen : U → UpstreamView) (before now : NetworkView) (address : List ℕ) (server : U)
     → Reaches seen before now address (made.Given server) → ReachesServer before now address (seen server)
-reaches_server seen before now address server h = record { new = h.fits; told = reached_told seen before.content now.content address server h.told }
+reaches_server seen before now address server h =
+    record { steady = h.steady refl; new = h.fits; told = reached_told seen before.content now.content address server h.told }
 
 -- a call that failed gave nothing
 pub not_told : {U : Type 0} (seen : U → UpstreamView) (before now : Option NetworkContent) (address : List ℕ) → ReachTold seen before now address made.Failed

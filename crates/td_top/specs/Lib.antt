@@ -18,3 +18,4 @@ pub mod FollowingSteps
 pub mod MirrorHistory
 pub mod Works
 pub mod Running
+pub mod Completing

@@ -35,8 +35,10 @@ mod growth;
 mod console_beside;
 mod works;
 
-// What may cross threads.
+// Laws, and what may cross threads.
+mod laws;
 mod send_sync;
 
+pub use laws::runs_complete;
 pub use outcome::Outcome;
 pub use running::run;

@@ -34,9 +34,11 @@ ReachedTold (Some before) (Some now) address upstream =
 ReachedTold None None address upstream = ⊤
 ReachedTold before now address upstream = ⊥
 
--- the network was called once, for the server at an address, of which nothing was asked yet
+-- the network was called once, and did not fail, for the server at an address, of which nothing was
+-- asked yet
 pub record ReachesServer (before now : NetworkView) (address : List ℕ) (upstream : UpstreamView)
     : Type 0 where
+  pub steady : now.faults ≡ before.faults
   pub new : IsNewUpstream upstream
   pub told : ReachedTold before.content now.content address upstream
 
