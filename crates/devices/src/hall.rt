@@ -1,4 +1,5 @@
 use crate::listening::{Listening, next_stream};
+use crate::now::Now;
 use crate::passing::{is_passing, is_short};
 use crate::resting::{LISTENS, Resting};
 use crate::shares::{Counter, Shares};
@@ -57,6 +58,8 @@ pub struct Hall<R> {
     polled: u64,
     swept: u64,
     idled: u64,
+    /// The number of the last turn.
+    turns: u64,
 }
 
 /// What came of connections that wait at the socket.
@@ -106,6 +109,7 @@ impl<R: Clock> Hall<R> {
             polled: 0,
             swept: 0,
             idled: 0,
+            turns: 0,
         })
     }
 
@@ -143,10 +147,11 @@ impl<R: Clock> Hall<R> {
     pub fn take_back(&mut self, wire: Wire<TcpStream>, end: End) {
         let mut wire = wire;
         self.tick();
-        if wire.finish(end, self.time) == Fate::Breaks {
+        let now = self.now();
+        if wire.finish(end, now) == Fate::Breaks {
             return;
         }
-        let rest = wire.advance(self.time);
+        let rest = wire.advance(now);
         self.resting.keep(self.poll.registry(), wire, rest);
     }
 
@@ -155,6 +160,15 @@ impl<R: Clock> Hall<R> {
         if let Ok(time) = self.clock.monotonic() {
             let millis = u64::try_from(time.as_millis()).unwrap_or(u64::MAX);
             self.time = self.time.max(millis);
+        }
+    }
+
+    /// The time, with the number of the next turn.
+    fn now(&mut self) -> Now {
+        self.turns = self.turns.saturating_add(1);
+        Now {
+            millis: self.time,
+            turn: self.turns,
         }
     }
 
@@ -206,13 +220,14 @@ impl<R: Clock> Hall<R> {
         }
         self.tick();
         self.polled = self.time;
-        if self.resting.stir_all(&self.events, self.time) && !self.comes {
+        let now = self.now();
+        if self.resting.stir_all(&self.events, now) && !self.comes {
             self.comes = true;
             self.came = self.time;
         }
         if self.time.saturating_sub(self.swept) >= SWEEP_MILLIS {
             self.swept = self.time;
-            self.resting.sweep(self.time);
+            self.resting.sweep(now);
         }
         Ok(())
     }
@@ -248,8 +263,9 @@ impl<R: Clock> Hall<R> {
                 if self.resting.count() >= self.most {
                     let _ = self.resting.make_room();
                 }
-                let mut wire = Wire::new(self.alloc, stream, self.time);
-                let rest = wire.advance(self.time);
+                let now = self.now();
+                let mut wire = Wire::new(self.alloc, stream, now);
+                let rest = wire.advance(now);
                 if rest == Rest::Ready {
                     return Ok(Some(wire));
                 }
@@ -289,7 +305,8 @@ impl<R: Clock> Hall<R> {
     /// No connection is served any more: each is closed once what was written to it has gone out.
     pub fn leave(&mut self) {
         self.tick();
-        self.resting.leave(self.time);
+        let now = self.now();
+        self.resting.leave(now);
     }
 
     /// Sends on for a moment, before this time of its clock, what was written and not yet taken. It

@@ -18,6 +18,7 @@ mod real_spawner;
 
 // One connection: its stream, what it holds, and a stretch of it.
 mod incoming;
+mod now;
 mod outgoing;
 mod real_conn;
 mod socket;

@@ -1,4 +1,5 @@
 //! The connections of a door that no worker serves.
+use crate::now::Now;
 use crate::wire::{Rest, Wire};
 use mio::event::Event;
 use mio::unix::SourceFd;
@@ -122,7 +123,7 @@ impl Resting {
     }
 
     /// Events came. It tells whether one of them was that of the listening socket.
-    pub fn stir_all(&mut self, events: &Events<Global>, now: u64) -> bool {
+    pub fn stir_all(&mut self, events: &Events<Global>, now: Now) -> bool {
         let mut listens = false;
         for event in events.iter() {
             if event.token() == LISTENS {
@@ -135,7 +136,7 @@ impl Resting {
     }
 
     /// Something happened to a connection.
-    fn stir(&mut self, event: &Event, now: u64) {
+    fn stir(&mut self, event: &Event, now: Now) {
         let Token(place) = event.token();
         let key = place.saturating_sub(1);
         if let Some(wire) = self.wires.get_mut(key) {
@@ -145,7 +146,7 @@ impl Resting {
     }
 
     /// Does what can be done for a connection that is not in the row.
-    fn advance(&mut self, key: usize, now: u64) {
+    fn advance(&mut self, key: usize, now: Now) {
         let Some(wire) = self.wires.get_mut(key) else {
             return;
         };
@@ -187,7 +188,7 @@ impl Resting {
     }
 
     /// No connection is served any more: each is closed once what was written to it has gone out.
-    pub fn leave(&mut self, now: u64) {
+    pub fn leave(&mut self, now: Now) {
         for key in 0..self.wires.capacity() {
             if let Some(wire) = self.wires.get_mut(key) {
                 wire.leave();
@@ -197,10 +198,10 @@ impl Resting {
     }
 
     /// Gives up the connections whose time is over.
-    pub fn sweep(&mut self, now: u64) {
+    pub fn sweep(&mut self, now: Now) {
         let mut from = 0;
         for _ in 0..self.roll.len() {
-            match self.roll.next_over(from, now) {
+            match self.roll.next_over(from, now.millis) {
                 Some(key) => {
                     self.give_up(key, now);
                     from = key.saturating_add(1);
@@ -212,10 +213,10 @@ impl Resting {
 
     /// Closes a connection, if it makes no progress now: the system tells of room in a socket only
     /// once much of it is free.
-    fn give_up(&mut self, key: usize, now: u64) {
+    fn give_up(&mut self, key: usize, now: Now) {
         self.advance(key, now);
         let is_over = match self.wires.get(key) {
-            Some(wire) => !wire.queued && wire.life().is_over(now),
+            Some(wire) => !wire.queued && wire.life().is_over(now.millis),
             None => false,
         };
         if is_over {

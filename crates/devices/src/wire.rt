@@ -5,6 +5,7 @@ ghost use Rattle.devices.specs.Sockets.{Sends};
 ghost use Rattle.stretches.specs.Fates.{fate_of};
 
 use crate::incoming::{Given, Incoming};
+use crate::now::Now;
 use crate::outgoing::Outgoing;
 use crate::socket::{Received, Sent, receive};
 use std::alloc::Global;
@@ -59,8 +60,8 @@ pub struct Wire<S> {
     stage: Stage,
     /// Whether its last read told the end of a stretch.
     stretch_ended: bool,
-    /// When a byte came or went last; when it was accepted, handed back or sent the whole of a
-    /// reply last; and when the first byte was seen of a head that is not whole.
+    /// When a byte came or went last; the number of its last turn, as it was accepted, handed back or
+    /// had sent the whole of a reply; and when the first byte was seen of a head that is not whole.
     moved: u64,
     turned: u64,
     began: Option<u64>,
@@ -71,7 +72,7 @@ pub struct Wire<S> {
 
 impl<S> Wire<S> {
     /// The connection of a stream that was accepted at this moment.
-    pub fn new(alloc: Global, stream: S, now: u64) -> Wire<S> {
+    pub fn new(alloc: Global, stream: S, now: Now) -> Wire<S> {
         Wire {
             stream,
             incoming: Incoming::new(alloc),
@@ -79,8 +80,8 @@ impl<S> Wire<S> {
             alloc,
             stage: Stage::Open,
             stretch_ended: false,
-            moved: now,
-            turned: now,
+            moved: now.millis,
+            turned: now.turn,
             began: None,
             key: None,
             queued: false,
@@ -99,13 +100,13 @@ impl<S> Wire<S> {
     }
 
     /// What becomes of it at the end of a stretch, which was served to such an end.
-    pub fn finish(&mut self, end: End, now: u64) -> Fate
+    pub fn finish(&mut self, end: End, now: Now) -> Fate
         ensures fate { result ≡ fate_of end self.old.stretch_ended self.old.incoming.ended }
         ensures incoming { self.new.incoming.intake.bytes ≡ self.old.incoming.intake.bytes }
         ensures outgoing { self.new.outgoing.unsent.rest ≡ self.old.outgoing.unsent.rest }
     {
-        self.moved = now;
-        self.turned = now;
+        self.moved = now.millis;
+        self.turned = now.turn;
         let fate = fate_after(end, self.stretch_ended, self.incoming.is_ended());
         if fate == Fate::Leaves {
             self.leave();
@@ -163,14 +164,14 @@ impl<S> Wire<S> {
 
     /// It waits for the next head, or for the rest of one. Memory that it does not need meanwhile
     /// is given back.
-    fn settle(&mut self, now: u64)
+    fn settle(&mut self, millis: u64)
         ensures incoming { self.new.incoming.intake.bytes ≡ self.old.incoming.intake.bytes }
         ensures outgoing { self.new.outgoing.unsent.rest ≡ self.old.outgoing.unsent.rest }
     {
         if self.incoming.is_empty() {
             self.began = None;
         } else if self.began.is_none() {
-            self.began = Some(now);
+            self.began = Some(millis);
         }
         self.incoming.let_go(self.alloc);
         self.outgoing.let_go(self.alloc);
@@ -207,17 +208,17 @@ impl<S: Read + Write> Wire<S> {
     }
 
     /// Sends what is held, as much as there is room for, and tells whether the stream is sound.
-    fn flush(&mut self, now: u64) -> bool
+    fn flush(&mut self, now: Now) -> bool
         ensures { Keeps (written self.old.outgoing (S.contents self.old.stream))
             (written self.new.outgoing (S.contents self.new.stream)) }
     {
         for _ in 0..MOST_PIECES {
             if self.unsent() == 0 {
-                self.turned = now;
+                self.turned = now.turn;
                 return true;
             }
             match self.outgoing.flush(&mut self.stream) {
-                Sent::Bytes(_) => self.moved = now,
+                Sent::Bytes(_) => self.moved = now.millis,
                 Sent::Nothing => return true,
                 Sent::Broken => return false,
             }
@@ -226,13 +227,13 @@ impl<S: Read + Write> Wire<S> {
     }
 
     /// Receives until a head is there, or nothing more.
-    fn hear(&mut self, now: u64)
+    fn hear(&mut self, millis: u64)
         ensures { self.new.incoming.broken ≡ false
             → Keeps (to_give self.old.incoming (S.remaining self.old.stream))
             (to_give self.new.incoming (S.remaining self.new.stream)) }
     {
         if self.incoming.hear(&mut self.stream) {
-            self.moved = now;
+            self.moved = millis;
         }
     }
 }
@@ -245,7 +246,7 @@ impl Wire<TcpStream> {
 
     /// Does all that can be done for it at this moment without waiting: what was written goes out
     /// first, and then bytes are received until it can be served.
-    pub fn advance(&mut self, now: u64) -> Rest {
+    pub fn advance(&mut self, now: Now) -> Rest {
         if self.unsent() > 0 {
             if !self.flush(now) {
                 return Rest::Gone;
@@ -255,32 +256,32 @@ impl Wire<TcpStream> {
             }
         }
         match self.stage {
-            Stage::Open => self.listen(now),
-            Stage::Leaving => self.shut(now),
+            Stage::Open => self.listen(now.millis),
+            Stage::Leaving => self.shut(now.millis),
             Stage::Shut(thrown) => self.linger(thrown),
         }
     }
 
     /// Receives until it can be served.
-    fn listen(&mut self, now: u64) -> Rest {
-        self.hear(now);
+    fn listen(&mut self, millis: u64) -> Rest {
+        self.hear(millis);
         if self.incoming.is_ready() {
             Rest::Ready
         } else if self.incoming.is_over() {
             Rest::Gone
         } else {
-            self.settle(now);
+            self.settle(millis);
             Rest::Waits
         }
     }
 
     /// Ends the sending side, and waits for the peer to end its own. A socket that is closed with
     /// unread bytes resets its connection, and the peer may lose what it was sent last.
-    fn shut(&mut self, now: u64) -> Rest {
+    fn shut(&mut self, millis: u64) -> Rest {
         if self.stream.shutdown(Shutdown::Write).is_err() || self.incoming.is_over() {
             return Rest::Gone;
         }
-        self.moved = now;
+        self.moved = millis;
         self.stage = Stage::Shut(0);
         self.incoming = Incoming::new(self.alloc);
         self.linger(0)

@@ -32,7 +32,8 @@ pub struct Life {
     pub phase: Phase,
     /// When it made progress last: a byte came, or went.
     pub moved: u64,
-    /// When it was accepted, handed out or sent the whole of a reply last.
+    /// The number of its last turn: it was accepted, handed out or had sent the whole of a reply.
+    /// Turns are counted as they come.
     pub turned: u64,
 }
 
