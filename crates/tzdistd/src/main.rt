@@ -8,21 +8,14 @@ ghost use Rattle.admission.specs.Rules.{allows};
 ghost use Rattle.subscribers.specs.Wishes.{takes_by};
 ghost use Rattle.std.specs.Process.{exit_status};
 
-// The words of the command line, and what is said of a failure.
-mod complaint;
-mod words;
-
 use admission::{Changed, Delta, Kept, RuleKind, Test, changes_at_most, changes_no_past};
-use complaint::{Failures, complain};
 use devices::{
     RealDoor, RealNetwork, RealSink, RealSource, RealSpawner, RealStore, RealUpstream, drain,
 };
+use process_edge::{Failures, OUT_OF_MEMORY, collect, complain};
 use std::io::ErrorKind;
 use std::process::ExitCode;
 use subscribers::{Want, WantTest, Wish, WishKind, is_any, is_past, is_under};
-
-/// The status where memory ran out.
-const OUT_OF_MEMORY: u8 = 70;
 
 /// For how many milliseconds what is owed to peers may still go out before the program ends.
 const OWED_MILLIS: u64 = 2_000;
@@ -70,7 +63,7 @@ fn main(rt: HostRuntime) -> ExitCode {
         Want::new(WishKind::Under, under),
         Want::new(WishKind::Past, past),
     ];
-    let Ok(words) = words::collect(rt.alloc(), &rt) else {
+    let Ok(words) = collect(rt.alloc(), &rt) else {
         return out_of_memory(&rt);
     };
     let mut store = RealStore::new(&rt);
@@ -129,6 +122,3 @@ fn exit_code(status: u8) -> ExitCode
 {
     ExitCode::from(status)
 }
-
-#[cfg(test)]
-mod tests;

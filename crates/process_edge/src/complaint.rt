@@ -1,9 +1,11 @@
-use crate::OUT_OF_MEMORY;
-use devices::{ListenFailure, LookFailure};
+use crate::failures::Failures;
 use std::fmt::{Display, Formatter};
 use std::io::{Eprint, ErrorKind};
 use std::{fmt, str};
 use td_base::Bytes;
+
+/// The status where memory ran out.
+pub const OUT_OF_MEMORY: u8 = 70;
 
 /// The status where a file or the input was not read.
 const READ_FAULT: u8 = 3;
@@ -19,32 +21,6 @@ const NO_NETWORK: u8 = 6;
 
 /// The status where the first sync of a mirror ended by a fault.
 const NOT_SYNCED: u8 = 7;
-
-/// The last failure of each object, if it failed.
-#[derive(Clone, Copy, Debug)]
-pub struct Failures<'a> {
-    pub store: Option<&'a LookFailure>,
-    pub input: Option<ErrorKind>,
-    pub output: Option<ErrorKind>,
-    /// Of making the doors of an address.
-    pub network: Option<&'a ListenFailure>,
-    /// Of accepting at one of the doors.
-    pub door: Option<ErrorKind>,
-    /// Of an exchange with the server that is followed.
-    pub upstream: Option<ErrorKind>,
-}
-
-impl Failures<'_> {
-    /// Nothing failed.
-    pub const NONE: Failures<'static> = Failures {
-        store: None,
-        input: None,
-        output: None,
-        network: None,
-        door: None,
-        upstream: None,
-    };
-}
 
 /// What an operator reads where a run ended by a failure of the outside: which file, stream or
 /// address, and the system's word for why.
