@@ -23,16 +23,15 @@ mod history;
 mod rule;
 mod view;
 
+// Copies that refuse a call, for tests.
+mod fragile;
+
 // What may cross threads.
 mod send_sync;
 
 pub use desk::Desk;
+pub use fragile::{Fragile, FragilePublisher, Onlooker, make_fragile};
 pub use making::make;
 pub use publisher::{Ended, EndedOf, Publisher, PublisherOf};
 pub use receipt::Receipt;
 pub use shown::{Sets, Shown};
-
-#[cfg(test)]
-mod refusal_tests;
-#[cfg(test)]
-mod tests;

@@ -1,6 +1,12 @@
-//! Tries what `connection`, `answer_cache` and `desk_pool` offer over the cases of a table on standard input, and
-//! tells of each whose answer is not the expected one. The table explains its own lines.
+//! Tries what `publication`, `connection`, `answer_cache` and `desk_pool` offer over the cases of a
+//! table on standard input, and tells of each whose answer is not the expected one. The table
+//! explains its own lines.
 #![tactic(auto)]
+
+// A publisher of numbers: its desks, and copies that refuse a call.
+mod races;
+mod refusals;
+mod tallies;
 
 // One connection over a desk.
 mod desks;
@@ -50,6 +56,7 @@ where
 {
     match row.kind() {
         "works" => pools::works(rt, alloc, row),
+        "race" => races::raced(rt, alloc),
         "flag-beside" => flags::beside(rt, alloc),
         "flag" => flags::signs(alloc),
         _ => waiting(rt, alloc, row),
@@ -59,6 +66,8 @@ where
 /// What is answered to a row that makes no threads.
 fn waiting<R: Wait>(rt: &R, alloc: Global, row: &Row) -> Answer {
     match row.kind() {
+        "publishes" => refusals::publish(rt, alloc, row),
+        "learns" => races::learns(rt, alloc),
         "stream" => streams::stream(rt, alloc, row),
         "once" => streams::once(rt, alloc, row),
         "failing" => streams::failing(rt, alloc, row),

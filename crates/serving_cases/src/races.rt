@@ -1,41 +1,12 @@
+//! Desks of a publisher, on threads of their own and by what they are told.
 ghost use Rattle.std.specs.Prelude.{◌≡◌};
 
-use crate::{Desk, Publisher, PublisherOf, Sets, make};
+use crate::tallies::{Tally, make_tally, publishes};
+use case_lines::{Answer, CaseFault, shown};
+use publication::{Desk, Publisher, make};
 use std::alloc::Global;
 use std::sync::Wait;
-use std::test::*;
 use std::thread::{Threads, join_mut};
-use td_base::Value;
-
-/// A number, which stands for each list of so many numbers.
-#[derive(Debug, Drop)]
-pub struct Tally {
-    pub number: u32,
-}
-
-impl Value for Tally {
-    ghost use Rattle.std.specs.Prelude.{◌≡◌, length};
-
-    type Element = u32;
-
-    ghost last = { λ t. t.number };
-
-    ghost stands = { λ t xs. length xs ≡ t.number };
-
-    ghost places = { λ t. t.number };
-
-    fn count(&self) -> u32 {
-        self.number
-    }
-
-    ghost counts = { λ x xs h. h };
-}
-
-pub fn make_tally(number: u32) -> Tally
-    ensures { result.number ≡ number }
-{
-    Tally { number }
-}
 
 /// What the enters of a desk came to: how many were refused, and how many went back.
 #[derive(Clone, Copy, Debug, PartialEq, Eq)]
@@ -44,30 +15,7 @@ struct EnterCounts {
     back: u32,
 }
 
-const NONE_REFUSED: EnterCounts = EnterCounts {
-    refused: 0,
-    back: 0,
-};
-
-// Publishes so many values, each one more than the last, and says how many it did.
-pub fn publishes<R: Wait, T: Sets<Tally>>(
-    rt: &R,
-    publisher: &mut PublisherOf<Tally, T>,
-    times: u32,
-) -> u32
-    ensures { publisher.new.pair ≡ publisher.old.pair }
-{
-    let mut done = 0u32;
-    for _ in 0..times {
-        let number = publisher.last().number;
-        if number < 1_000_000 && publisher.publish(rt, make_tally(number + 1)).is_ok() {
-            done = done.wrapping_add(1);
-        }
-    }
-    done
-}
-
-// EnterCounts so often.
+/// Enters so often.
 fn enters(desk: &mut Desk<Tally>, times: u32) -> EnterCounts
     ensures { desk.new.pair ≡ desk.old.pair }
 {
@@ -84,7 +32,7 @@ fn enters(desk: &mut Desk<Tally>, times: u32) -> EnterCounts
     EnterCounts { refused, back }
 }
 
-// Two desks enter, each on a thread.
+/// Two desks enter, each on a thread.
 fn both_enter<R: Threads>(
     rt: &R,
     one: &mut Desk<Tally>,
@@ -95,7 +43,7 @@ fn both_enter<R: Threads>(
     join_mut(rt, &mut || enters(one, 20_000), &mut || enters(two, 20_000))
 }
 
-// Two desks enter while values are published. Then the publisher ends, and both learn its end.
+/// Two desks enter while values are published. Then the publisher ends, and both learn its end.
 fn race<R: Threads + Wait + Sync>(
     rt: &R,
     publisher: Publisher<Tally>,
@@ -129,28 +77,34 @@ fn race<R: Threads + Wait + Sync>(
     Some((done, found, one.value().number, two.value().number))
 }
 
-fn raced<R: Threads + Wait + Sync>(
-    rt: &R,
-    alloc: Global,
-) -> Option<(u32, (EnterCounts, EnterCounts), u32, u32)> {
+/// `race`: how many of 2,000 values were published while two desks entered 20,000 times each, how
+/// many of their enters were refused and went back, and what both hold at the end.
+pub fn raced<R: Threads + Wait + Sync>(rt: &R, alloc: Global) -> Answer {
     let Ok((publisher, desks)) = make(rt, alloc, make_tally(1), 2) else {
-        return None;
+        return Err(CaseFault::NoMemory);
     };
     let mut desks = desks;
     let two = desks.pop().unwrap();
     let one = desks.pop().unwrap();
-    race(rt, publisher, one, two)
+    match race(rt, publisher, one, two) {
+        Some((done, (mine, theirs), one, two)) => shown(
+            alloc,
+            &[
+                done,
+                mine.refused,
+                mine.back,
+                theirs.refused,
+                theirs.back,
+                one,
+                two,
+            ],
+        ),
+        None => Err(CaseFault::NoMemory),
+    }
 }
 
-#[test]
-fn desks_enter_while_values_are_published(rt: HostRuntime) -> Result<(), Fail> {
-    let expected = Some((2_000, (NONE_REFUSED, NONE_REFUSED), 2_001, 2_001));
-    assert_eq!(rt; raced(&rt, rt.alloc()), expected);
-    Ok(())
-}
-
-// Publishes two values. One desk learns the later receipt first and then the earlier, the other
-// learns nothing. What they hold after each of these, and after an enter.
+/// Publishes two values. One desk learns the later receipt first and then the earlier, the other
+/// learns nothing. What they hold after each of these, and after an enter.
 fn told<R: Wait>(
     rt: &R,
     publisher: &mut Publisher<Tally>,
@@ -183,20 +137,19 @@ fn told<R: Wait>(
     Some([learnt, held, kept, one.value().number, two.value().number])
 }
 
-fn told_first<R: Wait>(rt: &R, alloc: Global) -> Option<[u32; 5]> {
+/// `learns`: what two desks hold of three values, of which one is told the last and then the second:
+/// that one then, the other, that one after it was told the second, and both after an enter.
+pub fn learns<R: Wait>(rt: &R, alloc: Global) -> Answer {
     let Ok((publisher, desks)) = make(rt, alloc, make_tally(1), 2) else {
-        return None;
+        return Err(CaseFault::NoMemory);
     };
     let (mut publisher, mut desks) = (publisher, desks);
     let mut two = desks.pop().unwrap();
     let mut one = desks.pop().unwrap();
     let found = told(rt, &mut publisher, &mut one, &mut two);
     publisher.close(rt);
-    found
-}
-
-#[test]
-fn a_desk_that_learnt_and_one_that_did_not(rt: HostRuntime) -> Result<(), Fail> {
-    assert_eq!(rt; told_first(&rt, rt.alloc()), Some([3, 1, 3, 3, 3]));
-    Ok(())
+    match found {
+        Some(numbers) => shown(alloc, &numbers),
+        None => Err(CaseFault::NoMemory),
+    }
 }

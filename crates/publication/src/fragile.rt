@@ -1,0 +1,151 @@
+//! Copies that refuse a call, as those of `Shown` do only where memory is short: to try what then
+//! becomes of a publisher.
+ghost use Rattle.std.specs.Prelude.{◌≡◌, [], ◌∷◌, Some, None, IfOk, refl, option_map};
+ghost use Rattle.left_right.specs.Sides.{view};
+ghost use Rattle.publication.specs.declared.view.SeatRole.TheVariants.{Desk as AtDesk};
+ghost use Rattle.publication.specs.Histories.{values};
+ghost use Rattle.publication.specs.ShownRule.{home_of, told_of};
+
+use crate::edition::Edition;
+use crate::history::HistoryWriter;
+use crate::publisher::PublisherOf;
+use crate::rule::{Entering, ReaderOf};
+use crate::shown::Sets;
+use crate::stage::{new_reader, open};
+use crate::view::View;
+use left_right::Absorb;
+use std::alloc::{AllocError, Global};
+use std::sync::{Arc, Wait};
+use td_base::{NoMemory, Value};
+
+/// One copy, which refuses one call.
+#[derive(Drop)]
+pub struct Fragile<V: Value> {
+    edition: Option<Edition<V>>,
+    // How many calls have come.
+    calls: u32,
+    // The one that is refused, counted from 1; 0 where none is.
+    refused: u32,
+}
+
+impl<V: Value> Absorb<Edition<V>> for Fragile<V> {
+    type State = Option<View<V>>;
+
+    ghost state = { λ x.
+        option_map (λ i. told_of (values i.prefix.log) (home_of i.prefix.book)) x.edition };
+
+    ghost applied = { λ _ op. Some (told_of (values op.prefix.log) (home_of op.prefix.book)) };
+
+    fn absorb_first(
+        &mut self,
+        operation: &Edition<V>,
+        _other: &Fragile<V>,
+    ) -> Result<(), AllocError> {
+        self.calls = self.calls.wrapping_add(1);
+        if self.calls == self.refused {
+            return Err(AllocError);
+        }
+        self.edition = Some(operation.again()?);
+        Ok(())
+    }
+}
+
+impl<V: Value> Sets<V> for Fragile<V> {
+    ghost content = { λ x.
+        option_map (λ i. told_of (values i.prefix.log) (home_of i.prefix.book)) x.edition };
+
+    ghost of_state = { λ s. s };
+
+    ghost content_is = { λ x. refl };
+
+    ghost sets = { λ s op. refl };
+
+    fn is_vacant(&self) -> bool {
+        self.edition.is_none()
+    }
+}
+
+/// A publisher over copies of which each refuses one call.
+pub type FragilePublisher<V> = PublisherOf<V, Fragile<V>>;
+
+type FragileReader<V> = ReaderOf<V, Fragile<V>>;
+
+/// Who looks at what such a publisher shows.
+#[derive(Drop)]
+pub struct Onlooker<V: Value> {
+    reader: FragileReader<V>,
+    ghost seated: { (view reader.place).role ≡ AtDesk },
+}
+
+impl<V: Value> Onlooker<V> {
+    /// The number of the value that a desk would find, or none where its enter is refused.
+    pub fn look(self) -> (Onlooker<V>, Option<u32>) {
+        let Onlooker { reader } = self;
+        let (reader, number) = found(reader);
+        (Onlooker { reader }, number)
+    }
+}
+
+fn found<V: Value>(reader: FragileReader<V>) -> (FragileReader<V>, Option<u32>)
+    requires { (view reader.place).role ≡ AtDesk }
+    ensures { (view result.0.place).role ≡ AtDesk }
+{
+    match reader.enter_as::<Entering>() {
+        Err(reader) => (reader, None),
+        Ok(reading) => {
+            let number = reading.get().edition.as_ref().map(|edition| edition.number);
+            (reading.leave(), number)
+        }
+    }
+}
+
+fn vacant<V: Value>(refused: u32) -> Fragile<V>
+    ensures { result.edition ≡ None }
+{
+    Fragile {
+        edition: None,
+        calls: 0,
+        refused,
+    }
+}
+
+/// Publishes a first value over two copies of which these calls are refused, counted from 1, none
+/// for 0.
+pub fn make_fragile<V: Value, R: Wait>(
+    rt: &R,
+    alloc: Global,
+    first: V,
+    refused: (u32, u32),
+) -> Result<(FragilePublisher<V>, Onlooker<V>), NoMemory>
+    requires { V.stands first (V.last first ∷ []) }
+    ensures { IfOk result (λ p. p.0.list ≡ first ∷ []) }
+{
+    let number = first.count();
+    let Ok(value) = Arc::new(alloc, first) else {
+        return Err(NoMemory);
+    };
+    let Ok(kept) = Arc::try_clone(&value) else {
+        return Err(NoMemory);
+    };
+    let added: &V = &value;
+    let mut history = HistoryWriter::new();
+    if !history.add(added) {
+        return Err(NoMemory);
+    }
+    let last = Edition::of_last(kept, &history.prefix, number, false);
+    let edition = Edition::of_last(value, &history.prefix, number, false);
+    let copies = (vacant(refused.0), vacant(refused.1));
+    let mut stage = open(rt, alloc, copies, edition, 1)?;
+    let Ok(reader) = new_reader(&mut stage) else {
+        drop(stage.take(rt));
+        return Err(NoMemory);
+    };
+    let publisher = PublisherOf {
+        stage: Some(stage),
+        history,
+        last,
+        alloc,
+        stuck: false,
+    };
+    Ok((publisher, Onlooker { reader }))
+}
