@@ -1,5 +1,5 @@
 //! Patterns of names.
-use case_lines::{Answer, CaseFault, Row, shown};
+use case_lines::{Answer, CaseFault, Row, Told, printed, shown};
 use find_pattern::{BadPattern, Pattern, matches, read};
 use std::alloc::Global;
 
@@ -8,21 +8,25 @@ pub fn pattern(alloc: Global, row: &Row) -> Answer {
     match read(alloc, row.word(0)?) {
         Ok(pattern) => told(alloc, &pattern),
         Err(BadPattern::NoMemory) => Err(CaseFault::NoMemory),
-        Err(fault) => Ok(format!(in alloc; "{fault}")?.into_bytes()),
+        Err(fault) => printed(alloc, &fault),
     }
 }
 
 fn told(alloc: Global, pattern: &Pattern) -> Answer {
-    let (lead, trail) = (pattern.lead, pattern.trail);
-    let mut text = format!(in alloc; "{lead} {trail} ")?.into_bytes();
-    text.extend_from_slice(pattern.text.as_slice())?;
-    Ok(text)
+    let mut told = Told::new(alloc);
+    told.value(&pattern.lead);
+    told.bytes(b" ");
+    told.value(&pattern.trail);
+    told.bytes(b" ");
+    told.bytes(pattern.text.as_slice());
+    told.answer()
 }
 
 /// `matches PATTERN NAME`: whether the name matches.
 pub fn matching(alloc: Global, row: &Row) -> Answer {
-    match read(alloc, row.word(0)?) {
-        Ok(pattern) => shown(alloc, &matches(&pattern, row.word(1)?)),
+    let (text, name) = (row.word(0)?, row.word(1)?);
+    match read(alloc, text) {
+        Ok(pattern) => shown(alloc, &matches(&pattern, name)),
         Err(BadPattern::NoMemory) => Err(CaseFault::NoMemory),
         Err(BadPattern::BadPattern(_)) => Err(CaseFault::Strange),
     }

@@ -1,11 +1,12 @@
 //! What requests are answered over a release.
-ghost use Rattle.std.specs.Prelude.{IfOk};
+ghost use Rattle.std.specs.Prelude.{IfOk, IsTrue};
+ghost use Rattle.td_base.specs.TargetForm.{has_form};
 ghost use Rattle.zone_meaning.specs.ZoneHistories.{HasZoneHistory};
 
 use actions::answer;
-use case_lines::{CaseFault, Row};
+use case_lines::{CaseFault, Row, Told};
 use catalogue::Catalogue;
-use http_request::{Heads, Next};
+use http_request::{Head, Heads, Next};
 use release_check::check;
 use std::alloc::Global;
 use td_base::{Bytes, MemoryStore, Role};
@@ -13,17 +14,19 @@ use zone_meaning::Zone;
 
 /// `file PATH BYTES` puts a file into the store.
 pub fn file(alloc: Global, store: &mut MemoryStore, row: &Row) -> case_lines::Answer {
-    let path = Bytes::from_slice(alloc, row.word(0)?)?;
-    store.put(path, Bytes::from_slice(alloc, row.word(1)?)?)?;
+    let (path, bytes) = (row.word(0)?, row.word(1)?);
+    let path = Bytes::from_slice(alloc, path)?;
+    store.put(path, Bytes::from_slice(alloc, bytes)?)?;
     Ok(Vec::new(alloc))
 }
 
 /// `request DIR METHOD TARGET FIELDS`: what is answered over the release of that folder to a
 /// request with these fields besides Host.
 pub fn request(alloc: Global, store: &mut MemoryStore, row: &Row) -> case_lines::Answer {
-    let catalogue = catalogue_of(alloc, store, row.word(0)?)?;
-    let text = request_text(alloc, row)?;
-    answer_to(alloc, &catalogue, &text)
+    let dir = row.word(0)?;
+    let head = head_of(alloc, row)?;
+    let catalogue = catalogue_of(alloc, store, dir)?;
+    answer_to(alloc, &catalogue, &head)
 }
 
 /// The catalogue of one release.
@@ -40,38 +43,53 @@ fn catalogue_of(
     }
 }
 
-fn request_text(alloc: Global, row: &Row) -> Result<Bytes, CaseFault> {
-    let mut text = Bytes::from_slice(alloc, row.word(1)?)?;
-    text.append(b" ")?;
-    text.append(row.word(2)?)?;
-    text.append(b" HTTP/1.1\r\nHost: x\r\n")?;
-    text.append(row.word(3)?)?;
-    text.append(b"\r\n")?;
-    Ok(text)
-}
-
-fn answer_to(alloc: Global, catalogue: &Catalogue<Zone>, text: &Bytes) -> case_lines::Answer
-    requires { HasZoneHistory catalogue.now }
+/// The head of a request.
+fn head_of(alloc: Global, row: &Row) -> Result<Head, CaseFault>
+    ensures { IfOk result (λ head. IsTrue (has_form head.target)) }
 {
+    let text = request_text(alloc, row)?;
     let mut heads = Heads::new(alloc);
     heads.feed(text.as_slice())?;
     match heads.next(alloc)? {
-        Next::Request(head) => told(alloc, answer(alloc, catalogue, &Role::Primary, &head)?),
+        Next::Request(head) => Ok(head),
         _ => Err(CaseFault::Strange),
     }
 }
 
+fn request_text(alloc: Global, row: &Row) -> case_lines::Answer {
+    let (method, target, fields) = (row.word(1)?, row.word(2)?, row.word(3)?);
+    let mut text = Told::new(alloc);
+    text.bytes(method);
+    text.bytes(b" ");
+    text.bytes(target);
+    text.bytes(b" HTTP/1.1\r\nHost: x\r\n");
+    text.bytes(fields);
+    text.bytes(b"\r\n");
+    text.answer()
+}
+
+fn answer_to(alloc: Global, catalogue: &Catalogue<Zone>, head: &Head) -> case_lines::Answer
+    requires history { HasZoneHistory catalogue.now }
+    requires form { IsTrue (has_form head.now.target) }
+{
+    let answer = answer(alloc, catalogue, &Role::Primary, head)?;
+    told(alloc, &answer)
+}
+
 /// Status, kind, tag and body; a dash stands for no tag, and nothing for an empty body.
-fn told(alloc: Global, answer: http_answer::Answer) -> case_lines::Answer {
-    let (status, kind) = (answer.status, answer.kind);
-    let mut text = format!(in alloc; "{status} {kind:?} ")?.into_bytes();
+fn told(alloc: Global, answer: &http_answer::Answer) -> case_lines::Answer {
+    let mut told = Told::new(alloc);
+    told.value(&answer.status);
+    told.bytes(b" ");
+    told.value(&answer.kind);
+    told.bytes(b" ");
     match &answer.tag {
-        Some(tag) => text.extend_from_slice(tag.as_slice())?,
-        None => text.extend_from_slice(b"-")?,
+        Some(tag) => told.bytes(tag.as_slice()),
+        None => told.bytes(b"-"),
     }
     if !answer.body.as_slice().is_empty() {
-        text.extend_from_slice(b" ")?;
-        text.extend_from_slice(answer.body.as_slice())?;
+        told.bytes(b" ");
+        told.bytes(answer.body.as_slice());
     }
-    Ok(text)
+    told.answer()
 }

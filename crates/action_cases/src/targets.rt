@@ -1,6 +1,6 @@
 //! What targets ask for.
-use case_lines::{Answer, Row};
-use std::alloc::{AllocError, Global};
+use case_lines::{Answer, Row, Told};
+use std::alloc::Global;
 use target::{Asked, Param, read};
 use td_base::Bytes;
 
@@ -8,49 +8,49 @@ use td_base::Bytes;
 /// value.
 pub fn target(alloc: Global, row: &Row) -> Answer {
     let asked = read(alloc, row.word(0)?)?;
-    let mut out = Vec::new(alloc);
-    put_action(&mut out, &asked)?;
-    Ok(out)
+    let mut told = Told::new(alloc);
+    tell_action(&mut told, &asked);
+    told.answer()
 }
 
-fn put_action(out: &mut Vec<u8>, asked: &Asked) -> Result<(), AllocError> {
+fn tell_action(told: &mut Told, asked: &Asked) {
     match asked {
-        Asked::Capabilities => out.extend_from_slice(b"capabilities"),
-        Asked::LeapSeconds => out.extend_from_slice(b"leapseconds"),
-        Asked::WellKnown => out.extend_from_slice(b"well-known"),
-        Asked::Unknown => out.extend_from_slice(b"unknown"),
+        Asked::Capabilities => told.bytes(b"capabilities"),
+        Asked::LeapSeconds => told.bytes(b"leapseconds"),
+        Asked::WellKnown => told.bytes(b"well-known"),
+        Asked::Unknown => told.bytes(b"unknown"),
         Asked::List(since) => {
-            out.extend_from_slice(b"list")?;
-            put_param(out, since)
+            told.bytes(b"list");
+            tell_param(told, since);
         }
         Asked::Find(pattern) => {
-            out.extend_from_slice(b"find")?;
-            put_param(out, pattern)
+            told.bytes(b"find");
+            tell_param(told, pattern);
         }
         Asked::Get { tzid, start, end } => {
-            out.extend_from_slice(b"get ")?;
-            put_zone(out, tzid, start, end)
+            told.bytes(b"get ");
+            tell_zone(told, tzid, start, end);
         }
         Asked::Expand { tzid, start, end } => {
-            out.extend_from_slice(b"expand ")?;
-            put_zone(out, tzid, start, end)
+            told.bytes(b"expand ");
+            tell_zone(told, tzid, start, end);
         }
     }
 }
 
-fn put_zone(out: &mut Vec<u8>, tzid: &Bytes, start: &Param, end: &Param) -> Result<(), AllocError> {
-    out.extend_from_slice(tzid.as_slice())?;
-    put_param(out, start)?;
-    put_param(out, end)
+fn tell_zone(told: &mut Told, tzid: &Bytes, start: &Param, end: &Param) {
+    told.bytes(tzid.as_slice());
+    tell_param(told, start);
+    tell_param(told, end);
 }
 
-fn put_param(out: &mut Vec<u8>, param: &Param) -> Result<(), AllocError> {
+fn tell_param(told: &mut Told, param: &Param) {
     match param {
-        Param::Absent => out.extend_from_slice(b" -"),
+        Param::Absent => told.bytes(b" -"),
         Param::Once(text) => {
-            out.extend_from_slice(b" =")?;
-            out.extend_from_slice(text.as_slice())
+            told.bytes(b" =");
+            told.bytes(text.as_slice());
         }
-        Param::Repeated => out.extend_from_slice(b" *"),
+        Param::Repeated => told.bytes(b" *"),
     }
 }

@@ -1,5 +1,5 @@
 -- Doors whose connections are back.
-use Rattle.std.specs.Prelude.{◌≡◌, length, IfSome, [], None}
+use Rattle.std.specs.Prelude.{◌≡◌, length, IfSome, []}
 use Rattle.td_base.specs.DoorViews.{DoorView}
 use Rattle.td_base.specs.MemoryDoors.{MemoryDoorState}
 

@@ -2,100 +2,87 @@
 ghost use Rattle.td_base.specs.Views.{LaterConn, LaterSink, LaterSource};
 
 use crate::given;
-use case_lines::{Answer, CaseFault, Row};
+use case_lines::{Answer, CaseFault, Row, Told, shown};
 use std::alloc::Global;
-use td_base::{
-    Conn, FaultyConn, Joined, MemoryConn, ReadStep, Sink, Source, WriteStep, send_whole, texts,
-};
+use td_base::{Conn, FaultyConn, Joined, MemoryConn, ReadStep, Sink, Source, send_whole, texts};
 
 /// `conn INPUT SIZES ROOM READS WRITES CALL ..`, with the numbers of the reads and writes that
 /// fail: what each call gives, and what the connection has given and taken then. A call is `read`,
 /// into four bytes, `write:TEXT` or `send:TEXT`.
 pub fn conn(alloc: Global, row: &Row) -> Answer {
     let mut conn = faulty(alloc, row)?;
-    let mut out = Vec::new(alloc);
-    for call in row.words().get(5..).unwrap_or(&[]) {
-        act(alloc, &mut conn, call.as_slice(), &mut out)?;
+    let mut told = Told::new(alloc);
+    for call in given::words(row, 5) {
+        told.call(act(alloc, &mut conn, call.as_slice()));
     }
-    tell(
-        &mut out,
-        &conn.inner().source.given(),
-        conn.inner().sink.taken(),
-    )?;
-    Ok(out)
+    tell(&mut told, conn.inner());
+    told.answer()
 }
 
 fn faulty(alloc: Global, row: &Row) -> Result<FaultyConn<MemoryConn>, CaseFault> {
-    let source = given::source(alloc, row.word(0)?, row.word(1)?)?;
-    let sink = given::sink(alloc, row.number(2)?, b"-")?;
-    let reads = given::calls(alloc, row.word(3)?)?;
-    let writes = given::calls(alloc, row.word(4)?)?;
-    Ok(FaultyConn::new(MemoryConn::new(source, sink), reads, writes))
+    let reads = given::calls(alloc, row, 3)?;
+    let writes = given::calls(alloc, row, 4)?;
+    Ok(FaultyConn::new(inner(alloc, row)?, reads, writes))
 }
 
-/// Makes one call, and appends what it gives.
-fn act<C: Conn>(
-    alloc: Global,
-    conn: &mut C,
-    call: &[u8],
-    out: &mut Vec<u8>,
-) -> Result<(), CaseFault> {
+fn inner(alloc: Global, row: &Row) -> Result<MemoryConn, CaseFault> {
+    let sink = given::whole_sink(alloc, row, 2)?;
+    Ok(MemoryConn::new(given::source(alloc, row, 0)?, sink))
+}
+
+/// What one call gives.
+fn act<C: Conn>(alloc: Global, conn: &mut C, call: &[u8]) -> Answer {
     let (verb, text) = texts::cut(call, b':');
     let text = text.unwrap_or(&[]);
     match verb {
-        b"read" => return read(conn, out),
-        b"send" => {
-            let written = send_whole(conn, text);
-            out.extend_from_slice(format!(in alloc; "{written:?}|")?.as_bytes())?;
-        }
-        _ => {
-            let step = write(conn, text)?;
-            out.extend_from_slice(format!(in alloc; "{step:?}|")?.as_bytes())?;
-        }
+        b"read" => read(alloc, conn),
+        b"send" => shown(alloc, &send_whole(conn, text)),
+        _ => write(alloc, conn, text),
     }
-    Ok(())
 }
 
-/// Appends what one read gives.
-fn read<C: Conn>(conn: &mut C, out: &mut Vec<u8>) -> Result<(), CaseFault> {
+/// What one read gives.
+fn read<C: Conn>(alloc: Global, conn: &mut C) -> Answer {
     let mut room = [0; 4];
     match conn.read(&mut room) {
-        ReadStep::Got(count) => out.extend_from_slice(&room[..count])?,
-        ReadStep::End => out.extend_from_slice(b"(end)")?,
-        ReadStep::Failed => out.extend_from_slice(b"(failed)")?,
+        ReadStep::Got(count) => case_lines::bytes(alloc, &room[..count]),
+        ReadStep::End => case_lines::bytes(alloc, b"(end)"),
+        ReadStep::Failed => case_lines::bytes(alloc, b"(failed)"),
     }
-    out.push(b'|')?;
-    Ok(())
 }
 
-/// One write.
-fn write<C: Conn>(conn: &mut C, piece: &[u8]) -> Result<WriteStep, CaseFault> {
+/// What one write does.
+fn write<C: Conn>(alloc: Global, conn: &mut C, piece: &[u8]) -> Answer {
     if piece.is_empty() {
         return Err(CaseFault::Strange);
     }
-    Ok(conn.write(piece))
+    shown(alloc, &conn.write(piece))
 }
 
-/// Appends what was given and what was taken.
-fn tell(out: &mut Vec<u8>, given: &[u8], taken: &[u8]) -> Result<(), CaseFault> {
-    out.extend_from_slice(b" given ")?;
-    out.extend_from_slice(given)?;
-    out.extend_from_slice(b" taken ")?;
-    out.extend_from_slice(taken)?;
-    Ok(())
+/// Appends what a connection has given and taken.
+pub fn tell(told: &mut Told, conn: &MemoryConn) {
+    tell_both(told, conn.source.given(), conn.sink.taken());
+}
+
+fn tell_both(told: &mut Told, given: &[u8], taken: &[u8]) {
+    told.bytes(b" given ");
+    told.bytes(given);
+    told.bytes(b" taken ");
+    told.bytes(taken);
 }
 
 /// `joined INPUT ROOM TIMES`: what a source has given and a sink has taken when so often what one
 /// read into three bytes gives was written back.
 pub fn joined(alloc: Global, row: &Row) -> Answer {
-    let mut source = given::source(alloc, row.word(0)?, b"-")?;
-    let mut sink = given::sink(alloc, row.number(1)?, b"-")?;
-    for _ in 0..row.number(2)? {
+    let times = row.number(2)?;
+    let mut sink = given::whole_sink(alloc, row, 1)?;
+    let mut source = given::whole_source(alloc, row, 0)?;
+    for _ in 0..times {
         echo_between(&mut source, &mut sink);
     }
-    let mut out = Vec::new(alloc);
-    tell(&mut out, source.given(), sink.taken())?;
-    Ok(out)
+    let mut told = Told::new(alloc);
+    tell_both(&mut told, source.given(), sink.taken());
+    told.answer()
 }
 
 /// Writes back what one read gives.

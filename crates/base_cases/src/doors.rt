@@ -3,9 +3,9 @@ ghost use Rattle.std.specs.Prelude.{IfOk};
 ghost use Rattle.base_cases.specs.Settled.{IsSettled, IsUnasked};
 ghost use Rattle.td_base.specs.MemoryDoors.{faulty_door, memory_door};
 
-use crate::conns::echo;
+use crate::conns::{self, echo};
 use crate::given;
-use case_lines::{Answer, CaseFault, Row};
+use case_lines::{Answer, CaseFault, Row, Told, shown};
 use std::alloc::Global;
 use td_base::{Accepted, Door, DoorAnswer, End, FaultyDoor, MemoryDoor, Places, Report};
 
@@ -14,22 +14,22 @@ use td_base::{Accepted, Door, DoorAnswer, End, FaultyDoor, MemoryDoor, Places, R
 /// what those that are back have given and taken. The script has `idle` and inputs, with a comma
 /// between two.
 pub fn door(alloc: Global, row: &Row) -> Answer {
-    let mut door = faulty(alloc, row)?;
-    let mut out = Vec::new(alloc);
     let calls = row.number(3)?;
+    let mut door = faulty(alloc, row)?;
+    let mut told = Told::new(alloc);
     'calls: for _ in 0..calls {
-        let answer = serve(&mut door);
-        out.extend_from_slice(format!(in alloc; "{answer:?}|")?.as_bytes())?;
+        told.call(shown(alloc, &serve(&mut door)));
     }
-    tell(alloc, &mut out, door.inner())?;
-    Ok(out)
+    tell(&mut told, door.inner());
+    told.answer()
 }
 
 fn faulty(alloc: Global, row: &Row) -> Result<FaultyDoor<MemoryDoor>, CaseFault>
     ensures { IfOk result (λ door. IsSettled (faulty_door memory_door door)) }
 {
+    let failing = given::calls(alloc, row, 2)?;
     let door = scripted(alloc, row.number(0)?, row.word(1)?)?;
-    Ok(FaultyDoor::new(door, given::calls(alloc, row.word(2)?)?))
+    Ok(FaultyDoor::new(door, failing))
 }
 
 /// A door of this script.
@@ -86,15 +86,12 @@ fn report() -> Report {
 }
 
 /// Appends what is told of a door.
-fn tell(alloc: Global, out: &mut Vec<u8>, door: &MemoryDoor) -> Result<(), CaseFault> {
-    let (coming, room) = (door.coming(), door.room());
-    out.extend_from_slice(format!(in alloc; " coming {coming} room {room}")?.as_bytes())?;
+fn tell(told: &mut Told, door: &MemoryDoor) {
+    told.bytes(b" coming ");
+    told.value(&door.coming());
+    told.bytes(b" room ");
+    told.value(&door.room());
     for served in door.finished() {
-        let conn = served.conn.inner();
-        out.extend_from_slice(b" given ")?;
-        out.extend_from_slice(conn.source.given())?;
-        out.extend_from_slice(b" taken ")?;
-        out.extend_from_slice(conn.sink.taken())?;
+        conns::tell(told, served.conn.inner());
     }
-    Ok(())
 }

@@ -1,48 +1,79 @@
-//! The objects in memory that rows speak of.
+//! The objects in memory that the words of a row speak of.
 ghost use Rattle.std.specs.Prelude.{IfOk};
 ghost use Rattle.td_base.specs.MemoryDoors.{IsFresh};
 
-use case_lines::{CaseFault, numbers};
+use case_lines::{CaseFault, Row, numbers};
 use std::alloc::Global;
 use td_base::{Bytes, FaultyConn, Items, MemoryConn, MemorySink, MemorySource};
 
+/// The words from a place on.
+pub fn words(row: &Row, from: usize) -> &[Vec<u8>] {
+    row.words().get(from..).unwrap_or(&[])
+}
+
+/// The number at a place, below 2 to the 32nd.
+pub fn small(row: &Row, at: usize) -> Result<u32, CaseFault> {
+    u32::try_from(row.number(at)?)
+        .ok()
+        .ok_or(CaseFault::Strange)
+}
+
+/// The bytes at a place.
+pub fn bytes(alloc: Global, row: &Row, at: usize) -> Result<Bytes, CaseFault> {
+    Ok(Bytes::from_slice(alloc, row.word(at)?)?)
+}
+
 /// The numbers of the calls that fail, with a comma between two; a dash stands for none.
-pub fn calls(alloc: Global, word: &[u8]) -> Result<Items<u64>, CaseFault> {
-    Ok(Items::from(numbers(alloc, word)?))
+pub fn calls(alloc: Global, row: &Row, at: usize) -> Result<Items<u64>, CaseFault> {
+    Ok(Items::from(numbers(alloc, row.word(at)?)?))
 }
 
 /// The sizes of pieces, with a comma between two; a dash stands for none.
-pub fn sizes(alloc: Global, word: &[u8]) -> Result<Items<usize>, CaseFault> {
+fn sizes(alloc: Global, word: &[u8]) -> Result<Items<usize>, CaseFault> {
+    let numbers = numbers(alloc, word)?;
     let mut sizes = Items::new(alloc);
-    for size in numbers(alloc, word)?.as_slice() {
+    for size in numbers.as_slice() {
         sizes.push(*size as usize)?;
     }
     Ok(sizes)
 }
 
-/// A source of these bytes, in pieces of these sizes if there are some.
-pub fn source(alloc: Global, text: &[u8], sizes: &[u8]) -> Result<MemorySource, CaseFault> {
-    let bytes = Bytes::from_slice(alloc, text)?;
+/// A source of the bytes at a place, in pieces of the sizes after them if there are some.
+pub fn source(alloc: Global, row: &Row, at: usize) -> Result<MemorySource, CaseFault> {
+    let sizes = row.word(at.saturating_add(1))?;
     if sizes == b"-".as_slice() {
-        return Ok(MemorySource::new(bytes));
-    }
-    Ok(MemorySource::in_pieces(bytes, self::sizes(alloc, sizes)?))
-}
-
-/// A sink with so much room, which takes pieces of these sizes if there are some.
-pub fn sink(alloc: Global, room: u64, sizes: &[u8]) -> Result<MemorySink, CaseFault> {
-    if sizes == b"-".as_slice() {
-        return Ok(MemorySink::new(alloc, room as usize)?);
+        return whole_source(alloc, row, at);
     }
     let sizes = self::sizes(alloc, sizes)?;
-    Ok(MemorySink::in_pieces(alloc, room as usize, sizes)?)
+    Ok(MemorySource::in_pieces(bytes(alloc, row, at)?, sizes))
+}
+
+/// A source of the bytes at a place, in one piece.
+pub fn whole_source(alloc: Global, row: &Row, at: usize) -> Result<MemorySource, CaseFault> {
+    Ok(MemorySource::new(bytes(alloc, row, at)?))
+}
+
+/// A sink with the room at a place, which takes pieces of the sizes after it if there are some.
+pub fn sink(alloc: Global, row: &Row, at: usize) -> Result<MemorySink, CaseFault> {
+    let sizes = row.word(at.saturating_add(1))?;
+    if sizes == b"-".as_slice() {
+        return whole_sink(alloc, row, at);
+    }
+    let room = row.number(at)? as usize;
+    Ok(MemorySink::in_pieces(alloc, room, self::sizes(alloc, sizes)?)?)
+}
+
+/// A sink with the room at a place, which takes whole pieces.
+pub fn whole_sink(alloc: Global, row: &Row, at: usize) -> Result<MemorySink, CaseFault> {
+    Ok(MemorySink::new(alloc, row.number(at)? as usize)?)
 }
 
 /// A connection of this input with room for eight bytes, of which no call fails.
 pub fn conn(alloc: Global, input: &[u8]) -> Result<FaultyConn<MemoryConn>, CaseFault>
     ensures { IfOk result IsFresh }
 {
+    let sink = MemorySink::new(alloc, 8)?;
     let source = MemorySource::new(Bytes::from_slice(alloc, input)?);
-    let conn = MemoryConn::new(source, MemorySink::new(alloc, 8)?);
+    let conn = MemoryConn::new(source, sink);
     Ok(FaultyConn::new(conn, Items::new(alloc), Items::new(alloc)))
 }

@@ -11,7 +11,6 @@ mod texts;
 // Objects in memory.
 mod conns;
 mod doors;
-mod given;
 mod networks;
 mod stores;
 mod streams;
@@ -21,7 +20,10 @@ mod works;
 mod moments;
 mod states;
 
-use case_lines::{Answer, CaseFault, Row, Table};
+// What rows speak of.
+mod given;
+
+use case_lines::{Answer, Row, Table};
 use std::alloc::Global;
 use std::io;
 use std::sync::Wait;
@@ -32,15 +34,27 @@ fn main(rt: HostRuntime) -> io::Result<()> {
     let mut table = Table::new(alloc);
     for line in rt.lines(alloc) {
         let line = line?;
-        if let Some(row) = table.row(line.as_str())? {
-            let answer = answer(&rt, alloc, &row);
-            if let Some(told) = table.judge(&row, answer)? {
-                println!(rt; "{told}")?;
-            }
-        }
+        try_line(&rt, alloc, &mut table, line.as_str())?;
     }
     let tally = table.tally();
     println!(rt; "{tally}")
+}
+
+/// Tries the next line, and tells of it if its answer is not the expected one.
+fn try_line<R: Threads + Wait + Print + Copy + Send + 'static>(
+    rt: &R,
+    alloc: Global,
+    table: &mut Table,
+    line: &str,
+) -> io::Result<()> {
+    let Some(row) = table.row(line)? else {
+        return Ok(());
+    };
+    let answer = answer(rt, alloc, &row);
+    if let Some(told) = table.judge(&row, answer)? {
+        println!(rt; "{told}")?;
+    }
+    Ok(())
 }
 
 /// What is answered to a row.
@@ -49,27 +63,7 @@ fn answer<R: Threads + Wait + Copy + Send + 'static>(rt: &R, alloc: Global, row:
         "joined-work" => works::joined(rt, alloc, row),
         "threaded-work" => works::threaded(rt, alloc, row),
         "refused-work" => works::refused(rt, alloc, row),
-        "source"
-        | "sink"
-        | "read-to-end"
-        | "write-whole"
-        | "store"
-        | "conn"
-        | "joined"
-        | "door"
-        | "network"
-        | "upstream" => of_objects(alloc, row),
-        "moment"
-        | "utc"
-        | "local"
-        | "year"
-        | "before"
-        | "day"
-        | "date"
-        | "is-date"
-        | "state"
-        | "laws" => of_moments(alloc, row),
-        _ => of_texts(alloc, row),
+        _ => of_objects(alloc, row),
     }
 }
 
@@ -85,7 +79,7 @@ fn of_objects(alloc: Global, row: &Row) -> Answer {
         "door" => doors::door(alloc, row),
         "network" => networks::network(alloc, row),
         "upstream" => networks::upstream(alloc, row),
-        _ => Err(CaseFault::Strange),
+        _ => of_moments(alloc, row),
     }
 }
 
@@ -101,7 +95,7 @@ fn of_moments(alloc: Global, row: &Row) -> Answer {
         "is-date" => moments::judge(alloc, row),
         "state" => states::state(alloc, row),
         "laws" => states::laws(alloc),
-        _ => Err(CaseFault::Strange),
+        _ => of_texts(alloc, row),
     }
 }
 
@@ -111,10 +105,6 @@ fn of_texts(alloc: Global, row: &Row) -> Answer {
         "hex" => numbers::hex(alloc, row),
         "sized" => numbers::sized(alloc, row),
         "read-decimal" => numbers::read(alloc, row),
-        "identifier" => names::identifier(alloc, row),
-        "file-name" => names::file_name(alloc, row),
-        "label" => names::label(alloc, row),
-        "path-word" => names::path_word(alloc, row),
         "bytes" => lists::bytes(alloc, row),
         "compare" => lists::compare(alloc, row),
         "items" => lists::items(alloc, row),
@@ -124,6 +114,6 @@ fn of_texts(alloc: Global, row: &Row) -> Answer {
         "trim" => texts::trim(alloc, row),
         "part" => texts::part(alloc, row),
         "any-case" => texts::any_case(alloc, row),
-        _ => Err(CaseFault::Strange),
+        _ => names::judge(alloc, row),
     }
 }

@@ -12,14 +12,14 @@ use td_civil::{
 /// `moment TEXT`: the seconds of the moment that it spells.
 pub fn read(alloc: Global, row: &Row) -> Answer {
     match moment_of(row.word(0)?) {
-        Ok(Moment { seconds }) => Ok(format!(in alloc; "{seconds}")?.into_bytes()),
+        Ok(Moment { seconds }) => shown(alloc, &seconds),
         Err(BadMoment) => Ok(BadMoment.to_string(alloc)?.into_bytes()),
     }
 }
 
 /// `utc SECONDS`: the text of a moment.
 pub fn utc(alloc: Global, row: &Row) -> Answer {
-    Ok(Vec::from_slice(alloc, &utc_text(moment(row)?))?)
+    case_lines::bytes(alloc, &utc_text(moment(row)?))
 }
 
 /// `local SECONDS OFFSET`: the local time of a moment.
@@ -28,7 +28,7 @@ pub fn local(alloc: Global, row: &Row) -> Answer {
     if offset < -86_399 || 86_399 < offset {
         return Err(CaseFault::Strange);
     }
-    Ok(Vec::from_slice(alloc, &local_stamp(moment, offset as i32))?)
+    case_lines::bytes(alloc, &local_stamp(moment, offset as i32))
 }
 
 /// `year SECONDS`: the year of a moment.

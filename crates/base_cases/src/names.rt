@@ -1,20 +1,16 @@
-//! Which texts are names. Each row has a text.
-use case_lines::{Answer, Row, shown};
+//! Which texts are names.
+use case_lines::{Answer, CaseFault, Row, shown};
 use std::alloc::Global;
 use td_base::{is_file_name, is_identifier, is_label, is_path_word};
 
-pub fn identifier(alloc: Global, row: &Row) -> Answer {
-    shown(alloc, &is_identifier(row.word(0)?))
-}
-
-pub fn file_name(alloc: Global, row: &Row) -> Answer {
-    shown(alloc, &is_file_name(row.word(0)?))
-}
-
-pub fn label(alloc: Global, row: &Row) -> Answer {
-    shown(alloc, &is_label(row.word(0)?))
-}
-
-pub fn path_word(alloc: Global, row: &Row) -> Answer {
-    shown(alloc, &is_path_word(row.word(0)?))
+/// `identifier TEXT`, `file-name TEXT`, `label TEXT` and `path-word TEXT`: whether the text is one.
+pub fn judge(alloc: Global, row: &Row) -> Answer {
+    let text = row.word(0)?;
+    match row.kind() {
+        "identifier" => shown(alloc, &is_identifier(text)),
+        "file-name" => shown(alloc, &is_file_name(text)),
+        "label" => shown(alloc, &is_label(text)),
+        "path-word" => shown(alloc, &is_path_word(text)),
+        _ => Err(CaseFault::Strange),
+    }
 }

@@ -5,25 +5,27 @@ use td_base::{Bytes, put_decimal, put_hex, put_sized, read_decimal};
 
 /// `decimal NUMBER`: it in digits, after an `x`.
 pub fn decimal(alloc: Global, row: &Row) -> Answer {
+    let number = row.number(0)?;
     let mut out = Bytes::from_slice(alloc, b"x")?;
-    put_decimal(&mut out, row.number(0)?)?;
+    put_decimal(&mut out, number)?;
     Ok(out.into_vec())
 }
 
 /// `hex BYTES`: their digits, after an `x`.
 pub fn hex(alloc: Global, row: &Row) -> Answer {
+    let bytes = row.word(0)?;
     let mut out = Bytes::from_slice(alloc, b"x")?;
-    put_hex(&mut out, row.word(0)?)?;
+    put_hex(&mut out, bytes)?;
     Ok(out.into_vec())
 }
 
 /// `sized BYTES`: their length and they, after an `x`.
 pub fn sized(alloc: Global, row: &Row) -> Answer {
-    let mut out = Bytes::from_slice(alloc, b"x")?;
     let bytes = row.word(0)?;
     if bytes.len() > u32::MAX as usize {
         return Err(CaseFault::Strange);
     }
+    let mut out = Bytes::from_slice(alloc, b"x")?;
     put_sized(&mut out, bytes)?;
     Ok(out.into_vec())
 }

@@ -10,18 +10,16 @@ use td_civil::{
 /// `state OFFSET NAME`: whether the copy of a state equals it, and is the same by `is_same`; and
 /// whether the state in daylight saving time is.
 pub fn state(alloc: Global, row: &Row) -> Answer {
-    let offset = i32::try_from(row.signed(0)?)
-        .ok()
-        .ok_or(CaseFault::Strange)?;
-    let state = local(offset, false, row.word(1)?)?;
-    let other = local(offset, true, row.word(1)?)?;
+    let (state, other) = (local(row, false)?, local(row, true)?);
     let copy = state.copy();
     let (is_copied, is_same) = (copy == state, copy.is_same(&state));
     let is_other = copy.is_same(&other);
     Ok(format!(in alloc; "{is_copied}, {is_same}, {is_other}")?.into_bytes())
 }
 
-fn local(offset: i32, dst: bool, text: &[u8]) -> Result<Local, CaseFault> {
+fn local(row: &Row, dst: bool) -> Result<Local, CaseFault> {
+    let (offset, text) = (row.signed(0)?, row.word(1)?);
+    let offset = i32::try_from(offset).ok().ok_or(CaseFault::Strange)?;
     if text.len() > 32 {
         return Err(CaseFault::Strange);
     }
@@ -47,5 +45,5 @@ pub fn laws(alloc: Global) -> Answer {
     same_states();
     years_apart();
     some_year();
-    Ok(Vec::from_slice(alloc, b"called")?)
+    case_lines::bytes(alloc, b"called")
 }

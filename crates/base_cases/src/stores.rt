@@ -1,46 +1,49 @@
 //! A store in memory, some of whose calls fail.
 use crate::given;
-use case_lines::{Answer, CaseFault, Row};
+use case_lines::{Answer, CaseFault, Row, Told};
 use std::alloc::Global;
 use td_base::{Bytes, Faulty, FileRead, MemoryStore, Store, texts};
 
 /// `store FILES FAILING PATH MOST`, with more paths and numbers: the first bytes of each file. The
 /// files are `PATH:TEXT` with a comma between two.
 pub fn store(alloc: Global, row: &Row) -> Answer {
-    let files = files(alloc, row.word(0)?)?;
-    let mut store = Faulty::new(files, given::calls(alloc, row.word(1)?)?);
-    let mut out = Vec::new(alloc);
+    let mut store = faulty(alloc, row)?;
+    let mut told = Told::new(alloc);
     for at in 1..row.words().len() / 2 {
-        let (path, most) = (row.word(at * 2)?, row.number(at * 2 + 1)?);
-        look(alloc, &mut store, path, most, &mut out)?;
+        told.call(look(alloc, &mut store, row, at * 2));
     }
-    Ok(out)
+    told.answer()
 }
 
-fn files(alloc: Global, word: &[u8]) -> Result<MemoryStore, CaseFault> {
+fn faulty(alloc: Global, row: &Row) -> Result<Faulty<MemoryStore>, CaseFault> {
+    let failing = given::calls(alloc, row, 1)?;
     let mut store = MemoryStore::new(alloc);
-    for file in word.split(|byte| *byte == b',') {
-        let (path, text) = texts::cut(file, b':');
-        let text = Bytes::from_slice(alloc, text.unwrap_or(&[]))?;
-        store.put(Bytes::from_slice(alloc, path)?, text)?;
-    }
-    Ok(store)
+    put_all(alloc, &mut store, row)?;
+    Ok(Faulty::new(store, failing))
 }
 
-/// Appends what one look gives.
-fn look<S: Store>(
-    alloc: Global,
-    store: &mut S,
-    path: &[u8],
-    most: u64,
-    out: &mut Vec<u8>,
-) -> Result<(), CaseFault> {
-    match store.read_file(alloc, path, most) {
-        FileRead::Found(prefix) => out.extend_from_slice(prefix.as_slice())?,
-        FileRead::Absent => out.extend_from_slice(b"(absent)")?,
-        FileRead::Failed => out.extend_from_slice(b"(failed)")?,
-        FileRead::NoMemory => return Err(CaseFault::NoMemory),
+fn put_all(alloc: Global, store: &mut MemoryStore, row: &Row) -> Result<(), CaseFault> {
+    for file in row.word(0)?.split(|byte| *byte == b',') {
+        put(alloc, store, file)?;
     }
-    out.push(b'|')?;
     Ok(())
+}
+
+/// Puts a file into a store, which is `PATH:TEXT`.
+fn put(alloc: Global, store: &mut MemoryStore, file: &[u8]) -> Result<(), CaseFault> {
+    let (path, text) = texts::cut(file, b':');
+    let path = Bytes::from_slice(alloc, path)?;
+    let text = Bytes::from_slice(alloc, text.unwrap_or(&[]))?;
+    Ok(store.put(path, text)?)
+}
+
+/// What the look gives whose path stands at a place.
+fn look<S: Store>(alloc: Global, store: &mut S, row: &Row, at: usize) -> Answer {
+    let (path, most) = (row.word(at)?, row.number(at.saturating_add(1))?);
+    match store.read_file(alloc, path, most) {
+        FileRead::Found(prefix) => Ok(prefix.into_vec()),
+        FileRead::Absent => case_lines::bytes(alloc, b"(absent)"),
+        FileRead::Failed => case_lines::bytes(alloc, b"(failed)"),
+        FileRead::NoMemory => Err(CaseFault::NoMemory),
+    }
 }

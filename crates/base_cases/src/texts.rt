@@ -1,5 +1,5 @@
 //! Texts of a head's fields.
-use case_lines::{Answer, CaseFault, Row, shown};
+use case_lines::{Answer, CaseFault, Row, Told, shown};
 use std::alloc::Global;
 use td_base::texts;
 
@@ -9,32 +9,40 @@ pub fn cut(alloc: Global, row: &Row) -> Answer {
         return Err(CaseFault::Strange);
     };
     let (front, rest) = texts::cut(row.word(0)?, *separator);
-    let mut out = Vec::from_slice(alloc, front)?;
+    let mut told = Told::new(alloc);
+    told.bytes(front);
+    tell_rest(&mut told, rest);
+    told.answer()
+}
+
+fn tell_rest(told: &mut Told, rest: Option<&[u8]>) {
     match rest {
         Some(rest) => {
-            out.extend_from_slice(b" and ")?;
-            out.extend_from_slice(rest)?;
+            told.bytes(b" and ");
+            told.bytes(rest);
         }
-        None => out.extend_from_slice(b" alone")?,
+        None => told.bytes(b" alone"),
     }
-    Ok(out)
 }
 
 /// `trim TEXT`: it without blanks at its ends, in brackets.
 pub fn trim(alloc: Global, row: &Row) -> Answer {
-    let mut out = Vec::from_slice(alloc, b"[")?;
-    out.extend_from_slice(texts::trim(row.word(0)?))?;
-    out.push(b']')?;
-    Ok(out)
+    let text = texts::trim(row.word(0)?);
+    let mut told = Told::new(alloc);
+    told.bytes(b"[");
+    told.bytes(text);
+    told.bytes(b"]");
+    told.answer()
 }
 
 /// `part TEXT COUNT`: so many bytes of its start, and those after them.
 pub fn part(alloc: Global, row: &Row) -> Answer {
     let (text, count) = (row.word(0)?, row.number(1)? as usize);
-    let mut out = Vec::from_slice(alloc, texts::start(text, count))?;
-    out.push(b'|')?;
-    out.extend_from_slice(texts::skip(text, count))?;
-    Ok(out)
+    let mut told = Told::new(alloc);
+    told.bytes(texts::start(text, count));
+    told.bytes(b"|");
+    told.bytes(texts::skip(text, count));
+    told.answer()
 }
 
 /// `any-case TEXT TEXT`: whether the two are the same without case, and whether the first begins

@@ -2,7 +2,7 @@
 ghost use Rattle.std.specs.Prelude.{◌≡◌, ◌*◌, IfOk, IfErr};
 
 use crate::given;
-use case_lines::{Answer, CaseFault, Row};
+use case_lines::{Answer, Row, Told, shown};
 use std::alloc::Global;
 use std::sync::Wait;
 use std::thread::{Builder, Threads};
@@ -31,14 +31,25 @@ pub fn joined<R: Threads + Wait + Copy + Send + 'static>(
     alloc: Global,
     row: &Row,
 ) -> Answer {
-    let failing = given::calls(alloc, row.word(0)?)?;
+    let failing = given::calls(alloc, row, 0)?;
     let mut spawner = Faulty::new(MemorySpawner::new(), failing);
-    let mut out = Vec::new(alloc);
-    for word in row.words().get(1..).unwrap_or(&[]) {
-        let result = double(rt, alloc, &mut spawner, number(word.as_slice())?);
-        out.extend_from_slice(format!(in alloc; "{result:?}|")?.as_bytes())?;
+    let mut told = Told::new(alloc);
+    for at in 1..row.words().len() {
+        told.call(double_at(rt, alloc, &mut spawner, row, at));
     }
-    Ok(out)
+    told.answer()
+}
+
+/// What comes of doubling the number at a place.
+fn double_at<S: Spawner, R: Threads + Wait + Copy + Send + 'static>(
+    rt: &R,
+    alloc: Global,
+    spawner: &mut S,
+    row: &Row,
+    at: usize,
+) -> Answer {
+    let number = given::small(row, at)?;
+    shown(alloc, &double(rt, alloc, spawner, number))
 }
 
 /// `threaded-work NUMBER`: what comes of doubling it in a thread.
@@ -47,10 +58,14 @@ pub fn threaded<R: Threads + Wait + Copy + Send + 'static>(
     alloc: Global,
     row: &Row,
 ) -> Answer {
+    let number = given::small(row, 0)?;
     let mut spawner = ThreadSpawner { refused: 0 };
-    let result = double(rt, alloc, &mut spawner, number(row.word(0)?)?);
-    let refused = spawner.refused;
-    Ok(format!(in alloc; "{result:?}, {refused} refused")?.into_bytes())
+    let mut told = Told::new(alloc);
+    told.value(&double(rt, alloc, &mut spawner, number));
+    told.bytes(b", ");
+    told.value(&spawner.refused);
+    told.bytes(b" refused");
+    told.answer()
 }
 
 /// `refused-work NUMBER`: what comes of doubling it in a thread whose stack would take all memory.
@@ -59,18 +74,13 @@ pub fn refused<R: Threads + Wait + Copy + Send + 'static>(
     alloc: Global,
     row: &Row,
 ) -> Answer {
+    let number = given::small(row, 0)?;
     let huge = Builder::new().stack_size(usize::MAX);
-    let number = number(row.word(0)?)?;
     let back = match start_by(huge, rt, alloc, Doubling { number }) {
         Ok(running) => Ok(ThreadSpawner { refused: 0 }.join(rt, running)),
         Err(work) => Err(work.number),
     };
-    Ok(format!(in alloc; "{back:?}")?.into_bytes())
-}
-
-fn number(word: &[u8]) -> Result<u32, CaseFault> {
-    let number = case_lines::number(word)?;
-    u32::try_from(number).ok().ok_or(CaseFault::Strange)
+    shown(alloc, &back)
 }
 
 /// What begins each work in a thread, and counts those for which none could be made.

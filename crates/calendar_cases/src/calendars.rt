@@ -15,7 +15,7 @@ use crate::zones::{moment_at, zone_at};
 use case_lines::{Answer, CaseFault, Row};
 use recurrence::carry;
 use std::alloc::Global;
-use td_base::{Bytes, NoMemory};
+use td_base::Bytes;
 use td_civil::{HI, Moment};
 use vtimezone::{Range, parts, write};
 use zone_meaning::{Zone, footer, has_printable_names};
@@ -32,15 +32,24 @@ pub enum Written {
 /// `calendar HEX FROM END TZID ALIAS-OF`: the text of the calendar, where `-` is no end and no zone
 /// of which the identifier is an alias. `json-calendar` and the same words: that as JSON.
 pub fn calendar(alloc: Global, row: &Row, written: Written) -> Answer {
-    let zone = zone_at(alloc, row, 0)?;
     let range = range_in(row)?;
     let tzid = text_word(row.word(3)?)?;
     let alias_of = alias_word(row.word(4)?)?;
-    if !is_carried(&zone) || !has_printable_names(&zone) {
-        return Err(CaseFault::Strange);
+    let zone = fit_zone(alloc, row)?;
+    text(alloc, &zone, range, tzid, alias_of, written)
+}
+
+/// The zone of the first word, of which a calendar can be written.
+fn fit_zone(alloc: Global, row: &Row) -> Result<Zone, CaseFault>
+    ensures carried { IfOk result (λ zone. IsCarriedIfAny (footer_meant (lists_of zone).footer)) }
+    ensures names { IfOk result (λ zone. IsTrue (has_printable_names zone)) }
+{
+    let zone = zone_at(alloc, row, 0)?;
+    if is_carried(&zone) && has_printable_names(&zone) {
+        Ok(zone)
+    } else {
+        Err(CaseFault::Strange)
     }
-    let text = text(alloc, &zone, range, tzid, alias_of, written)?;
-    Ok(text.into_vec())
 }
 
 /// The word, each byte of which stands for itself in a text of a calendar.
@@ -120,7 +129,7 @@ fn text(
     tzid: &[u8],
     alias_of: Option<&[u8]>,
     written: Written,
-) -> Result<Bytes, NoMemory>
+) -> Answer
     requires from { HasMeaning range.from.seconds }
     requires until { IsEndOf range.from.seconds (end_in range) }
     requires carried { IsCarriedIfAny (footer_meant (lists_of zone.now).footer) }
@@ -143,5 +152,5 @@ fn text(
             )?
         }
     }
-    Ok(text)
+    Ok(text.into_vec())
 }

@@ -6,8 +6,9 @@ use td_base::Bytes;
 
 /// `line NAME VALUE`: the content line, after another.
 pub fn line(alloc: Global, row: &Row) -> Answer {
+    let (name, value) = (row.word(0)?, row.word(1)?);
     let mut out = Bytes::from_slice(alloc, b"A:b\r\n")?;
-    ical_lines::line(&mut out, row.word(0)?, row.word(1)?)?;
+    ical_lines::line(&mut out, name, value)?;
     Ok(out.into_vec())
 }
 

@@ -21,15 +21,22 @@ fn main(rt: HostRuntime) -> io::Result<()> {
     let mut table = Table::new(alloc);
     for line in rt.lines(alloc) {
         let line = line?;
-        if let Some(row) = table.row(line.as_str())? {
-            let answer = answer(alloc, &row);
-            if let Some(told) = table.judge(&row, answer)? {
-                println!(rt; "{told}")?;
-            }
-        }
+        try_line(&rt, alloc, &mut table, line.as_str())?;
     }
     let tally = table.tally();
     println!(rt; "{tally}")
+}
+
+/// Tries the next line, and tells of it if its answer is not the expected one.
+fn try_line(rt: &impl Print, alloc: Global, table: &mut Table, line: &str) -> io::Result<()> {
+    let Some(row) = table.row(line)? else {
+        return Ok(());
+    };
+    let answer = answer(alloc, &row);
+    if let Some(told) = table.judge(&row, answer)? {
+        println!(rt; "{told}")?;
+    }
+    Ok(())
 }
 
 /// What is answered to a row.

@@ -24,13 +24,32 @@ fn range_at(row: &Row, at: usize) -> Result<(Moment, Moment), CaseFault>
 /// `observances HEX FROM END`: onset, offset before it, offset, daylight saving time and name of
 /// each observance, with a bar at its end, as they are listed and as they are handed out.
 pub fn observances(alloc: Global, row: &Row) -> Answer {
-    let zone = zone_at(alloc, row, 0)?;
     let range = range_at(row, 1)?;
-    let list = zone_meaning::observances(alloc, &zone, range.0, range.1)?;
-    if !are_handed_out(&zone, range, list.as_slice()) {
-        return Ok(Bytes::from_slice(alloc, b"other")?.into_vec());
+    let zone = zone_at(alloc, row, 0)?;
+    listed(alloc, &zone, range)
+}
+
+/// The observances of a zone in a range, if they are handed out as they are listed.
+fn listed(alloc: Global, zone: &Zone, range: (Moment, Moment)) -> Answer
+    requires { IsRange range.0.seconds range.1.seconds }
+{
+    let list = list(alloc, zone, range)?;
+    if are_handed_out(zone, range, list.as_slice()) {
+        text(alloc, list.as_slice())
+    } else {
+        other(alloc)
     }
-    text(alloc, list.as_slice())
+}
+
+fn list(alloc: Global, zone: &Zone, range: (Moment, Moment)) -> Result<Items<Observance>, CaseFault>
+    requires { IsRange range.0.seconds range.1.seconds }
+{
+    Ok(zone_meaning::observances(alloc, zone, range.0, range.1)?)
+}
+
+/// What is answered where there are others.
+fn other(alloc: Global) -> Answer {
+    Ok(Vec::from_slice(alloc, b"other")?)
 }
 
 /// Whether these are handed out one at a time, and no others.
@@ -72,15 +91,21 @@ fn append_observance(alloc: Global, out: &mut Bytes, o: &Observance) -> Result<(
 /// `same-observances HEX HEX FROM END`: how many there are of the first, if those of the second are
 /// the same.
 pub fn same(alloc: Global, row: &Row) -> Answer {
-    let (one, two) = (all(alloc, row, 0)?, all(alloc, row, 1)?);
-    if one.as_slice() != two.as_slice() {
-        return Ok(Bytes::from_slice(alloc, b"other")?.into_vec());
+    let one = all(alloc, row, 0)?;
+    let two = all(alloc, row, 1)?;
+    same_number(alloc, one.as_slice(), two.as_slice())
+}
+
+fn same_number(alloc: Global, one: &[Observance], two: &[Observance]) -> Answer {
+    if one == two {
+        shown(alloc, &one.len())
+    } else {
+        other(alloc)
     }
-    shown(alloc, &one.len())
 }
 
 fn all(alloc: Global, row: &Row, at: usize) -> Result<Items<Observance>, CaseFault> {
-    let zone = zone_at(alloc, row, at)?;
     let range = range_at(row, 2)?;
-    Ok(zone_meaning::observances(alloc, &zone, range.0, range.1)?)
+    let zone = zone_at(alloc, row, at)?;
+    list(alloc, &zone, range)
 }

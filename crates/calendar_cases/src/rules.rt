@@ -63,29 +63,44 @@ fn rule_at(row: &Row, at: usize) -> Result<Rule, CaseFault> {
 }
 
 fn form_at(row: &Row, at: usize) -> Result<Form, CaseFault> {
-    let (first, second) = (at.saturating_add(1), at.saturating_add(2));
-    let third = at.saturating_add(3);
+    let numbers = at.saturating_add(1);
     match row.word(at)? {
-        b"NthDay" => Ok(Form::NthDay {
-            month: byte(row, first)?,
-            nth: ordinal(row, second)?,
-            weekday: byte(row, third)?,
-        }),
-        b"MonthDays" => Ok(Form::MonthDays {
-            month: byte(row, first)?,
-            first: byte(row, second)?,
-            weekday: byte(row, third)?,
-        }),
-        b"YearDays" => Ok(Form::YearDays {
-            first: small(row, first)?,
-            weekday: byte(row, second)?,
-        }),
-        b"FixedDate" => Ok(Form::FixedDate {
-            month: byte(row, first)?,
-            day: byte(row, second)?,
-        }),
+        b"NthDay" => nth_day(row, numbers),
+        b"MonthDays" => month_days(row, numbers),
+        b"YearDays" => year_days(row, numbers),
+        b"FixedDate" => fixed_date(row, numbers),
         _ => Err(CaseFault::Strange),
     }
+}
+
+fn nth_day(row: &Row, at: usize) -> Result<Form, CaseFault> {
+    Ok(Form::NthDay {
+        month: byte(row, at)?,
+        nth: ordinal(row, at.saturating_add(1))?,
+        weekday: byte(row, at.saturating_add(2))?,
+    })
+}
+
+fn month_days(row: &Row, at: usize) -> Result<Form, CaseFault> {
+    Ok(Form::MonthDays {
+        month: byte(row, at)?,
+        first: byte(row, at.saturating_add(1))?,
+        weekday: byte(row, at.saturating_add(2))?,
+    })
+}
+
+fn year_days(row: &Row, at: usize) -> Result<Form, CaseFault> {
+    Ok(Form::YearDays {
+        first: small(row, at)?,
+        weekday: byte(row, at.saturating_add(1))?,
+    })
+}
+
+fn fixed_date(row: &Row, at: usize) -> Result<Form, CaseFault> {
+    Ok(Form::FixedDate {
+        month: byte(row, at)?,
+        day: byte(row, at.saturating_add(1))?,
+    })
 }
 
 /// A number that a byte holds.

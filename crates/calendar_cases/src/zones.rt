@@ -2,7 +2,7 @@
 ghost use Rattle.std.specs.Prelude.{◌≡◌, IfOk};
 ghost use Rattle.td_civil.specs.Bounds.{HasMeaning};
 
-use case_lines::{Answer, CaseFault, Row};
+use case_lines::{Answer, CaseFault, Row, shown};
 use catalogue::ZoneData;
 use posix_footer::FooterFault;
 use std::alloc::Global;
@@ -87,8 +87,9 @@ pub fn printed(alloc: Global, row: &Row) -> Answer {
 
 /// `state HEX MOMENT`: the state at the moment.
 pub fn state(alloc: Global, row: &Row) -> Answer {
+    let moment = moment_at(row, 1)?;
     let zone = zone_at(alloc, row, 0)?;
-    state_text(alloc, &at(&zone, moment_at(row, 1)?))
+    state_text(alloc, &at(&zone, moment))
 }
 
 /// Offset, daylight saving time and name.
@@ -103,12 +104,18 @@ pub fn state_text(alloc: Global, state: &Local) -> Answer {
 /// `differ HEX HEX`: the first moment at which two zones differ, or none.
 pub fn differ(alloc: Global, row: &Row) -> Answer {
     let one = zone_at(alloc, row, 0)?;
+    difference(alloc, row, &one)
+}
+
+/// The first moment at which a zone and that of the second word differ.
+fn difference(alloc: Global, row: &Row, one: &Zone) -> Answer {
     let two = zone_at(alloc, row, 1)?;
-    match first_difference(&one, &two) {
+    moment_text(alloc, first_difference(one, &two))
+}
+
+fn moment_text(alloc: Global, moment: Option<Moment>) -> Answer {
+    match moment {
         None => Ok(Vec::from_slice(alloc, b"none")?),
-        Some(moment) => {
-            let seconds = moment.seconds;
-            Ok(format!(in alloc; "{seconds}")?.into_bytes())
-        }
+        Some(moment) => shown(alloc, &moment.seconds),
     }
 }

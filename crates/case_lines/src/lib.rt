@@ -23,8 +23,9 @@ mod texts;
 // Answers, and why there is none.
 mod answer;
 mod case_fault;
+mod told;
 
-pub use answer::{Answer, shown};
+pub use answer::{Answer, bytes, printed, shown};
 pub use case_fault::CaseFault;
 pub use numerals::{hex_bytes, number, numbers, signed};
 pub use quoting::written;
@@ -32,3 +33,4 @@ pub use row::Row;
 pub use table::Table;
 pub use tally::Tally;
 pub use texts::{Texts, cut};
+pub use told::Told;

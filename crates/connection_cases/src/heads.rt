@@ -1,104 +1,117 @@
 //! Heads out of the bytes of a connection.
-use crate::pieces::{differs, joined};
-use case_lines::{Answer, Row, numbers};
+use crate::pieces::{Same, joined};
+use case_lines::{Answer, CaseFault, Row, Told, numbers};
 use http_request::{Head, Heads, Next};
 use std::alloc::Global;
-use td_base::{Bytes, NoMemory, put_decimal};
+use td_base::Bytes;
 
 /// `heads STREAM`: what comes of the stream, in pieces of each size from 1 to 99.
 pub fn heads(alloc: Global, row: &Row) -> Answer {
     let stream = joined(alloc, row.words())?;
-    let told = told_of(alloc, stream.as_slice(), 1)?;
+    let mut same = Same::new(told_of(alloc, stream.as_slice(), 1));
     for size in 2..100 {
-        let other = told_of(alloc, stream.as_slice(), size)?;
-        if other.as_slice() != told.as_slice() {
-            return differs(alloc, size);
-        }
+        same.compare(size, told_of(alloc, stream.as_slice(), size));
     }
-    Ok(told.into_vec())
+    same.answer(alloc)
 }
 
 /// `long STREAM`: what comes of the stream, in single bytes and in pieces of 4,096 and 20,000.
 pub fn long(alloc: Global, row: &Row) -> Answer {
     let stream = joined(alloc, row.words())?;
-    let told = told_of(alloc, stream.as_slice(), 1)?;
+    let mut same = Same::new(told_of(alloc, stream.as_slice(), 1));
     for size in [4_096, 20_000] {
-        let other = told_of(alloc, stream.as_slice(), size)?;
-        if other.as_slice() != told.as_slice() {
-            return differs(alloc, size);
-        }
+        same.compare(size, told_of(alloc, stream.as_slice(), size));
     }
-    Ok(told.into_vec())
+    same.answer(alloc)
 }
 
 /// `held SIZES STREAM`: how many bytes are held after each piece, of these sizes.
 pub fn held(alloc: Global, row: &Row) -> Answer {
-    let sizes = numbers(alloc, row.word(0)?)?;
     let stream = joined(alloc, row.words().get(1..).unwrap_or(&[]))?;
+    held_of(alloc, row, stream.as_slice())
+}
+
+fn held_of(alloc: Global, row: &Row, stream: &[u8]) -> Answer {
+    let sizes = numbers(alloc, row.word(0)?)?;
     let mut heads = Heads::new(alloc);
-    let mut told = Bytes::new(alloc);
-    let mut left = stream.as_slice();
+    let mut told = Told::new(alloc);
+    let mut left = stream;
     for size in sizes.as_slice() {
-        let size = (*size as usize).min(left.len());
-        heads.feed(&left[..size])?;
-        left = &left[size..];
-        put_decimal(&mut told, heads.held() as u64)?;
-        told.append(b",")?;
-        let mut unread = Bytes::new(alloc);
-        let _ = tell(&mut heads, alloc, &mut unread)?;
+        let (piece, rest) = left.split_at((*size as usize).min(left.len()));
+        left = rest;
+        tell_held(alloc, &mut heads, piece, &mut told);
     }
-    Ok(told.into_vec())
+    told.answer()
+}
+
+/// Tells how many bytes are held after this piece, and takes the heads that stand whole in them.
+fn tell_held(alloc: Global, heads: &mut Heads, piece: &[u8], told: &mut Told) {
+    told.done(heads.feed(piece));
+    told.value(&heads.held());
+    told.bytes(b",");
+    let mut unread = Told::new(alloc);
+    let _ = tell(alloc, heads, &mut unread);
+    if let Err(fault) = unread.answer() {
+        told.fail(fault);
+    }
 }
 
 /// What comes of the stream in pieces of this size: a line for each head, then the refusal or
 /// `more`.
-fn told_of(alloc: Global, stream: &[u8], size: usize) -> Result<Bytes, NoMemory> {
-    let mut heads = Heads::new(alloc);
-    let mut told = Bytes::new(alloc);
-    for piece in stream.chunks(size.max(1)) {
-        heads.feed(piece)?;
-        if tell(&mut heads, alloc, &mut told)? {
-            return Ok(told);
-        }
-    }
-    told.append(b"more")?;
-    Ok(told)
+fn told_of(alloc: Global, stream: &[u8], size: usize) -> Answer {
+    let mut told = Told::new(alloc);
+    tell_stream(alloc, stream, size, &mut told);
+    told.answer()
 }
 
-/// Tells the heads that stand whole in what is held. Whether a refusal came.
-fn tell(heads: &mut Heads, alloc: Global, told: &mut Bytes) -> Result<bool, NoMemory> {
+fn tell_stream(alloc: Global, stream: &[u8], size: usize, told: &mut Told) {
+    let mut heads = Heads::new(alloc);
+    for piece in stream.chunks(size.max(1)) {
+        told.done(heads.feed(piece));
+        if tell(alloc, &mut heads, told) {
+            return;
+        }
+    }
+    told.bytes(b"more");
+}
+
+/// Tells the heads that stand whole in what is held. Whether a refusal came, or no memory was left.
+fn tell(alloc: Global, heads: &mut Heads, told: &mut Told) -> bool {
     for _ in 0..4 {
-        match heads.next(alloc)? {
-            Next::Request(head) => put_head(told, &head)?,
-            Next::More => return Ok(false),
-            Next::Bad(status) => {
-                put_decimal(told, status as u64)?;
-                return Ok(true);
+        match heads.next(alloc) {
+            Ok(Next::Request(head)) => tell_head(told, &head),
+            Ok(Next::More) => return false,
+            Ok(Next::Bad(status)) => {
+                told.value(&status);
+                return true;
+            }
+            Err(_) => {
+                told.fail(CaseFault::NoMemory);
+                return true;
             }
         }
     }
-    Ok(false)
+    false
 }
 
 /// The target, ` head` for HEAD, ` close` where the connection is to be closed, and the two joined
 /// fields.
-fn put_head(told: &mut Bytes, head: &Head) -> Result<(), NoMemory> {
-    told.append(head.target.as_slice())?;
+fn tell_head(told: &mut Told, head: &Head) {
+    told.bytes(head.target.as_slice());
     if head.head_only {
-        told.append(b" head")?;
+        told.bytes(b" head");
     }
     if head.close {
-        told.append(b" close")?;
+        told.bytes(b" close");
     }
-    put_field(told, b" accept=", &head.accept)?;
-    put_field(told, b" none_match=", &head.none_match)?;
-    told.append(b"\n")
+    tell_field(told, b" accept=", &head.accept);
+    tell_field(told, b" none_match=", &head.none_match);
+    told.bytes(b"\n");
 }
 
-fn put_field(told: &mut Bytes, name: &[u8], field: &Option<Bytes>) -> Result<(), NoMemory> {
+fn tell_field(told: &mut Told, name: &[u8], field: &Option<Bytes>) {
     if let Some(value) = field {
-        told.append(name)?;
-        told.append(value.as_slice())?;
+        told.bytes(name);
+        told.bytes(value.as_slice());
     }
-    Ok(())
 }

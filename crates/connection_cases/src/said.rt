@@ -1,4 +1,5 @@
 //! What an operator is told.
+ghost use Rattle.std.specs.Prelude.{IfOk};
 ghost use Rattle.console.specs.Replies.{IsBoundedReply};
 
 use crate::pieces::joined;
@@ -6,7 +7,7 @@ use case_lines::{Answer, CaseFault, Row, number};
 use console::{Said, news_reply, reply, short};
 use std::alloc::Global;
 use subscribers::{Names, Notice};
-use td_base::{Bytes, Token};
+use td_base::{Bytes, Token, texts};
 
 /// What stands before a reply that is appended.
 const BEFORE: &[u8] = b"before\n";
@@ -15,23 +16,28 @@ const BEFORE: &[u8] = b"before\n";
 /// `installed`, `unchanged` and `serving` stands a token, and after that of `serving` the number
 /// of zones; after `watching` a number; after `refused` the fault.
 pub fn said(alloc: Global, row: &Row) -> Answer {
-    match row.text(0)? {
-        "ready" => both(alloc, &Said::Ready(token(row)?)),
-        "installed" => both(alloc, &Said::Installed(token(row)?)),
-        "unchanged" => both(alloc, &Said::Unchanged(token(row)?)),
-        "serving" => serving(alloc, row),
-        "watching" => both(alloc, &Said::Watching(small(row.number(1)?)?)),
-        "no-memory" => both(alloc, &Said::NoMemory),
-        "bye" => both(alloc, &Said::Bye),
-        "unknown" => both(alloc, &Said::Unknown),
-        "refused" => refused(alloc, row),
-        _ => Err(CaseFault::Strange),
+    if row.text(0)? == "refused" {
+        return refused(alloc, row);
     }
+    let said = bounded(row)?;
+    both(alloc, &said)
 }
 
-fn serving(alloc: Global, row: &Row) -> Answer {
-    let zones = small(row.number(2)?)?;
-    both(alloc, &Said::Serving(token(row)?, zones))
+/// What is said, unless it is a refusal.
+fn bounded(row: &Row) -> Result<Said, CaseFault>
+    ensures { IfOk result IsBoundedReply }
+{
+    match row.text(0)? {
+        "ready" => Ok(Said::Ready(token(row)?)),
+        "installed" => Ok(Said::Installed(token(row)?)),
+        "unchanged" => Ok(Said::Unchanged(token(row)?)),
+        "serving" => Ok(Said::Serving(token(row)?, small(row.number(2)?)?)),
+        "watching" => Ok(Said::Watching(small(row.number(1)?)?)),
+        "no-memory" => Ok(Said::NoMemory),
+        "bye" => Ok(Said::Bye),
+        "unknown" => Ok(Said::Unknown),
+        _ => Err(CaseFault::Strange),
+    }
 }
 
 fn small(number: u64) -> Result<u32, CaseFault> {
@@ -47,12 +53,12 @@ fn refused(alloc: Global, row: &Row) -> Answer {
 fn both(alloc: Global, said: &Said) -> Answer
     requires { IsBoundedReply said.now }
 {
-    let line = short(said);
     let text = appended(alloc, said)?;
-    if line.as_slice() != text.as_slice() {
-        return Ok(Vec::from_slice(alloc, b"two replies")?);
+    if short(said).as_slice() == text.as_slice() {
+        Ok(text)
+    } else {
+        case_lines::bytes(alloc, b"two replies")
     }
-    Ok(text)
 }
 
 /// The reply as it is appended.
@@ -65,7 +71,7 @@ fn appended(alloc: Global, said: &Said) -> Answer {
 /// What was appended.
 fn after(alloc: Global, out: &Bytes) -> Answer {
     match out.as_slice().strip_prefix(BEFORE) {
-        Some(text) => Ok(Vec::from_slice(alloc, text)?),
+        Some(text) => case_lines::bytes(alloc, text),
         None => Err(CaseFault::Strange),
     }
 }
@@ -74,21 +80,23 @@ fn after(alloc: Global, out: &Bytes) -> Answer {
 pub fn news(alloc: Global, row: &Row) -> Answer {
     let mut notices = Vec::new(alloc);
     for word in row.words() {
-        notices.push(notice(alloc, word.as_slice())?)?;
+        add_notice(alloc, &mut notices, word.as_slice())?;
     }
+    news_of(alloc, notices.as_slice())
+}
+
+fn news_of(alloc: Global, notices: &[Notice]) -> Answer {
     let mut out = Bytes::from_slice(alloc, BEFORE)?;
-    news_reply(&mut out, notices.as_slice())?;
+    news_reply(&mut out, notices)?;
     after(alloc, &out)
 }
 
-fn notice(alloc: Global, word: &[u8]) -> Result<Notice, CaseFault> {
-    let Some(at) = word.iter().position(|byte| *byte == b':') else {
-        return Err(CaseFault::Strange);
-    };
-    let (place, rest) = word.split_at(at);
+fn add_notice(alloc: Global, notices: &mut Vec<Notice>, word: &[u8]) -> Result<(), CaseFault> {
+    let (place, rest) = texts::cut(word, b':');
     let place = small(number(place)?)?;
-    let tzids = names(alloc, &rest[1..])?;
-    Ok(Notice { place, tzids })
+    let tzids = names(alloc, rest.ok_or(CaseFault::Strange)?)?;
+    notices.push(Notice { place, tzids })?;
+    Ok(())
 }
 
 fn names(alloc: Global, text: &[u8]) -> Result<Names, CaseFault> {

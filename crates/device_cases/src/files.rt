@@ -1,5 +1,5 @@
 //! Files of the system.
-use case_lines::{Answer, CaseFault, Row};
+use case_lines::{Answer, CaseFault, Row, Told};
 use devices::RealStore;
 use std::alloc::Global;
 use std::rt::Files;
@@ -8,19 +8,25 @@ use td_base::{FileRead, Store};
 /// `file MOST PATH`: how many bytes the store found of the file, of which that many are wanted, or
 /// how it refused; and why the look that failed did so.
 pub fn file<R: Files>(rt: &R, alloc: Global, row: &Row) -> Answer {
+    let (most, path) = (row.number(0)?, row.word(1)?);
     let mut store = RealStore::new(rt);
-    let found = store.read_file(alloc, row.word(1)?, row.number(0)?);
-    let told = told(found)?;
-    let failure = store.failure().map(|failure| failure.kind);
-    Ok(format!(in alloc; "{told:?} {failure:?}")?.into_bytes())
+    let mut told = Told::new(alloc);
+    tell_found(&mut told, store.read_file(alloc, path, most));
+    told.bytes(b" ");
+    told.value(&store.failure().map(|failure| failure.kind));
+    told.answer()
 }
 
-/// How many bytes were found, or how the store refused.
-fn told(found: FileRead) -> Result<Result<usize, &'static str>, CaseFault> {
+/// Tells how many bytes were found, or how the store refused.
+fn tell_found(told: &mut Told, found: FileRead) {
     match found {
-        FileRead::Found(bytes) => Ok(Ok(bytes.len())),
-        FileRead::Absent => Ok(Err("absent")),
-        FileRead::Failed => Ok(Err("failed")),
-        FileRead::NoMemory => Err(CaseFault::NoMemory),
+        FileRead::Found(bytes) => {
+            told.bytes(b"Ok(");
+            told.value(&bytes.len());
+            told.bytes(b")");
+        }
+        FileRead::Absent => told.bytes(b"Err(\"absent\")"),
+        FileRead::Failed => told.bytes(b"Err(\"failed\")"),
+        FileRead::NoMemory => told.fail(CaseFault::NoMemory),
     }
 }

@@ -1,6 +1,6 @@
 //! Two doors of which each waits for the other.
 use crate::small::small;
-use case_lines::{Answer, CaseFault, Row};
+use case_lines::{Answer, CaseFault, Row, Told};
 use devices::{GateDoor, gate_pair};
 use std::alloc::Global;
 use std::thread::{Threads, join};
@@ -63,20 +63,21 @@ fn answer_each<C: Conn>(conn: &mut C) -> End {
 }
 
 fn told(alloc: Global, left: &GateDoor, right: &GateDoor) -> Answer {
-    let mut out = Vec::new(alloc);
-    put_served(alloc, left, &mut out)?;
-    out.push(b'|')?;
-    put_served(alloc, right, &mut out)?;
-    Ok(out)
+    let mut told = Told::new(alloc);
+    tell_served(&mut told, left);
+    told.bytes(b"|");
+    tell_served(&mut told, right);
+    told.answer()
 }
 
-/// Appends how the connection of a door ended, and what it took.
-fn put_served(alloc: Global, door: &GateDoor, out: &mut Vec<u8>) -> Result<(), CaseFault> {
-    let Some((conn, report)) = door.served() else {
-        return Err(CaseFault::Strange);
-    };
-    let end = report.end;
-    out.extend_from_slice(format!(in alloc; "{end:?} ")?.as_bytes())?;
-    out.extend_from_slice(conn.taken())?;
-    Ok(())
+/// Tells how the connection of a door ended, and what it took.
+fn tell_served(told: &mut Told, door: &GateDoor) {
+    match door.served() {
+        Some((conn, report)) => {
+            told.value(&report.end);
+            told.bytes(b" ");
+            told.bytes(conn.taken());
+        }
+        None => told.fail(CaseFault::Strange),
+    }
 }

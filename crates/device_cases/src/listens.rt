@@ -1,6 +1,6 @@
 //! Addresses at which a network does not listen.
 use crate::fault::refused;
-use case_lines::{Answer, CaseFault, Row};
+use case_lines::{Answer, CaseFault, Row, Told, printed};
 use devices::{RealDoor, RealNetwork};
 use std::alloc::Global;
 use std::io::ErrorKind;
@@ -19,9 +19,13 @@ where
         return told(rt, alloc, address);
     }
     let door = open(rt, alloc)?;
-    let taken = door.local_addr().map_err(refused)?;
-    let taken = format!(in alloc; "{taken}")?;
-    told(rt, alloc, taken.as_str().as_bytes())
+    let taken = address_of(alloc, &door)?;
+    told(rt, alloc, taken.as_slice())
+}
+
+/// The address of a door.
+fn address_of<R: Clock>(alloc: Global, door: &RealDoor<R>) -> Answer {
+    printed(alloc, &door.local_addr().map_err(refused)?)
 }
 
 fn told<R>(rt: &R, alloc: Global, address: &[u8]) -> Answer
@@ -31,13 +35,18 @@ where
     let mut network = RealNetwork::new(rt);
     let before = failure(&network);
     match network.doors(alloc, address, 1) {
-        Made::Given(_doors) => Ok(Vec::from_slice(alloc, b"listens")?),
+        Made::Given(_doors) => case_lines::bytes(alloc, b"listens"),
         Made::NoMemory => Err(CaseFault::NoMemory),
-        Made::Failed => {
-            let after = failure(&network);
-            Ok(format!(in alloc; "{before:?} {after:?}")?.into_bytes())
-        }
+        Made::Failed => both(alloc, before, failure(&network)),
     }
+}
+
+fn both(alloc: Global, before: Option<ErrorKind>, after: Option<ErrorKind>) -> Answer {
+    let mut told = Told::new(alloc);
+    told.value(&before);
+    told.bytes(b" ");
+    told.value(&after);
+    told.answer()
 }
 
 fn failure<R>(network: &RealNetwork<R>) -> Option<ErrorKind> {

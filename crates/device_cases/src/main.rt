@@ -11,6 +11,9 @@ mod gates;
 mod small;
 mod squares;
 
+// The words of a command line, and what is said of a failure.
+mod edge;
+
 // A TCP listener, a door at it, and clients.
 mod fault;
 mod listens;
@@ -31,14 +34,33 @@ fn main(rt: HostRuntime) -> io::Result<()> {
     let mut table = Table::new(alloc);
     for line in rt.lines(alloc) {
         let line = line?;
-        if let Some(row) = table.row(line.as_str())? {
-            if let Some(told) = table.judge(&row, answer(&rt, alloc, &row))? {
-                println!(rt; "{told}")?;
-            }
-        }
+        try_line(&rt, alloc, &mut table, line.as_str())?;
     }
     let tally = table.tally();
     println!(rt; "{tally}")
+}
+
+/// Tries the next line, and tells of it if its answer is not the expected one.
+fn try_line<R>(rt: &R, alloc: Global, table: &mut Table, line: &str) -> io::Result<()>
+where
+    R: Net<Listener = TcpListener, Stream = TcpStream>
+        + Clock
+        + Files
+        + Threads
+        + Wait
+        + Print
+        + Copy
+        + Send
+        + 'static,
+{
+    let Some(row) = table.row(line)? else {
+        return Ok(());
+    };
+    let answer = answer(rt, alloc, &row);
+    if let Some(told) = table.judge(&row, answer)? {
+        println!(rt; "{told}")?;
+    }
+    Ok(())
 }
 
 /// What is answered to a row.
@@ -71,6 +93,8 @@ fn alone(alloc: Global, row: &Row) -> Answer {
         "writes" => streams::writes(alloc, row),
         "gates-alone" => gates::alone(alloc, row),
         "gates-turned" => gates::turned(alloc, row),
+        "words" => edge::words(alloc, row),
+        "complaint" => edge::complaint(alloc, row),
         _ => Err(CaseFault::Strange),
     }
 }

@@ -1,10 +1,10 @@
 //! Streams that are read and written.
-use case_lines::{Answer, CaseFault, Row};
+use case_lines::{Answer, CaseFault, Row, Told};
 use devices::{RealSink, RealSource};
 use std::alloc::Global;
 use std::io;
 use std::io::{Error, ErrorKind, Read};
-use td_base::{ReadStep, Sink, Source, WriteStep};
+use td_base::{ReadStep, Sink, Source};
 
 /// A stream of which each read fails.
 #[derive(Drop)]
@@ -36,59 +36,51 @@ fn each_read<R: Read>(
     room: usize,
     calls: u64,
 ) -> Answer {
-    let mut out = Vec::new(alloc);
+    let mut told = Told::new(alloc);
     for _ in 0..calls {
-        one_read(alloc, source, room, &mut out)?;
+        told.call(one_read(alloc, source, room));
     }
-    let failure = source.failure();
-    out.extend_from_slice(format!(in alloc; "{failure:?}")?.as_bytes())?;
-    Ok(out)
+    told.value(&source.failure());
+    told.answer()
 }
 
-/// Tells one read, and the bytes that it gave.
-fn one_read<S: Source>(
-    alloc: Global,
-    source: &mut S,
-    room: usize,
-    out: &mut Vec<u8>,
-) -> Result<(), CaseFault> {
+/// What one read gives, and the bytes of it.
+fn one_read<S: Source>(alloc: Global, source: &mut S, room: usize) -> Answer {
     let mut bytes = vec![in alloc; 0; room.max(1)]?;
     let step = source.read(&mut bytes);
-    out.extend_from_slice(format!(in alloc; "{step:?} ")?.as_bytes())?;
+    let mut told = Told::new(alloc);
+    told.value(&step);
+    told.bytes(b" ");
     if let ReadStep::Got(count) = step {
-        out.extend_from_slice(bytes.get(..count).unwrap_or(&[]))?;
+        told.bytes(bytes.get(..count).unwrap_or(&[]));
     }
-    Ok(out.push(b'|')?)
+    told.answer()
 }
 
 /// `writes ROOM PIECE ..`: what the writes of the pieces to a stream of this room give, with the
 /// failure that the stream had until then; and the room.
 pub fn writes(alloc: Global, row: &Row) -> Answer {
-    let mut out = Vec::new(alloc);
     let mut room = vec![in alloc; b'-'; row.number(0)? as usize]?;
-    each_write(alloc, row, room.as_mut_slice(), &mut out)?;
-    out.extend_from_slice(room.as_slice())?;
-    Ok(out)
+    let mut told = Told::new(alloc);
+    each_write(row, room.as_mut_slice(), &mut told);
+    told.bytes(room.as_slice());
+    told.answer()
 }
 
-fn each_write(
-    alloc: Global,
-    row: &Row,
-    room: &mut [u8],
-    out: &mut Vec<u8>,
-) -> Result<(), CaseFault> {
+fn each_write(row: &Row, room: &mut [u8], told: &mut Told) {
     let mut sink = RealSink::new(room);
     for piece in row.words().get(1..).unwrap_or(&[]) {
-        let step = one_write(&mut sink, piece.as_slice())?;
-        let failure = sink.failure();
-        out.extend_from_slice(format!(in alloc; "{step:?} {failure:?}|")?.as_bytes())?;
+        one_write(&mut sink, piece.as_slice(), told);
+        told.bytes(b" ");
+        told.value(&sink.failure());
+        told.bytes(b"|");
     }
-    Ok(())
 }
 
-fn one_write<S: Sink>(sink: &mut S, piece: &[u8]) -> Result<WriteStep, CaseFault> {
+fn one_write<S: Sink>(sink: &mut S, piece: &[u8], told: &mut Told) {
     if piece.is_empty() {
-        return Err(CaseFault::Strange);
+        told.fail(CaseFault::Strange);
+    } else {
+        told.value(&sink.write(piece));
     }
-    Ok(sink.write(piece))
 }

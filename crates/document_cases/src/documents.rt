@@ -46,19 +46,29 @@ fn written(alloc: Global, way: Way, token: &[u8], zones: &[ListZone]) -> Answer
     requires zones { AllByRecursion IsPlainZone zones.now }
 {
     match way {
-        Way::Whole => {
-            let mut out = Bytes::from_slice(alloc, b"before ")?;
-            list_text(alloc, &mut out, token, zones)?;
-            Ok(out.into_vec())
-        }
-        Way::ItemByItem => {
-            let mut list = ListWriter::begin(Bytes::from_slice(alloc, b"before ")?, token)?;
-            for zone in zones {
-                list.zone(&zone.texts())?;
-            }
-            Ok(list.end()?.into_vec())
-        }
+        Way::Whole => whole(alloc, token, zones),
+        Way::ItemByItem => item_by_item(alloc, token, zones),
     }
+}
+
+fn whole(alloc: Global, token: &[u8], zones: &[ListZone]) -> Answer
+    requires token { IsPlain token.now }
+    requires zones { AllByRecursion IsPlainZone zones.now }
+{
+    let mut out = Bytes::from_slice(alloc, b"before ")?;
+    list_text(alloc, &mut out, token, zones)?;
+    Ok(out.into_vec())
+}
+
+fn item_by_item(alloc: Global, token: &[u8], zones: &[ListZone]) -> Answer
+    requires token { IsPlain token.now }
+    requires zones { AllByRecursion IsPlainZone zones.now }
+{
+    let mut list = ListWriter::begin(Bytes::from_slice(alloc, b"before ")?, token)?;
+    for zone in zones {
+        list.zone(&zone.texts())?;
+    }
+    Ok(list.end()?.into_vec())
 }
 
 /// A zone of the publisher `Test`, with one tag for all.
@@ -203,7 +213,7 @@ pub fn leap_table(alloc: Global) -> Answer {
 /// `printed TEXT`: the JSON value of the text, as `serde_json` prints it.
 pub fn printed(alloc: Global, row: &Row) -> Answer {
     match Value::from_slice(alloc, row.word(0)?) {
-        Ok(value) => Ok(value.to_string(alloc)?.into_bytes()),
+        Ok(value) => case_lines::printed(alloc, &value),
         Err(_) => Err(CaseFault::Strange),
     }
 }

@@ -13,5 +13,5 @@ pub fn called(alloc: Global) -> Answer {
     asks_are_answered::<Actions>();
     tokens_are_refused_late::<Actions>();
     aliases_follow::<Zone>();
-    Ok(Vec::from_slice(alloc, b"called")?)
+    case_lines::bytes(alloc, b"called")
 }

@@ -2,7 +2,7 @@
 ghost use Rattle.std.specs.Prelude.{IfOk};
 ghost use Rattle.json_forms.specs.PlainTexts.{IsPlainRole};
 
-use case_lines::{Answer, CaseFault, Row};
+use case_lines::{Answer, CaseFault, Row, Told};
 use json_forms::{Problem, capabilities_text, problem_text};
 use std::alloc::Global;
 use td_base::{Bytes, Role};
@@ -23,10 +23,17 @@ fn named(name: &str) -> Result<Problem, CaseFault> {
 /// `problem NAME`: the status of the reply, and the document.
 pub fn problem(alloc: Global, row: &Row) -> Answer {
     let problem = named(row.text(0)?)?;
-    let status = problem.status();
-    let mut out = Bytes::from(format!(in alloc; "{status} ")?.into_bytes());
+    let mut out = before(alloc, problem)?;
     problem_text(alloc, &mut out, problem)?;
     Ok(out.into_vec())
+}
+
+/// The status of the reply to a problem, and a blank.
+fn before(alloc: Global, problem: Problem) -> Result<Bytes, CaseFault> {
+    let mut told = Told::new(alloc);
+    told.value(&problem.status());
+    told.bytes(b" ");
+    Ok(Bytes::from(told.answer()?))
 }
 
 fn role(alloc: Global, word: &str) -> Result<Role, CaseFault>
@@ -49,9 +56,15 @@ fn has_leaps(word: &str) -> Result<bool, CaseFault> {
 
 /// `capabilities ROLE LEAPS`: the capabilities of a server of the publisher `Test`.
 pub fn capabilities(alloc: Global, row: &Row) -> Answer {
-    let role = role(alloc, row.text(0)?)?;
-    let with_leaps = has_leaps(row.text(1)?)?;
+    let (name, with_leaps) = (row.text(0)?, has_leaps(row.text(1)?)?);
+    let role = role(alloc, name)?;
+    written(alloc, &role, with_leaps)
+}
+
+fn written(alloc: Global, role: &Role, with_leaps: bool) -> Answer
+    requires { IsPlainRole role.now }
+{
     let mut out = Bytes::new(alloc);
-    capabilities_text(alloc, &mut out, &role, b"Test", with_leaps)?;
+    capabilities_text(alloc, &mut out, role, b"Test", with_leaps)?;
     Ok(out.into_vec())
 }

@@ -1,6 +1,6 @@
 //! Tables of leap seconds.
 use crate::plans::leap_lines;
-use case_lines::{Answer, CaseFault, Row};
+use case_lines::{Answer, CaseFault, Row, Told, printed};
 use catalogue::Leaps;
 use leap_table::from_file;
 use std::alloc::Global;
@@ -11,24 +11,23 @@ use tzif_reader::{LeapLine, MOST_BYTES, ZoneFile};
 /// given with the lines; or the fault of these.
 pub fn steps(alloc: Global, row: &Row) -> Answer {
     let file = file_with(alloc, row.word(0)?)?;
+    steps_of(alloc, &file)
+}
+
+fn steps_of(alloc: Global, file: &ZoneFile) -> Answer {
     if file.leaps.len() > MOST_BYTES {
         return Err(CaseFault::Strange);
     }
-    match from_file(alloc, &file, b"the file", b"2025-12-28") {
+    match from_file(alloc, file, b"the file", b"2025-12-28") {
         Ok(table) => told(alloc, &table),
-        Err(fault) => Ok(fault.to_string(alloc)?.into_bytes()),
+        Err(fault) => printed(alloc, &fault),
     }
 }
 
 /// A file with these leap lines and nothing else.
 fn file_with(alloc: Global, word: &[u8]) -> Result<ZoneFile, CaseFault> {
     let mut leaps = Items::new(alloc);
-    for (at, correction) in leap_lines(alloc, word)?.as_slice() {
-        leaps.push(LeapLine {
-            at: *at,
-            correction: *correction,
-        })?;
-    }
+    add_lines(alloc, &mut leaps, word)?;
     Ok(ZoneFile {
         moments: Items::new(alloc),
         numbers: Bytes::new(alloc),
@@ -38,15 +37,27 @@ fn file_with(alloc: Global, word: &[u8]) -> Result<ZoneFile, CaseFault> {
     })
 }
 
-fn told(alloc: Global, table: &Leaps) -> Answer {
-    let mut out = Vec::new(alloc);
-    for step in table.steps.as_slice() {
-        let (day, offset) = (step.day, step.offset);
-        out.extend_from_slice(format!(in alloc; "{day} {offset};")?.as_bytes())?;
+fn add_lines(alloc: Global, leaps: &mut Items<LeapLine>, word: &[u8]) -> Result<(), CaseFault> {
+    for (at, correction) in leap_lines(alloc, word)?.as_slice() {
+        leaps.push(LeapLine {
+            at: *at,
+            correction: *correction,
+        })?;
     }
-    out.push(b' ')?;
-    out.extend_from_slice(table.file.as_slice())?;
-    out.push(b' ')?;
-    out.extend_from_slice(table.expires.as_slice())?;
-    Ok(out)
+    Ok(())
+}
+
+fn told(alloc: Global, table: &Leaps) -> Answer {
+    let mut told = Told::new(alloc);
+    for step in table.steps.as_slice() {
+        told.value(&step.day);
+        told.bytes(b" ");
+        told.value(&step.offset);
+        told.bytes(b";");
+    }
+    told.bytes(b" ");
+    told.bytes(table.file.as_slice());
+    told.bytes(b" ");
+    told.bytes(table.expires.as_slice());
+    told.answer()
 }

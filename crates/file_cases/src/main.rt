@@ -12,7 +12,7 @@ mod plans;
 mod rules;
 
 use case_lines::{Answer, CaseFault, Row, Table};
-use std::alloc::Global;
+use std::alloc::{AllocError, Global};
 use std::io;
 
 fn main(rt: HostRuntime) -> io::Result<()> {
@@ -20,15 +20,29 @@ fn main(rt: HostRuntime) -> io::Result<()> {
     let mut table = Table::new(alloc);
     for line in rt.lines(alloc) {
         let line = line?;
-        if let Some(row) = table.row(line.as_str())? {
-            let answer = answer(alloc, &row);
-            if let Some(told) = table.judge(&row, answer)? {
-                println!(rt; "{told}")?;
-            }
-        }
+        try_line(&rt, alloc, &mut table, line.as_str())?;
     }
     let tally = table.tally();
     println!(rt; "{tally}")
+}
+
+/// Tries the next line, and tells of it if its answer is not the expected one.
+fn try_line(rt: &impl Print, alloc: Global, table: &mut Table, line: &str) -> io::Result<()> {
+    match told(alloc, table, line)? {
+        Some(told) => println!(rt; "{told}"),
+        None => Ok(()),
+    }
+}
+
+/// What is to be told of the next line.
+fn told(alloc: Global, table: &mut Table, line: &str) -> Result<Option<String>, AllocError> {
+    match table.row(line)? {
+        Some(row) => {
+            let answer = answer(alloc, &row);
+            table.judge(&row, answer)
+        }
+        None => Ok(None),
+    }
 }
 
 /// What is answered to a row.
@@ -62,5 +76,5 @@ fn laws(alloc: Global) -> Answer {
     posix_footer::state_stays();
     leap_table::steps_are_dated();
     leap_table::dates_are_plain();
-    Ok(Vec::from_slice(alloc, b"called")?)
+    case_lines::bytes(alloc, b"called")
 }

@@ -8,15 +8,33 @@ use tzif_reader::{Plan, slim};
 /// a comma between two; a type is `OFFSET:FLAG:PLACE`, and a leap line `TIME:CORRECTION`; a dash
 /// stands for none.
 pub fn slim_file(alloc: Global, row: &Row) -> Answer {
-    let times = times(alloc, row.word(0)?)?;
-    let types = types(alloc, row.word(2)?)?;
-    let leaps = leap_lines(alloc, row.word(4)?)?;
+    let (times, types, leaps) = (row.word(0)?, row.word(2)?, row.word(4)?);
+    let times = self::times(alloc, times)?;
+    let types = self::types(alloc, types)?;
+    let leaps = leap_lines(alloc, leaps)?;
+    slim_of(
+        alloc,
+        row,
+        times.as_slice(),
+        types.as_slice(),
+        leaps.as_slice(),
+    )
+}
+
+/// The file of a plan with these lists.
+fn slim_of(
+    alloc: Global,
+    row: &Row,
+    times: &[i64],
+    types: &[(i32, u8, u8)],
+    leaps: &[(i64, i32)],
+) -> Answer {
     let plan = Plan {
-        times: times.as_slice(),
+        times,
         numbers: row.word(1)?,
-        types: types.as_slice(),
+        types,
         designations: row.word(3)?,
-        leaps: leaps.as_slice(),
+        leaps,
         standard: row.word(5)?,
         ut: row.word(6)?,
         footer: row.word(7)?,
@@ -53,11 +71,15 @@ pub fn leap_lines(alloc: Global, word: &[u8]) -> Result<Vec<(i64, i32)>, CaseFau
     let mut lines = Vec::new(alloc);
     if word != b"-".as_slice() {
         for piece in word.split(|byte| *byte == b',') {
-            let (time, correction) = texts::cut(piece, b':');
-            lines.push((signed(time)?, short(correction.unwrap_or(&[]))?))?;
+            lines.push(leap_line(piece)?)?;
         }
     }
     Ok(lines)
+}
+
+fn leap_line(text: &[u8]) -> Result<(i64, i32), CaseFault> {
+    let (time, correction) = texts::cut(text, b':');
+    Ok((signed(time)?, short(correction.unwrap_or(&[]))?))
 }
 
 fn short(text: &[u8]) -> Result<i32, CaseFault> {

@@ -1,9 +1,9 @@
 //! A mirror that is told what rows say.
-use case_lines::{Answer, CaseFault, Row};
+use case_lines::{Answer, CaseFault, Row, Told};
 use json_forms::{BadList, ListDoc, read_list};
 use std::alloc::Global;
 use sync_core::{Heard, Mirror, Settled};
-use td_base::{Ask, Bytes, NoMemory};
+use td_base::{Ask, Bytes};
 
 /// `begin`: the mirror holds nothing.
 pub fn begin(alloc: Global, mirror: &mut Mirror) -> Answer {
@@ -15,31 +15,31 @@ pub fn begin(alloc: Global, mirror: &mut Mirror) -> Answer {
 /// told of a list (`{..`), that the token is `refused`, or of a file; `lost` is told where nothing
 /// comes, and after `restart` it begins anew.
 pub fn told(alloc: Global, mirror: &mut Mirror, row: &Row) -> Answer {
-    let ask = mirror.ask(alloc)?;
-    let mut text = ask_text(alloc, &ask)?;
-    let settled = hear(alloc, mirror, row.word(0)?)?;
-    text.append(match settled {
-        Settled::Holds => b": holds",
-        Settled::More => b": more",
-    })?;
-    Ok(text.into_vec())
+    let what = row.word(0)?;
+    let mut told = Told::new(alloc);
+    tell_ask(alloc, &mut told, mirror);
+    match hear(alloc, mirror, what) {
+        Ok(Settled::Holds) => told.bytes(b": holds"),
+        Ok(Settled::More) => told.bytes(b": more"),
+        Err(fault) => told.fail(fault),
+    }
+    told.answer()
 }
 
-/// The text of an ask.
-fn ask_text(alloc: Global, ask: &Ask) -> Result<Bytes, NoMemory> {
-    let mut text = Bytes::new(alloc);
-    match ask {
-        Ask::List(None) => text.append(b"list")?,
-        Ask::List(Some(token)) => {
-            text.append(b"list since ")?;
-            text.append(token.as_slice())?;
+/// Tells what a mirror asks.
+fn tell_ask(alloc: Global, told: &mut Told, mirror: &Mirror) {
+    match mirror.ask(alloc) {
+        Ok(Ask::List(None)) => told.bytes(b"list"),
+        Ok(Ask::List(Some(token))) => {
+            told.bytes(b"list since ");
+            told.bytes(token.as_slice());
         }
-        Ask::Get(tzid) => {
-            text.append(b"get ")?;
-            text.append(tzid.as_slice())?;
+        Ok(Ask::Get(tzid)) => {
+            told.bytes(b"get ");
+            told.bytes(tzid.as_slice());
         }
+        Err(_) => told.fail(CaseFault::NoMemory),
     }
-    Ok(text)
 }
 
 fn hear(alloc: Global, mirror: &mut Mirror, what: &[u8]) -> Result<Settled, CaseFault> {

@@ -1,65 +1,62 @@
 //! What a mirror holds.
-use case_lines::Answer;
+ghost use Rattle.std.specs.Prelude.{◌≡◌, []};
+
+use case_lines::{Answer, Told};
 use release_manifest::{Manifest, ManifestZone};
 use std::alloc::Global;
 use sync_core::Mirror;
-use td_base::{Ask, Bytes, FileRead, MemoryStore, NoMemory, Store};
+use td_base::{Ask, Bytes, FileRead, MemoryStore, Store};
 use td_civil::{HI, LO, Moment, utc_text};
 
 /// `held`: the release that is held, as lines: stamp, publisher and version, and of each zone its
 /// identifier, its aliases, the name of its file and its bytes; or that files are pending.
 pub fn held(alloc: Global, mirror: &Mirror) -> Answer {
     match mirror.ask(alloc)? {
-        Ask::Get(_) => Ok(Vec::from_slice(alloc, b"pending")?),
-        Ask::List(_) => {
-            let (manifest, store) = mirror.manifest(alloc)?;
-            Ok(manifest_text(alloc, &manifest, store)?.into_vec())
-        }
+        Ask::Get(_) => case_lines::bytes(alloc, b"pending"),
+        Ask::List(_) => release(alloc, mirror),
     }
 }
 
-fn manifest_text(
-    alloc: Global,
-    manifest: &Manifest,
-    store: MemoryStore,
-) -> Result<Bytes, NoMemory> {
-    let mut store = store;
-    let mut text = Bytes::new(alloc);
-    put_stamp(&mut text, manifest.stamp)?;
-    put_word(&mut text, &manifest.publisher)?;
-    put_word(&mut text, &manifest.version)?;
+fn release(alloc: Global, mirror: &Mirror) -> Answer
+    requires { mirror.now.pending ≡ [] }
+{
+    let (manifest, mut store) = mirror.manifest(alloc)?;
+    let mut told = Told::new(alloc);
+    tell_manifest(alloc, &mut told, &manifest, &mut store);
+    told.answer()
+}
+
+fn tell_manifest(alloc: Global, told: &mut Told, manifest: &Manifest, store: &mut MemoryStore) {
+    tell_stamp(told, manifest.stamp);
+    tell_word(told, &manifest.publisher);
+    tell_word(told, &manifest.version);
     for zone in manifest.zones.as_slice() {
-        put_zone(alloc, &mut text, zone, &mut store)?;
+        tell_zone(alloc, told, zone, store);
     }
-    Ok(text)
 }
 
-fn put_stamp(text: &mut Bytes, stamp: Moment) -> Result<(), NoMemory> {
+fn tell_stamp(told: &mut Told, stamp: Moment) {
     if stamp.seconds < LO || HI < stamp.seconds {
-        return text.append(b"no stamp");
+        told.bytes(b"no stamp");
+    } else {
+        told.bytes(&utc_text(stamp));
     }
-    text.append(&utc_text(stamp))
 }
 
-fn put_word(text: &mut Bytes, word: &Bytes) -> Result<(), NoMemory> {
-    text.push(b' ')?;
-    text.append(word.as_slice())
+fn tell_word(told: &mut Told, word: &Bytes) {
+    told.bytes(b" ");
+    told.bytes(word.as_slice());
 }
 
-fn put_zone(
-    alloc: Global,
-    text: &mut Bytes,
-    zone: &ManifestZone,
-    store: &mut MemoryStore,
-) -> Result<(), NoMemory> {
-    text.push(b'\n')?;
-    text.append(zone.tzid.as_slice())?;
+fn tell_zone(alloc: Global, told: &mut Told, zone: &ManifestZone, store: &mut MemoryStore) {
+    told.bytes(b"\n");
+    told.bytes(zone.tzid.as_slice());
     for alias in zone.aliases.as_slice() {
-        put_word(text, alias)?;
+        tell_word(told, alias);
     }
-    put_word(text, &zone.file)?;
+    tell_word(told, &zone.file);
     match store.read_file(alloc, zone.file.as_slice(), 100) {
-        FileRead::Found(bytes) => put_word(text, &bytes),
-        _ => text.append(b" is absent"),
+        FileRead::Found(bytes) => tell_word(told, &bytes),
+        _ => told.bytes(b" is absent"),
     }
 }

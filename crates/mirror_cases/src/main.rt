@@ -11,7 +11,7 @@ mod holding;
 mod syncs;
 
 use case_lines::{Answer, CaseFault, Row, Table};
-use std::alloc::Global;
+use std::alloc::{AllocError, Global};
 use std::io;
 use sync_core::Mirror;
 
@@ -21,15 +21,40 @@ fn main(rt: HostRuntime) -> io::Result<()> {
     let mut mirror = Mirror::empty(alloc);
     for line in rt.lines(alloc) {
         let line = line?;
-        if let Some(row) = table.row(line.as_str())? {
-            let answer = answer(alloc, &mut mirror, &row);
-            if let Some(told) = table.judge(&row, answer)? {
-                println!(rt; "{told}")?;
-            }
-        }
+        try_line(&rt, alloc, &mut table, &mut mirror, line.as_str())?;
     }
     let tally = table.tally();
     println!(rt; "{tally}")
+}
+
+/// Tries the next line, and tells of it if its answer is not the expected one.
+fn try_line(
+    rt: &impl Print,
+    alloc: Global,
+    table: &mut Table,
+    mirror: &mut Mirror,
+    line: &str,
+) -> io::Result<()> {
+    match told(alloc, table, mirror, line)? {
+        Some(told) => println!(rt; "{told}"),
+        None => Ok(()),
+    }
+}
+
+/// What is to be told of the next line.
+fn told(
+    alloc: Global,
+    table: &mut Table,
+    mirror: &mut Mirror,
+    line: &str,
+) -> Result<Option<String>, AllocError> {
+    match table.row(line)? {
+        Some(row) => {
+            let answer = answer(alloc, mirror, &row);
+            table.judge(&row, answer)
+        }
+        None => Ok(None),
+    }
 }
 
 /// What is answered to a row.

@@ -1,9 +1,9 @@
 //! A mirror that follows a server whose answers rows tell.
-use case_lines::{Answer, CaseFault, Row};
+use case_lines::{Answer, CaseFault, Row, Told};
 use mirror::SyncFault;
 use std::alloc::Global;
 use sync_core::Mirror;
-use td_base::{Bytes, Exchange, Faulty, Items, MemoryUpstream, NoMemory};
+use td_base::{Bytes, Exchange, Faulty, Items, MemoryUpstream};
 
 /// The host of the requests.
 const HOST: &[u8] = b"y";
@@ -12,71 +12,78 @@ const HOST: &[u8] = b"y";
 /// times in a row; an exchange fails where one is `lost`. Answers with no byte follow. The targets
 /// that were asked for, each after a bar, and the outcome.
 pub fn sync(alloc: Global, mirror: &mut Mirror, row: &Row) -> Answer {
-    let mut script = MemoryUpstream::new(alloc);
-    let mut failing = Items::new(alloc);
-    let mut calls = 0;
-    for _ in 0..row.number(0)? {
-        calls = add(alloc, row, &mut script, &mut failing, calls)?;
-    }
-    let mut upstream = Faulty::new(script, failing);
+    let mut upstream = server(alloc, row)?;
+    let mut told = Told::new(alloc);
     let outcome = mirror::sync(alloc, mirror, HOST, &mut upstream);
-    told(alloc, upstream.inner(), outcome)
+    for exchange in upstream.inner().told() {
+        tell_target(&mut told, exchange);
+    }
+    tell_outcome(&mut told, outcome);
+    told.answer()
 }
 
-/// Adds the answers of a row, after so many calls, and tells how many there are then.
-fn add(
-    alloc: Global,
-    row: &Row,
-    script: &mut MemoryUpstream,
-    failing: &mut Items<u64>,
-    calls: u64,
-) -> Result<u64, CaseFault> {
-    let mut calls = calls;
-    for word in row.words().get(1..).unwrap_or(&[]) {
-        calls = calls.saturating_add(1);
-        let answer = word.as_slice();
-        if answer == b"lost".as_slice() {
-            failing.push(calls)?;
-        } else {
-            script.push(Bytes::from_slice(alloc, answer)?)?;
+/// The server that gives the answers of a row.
+fn server(alloc: Global, row: &Row) -> Result<Faulty<MemoryUpstream>, CaseFault> {
+    let failing = failing(alloc, row)?;
+    let mut script = MemoryUpstream::new(alloc);
+    add_answers(alloc, &mut script, row)?;
+    Ok(Faulty::new(script, failing))
+}
+
+/// The words of a row that tell answers.
+fn answers(row: &Row) -> &[Vec<u8>] {
+    row.words().get(1..).unwrap_or(&[])
+}
+
+fn is_lost(answer: &Vec<u8>) -> bool {
+    answer.as_slice() == b"lost".as_slice()
+}
+
+/// The numbers of the exchanges that fail, from 1.
+fn failing(alloc: Global, row: &Row) -> Result<Items<u64>, CaseFault> {
+    let mut failing = Items::new(alloc);
+    let mut calls = 0u64;
+    for _ in 0..row.number(0)? {
+        for answer in answers(row) {
+            calls = calls.saturating_add(1);
+            if is_lost(answer) {
+                failing.push(calls)?;
+            }
         }
     }
-    Ok(calls)
+    Ok(failing)
 }
 
-/// The targets that were asked for, and the outcome.
-fn told(alloc: Global, upstream: &MemoryUpstream, outcome: Result<(), SyncFault>) -> Answer {
-    let mut text = Bytes::new(alloc);
-    for exchange in upstream.told() {
-        put_target(&mut text, exchange)?;
+/// Adds the answers of all exchanges that do not fail.
+fn add_answers(alloc: Global, script: &mut MemoryUpstream, row: &Row) -> Result<(), CaseFault> {
+    for _ in 0..row.number(0)? {
+        for answer in answers(row) {
+            if !is_lost(answer) {
+                script.push(Bytes::from_slice(alloc, answer.as_slice())?)?;
+            }
+        }
     }
-    put_outcome(alloc, &mut text, outcome)?;
-    Ok(text.into_vec())
+    Ok(())
 }
 
-/// Appends what stands between the first two blanks of a request.
-fn put_target(text: &mut Bytes, exchange: &Exchange) -> Result<(), NoMemory> {
-    text.push(b'|')?;
+/// Tells what stands between the first two blanks of a request.
+fn tell_target(told: &mut Told, exchange: &Exchange) {
+    told.bytes(b"|");
     if let Some(target) = exchange
         .request
         .as_slice()
         .split(|byte| *byte == b' ')
         .nth(1)
     {
-        text.append(target)?;
+        told.bytes(target);
     }
-    text.push(b' ')
+    told.bytes(b" ");
 }
 
-fn put_outcome(
-    alloc: Global,
-    text: &mut Bytes,
-    outcome: Result<(), SyncFault>,
-) -> Result<(), CaseFault> {
+fn tell_outcome(told: &mut Told, outcome: Result<(), SyncFault>) {
     match outcome {
-        Ok(()) => text.append(b"settled")?,
-        Err(SyncFault::NoMemory) => return Err(CaseFault::NoMemory),
-        Err(fault) => text.append(format!(in alloc; "{fault}")?.as_bytes())?,
+        Ok(()) => told.bytes(b"settled"),
+        Err(SyncFault::NoMemory) => told.fail(CaseFault::NoMemory),
+        Err(fault) => told.text(&fault),
     }
-    Ok(())
 }

@@ -1,15 +1,20 @@
 //! Requests that are written, and replies that are read.
-use case_lines::{Answer, CaseFault, Row};
-use http_client::BadReply;
+use case_lines::{Answer, CaseFault, Row, Told, printed};
+use http_client::{BadReply, Reply};
 use std::alloc::Global;
 use td_base::{Ask, Bytes};
 
 /// `request HOST list`, `request HOST since TOKEN` or `request HOST get NAME`: the request after
 /// the text `before`.
 pub fn request(alloc: Global, row: &Row) -> Answer {
+    let host = row.word(0)?;
     let ask = ask_of(alloc, row)?;
+    request_of(alloc, &ask, host)
+}
+
+fn request_of(alloc: Global, ask: &Ask, host: &[u8]) -> Answer {
     let mut out = Bytes::from_slice(alloc, b"before ")?;
-    http_client::request(alloc, &mut out, &ask, row.word(0)?)?;
+    http_client::request(alloc, &mut out, ask, host)?;
     Ok(out.into_vec())
 }
 
@@ -25,20 +30,23 @@ fn ask_of(alloc: Global, row: &Row) -> Result<Ask, CaseFault> {
 /// `reply TEXT`: the status and the body, or why the text is no reply.
 pub fn reply(alloc: Global, row: &Row) -> Answer {
     match http_client::read(alloc, row.word(0)?) {
-        Ok(reply) => {
-            let status = reply.status;
-            let mut out = Bytes::from(format!(in alloc; "{status} ")?.into_bytes());
-            out.append(reply.body.as_slice())?;
-            Ok(out.into_vec())
-        }
+        Ok(reply) => told(alloc, &reply),
         Err(BadReply::NoMemory) => Err(CaseFault::NoMemory),
-        Err(fault) => Ok(format!(in alloc; "{fault}")?.into_bytes()),
+        Err(fault) => printed(alloc, &fault),
     }
+}
+
+fn told(alloc: Global, reply: &Reply) -> Answer {
+    let mut told = Told::new(alloc);
+    told.value(&reply.status);
+    told.bytes(b" ");
+    told.bytes(reply.body.as_slice());
+    told.answer()
 }
 
 /// `laws`: each is called.
 pub fn laws(alloc: Global) -> Answer {
     http_client::one_reading();
     mirror::one_meaning();
-    Ok(Vec::from_slice(alloc, b"called")?)
+    case_lines::bytes(alloc, b"called")
 }

@@ -1,8 +1,8 @@
 //! The catalogue of a history of folders. Each row begins with the folders, with a comma between
 //! two.
 use crate::histories::catalogue_of;
-use crate::indexes;
 use crate::leap_tables::steps;
+use crate::{indexes, ruled};
 use case_lines::{Answer, CaseFault, Row, shown};
 use catalogue::{
     Catalogue, Entry, KEPT_TOKENS, entries_are_plain, fits_what_is_held, histories_grow,
@@ -15,15 +15,20 @@ use zone_meaning::{Zone, file};
 /// What a catalogue answers.
 pub fn asked(alloc: Global, row: &Row, store: &mut MemoryStore) -> Answer {
     let catalogue = catalogue_of(alloc, row.word(0)?, store)?;
+    told(alloc, row, store, &catalogue)
+}
+
+fn told(alloc: Global, row: &Row, store: &mut MemoryStore, catalogue: &Catalogue<Zone>) -> Answer {
     match row.kind() {
-        "stands" => Ok(stands(alloc, &catalogue)?),
-        "leaps" => leaps(alloc, &catalogue),
+        "changed" => ruled::changed(alloc, row, store, catalogue),
+        "stands" => Ok(stands(alloc, catalogue)?),
+        "leaps" => leaps(alloc, catalogue),
         "find-name" => shown(alloc, &catalogue.find_name(row.word(1)?)),
         "place-of" => shown(alloc, &catalogue.place_of(row.word(1)?)),
-        "changed-since" => changed(alloc, row, &catalogue),
-        "token" => token(alloc, row, &catalogue),
-        "entry" => entry(alloc, row, &catalogue),
-        "name" => name(alloc, row, &catalogue),
+        "changed-since" => changed(alloc, row, catalogue),
+        "token" => token(alloc, row, catalogue),
+        "entry" => entry(alloc, row, catalogue),
+        "name" => name(alloc, row, catalogue),
         _ => crate::strange(),
     }
 }
@@ -88,20 +93,36 @@ fn entry(alloc: Global, row: &Row, catalogue: &Catalogue<Zone>) -> Answer {
 }
 
 fn entry_text(alloc: Global, entry: &Entry<Zone>) -> Result<Vec<u8>, AllocError> {
-    let mut out = Vec::from_slice(alloc, entry.content.tzid.as_slice())?;
+    let mut out = Vec::new(alloc);
+    put_names(&mut out, entry)?;
+    put_file(alloc, &mut out, entry)?;
+    put_change(alloc, &mut out, entry)?;
+    Ok(out)
+}
+
+fn put_names(out: &mut Vec<u8>, entry: &Entry<Zone>) -> Result<(), AllocError> {
+    out.extend_from_slice(entry.content.tzid.as_slice())?;
     for alias in entry.content.aliases.as_slice() {
         out.push(b',')?;
         out.extend_from_slice(alias.as_slice())?;
     }
+    Ok(())
+}
+
+fn put_file(alloc: Global, out: &mut Vec<u8>, entry: &Entry<Zone>) -> Result<(), AllocError> {
     let len = file(&entry.content.zone).len();
     out.extend_from_slice(format!(in alloc; " {len} ")?.as_bytes())?;
     out.extend_from_slice(entry.tag.as_slice())?;
+    Ok(())
+}
+
+fn put_change(alloc: Global, out: &mut Vec<u8>, entry: &Entry<Zone>) -> Result<(), AllocError> {
     let (changed, stamp) = (entry.changed, entry.stamp.seconds);
     out.extend_from_slice(format!(in alloc; " {changed} {stamp} ")?.as_bytes())?;
     out.extend_from_slice(entry.publisher.as_slice())?;
     out.push(b' ')?;
     out.extend_from_slice(entry.version.as_slice())?;
-    Ok(out)
+    Ok(())
 }
 
 /// Laws, each of which does nothing.

@@ -24,14 +24,25 @@ pub fn told(alloc: Global, row: &Row, store: &mut MemoryStore) -> Answer {
 /// `again DIR COUNT`: what is told of a folder once it has been the next release so often.
 pub fn again(alloc: Global, row: &Row, store: &mut MemoryStore) -> Answer {
     let dir = row.word(0)?;
+    let last = repeated(alloc, dir, row.number(1)?, store)?;
+    let mut told = Bytes::new(alloc);
+    step(alloc, dir, store, last, &mut told)?;
+    Ok(told.into_vec())
+}
+
+/// The catalogue after a folder has been the next release so often.
+fn repeated(
+    alloc: Global,
+    dir: &[u8],
+    count: u64,
+    store: &mut MemoryStore,
+) -> Result<Option<Catalogue<Zone>>, NoMemory> {
+    let mut ignored = Bytes::new(alloc);
     let mut last = None;
-    for _ in 0..row.number(1)? {
-        let mut ignored = Bytes::new(alloc);
+    for _ in 0..count {
         last = step(alloc, dir, store, last, &mut ignored)?;
     }
-    let mut told = Bytes::new(alloc);
-    let _last = step(alloc, dir, store, last, &mut told)?;
-    Ok(told.into_vec())
+    Ok(last)
 }
 
 /// The catalogue of a history of folders, with a comma between two, none of which is refused.
@@ -57,28 +68,43 @@ fn step(
     last: Option<Catalogue<Zone>>,
     told: &mut Bytes,
 ) -> Result<Option<Catalogue<Zone>>, NoMemory> {
-    match check(alloc, dir, store, last.as_ref()) {
-        Ok(release) => {
-            told.append(b"ok ")?;
-            put_decimal(told, release.zones.len() as u64)?;
-            told.append(b";")?;
-            Ok(Some(grown(alloc, last, release)?))
-        }
-        Err(fault) => {
-            put_fault(alloc, told, &fault)?;
-            Ok(last)
-        }
+    let checked = check(alloc, dir, store, last.as_ref());
+    put_checked(alloc, told, &checked)?;
+    match checked {
+        Ok(release) => Ok(Some(grown(alloc, last, release)?)),
+        Err(_fault) => Ok(last),
     }
+}
+
+fn put_checked(
+    alloc: Global,
+    told: &mut Bytes,
+    checked: &Result<Release<Zone>, CheckFault>,
+) -> Result<(), NoMemory> {
+    match checked {
+        Ok(release) => put_count(told, release.zones.len()),
+        Err(fault) => put_fault(alloc, told, fault),
+    }
+}
+
+fn put_count(told: &mut Bytes, zones: usize) -> Result<(), NoMemory> {
+    told.append(b"ok ")?;
+    put_decimal(told, zones as u64)?;
+    told.append(b";")
 }
 
 fn put_fault(alloc: Global, told: &mut Bytes, fault: &CheckFault) -> Result<(), NoMemory> {
     let mut printed = Bytes::new(alloc);
     fault.put(alloc, &mut printed)?;
     told.append(printed.as_slice())?;
-    let shown = fault.to_string(alloc)?;
-    if shown.as_bytes() != printed.as_slice() {
+    put_shown(told, fault.to_string(alloc)?.as_bytes(), printed.as_slice())
+}
+
+/// Tells how a fault is shown, where it is not so printed.
+fn put_shown(told: &mut Bytes, shown: &[u8], printed: &[u8]) -> Result<(), NoMemory> {
+    if shown != printed {
         told.append(b", ")?;
-        told.append(shown.as_bytes())?;
+        told.append(shown)?;
     }
     told.append(b";")
 }

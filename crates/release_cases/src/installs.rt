@@ -23,7 +23,7 @@ pub fn open<R: Wait>(rt: &R, alloc: Global, row: &Row, store: &mut MemoryStore) 
 }
 
 /// The places of two desks after each step, and the text of the last answer.
-#[derive(Debug, Drop)]
+#[derive(Drop)]
 struct Steps {
     opened: (u32, u32),
     // Before any enter.
@@ -66,27 +66,33 @@ fn run<R: Wait>(
 ) -> Result<(Steps, (u32, u32)), InstallFault> {
     let (first, more) = (word(row, 0), (word(row, 1), word(row, 2)));
     let (installer, desks) = Installer::open(rt, alloc, first, store, 2)?;
-    let (mut installer, mut desks) = (installer, desks);
+    let mut desks = desks;
     let mut two = desks.pop().unwrap();
     let mut one = desks.pop().unwrap();
-    let steps = match grow(
-        rt,
-        alloc,
-        more,
-        store,
-        asked,
-        &mut installer,
-        &mut one,
-        &mut two,
-    ) {
-        Ok(steps) => steps,
+    run_for(rt, alloc, more, store, asked, installer, &mut one, &mut two)
+}
+
+/// The steps after the first release, for two desks.
+fn run_for<R: Wait>(
+    rt: &R,
+    alloc: Global,
+    dirs: (&[u8], &[u8]),
+    store: &mut MemoryStore,
+    asked: &Asked<'_>,
+    installer: Installer,
+    one: &mut Desk<Catalogue<Zone>>,
+    two: &mut Desk<Catalogue<Zone>>,
+) -> Result<(Steps, (u32, u32)), InstallFault>
+    requires { (one.old.pair ≡ installer.pair) × (two.old.pair ≡ installer.pair) }
+{
+    let mut installer = installer;
+    match grow(rt, alloc, dirs, store, asked, &mut installer, one, two) {
+        Ok(steps) => Ok((steps, ended(rt, installer, one, two)?)),
         Err(fault) => {
             installer.close(rt);
-            return Err(fault);
+            Err(fault)
         }
-    };
-    let places = ended(rt, installer, &mut one, &mut two)?;
-    Ok((steps, places))
+    }
 }
 
 /// The folder at this place, or the store's own top where the row has none.

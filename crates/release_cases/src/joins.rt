@@ -11,7 +11,7 @@ use zone_meaning::Zone;
 
 /// What a history has come to: its releases, the zones and names of the last one, and the place at
 /// which a desk answers after an enter.
-#[derive(Clone, Copy, Debug)]
+#[derive(Clone, Copy)]
 struct Stand {
     releases: u32,
     zones: usize,
@@ -83,13 +83,27 @@ fn installed<R: Wait>(
     let (installer, desks) = Installer::open(rt, alloc, dirs.0, store, 1)?;
     let (mut installer, mut desks) = (installer, desks);
     let mut desk = desks.pop().unwrap();
-    let first = joined(rt, alloc, dirs.1, store, asked, &mut installer, &mut desk);
+    let both = tried(rt, alloc, dirs.1, store, asked, &mut installer, &mut desk);
+    installer.close(rt);
+    Ok(both)
+}
+
+/// Installs a folder, and once more where there was no memory for it.
+fn tried<R: Wait>(
+    rt: &R,
+    alloc: Global,
+    dir: &[u8],
+    store: &mut MemoryStore,
+    asked: &Asked<'_>,
+    installer: &mut Installer,
+    desk: &mut Desk<Catalogue<Zone>>,
+) -> (Joining, Joining) {
+    let first = joined(rt, alloc, dir, store, asked, installer, desk);
     let second = match first {
-        Some((false, _)) => joined(rt, alloc, dirs.1, store, asked, &mut installer, &mut desk),
+        Some((false, _)) => joined(rt, alloc, dir, store, asked, installer, desk),
         _ => first,
     };
-    installer.close(rt);
-    Ok((first, second))
+    (first, second)
 }
 
 /// Installs a folder.

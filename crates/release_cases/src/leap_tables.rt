@@ -10,10 +10,14 @@ use tzif_reader::{LeapLine, MOST_BYTES, ZoneFile};
 /// The lines are `TIME:CORRECTION` with a comma between two; a dash stands for none.
 pub fn table(alloc: Global, row: &Row) -> Answer {
     let file = file_with(alloc, row.word(0)?)?;
+    told(alloc, &file)
+}
+
+fn told(alloc: Global, file: &ZoneFile) -> Answer {
     if file.leaps.len() > MOST_BYTES {
         return crate::strange();
     }
-    match from_file(alloc, &file, b"the file", b"2025-12-28") {
+    match from_file(alloc, file, b"the file", b"2025-12-28") {
         Ok(table) => Ok(steps(alloc, &table)?),
         Err(fault) => crate::text(alloc, &fault),
     }
@@ -21,19 +25,23 @@ pub fn table(alloc: Global, row: &Row) -> Answer {
 
 /// A file with these leap lines and nothing else.
 fn file_with(alloc: Global, lines: &[u8]) -> Result<ZoneFile, CaseFault> {
+    Ok(ZoneFile {
+        leaps: leap_lines(alloc, lines)?,
+        moments: Items::new(alloc),
+        numbers: Bytes::new(alloc),
+        kinds: Items::new(alloc),
+        footer: Bytes::new(alloc),
+    })
+}
+
+fn leap_lines(alloc: Global, lines: &[u8]) -> Result<Items<LeapLine>, CaseFault> {
     let mut leaps = Items::new(alloc);
     if lines != b"-".as_slice() {
         for line in lines.split(|byte| *byte == b',') {
             leaps.push(leap_line(line)?)?;
         }
     }
-    Ok(ZoneFile {
-        moments: Items::new(alloc),
-        numbers: Bytes::new(alloc),
-        kinds: Items::new(alloc),
-        leaps,
-        footer: Bytes::new(alloc),
-    })
+    Ok(leaps)
 }
 
 fn leap_line(line: &[u8]) -> Result<LeapLine, CaseFault> {

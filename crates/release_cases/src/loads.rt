@@ -33,13 +33,21 @@ fn manifest(alloc: Global, row: &Row) -> Answer {
 /// `load-file NUMBER RELEASE PATH`: a file of a release, in hex digits, or `absent`.
 fn file(alloc: Global, row: &Row) -> Answer {
     let (_manifest, mut store) = made(alloc, small(row, 0)?, small(row, 1)?)?;
-    let mut out = Bytes::new(alloc);
-    match store.read_file(alloc, row.word(2)?, MOST_BYTES) {
-        FileRead::Found(bytes) => put_hex(&mut out, bytes.as_slice())?,
-        FileRead::Absent => out.append(b"absent")?,
-        FileRead::Failed => return crate::strange(),
-        FileRead::NoMemory => return Err(CaseFault::NoMemory),
+    file_in(alloc, row.word(2)?, &mut store)
+}
+
+fn file_in(alloc: Global, path: &[u8], store: &mut MemoryStore) -> Answer {
+    match store.read_file(alloc, path, MOST_BYTES) {
+        FileRead::Found(bytes) => hex_of(alloc, bytes.as_slice()),
+        FileRead::Absent => Ok(Vec::from_slice(alloc, b"absent")?),
+        FileRead::Failed => crate::strange(),
+        FileRead::NoMemory => Err(CaseFault::NoMemory),
     }
+}
+
+fn hex_of(alloc: Global, bytes: &[u8]) -> Answer {
+    let mut out = Bytes::new(alloc);
+    put_hex(&mut out, bytes)?;
     Ok(out.into_vec())
 }
 
@@ -54,6 +62,10 @@ fn asked(alloc: Global, row: &Row) -> Answer {
 /// releases.
 fn places(alloc: Global, row: &Row) -> Answer {
     let catalogue = last_made(alloc, small(row, 0)?)?;
+    places_in(alloc, row, &catalogue)
+}
+
+fn places_in(alloc: Global, row: &Row, catalogue: &Catalogue<Zone>) -> Answer {
     let mut places = Vec::new(alloc);
     for at in 1..row.words().len() {
         places.push(catalogue.place_of(row.word(at)?))?;
@@ -77,13 +89,26 @@ fn line(alloc: Global, row: &Row) -> Answer {
 
 /// The catalogue of the first so many releases.
 fn last_made(alloc: Global, number: u32) -> Result<Catalogue<Zone>, CaseFault> {
-    let (manifest, mut store) = made(alloc, number, 1)?;
-    let mut last = stated(first_stated(alloc, &manifest, &mut store))?;
+    let mut last = first_made(alloc, number)?;
     for r in 2..number.saturating_add(1) {
-        let (manifest, mut store) = made(alloc, number, r)?;
-        last = stated(next_stated(alloc, &manifest, &mut store, &last))?;
+        last = next_made(alloc, number, r, &last)?;
     }
     Ok(last)
+}
+
+fn first_made(alloc: Global, number: u32) -> Result<Catalogue<Zone>, CaseFault> {
+    let (manifest, mut store) = made(alloc, number, 1)?;
+    stated(first_stated(alloc, &manifest, &mut store))
+}
+
+fn next_made(
+    alloc: Global,
+    number: u32,
+    r: u32,
+    last: &Catalogue<Zone>,
+) -> Result<Catalogue<Zone>, CaseFault> {
+    let (manifest, mut store) = made(alloc, number, r)?;
+    stated(next_stated(alloc, &manifest, &mut store, last))
 }
 
 /// The catalogue, if there is one.

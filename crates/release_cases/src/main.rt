@@ -36,11 +36,9 @@ use std::sync::Wait;
 use subscribers::{Want, WantTest, Wish, WishKind, is_any, is_past, is_under};
 use td_base::{Bytes, MemoryStore};
 
-#[tactic(auto, using(admission::proofs::lemmas::Keeping::both_kept, subscribers::proofs::lemmas::Wanting::three_wanted))]
+#[tactic(auto, using(admission::proofs::lemmas::Keeping::both_kept))]
 fn main(rt: HostRuntime) -> io::Result<()> {
     let alloc = rt.alloc();
-    let mut table = Table::new(alloc);
-    let mut store = MemoryStore::new(alloc);
     let at_most = |delta: &Delta, most: i64| -> bool
         ensures { result ≡ allows RuleKind.MaxChanged most delta.now }
     { changes_at_most(delta, most) };
@@ -53,6 +51,14 @@ fn main(rt: HostRuntime) -> io::Result<()> {
         Kept::new(RuleKind::MaxChanged, at_most),
         Kept::new(RuleKind::NoPastChange, no_past),
     ];
+    over_rules(&rt, alloc, &kept)
+}
+
+/// Reads the table, with a test for each kind of rule.
+#[tactic(auto, using(subscribers::proofs::lemmas::Wanting::three_wanted))]
+fn over_rules<R: Wait + Input + Print>(rt: &R, alloc: Global, kept: &[Kept]) -> io::Result<()>
+    requires { KeepsAll (map (λ k. k.kind) kept.now) }
+{
     let any = |change: &Changed, wish: &Wish| -> bool
         ensures { result ≡ takes_by WishKind.Any change.now wish.now }
     { is_any(change, wish) };
@@ -71,17 +77,37 @@ fn main(rt: HostRuntime) -> io::Result<()> {
         Want::new(WishKind::Past, past),
     ];
     let asked = Asked::new(Rules::none(alloc), &wants);
+    read_table(rt, alloc, kept, &asked)
+}
+
+/// Reads the table, and tells of each row whose answer is not the expected one.
+fn read_table<R: Wait + Input + Print>(
+    rt: &R,
+    alloc: Global,
+    kept: &[Kept],
+    asked: &Asked<'_>,
+) -> io::Result<()>
+    requires { KeepsAll (map (λ k. k.kind) kept.now) }
+{
+    let mut table = Table::new(alloc);
+    let mut store = MemoryStore::new(alloc);
     for line in rt.lines(alloc) {
         let line = line?;
         if let Some(row) = table.row(line.as_str())? {
-            let answer = answer(&rt, alloc, &row, &mut store, &kept, &asked);
-            if let Some(told) = table.judge(&row, answer)? {
-                println!(rt; "{told}")?;
-            }
+            let answer = answer(rt, alloc, &row, &mut store, kept, asked);
+            judge(rt, &mut table, &row, answer)?;
         }
     }
     let tally = table.tally();
     println!(rt; "{tally}")
+}
+
+/// Tells of a row whose answer is not the expected one.
+fn judge<R: Print>(rt: &R, table: &mut Table, row: &Row, answer: Answer) -> io::Result<()> {
+    if let Some(told) = table.judge(row, answer)? {
+        println!(rt; "{told}")?;
+    }
+    Ok(())
 }
 
 /// What is answered to a row, with a test for each kind of rule, and what is lent to installs of
@@ -103,15 +129,21 @@ fn answer<R: Wait>(
         "joins" => joins::joins(rt, alloc, row, store, asked),
         "stated" => stated::stated(rt, alloc, row, store, kept, asked),
         "asked" => ruled::asked(alloc, row, kept),
-        "changed" => ruled::changed(alloc, row, store),
         "ruled" => ruled::ruled(rt, alloc, row, store, kept, asked),
         "serves" => stated::served(rt, alloc, row, store),
-        "manifest" => manifests::read_back(alloc, row),
-        "printed" => printed::printed(alloc, row),
-        "leap-table" => leap_tables::table(alloc, row),
         "examine" => values::examined(alloc, row, store),
         "history" => histories::told(alloc, row, store),
         "again" => histories::again(alloc, row, store),
+        _ => answer_alone(alloc, row, store),
+    }
+}
+
+/// What is answered to a row of another kind, which asks for no rule and installs nothing.
+fn answer_alone(alloc: Global, row: &Row, store: &mut MemoryStore) -> Answer {
+    match row.kind() {
+        "manifest" => manifests::read_back(alloc, row),
+        "printed" => printed::printed(alloc, row),
+        "leap-table" => leap_tables::table(alloc, row),
         "load-manifest" | "load-file" | "load-requests" | "load-place-of" | "load-summary" => {
             loads::told(alloc, row)
         }

@@ -3,16 +3,17 @@
 ghost use Rattle.std.specs.Prelude.{map};
 ghost use Rattle.admission.specs.Rules.{KeepsAll};
 
-use crate::histories::catalogue_of;
-use crate::stated::put_count;
+use crate::stated::{put_after, put_count};
 use admission::{Changed, Chosen, Delta, Kept, RuleKind, Rules, delta_of};
 use case_lines::{Answer, CaseFault, Row, shown, signed};
+use catalogue::{Catalogue, Release};
 use installer::{Asked, Installer};
 use release_check::check;
 use std::alloc::Global;
 use std::sync::Wait;
 use td_base::{Bytes, Items, MemoryStore};
 use td_civil::Moment;
+use zone_meaning::Zone;
 
 /// The most rules of a row.
 const MOST_RULES: usize = 8;
@@ -89,12 +90,21 @@ fn moment(word: &[u8]) -> Result<Option<Moment>, CaseFault> {
 
 /// `changed DIRS DIR`: the zones that a folder changes of the last release of a history, each with
 /// the moment from which it differs from what its identifier stood for, if it does.
-pub fn changed(alloc: Global, row: &Row, store: &mut MemoryStore) -> Answer {
-    let last = catalogue_of(alloc, row.word(0)?, store)?;
-    match check(alloc, row.word(1)?, store, Some(&last)) {
-        Ok(release) => told(alloc, &delta_of(alloc, &last, &release)?),
+pub fn changed(
+    alloc: Global,
+    row: &Row,
+    store: &mut MemoryStore,
+    last: &Catalogue<Zone>,
+) -> Answer {
+    match check(alloc, row.word(1)?, store, Some(last)) {
+        Ok(release) => told_of(alloc, last, &release),
         Err(fault) => crate::text(alloc, &fault),
     }
+}
+
+fn told_of(alloc: Global, last: &Catalogue<Zone>, next: &Release<Zone>) -> Answer {
+    let delta = delta_of(alloc, last, next)?;
+    told(alloc, &delta)
 }
 
 fn told(alloc: Global, delta: &Delta) -> Answer {
@@ -123,11 +133,22 @@ pub fn ruled<R: Wait>(
     requires { KeepsAll (map (λ k. k.kind) kept.now) }
 {
     let asked = Asked::new(rules(alloc, kept, row.word(0)?)?, asked.wants);
+    begun(rt, alloc, row, store, &asked)
+}
+
+/// Begins a history with the first folder.
+fn begun<R: Wait>(
+    rt: &R,
+    alloc: Global,
+    row: &Row,
+    store: &mut MemoryStore,
+    asked: &Asked<'_>,
+) -> Answer {
     match Installer::open(rt, alloc, row.word(1)?, store, 1) {
         Ok((installer, desks)) => {
             drop(desks);
             let mut installer = installer;
-            let told = grown(rt, alloc, row, store, &mut installer, &asked);
+            let told = grown(rt, alloc, row, store, &mut installer, asked);
             installer.close(rt);
             told
         }
@@ -147,11 +168,10 @@ fn grown<R: Wait>(
     let mut out = Vec::new(alloc);
     put_count(alloc, &mut out, installer)?;
     for at in 2..row.words().len() {
-        if let Err(fault) = installer.install(rt, alloc, row.word(at)?, store, asked) {
-            out.extend_from_slice(crate::text(alloc, &fault)?.as_slice())?;
-            out.push(b' ')?;
-        }
-        put_count(alloc, &mut out, installer)?;
+        let fault = installer
+            .install(rt, alloc, row.word(at)?, store, asked)
+            .err();
+        put_after(alloc, &mut out, fault, installer)?;
     }
     Ok(out)
 }

@@ -26,12 +26,23 @@ pub fn stated<R: Wait>(
     requires { KeepsAll (map (λ k. k.kind) kept.now) }
 {
     let asked = Asked::new(rules(alloc, kept, row.word(0)?)?, asked.wants);
+    begun(rt, alloc, row, store, &asked)
+}
+
+/// Begins a history with the first manifest.
+fn begun<R: Wait>(
+    rt: &R,
+    alloc: Global,
+    row: &Row,
+    store: &mut MemoryStore,
+    asked: &Asked<'_>,
+) -> Answer {
     let first = manifest_of(alloc, row.word(1)?, store)?;
     match Installer::open_manifest(rt, alloc, &first, store, 1) {
         Ok((installer, desks)) => {
             drop(desks);
             let mut installer = installer;
-            let told = grown(rt, alloc, row, store, &mut installer, &asked);
+            let told = grown(rt, alloc, row, store, &mut installer, asked);
             installer.close(rt);
             told
         }
@@ -51,14 +62,42 @@ fn grown<R: Wait>(
     let mut out = Vec::new(alloc);
     put_count(alloc, &mut out, installer)?;
     for at in 2..4 {
-        let manifest = manifest_of(alloc, row.word(at)?, store)?;
-        if let Err(fault) = installer.install_manifest(rt, alloc, &manifest, store, asked) {
-            out.extend_from_slice(crate::text(alloc, &fault)?.as_slice())?;
-            out.push(b' ')?;
-        }
-        put_count(alloc, &mut out, installer)?;
+        let fault = refused(rt, alloc, row.word(at)?, store, installer, asked)?;
+        put_after(alloc, &mut out, fault, installer)?;
     }
     Ok(out)
+}
+
+/// The fault of a manifest that is installed, if it has one.
+fn refused<R: Wait>(
+    rt: &R,
+    alloc: Global,
+    dir: &[u8],
+    store: &mut MemoryStore,
+    installer: &mut Installer,
+    asked: &Asked<'_>,
+) -> Result<Option<InstallFault>, CaseFault> {
+    let manifest = manifest_of(alloc, dir, store)?;
+    Ok(
+        installer
+            .install_manifest(rt, alloc, &manifest, store, asked)
+            .err(),
+    )
+}
+
+/// Tells how many releases the history has after a step, which may have had a fault.
+pub fn put_after(
+    alloc: Global,
+    out: &mut Vec<u8>,
+    fault: Option<InstallFault>,
+    installer: &Installer,
+) -> Result<(), CaseFault> {
+    if let Some(fault) = fault {
+        out.extend_from_slice(crate::text(alloc, &fault)?.as_slice())?;
+        out.push(b' ')?;
+    }
+    put_count(alloc, out, installer)?;
+    Ok(())
 }
 
 /// Tells how many releases the history has.
@@ -75,13 +114,22 @@ pub fn put_count(
 /// `serves DIR TEXT`: whether a history that the manifest of a folder began serves the manifest of
 /// a text, over the files of the folder.
 pub fn served<R: Wait>(rt: &R, alloc: Global, row: &Row, store: &mut MemoryStore) -> Answer {
-    let dir = row.word(0)?;
+    let asked = manifest_in(alloc, row.word(0)?, row.word(1)?)?;
+    serves(rt, alloc, row.word(0)?, &asked, store)
+}
+
+fn serves<R: Wait>(
+    rt: &R,
+    alloc: Global,
+    dir: &[u8],
+    asked: &Manifest,
+    store: &mut MemoryStore,
+) -> Answer {
     let first = manifest_of(alloc, dir, store)?;
-    let asked = manifest_in(alloc, dir, row.word(1)?)?;
     match Installer::open_manifest(rt, alloc, &first, store, 1) {
         Ok((installer, desks)) => {
             drop(desks);
-            let answer = installer.serves(alloc, &asked, store);
+            let answer = installer.serves(alloc, asked, store);
             installer.close(rt);
             told(alloc, answer)
         }

@@ -1,6 +1,6 @@
 //! Manifests that are at hand.
 use case_lines::{Answer, CaseFault, Row};
-use release_check::examine;
+use release_check::{CheckFault, examine};
 use release_manifest::{Manifest, ManifestLeaps};
 use std::alloc::Global;
 use td_base::{Bytes, Items, MemoryStore};
@@ -10,11 +10,19 @@ use td_civil::Moment;
 /// table of leap seconds of the folder `with-leap`.
 pub fn examined(alloc: Global, row: &Row, store: &mut MemoryStore) -> Answer {
     let manifest = value(alloc, row)?;
-    let mut out = Bytes::new(alloc);
-    match examine(alloc, &manifest, b"with-leap", store, None) {
-        Ok(_release) => out.append(b"ok")?,
-        Err(fault) => fault.put(alloc, &mut out)?,
+    told(alloc, &manifest, store)
+}
+
+fn told(alloc: Global, manifest: &Manifest, store: &mut MemoryStore) -> Answer {
+    match examine(alloc, manifest, b"with-leap", store, None) {
+        Ok(_release) => Ok(Vec::from_slice(alloc, b"ok")?),
+        Err(fault) => printed(alloc, &fault),
     }
+}
+
+fn printed(alloc: Global, fault: &CheckFault) -> Answer {
+    let mut out = Bytes::new(alloc);
+    fault.put(alloc, &mut out)?;
     Ok(out.into_vec())
 }
 
@@ -26,9 +34,13 @@ fn value(alloc: Global, row: &Row) -> Result<Manifest, CaseFault> {
             seconds: row.signed(2)?,
         },
         zones: Items::new(alloc),
-        leaps: Some(ManifestLeaps {
-            file: Bytes::from_slice(alloc, b"leap")?,
-            expires: Bytes::from_slice(alloc, row.word(3)?)?,
-        }),
+        leaps: Some(leaps(alloc, row)?),
+    })
+}
+
+fn leaps(alloc: Global, row: &Row) -> Result<ManifestLeaps, CaseFault> {
+    Ok(ManifestLeaps {
+        file: Bytes::from_slice(alloc, b"leap")?,
+        expires: Bytes::from_slice(alloc, row.word(3)?)?,
     })
 }

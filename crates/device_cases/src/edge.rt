@@ -1,0 +1,129 @@
+//! The words of a command line, and what is said on standard error of a run that failed.
+ghost use Rattle.std.specs.Prelude.{◌≤◌, IfOk, length};
+
+use case_lines::{Answer, CaseFault, Row, Told, printed};
+use devices::{ListenFailure, LookFailure};
+use process_edge::{Complaint, Failures, collect};
+use std::alloc::Global;
+use std::env::FillError;
+use std::io::ErrorKind;
+use std::rt::Env;
+use td_base::Bytes;
+
+/// A command line: the name of a program, and the words of a row.
+#[derive(Drop)]
+struct CommandLine<'a> {
+    words: &'a [Vec<u8>],
+}
+
+impl Env for CommandLine<'_> {
+    fn arg(&self, i: usize, buf: &mut [u8]) -> Result<usize, FillError> {
+        if i == 0 {
+            return fill(b"program", buf);
+        }
+        match self.words.get(i - 1) {
+            Some(word) => fill(word.as_slice(), buf),
+            None => Err(FillError::NotPresent),
+        }
+    }
+
+    fn var(&self, _name: &str, _buf: &mut [u8]) -> Result<usize, FillError> {
+        Err(FillError::NotPresent)
+    }
+
+    fn var_at(&self, _i: usize, _buf: &mut [u8]) -> Result<usize, FillError> {
+        Err(FillError::NotPresent)
+    }
+}
+
+/// Puts a word at the front of the room, if there is enough.
+fn fill(word: &[u8], buf: &mut [u8]) -> Result<usize, FillError>
+    ensures { IfOk result (λ count. count ≤ length buf.new) }
+{
+    if buf.len() < word.len() {
+        return Err(FillError::TooLong);
+    }
+    buf[..word.len()].copy_from_slice(word);
+    Ok(word.len())
+}
+
+/// `words WORD..`: the words that are collected of a command line of these, each in `<` and `>`.
+pub fn words(alloc: Global, row: &Row) -> Answer {
+    let line = CommandLine { words: row.words() };
+    let words = collect(alloc, &line)?;
+    let mut told = Told::new(alloc);
+    for word in &words {
+        told.bytes(b"<");
+        told.bytes(word.as_slice());
+        told.bytes(b">");
+    }
+    told.answer()
+}
+
+/// `complaint STATUS OBJECT..`: what is said for a status where these objects failed, or `nothing`.
+pub fn complaint(alloc: Global, row: &Row) -> Answer {
+    let status = u8::try_from(row.number(0)?).ok().ok_or(CaseFault::Strange)?;
+    let listener = listener(alloc, row)?;
+    let file = file(alloc)?;
+    said(alloc, status, failures(row, &file, &listener))
+}
+
+/// A file that is not read.
+fn file(alloc: Global) -> Result<LookFailure, CaseFault> {
+    Ok(LookFailure {
+        path: Some(Bytes::from_slice(alloc, b"a/utc")?),
+        kind: ErrorKind::PermissionDenied,
+    })
+}
+
+/// A listener that is refused, whose address is known where the row does not say `nameless`.
+fn listener(alloc: Global, row: &Row) -> Result<ListenFailure, CaseFault> {
+    let address = if fails(row, b"nameless") {
+        None
+    } else {
+        Some(Bytes::from_slice(alloc, b"127.0.0.1:80")?)
+    };
+    Ok(ListenFailure {
+        address,
+        kind: ErrorKind::AddrInUse,
+    })
+}
+
+/// What failed of the objects that the row names.
+fn failures<'a>(row: &Row, file: &'a LookFailure, listener: &'a ListenFailure) -> Failures<'a> {
+    Failures {
+        store: named(row, b"store", file),
+        input: named(row, b"input", ErrorKind::TimedOut),
+        output: named(row, b"output", ErrorKind::BrokenPipe),
+        network: named(row, b"network", listener),
+        door: named(row, b"door", ErrorKind::ConnectionAborted),
+        upstream: named(row, b"upstream", ErrorKind::ConnectionRefused),
+    }
+}
+
+/// The failure of an object, where the row names it.
+fn named<T: Copy>(row: &Row, object: &[u8], failure: T) -> Option<T> {
+    if fails(row, object) {
+        Some(failure)
+    } else {
+        None
+    }
+}
+
+/// Whether a row names an object.
+fn fails(row: &Row, object: &[u8]) -> bool {
+    for word in row.words() {
+        if word.as_slice() == object {
+            return true;
+        }
+    }
+    false
+}
+
+/// What is said for a status.
+fn said(alloc: Global, status: u8, failures: Failures<'_>) -> Answer {
+    match Complaint::of(status, failures) {
+        Some(complaint) => printed(alloc, &complaint),
+        None => case_lines::bytes(alloc, b"nothing"),
+    }
+}
