@@ -471,11 +471,9 @@ def many_idle(program):
             same("the list", clients[-1].ask(ZONES, timeout=LONG).body, LIST)
             # the first asks again and again, and so stays
             same("the list of the first", clients[0].ask(ZONES, timeout=LONG).body, LIST)
-            # the server tells turns apart by milliseconds
-            time.sleep(0.005)
-        for client in clients[1:20]:
+        for client in clients[1:21]:
             client.seconds_to_end(LONG)
-        for client in [clients[0], *clients[23:]]:
+        for client in [clients[0], *clients[21:]]:
             same("the list of who stayed", client.ask(ZONES, timeout=LONG).body, LIST)
         for client in clients:
             client.close()
