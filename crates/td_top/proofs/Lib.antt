@@ -26,3 +26,4 @@ pub mod CalendarRuns
 pub mod KeptCalendars
 pub mod PrimaryLines
 pub mod Completing
+pub mod GivenFolders

@@ -1,20 +1,16 @@
--- When a run ends well, or for want of memory: no count of faults rose, the folders that it is to
--- serve give releases, a file that it is to read is that of a zone, and a primary that it follows
--- answers until a list of changes comes back empty.
-use Rattle.std.specs.Prelude.{◌≡◌, ◌⊎◌, ℕ, List, [], ◌++◌, Option, None, Some, IfSome, ⊤}
+-- When a run does all that was asked, or memory runs out: no count of faults rose, and what its
+-- command needs of the outside is there. What several commands need stands here; what one needs
+-- alone, and that it then ends so, stand on the command's own page.
+use Rattle.std.specs.Prelude.{◌≡◌, ◌⊎◌, ℕ, List, [], ◌++◌, Option, Some, IfSome}
 use Rattle.std.specs.List.{AllByRecursion}
 use Rattle.td_base.specs.DoorViews.{DoorView}
 use Rattle.td_base.specs.Upstreams.{UpstreamView}
-use Rattle.td_base.specs.Views.{File, Rose, StoreView, file_at}
+use Rattle.td_base.specs.Views.{File, Rose, StoreView}
 use Rattle.td_base.specs.declared.report.Ask.{Ask}
 use Rattle.td_base.specs.declared.upstream.Exchange.{Exchange}
 use Rattle.admission.specs.declared.rules.Chosen.{Chosen}
 use Rattle.catalogue.specs.Releases.{ReleaseData}
-use Rattle.zone_meaning.specs.Faults.{zone_fault}
-use Rattle.mirror_world.specs.Answers.{IsAnsweredOver}
 use Rattle.mirror_world.specs.Settling.{SettlesSecond}
-use Rattle.calendar_world.specs.Endings.{IsCalendarAnsweredOver}
-use Rattle.td_top.specs.Command.{Asked, answer, at, calmirror, check, load, mirror, serve}
 use Rattle.td_top.specs.Folders.{FoldersGive}
 use Rattle.td_top.specs.Outside.{World}
 use Rattle.td_top.specs.declared.status.Status.{Status}
@@ -48,29 +44,13 @@ pub record FoldersAreGiven (store : StoreView) (rules : List Chosen) (dirs : Lis
   pub releases : List ReleaseData
   pub give : FoldersGive (Some files) rules dirs releases
 
--- a file of a store that tells its files is that of a zone
-pub record ZoneIsGiven (store : StoreView) (path : List ℕ) : Type 0 where
-  pub files : List File
-  pub told : store.files ≡ Some files
-  pub bytes : List ℕ
-  pub stands : file_at files path ≡ Some bytes
-  pub sound : zone_fault bytes ≡ None
-
--- the first exchanges that are told of the server that was followed are those of a primary, of which
--- the second list is an empty one of changes
-abbrev pub PrimarySettles : (List ReleaseData → Ask → Exchange → Type 0) → Option UpstreamView
-    → Type 0
-PrimarySettles over up = (xs : List Exchange) × TellsFirst up xs × SettlesSecond over xs
-
--- what a command needs of the outside is there
-abbrev pub IsGiven : Asked → StoreView → Option UpstreamView → Type 0
-IsGiven (answer dirs) store up = FoldersAreGiven store [] dirs
-IsGiven (check dirs) store up = FoldersAreGiven store [] dirs
-IsGiven (at path m) store up = ZoneIsGiven store path
-IsGiven (serve address workers rules dirs) store up = FoldersAreGiven store rules dirs
-IsGiven (mirror address workers upstream) store up = PrimarySettles IsAnsweredOver up
-IsGiven (load n) store up = ⊤
-IsGiven (calmirror upstream start last) store up = PrimarySettles IsCalendarAnsweredOver up
+-- the first exchanges that are told of the server that was followed are those of a primary, of
+-- which the second list is an empty one of changes
+pub record PrimarySettles (over : List ReleaseData → Ask → Exchange → Type 0)
+    (up : Option UpstreamView) : Type 0 where
+  pub exchanges : List Exchange
+  pub first : TellsFirst up exchanges
+  pub settles : SettlesSecond over exchanges
 
 -- all was done, or memory ran out
 abbrev pub IsComplete : Status → Type 0

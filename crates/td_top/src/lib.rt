@@ -1,6 +1,6 @@
 //! The top call of the program: what its words, the files of its store and its input make it write,
 //! and with which status it ends. [`run`] is the call. How a run ends, command by command, is
-//! `RunEnds` of `specs/Running.antt`.
+//! `RunEnds` of `specs/Running.antt`, and when it is complete, [`runs_complete`].
 #![tactic(auto)]
 
 // A run: its words, what it is lent, how each command goes, and how a run ends.
@@ -35,10 +35,8 @@ mod growth;
 mod console_beside;
 mod works;
 
-// Laws, and what may cross threads.
-mod laws;
+// What may cross threads.
 mod send_sync;
 
-pub use laws::runs_complete;
 pub use outcome::Outcome;
-pub use running::run;
+pub use running::{run, runs_complete};

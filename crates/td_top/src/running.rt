@@ -7,6 +7,13 @@ ghost use Rattle.subscribers.specs.Wishes.{WantsAll};
 ghost use Rattle.td_top.specs.Site.{site_names, world_of};
 ghost use Rattle.td_top.specs.Outside.{LaterWorld, outside, world};
 ghost use Rattle.td_top.specs.Running.{RunEnds, RunEndsLater, number_of};
+ghost use Rattle.td_top.specs.Running.Answering.{AnswersComplete};
+ghost use Rattle.td_top.specs.Running.CalendarMirroring.{CalendarsComplete};
+ghost use Rattle.td_top.specs.Running.Checking.{ChecksComplete};
+ghost use Rattle.td_top.specs.Running.Loading.{LoadComplete};
+ghost use Rattle.td_top.specs.Running.Mirroring.{MirrorsComplete};
+ghost use Rattle.td_top.specs.Running.Server.{ServesComplete};
+ghost use Rattle.td_top.specs.Running.StateLine.{StateComplete};
 ghost use Rattle.td_top.specs.Tells.{EndsLater, ShowsUsage};
 ghost use Rattle.td_top.specs.declared.status.Status.{Status};
 
@@ -24,13 +31,13 @@ use crate::kept_tests::KeptTests;
 use crate::opening::Plan;
 use crate::outcome::{Ending, Outcome};
 use crate::printing::print;
-use crate::running::answering::{AnswerPlan, answer};
-use crate::running::calendar_mirroring::{CalendarPlan, mirror_calendars};
-use crate::running::checking::check_folders;
-use crate::running::loading::{LoadPlan, load};
-use crate::running::mirroring::{MirrorPlan, mirror_server};
-use crate::running::server::{Serving, serve_doors};
-use crate::running::state_line::state_at;
+use crate::running::answering::{AnswerPlan, answer, answers_complete};
+use crate::running::calendar_mirroring::{CalendarPlan, calendars_complete, mirror_calendars};
+use crate::running::checking::{check_folders, checks_complete};
+use crate::running::loading::{LoadPlan, load, load_complete};
+use crate::running::mirroring::{MirrorPlan, mirror_server, mirrors_complete};
+use crate::running::server::{Serving, serve_doors, serves_complete};
+use crate::running::state_line::{state_at, state_complete};
 use crate::site::Site;
 use crate::status::Status;
 use admission::Kept;
@@ -220,4 +227,26 @@ fn usage<K: Sink>(output: &mut K) -> Status
         (outside store input (K.seen output.old)) (outside store input (K.seen output.new)) result }
 {
     print(output, Status::Usage, USAGE)
+}
+
+/// A run whose words are a command does all that was asked, or memory runs out, where no count of
+/// faults rose and what the command needs of the outside is there: folders that give releases, a
+/// file of a zone, or a primary that answers until a list of changes comes back empty. Each clause
+/// is over what the row of `RunEnds` for one command says of its end.
+pub fn runs_complete()
+    ensures answer { AnswersComplete }
+    ensures serve { ServesComplete }
+    ensures mirror { MirrorsComplete }
+    ensures check { ChecksComplete }
+    ensures at { StateComplete }
+    ensures load { LoadComplete }
+    ensures calmirror { CalendarsComplete }
+{
+    answers_complete();
+    serves_complete();
+    mirrors_complete();
+    checks_complete();
+    state_complete();
+    load_complete();
+    calendars_complete();
 }

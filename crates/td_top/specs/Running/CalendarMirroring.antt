@@ -26,6 +26,8 @@ use Rattle.sync_core.specs.Published.{file_bytes}
 use Rattle.vtimezone_reader.specs.Observing.{IsFirstOnset, calendar_observed}
 use Rattle.vtimezone_reader.specs.ReadLines.{calendar_in}
 use Rattle.vtimezone_reader.specs.declared.calendar_type.Calendar.{Calendar}
+use Rattle.calendar_world.specs.Endings.{IsCalendarAnsweredOver}
+use Rattle.td_top.specs.Completing.{IsComplete, NoneRose, PrimarySettles}
 use Rattle.td_top.specs.Outside.{LeavesStreams, World}
 pub use Rattle.td_top.specs.Running.CalendarMirroring.ObservanceLines.{observance_line, shown_name}
 pub use Rattle.td_top.specs.Running.CalendarMirroring.ObservanceLines.{shown_state, zone_line}
@@ -108,8 +110,8 @@ SyncsCalendars host s t old new result =
 -- how `calmirror` ends, with the other server as it was left
 pub data MirrorsCalendars (upstream : List ℕ) (start end : ℤ) (before after : World)
     : Option UpstreamView → Status → Type 0 where
-  -- the sync ended well, and what is kept was printed, which over a primary is what the files of one
-  -- of its releases tell
+  -- the sync ended well, and what is kept was printed, which over a primary is what the files of
+  -- one of its releases tell
   printed : (first last : UpstreamView) (s : MirrorState) (is : Status)
       → ReachesServer before.network after.network upstream first
       → (syncs : SyncsCalendars upstream empty_mirror s first last (Ok tt))
@@ -137,3 +139,11 @@ pub data MirrorsCalendars (upstream : List ℕ) (start end : ℤ) (before after 
       → ReachesServer before.network after.network upstream first
       → LeavesStreams before.outside after.outside
       → MirrorsCalendars upstream start end before after (Some last) status.NoMemory
+
+-- where nothing failed and the sync is with a primary whose second list is an empty one of changes,
+-- `calmirror` prints what each calendar tells, or memory runs out
+abbrev pub CalendarsComplete : Type 0
+CalendarsComplete =
+    (upstream : List ℕ) (start end : ℤ) (before after : World) (up : Option UpstreamView)
+    (is : Status) → MirrorsCalendars upstream start end before after up is
+    → NoneRose before after [] up → PrimarySettles IsCalendarAnsweredOver up → IsComplete is

@@ -1,7 +1,8 @@
 -- How `load` ends: what is counted is the replies that its requests get, release by release, each
 -- over the releases that were made up to then.
 pub mod LoadSteps
-use Rattle.std.specs.Prelude.{◌≡◌, ℕ, ◌+◌, List, [], ◌∷◌, ◌++◌, length, take, drop, Some, Ok}
+use Rattle.std.specs.Prelude.{◌≡◌, ℕ, ◌+◌, List, [], ◌∷◌, ◌++◌, length, take, drop, None, Some}
+use Rattle.std.specs.Prelude.{Ok}
 use Rattle.td_base.specs.Views.{File}
 use Rattle.td_base.specs.declared.report.Role.TheVariants as role
 use Rattle.catalogue.specs.Releases.{ReleaseData}
@@ -15,7 +16,8 @@ use Rattle.made_load.specs.Counts.{CountsReply, no_counts, summary_text, with_re
 use Rattle.made_load.specs.Releases.{HasFiles, made_manifest}
 use Rattle.made_load.specs.Requests.{made_requests}
 use Rattle.made_load.specs.declared.counts.LoadCounts.{LoadCounts}
-use Rattle.td_top.specs.Outside.{LeavesStreams, Outside}
+use Rattle.td_top.specs.Completing.{IsComplete, NoneRose}
+use Rattle.td_top.specs.Outside.{LeavesStreams, Outside, World}
 use Rattle.td_top.specs.Printing.{Printed}
 use Rattle.td_top.specs.declared.status.Status.{Status}
 use Rattle.td_top.specs.declared.status.Status.TheVariants as status
@@ -76,3 +78,9 @@ pub data LoadEnds (n : ℕ) (before after : Outside) : Status → Type 0 where
       → Printed status.Done line before.output after.output end
       → after.input ≡ before.input → LoadEnds n before after end
   out_of_memory : LeavesStreams before after → LoadEnds n before after status.NoMemory
+
+-- where nothing failed, `load` prints its line, or memory runs out
+abbrev pub LoadComplete : Type 0
+LoadComplete =
+    (n : ℕ) (before after : World) (is : Status) → LoadEnds n before.outside after.outside is
+    → NoneRose before after [] None → IsComplete is

@@ -1,6 +1,7 @@
 ghost use Rattle.std.specs.Prelude.{◌≡◌, ◌<◌, length, map, true, IfOk};
 ghost use Rattle.catalogue.specs.Holdings.{history_of};
 ghost use Rattle.subscribers.specs.Wishes.{WantsAll};
+ghost use Rattle.td_top.specs.Running.Answering.{AnswersComplete};
 ghost use Rattle.td_top.specs.Running.Answering.{Answers};
 ghost use Rattle.td_top.specs.Outside.{outside};
 ghost use Rattle.td_top.specs.Tells.{EndsLater, ServesLast, ServesLater};
@@ -13,6 +14,7 @@ use admission::Rules;
 use catalogue::Catalogue;
 use installer::Asked;
 use publication::{Desk, Ended};
+use release_check::one_folder;
 use std::alloc::Global;
 use std::sync::Wait;
 use subscribers::Want;
@@ -110,4 +112,11 @@ fn serve<C: Source, K: Sink>(
     let mut conn = Joined::new(input, output);
     let report = connection::serve(alloc, &Role::Primary, desk, &mut conn);
     report.end
+}
+
+/// Law: when `answer` does all that was asked, or memory runs out.
+pub fn answers_complete()
+    ensures { AnswersComplete }
+{
+    one_folder();
 }

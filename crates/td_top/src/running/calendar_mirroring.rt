@@ -4,6 +4,7 @@ ghost use Rattle.std.specs.Option.{option_map};
 ghost use Rattle.catalogue.specs.Order.{IsRising};
 ghost use Rattle.sync_core.specs.Mirrors.{entry_name};
 ghost use Rattle.td_base.specs.Views.{SourceView, StoreView};
+ghost use Rattle.td_top.specs.Running.CalendarMirroring.{CalendarsComplete};
 ghost use Rattle.td_top.specs.Command.{IsRange, calmirror};
 ghost use Rattle.td_top.specs.Outside.{outside, world};
 ghost use Rattle.td_top.specs.Running.{RunEndsLater};
@@ -18,7 +19,7 @@ use crate::printing::refuse_shown;
 use crate::running::calendar_mirroring::zone_text::text_of_zone;
 use crate::status::Status;
 use calendar_mirror::{CalendarSyncFault, sync};
-use calendar_world::{calendars_are_told, syncs_hold};
+use calendar_world::{calendars_are_told, syncs_hold, syncs_settle};
 use json_forms::ListZone;
 use mirror::SyncFault;
 use std::alloc::Global;
@@ -137,4 +138,11 @@ fn refuse_sync<K: Sink>(alloc: Global, fault: &CalendarSyncFault, output: &mut K
         CalendarSyncFault::Sync(SyncFault::NoMemory) => Status::NoMemory,
         _ => refuse_shown(alloc, Status::NotSynced, fault, output),
     }
+}
+
+/// Law: when `calmirror` does all that was asked, or memory runs out.
+pub fn calendars_complete()
+    ensures { CalendarsComplete }
+{
+    syncs_settle();
 }

@@ -3,6 +3,7 @@ ghost use Rattle.td_base.specs.Views.{SourceView};
 ghost use Rattle.catalogue.specs.Releases.{ReleaseData};
 ghost use Rattle.installer.specs.Installing.{Installs};
 ghost use Rattle.zone_meaning.specs.ZoneHistories.{HasZoneHistory};
+ghost use Rattle.td_top.specs.Running.Checking.{ChecksComplete};
 ghost use Rattle.td_top.specs.Outside.{outside};
 ghost use Rattle.td_top.specs.Running.Checking.CheckingSteps.{AddsRelease, ChecksNext, HasLine};
 ghost use Rattle.td_top.specs.Running.Checking.CheckingSteps.{Stands, TellsRelease, grown};
@@ -12,6 +13,7 @@ use crate::refusing::refuse_install;
 use crate::status::Status;
 use catalogue::Catalogue;
 use installer::{InstallFault, first_in, next_in};
+use release_check::one_folder;
 use std::alloc::Global;
 use td_base::{Bytes, NoMemory, Sink, Store, Written, put_decimal, write_whole};
 use zone_meaning::Zone;
@@ -107,4 +109,11 @@ fn ok_line(alloc: Global, catalogue: &Catalogue<Zone>) -> Result<Bytes, NoMemory
     put_decimal(&mut line, catalogue.len() as u64)?;
     line.append(b"\n")?;
     Ok(line)
+}
+
+/// Law: when `check` does all that was asked, or memory runs out.
+pub fn checks_complete()
+    ensures { ChecksComplete }
+{
+    one_folder();
 }

@@ -2,6 +2,7 @@ ghost use Rattle.std.specs.Prelude.{◌≡◌, ◌+◌, ◌≤◌, [], length, m
 ghost use Rattle.publication.specs.Views.{IsNewDesk};
 ghost use Rattle.subscribers.specs.Wishes.{WantsAll};
 ghost use Rattle.td_base.specs.Views.{SourceView, StoreView};
+ghost use Rattle.td_top.specs.Running.Loading.{LoadComplete};
 ghost use Rattle.td_top.specs.Running.Loading.{IsLoadLine, LoadEnds, LoadsAll};
 ghost use Rattle.td_top.specs.Running.Loading.LoadSteps.{JoinsMade};
 ghost use Rattle.td_top.specs.Outside.{outside};
@@ -155,3 +156,8 @@ fn publish<R: Wait>(
         Err(_) => Err(NoMemory),
     }
 }
+
+/// Law: when `load` does all that was asked, or memory runs out.
+pub fn load_complete()
+    ensures { LoadComplete }
+{}

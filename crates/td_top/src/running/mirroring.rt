@@ -3,6 +3,7 @@ ghost use Rattle.std.specs.Option.{option_map};
 ghost use Rattle.subscribers.specs.Wishes.{WantsAll};
 ghost use Rattle.td_base.specs.Names.{IsPlain};
 ghost use Rattle.td_base.specs.Views.{StoreView};
+ghost use Rattle.td_top.specs.Running.Mirroring.{MirrorsComplete};
 ghost use Rattle.td_top.specs.Command.{mirror};
 ghost use Rattle.td_top.specs.FollowingSteps.{follow_of};
 ghost use Rattle.td_top.specs.Running.Mirroring.MirroringSteps.{FollowsOn, ServesStated};
@@ -20,7 +21,9 @@ use crate::status::Status;
 use admission::Rules;
 use installer::Asked;
 use mirror::{SyncFault, sync};
-use mirror_world::{histories_go_on, mirrors_hold_in_turn, releases_are_held};
+use mirror_world::{
+    histories_go_on, mirrors_hold_in_turn, releases_are_held, settled_mirrors_pass, syncs_settle,
+};
 use std::alloc::Global;
 use std::sync::Wait;
 use std::thread::Threads;
@@ -183,4 +186,12 @@ fn refuse_sync<K: Sink>(alloc: Global, fault: &SyncFault, output: &mut K) -> Sta
         SyncFault::NoMemory => Status::NoMemory,
         _ => refuse_shown(alloc, Status::NotSynced, fault, output),
     }
+}
+
+/// Law: when `mirror` does all that was asked, or memory runs out.
+pub fn mirrors_complete()
+    ensures { MirrorsComplete }
+{
+    settled_mirrors_pass();
+    syncs_settle();
 }

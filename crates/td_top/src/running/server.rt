@@ -6,6 +6,7 @@ ghost use Rattle.catalogue.specs.Holdings.{history_of};
 ghost use Rattle.json_forms.specs.PlainTexts.{IsPlainRole};
 ghost use Rattle.admission.specs.Rules.{KeepsAll};
 ghost use Rattle.subscribers.specs.Wishes.{WantsAll};
+ghost use Rattle.td_top.specs.Running.Server.{ServesComplete};
 ghost use Rattle.td_top.specs.Command.{serve};
 ghost use Rattle.td_top.specs.Opening.{HasDesks};
 ghost use Rattle.td_top.specs.Site.{console, site_names, site_of, world_of};
@@ -28,6 +29,7 @@ use connection::{DoorDone, DoorWork};
 use desk_pool::{PoolEnd, StopFlag, run_beside};
 use installer::Asked;
 use publication::{Desk, Ended};
+use release_check::one_folder;
 use std::alloc::Global;
 use std::sync::Wait;
 use std::thread::Threads;
@@ -242,4 +244,11 @@ fn give_up<R: Wait, D>(rt: &R, session: Session, status: Status) -> Served<D>
     let alloc = session.alloc;
     session.close(rt);
     Served::closed(alloc, status)
+}
+
+/// Law: when `serve` does all that was asked, or memory runs out.
+pub fn serves_complete()
+    ensures { ServesComplete }
+{
+    one_folder();
 }

@@ -3,6 +3,7 @@ ghost use Rattle.td_base.specs.Views.{SourceView};
 ghost use Rattle.td_civil.specs.Bounds.{HasMeaning};
 ghost use Rattle.zone_meaning.specs.Faults.{zone_fault};
 ghost use Rattle.zone_meaning.specs.State.{zone_state};
+ghost use Rattle.td_top.specs.Running.StateLine.{StateComplete};
 ghost use Rattle.td_top.specs.Running.StateLine.{state_line};
 ghost use Rattle.td_top.specs.Outside.{outside};
 ghost use Rattle.td_top.specs.Running.StateLine.{ShowsState};
@@ -106,3 +107,8 @@ fn absent_text(alloc: Global, file: &[u8]) -> Result<Bytes, NoMemory>
     text.append(file)?;
     Ok(text)
 }
+
+/// Law: when `at` does all that was asked, or memory runs out.
+pub fn state_complete()
+    ensures { StateComplete }
+{}
