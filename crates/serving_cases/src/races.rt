@@ -9,7 +9,7 @@ use std::sync::Wait;
 use std::thread::{Threads, join_mut};
 
 /// What the enters of a desk came to: how many were refused, and how many went back.
-#[derive(Clone, Copy, Debug, PartialEq, Eq)]
+#[derive(Clone, Copy, PartialEq, Eq)]
 struct EnterCounts {
     refused: u32,
     back: u32,
@@ -137,8 +137,8 @@ fn told<R: Wait>(
     Some([learnt, held, kept, one.value().number, two.value().number])
 }
 
-/// `learns`: what two desks hold of three values, of which one is told the last and then the second:
-/// that one then, the other, that one after it was told the second, and both after an enter.
+/// `learns`: what two desks hold of three values, of which one is told the last and then the
+/// second: that one then, the other, that one after it was told the second, and both after an enter.
 pub fn learns<R: Wait>(rt: &R, alloc: Global) -> Answer {
     let Ok((publisher, desks)) = make(rt, alloc, make_tally(1), 2) else {
         return Err(CaseFault::NoMemory);
