@@ -1,11 +1,11 @@
-//! Requests that are written, and replies that are read.
+//! Requests that a mirror writes, and replies that it reads.
 use case_lines::{Answer, CaseFault, Row, Told, printed};
 use http_client::{BadReply, Reply};
 use std::alloc::Global;
 use td_base::{Ask, Bytes};
 
-/// `request HOST list`, `request HOST since TOKEN` or `request HOST get NAME`: the request after
-/// the text `before`.
+/// `mirror-request HOST list`, `mirror-request HOST since TOKEN` or `mirror-request HOST get NAME`:
+/// the request after the text `before`.
 pub fn request(alloc: Global, row: &Row) -> Answer {
     let host = row.word(0)?;
     let ask = ask_of(alloc, row)?;
@@ -27,7 +27,7 @@ fn ask_of(alloc: Global, row: &Row) -> Result<Ask, CaseFault> {
     }
 }
 
-/// `reply TEXT`: the status and the body, or why the text is no reply.
+/// `mirror-reply TEXT`: the status and the body, or why the text is no reply.
 pub fn reply(alloc: Global, row: &Row) -> Answer {
     match http_client::read(alloc, row.word(0)?) {
         Ok(reply) => told(alloc, &reply),
@@ -42,11 +42,4 @@ fn told(alloc: Global, reply: &Reply) -> Answer {
     told.bytes(b" ");
     told.bytes(reply.body.as_slice());
     told.answer()
-}
-
-/// `laws`: each is called.
-pub fn laws(alloc: Global) -> Answer {
-    http_client::one_reading();
-    mirror::one_meaning();
-    case_lines::bytes(alloc, b"called")
 }
