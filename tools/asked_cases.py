@@ -1,4 +1,4 @@
-"""Asks the program of `crates/reader_cases` what it answers to rows of a table, without saying what is expected.
+"""Asks the program of `crates/zone_cases` what it answers to rows of a table, without saying what is expected.
 
 A row without an answer is no case, and the program tells what it gives wherever that is not the empty text.
 Python's standard library alone.
@@ -10,7 +10,7 @@ import subprocess
 import sys
 
 ROOT = os.path.dirname(os.path.dirname(os.path.abspath(__file__)))
-PROGRAM = os.path.join(ROOT, "crates/reader_cases/out/reader_cases")
+PROGRAM = os.path.join(ROOT, "crates/zone_cases/out/zone_cases")
 
 TOLD = re.compile(r"(.*?):  is expected, and (.*) is given")
 SIGNS = {"\r": "\\r", "\n": "\\n", "\t": "\\t", "\\": "\\\\", "$": "\\$"}

@@ -5,8 +5,8 @@ It is written from the standards alone: zone files (RFC 9636), TZ strings (POSIX
 rules and VTIMEZONE (RFC 5545), and the same as JSON (RFC 7265), with the profile of docs/FORMATS.md. It goes over days and years one
 by one and shares nothing with the crates.
 
-    calendar_model.py < crates/calendar_cases/stdin     compares the rows that it knows
-    calendar_model.py TZ-STRING                         prints what yearly rules say of it
+    calendar_model.py < crates/zone_cases/stdin     compares the rows that it knows
+    calendar_model.py TZ-STRING                     prints what yearly rules say of it
 """
 import calendar
 import datetime

@@ -4,7 +4,7 @@
     read_foreign_calendars.py [--program PATH] [--faults] TREE..
 
 Each TREE is searched for files with a VTIMEZONE (RFC 5545, section 3.6.5), such as what `dpkg -x` makes of a package. PATH
-is the program of `crates/reader_cases`, as `rt run` builds it there. Three things are read of each tree:
+is the program of `crates/zone_cases`, as `rt run` builds it there. Three things are read of each tree:
 
     as they stand   each file whose name ends in .ics, with its own line ends and whatever else it holds
     alone           each VTIMEZONE that is unlike those before, in a calendar of its own, with CRLF after each line

@@ -4,7 +4,7 @@
 It is written from RFC 5545 and the forms of docs/FORMATS.md, by regular expressions and by lists of all onsets, and shares nothing with
 the crates. What it shares with calendar_model.py is days of a year and the form of the tables.
 
-    reader_model.py < crates/reader_cases/stdin     compares the rows that it knows
+    reader_model.py < crates/zone_cases/stdin     compares the rows that it knows
 """
 import re
 

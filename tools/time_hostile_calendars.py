@@ -3,7 +3,7 @@
 
     time_hostile_calendars.py [--program PATH] [--rounds N] [--bytes N] [--only WORD]
 
-PATH is the program of `crates/reader_cases`, as `rt run` builds it there. Each text is a row of a table of its own, of about
+PATH is the program of `crates/zone_cases`, as `rt run` builds it there. Each text is a row of a table of its own, of about
 1,048,576 bytes, which is the most that is read, or of so many as are asked for. Told are the seconds of processor time, of
 user and system, of a run with that row, less those of a run of the same table whose row is of no kind: both read the table
 and the row, and only one the calendar. The least of N rounds counts (3). The last two columns are the peak of memory of both

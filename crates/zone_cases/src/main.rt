@@ -1,15 +1,27 @@
-//! Tries content lines, yearly rules, zones and calendars over the cases of a table on standard
-//! input, and tells of each whose answer is not the expected one. The table explains its own lines.
+//! Tries what the crates of zone files, rules, calendars and readers of calendars offer over the
+//! cases of a table on standard input, and tells of each whose answer is not the expected one. The
+//! table explains its own lines.
 #![tactic(auto)]
+
+// Zone files, the leap seconds in them, and TZ strings.
+mod files;
+mod footers;
+mod laws;
+mod leaps;
+mod plans;
+
+// Content lines and yearly rules.
+mod lines;
+mod rules;
 
 // Zones, and calendars of them.
 mod calendars;
 mod observances;
 mod zones;
 
-// Content lines and yearly rules.
-mod lines;
-mod rules;
+// Calendars that are read.
+mod reading;
+mod showing;
 
 use calendars::Written;
 use case_lines::{Answer, CaseFault, Row, Table};
@@ -42,19 +54,50 @@ fn try_line(rt: &impl Print, alloc: Global, table: &mut Table, line: &str) -> io
 /// What is answered to a row.
 fn answer(alloc: Global, row: &Row) -> Answer {
     match row.kind() {
-        "line" => lines::line(alloc, row),
-        "unfold" => lines::unfold(alloc, row),
+        "slim" => plans::slim_file(alloc, row),
+        "file" => files::file(alloc, row),
+        "start" => files::start(alloc, row),
+        "edited" => files::edited(alloc, row),
+        "no-memory" => files::no_memory(alloc),
+        "leaps" => leaps::steps(alloc, row),
+        "laws" => laws::laws(alloc),
+        _ => of_rules(alloc, row),
+    }
+}
+
+fn of_rules(alloc: Global, row: &Row) -> Answer {
+    match row.kind() {
+        "rule" => footers::rule(alloc, row),
+        "footer-state" => footers::state(alloc, row),
+        "next" => footers::next(alloc, row),
+        "onset" => footers::edge(alloc, row),
         "carry" => rules::carry(alloc, row),
         "valid" => rules::valid(alloc, row),
         "day" => rules::day(alloc, row),
+        _ => of_zones(alloc, row),
+    }
+}
+
+fn of_zones(alloc: Global, row: &Row) -> Answer {
+    match row.kind() {
         "zone" => zones::zone(alloc, row),
         "printed" => zones::printed(alloc, row),
         "state" => zones::state(alloc, row),
         "differ" => zones::differ(alloc, row),
         "observances" => observances::observances(alloc, row),
         "same-observances" => observances::same(alloc, row),
+        _ => of_calendars(alloc, row),
+    }
+}
+
+fn of_calendars(alloc: Global, row: &Row) -> Answer {
+    match row.kind() {
+        "line" => lines::line(alloc, row),
+        "unfold" => lines::unfold(alloc, row),
         "calendar" => calendars::calendar(alloc, row, Written::Lines),
         "json-calendar" => calendars::calendar(alloc, row, Written::Json),
+        "read" => reading::read(alloc, row),
+        "expand" => reading::expand(alloc, row),
         _ => Err(CaseFault::Strange),
     }
 }

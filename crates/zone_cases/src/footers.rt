@@ -65,7 +65,7 @@ fn tell_week(told: &mut Told, month: u8, week: u8, weekday: u8) {
     told.value(&weekday);
 }
 
-/// `state TEXT SECONDS`: the state at a moment by a TZ string.
+/// `footer-state TEXT SECONDS`: the state at a moment by a TZ string.
 pub fn state(alloc: Global, row: &Row) -> Answer {
     let (footer, moment) = (footer(row)?, moment(row)?);
     let mut told = Told::new(alloc);
