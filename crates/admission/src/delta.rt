@@ -2,7 +2,7 @@ use td_base::{Bytes, Items};
 use td_civil::Moment;
 
 /// A zone of which a release changes something, or which it brings.
-#[derive(Debug, Drop)]
+#[derive(Drop)]
 pub struct Changed {
     pub tzid: Bytes,
     /// The first moment at which it differs from the zone that had its identifier before, as
@@ -11,7 +11,7 @@ pub struct Changed {
 }
 
 /// What a release changes of the one before it, in rising order of the identifiers.
-#[derive(Debug, Drop)]
+#[derive(Drop)]
 pub struct Delta {
     pub changed: Items<Changed>,
 }

@@ -1,5 +1,5 @@
 /// The kinds of rules for a release that is to join a history.
-#[derive(Clone, Copy, Debug, PartialEq, Eq)]
+#[derive(Clone, Copy, PartialEq, Eq)]
 pub enum RuleKind {
     /// At most so many zones may change.
     MaxChanged,
@@ -8,7 +8,7 @@ pub enum RuleKind {
 }
 
 /// A rule with its number.
-#[derive(Clone, Copy, Debug, PartialEq, Eq)]
+#[derive(Clone, Copy, PartialEq, Eq)]
 pub struct Chosen {
     pub kind: RuleKind,
     pub number: i64,

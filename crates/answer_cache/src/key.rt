@@ -6,7 +6,7 @@ use td_base::{Bytes, NoMemory};
 
 /// What an answer depends on, for a server of one role: nothing else of a request's head has a part
 /// in it.
-#[derive(Debug, Drop, PartialEq, Eq, Hash)]
+#[derive(Drop, PartialEq, Eq, Hash)]
 pub struct Key {
     /// How many releases of the history are looked at.
     pub place: u32,

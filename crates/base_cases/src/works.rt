@@ -9,7 +9,7 @@ use std::thread::{Builder, Threads};
 use td_base::{Begin, Faulty, MemorySpawner, Spawner, Work, start_by};
 
 /// A work that doubles its number.
-#[derive(Debug, Drop)]
+#[derive(Drop)]
 struct Doubling {
     number: u32,
 }

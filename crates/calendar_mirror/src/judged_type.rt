@@ -2,7 +2,7 @@ use mirror::Understood;
 use vtimezone_reader::CalendarFault;
 
 /// What an answer is to what was asked, where a zone is asked for as a calendar.
-#[derive(Debug, Drop)]
+#[derive(Drop)]
 pub enum Judged {
     /// What it is to any mirror. The data of a zone are the calendar that was asked for.
     Sound(Understood),

@@ -4,7 +4,7 @@ ghost use Rattle.case_lines.specs.Judging.{after_case};
 use std::fmt;
 
 /// How many cases there were, as far as numbers go, and how many were answered as expected.
-#[derive(Clone, Copy, Debug)]
+#[derive(Clone, Copy)]
 pub struct Tally {
     pub cases: u64,
     pub right: u64,

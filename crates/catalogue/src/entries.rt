@@ -3,7 +3,7 @@ use td_base::Bytes;
 use td_civil::Moment;
 
 /// A zone of the last release of a history, with its tag and its last change.
-#[derive(Debug, Drop)]
+#[derive(Drop)]
 pub struct Entry<Z> {
     /// The aliases stand in rising order.
     pub content: Content<Z>,
@@ -21,7 +21,7 @@ pub struct Entry<Z> {
 
 /// An entry with the digest of its content. Catalogues of one history share it as long as the
 /// content stays.
-#[derive(Debug, Drop)]
+#[derive(Drop)]
 pub struct Held<Z> {
     pub entry: Entry<Z>,
     pub digest: [u8; 32],

@@ -3,7 +3,7 @@ use td_base::Bytes;
 use td_civil::Moment;
 
 /// A release without its zones.
-#[derive(Debug, Drop)]
+#[derive(Drop)]
 pub struct Head {
     pub stamp: Moment,
     pub publisher: Bytes,

@@ -18,7 +18,7 @@ use td_base::{Items, Token};
 use td_civil::Moment;
 
 /// The last release of a history, with the tokens of its last places.
-#[derive(Debug, Drop)]
+#[derive(Drop)]
 pub struct Catalogue<Z> {
     pub(crate) head: Head,
     /// The entries in rising order of their identifiers.

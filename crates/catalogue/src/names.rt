@@ -14,7 +14,7 @@ use std::sync::Arc;
 use td_base::{Bytes, Items, NoMemory};
 
 /// A name of a zone, its identifier or an alias, with the zone's number, counted from 0.
-#[derive(Debug, Drop)]
+#[derive(Drop)]
 pub struct Name {
     pub text: Bytes,
     pub zone: u32,

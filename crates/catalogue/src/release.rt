@@ -2,7 +2,7 @@ use td_base::{Bytes, Items};
 use td_civil::Moment;
 
 /// A zone of a release: its identifier, its aliases in any order, and its data.
-#[derive(Debug, Drop)]
+#[derive(Drop)]
 pub struct Content<Z> {
     pub tzid: Bytes,
     pub aliases: Items<Bytes>,
@@ -10,7 +10,7 @@ pub struct Content<Z> {
 }
 
 /// The difference of TAI and UTC from the first second of a day on.
-#[derive(Clone, Copy, Debug, PartialEq, Eq)]
+#[derive(Clone, Copy, PartialEq, Eq)]
 pub struct LeapStep {
     /// Days since 1970-01-01.
     pub day: i64,
@@ -19,7 +19,7 @@ pub struct LeapStep {
 }
 
 /// A table of leap seconds.
-#[derive(Debug, Drop)]
+#[derive(Drop)]
 pub struct Leaps {
     /// The bytes of the file that it was read from.
     pub file: Bytes,
@@ -29,7 +29,7 @@ pub struct Leaps {
 }
 
 /// A release of time zone data. Its zones may stand in any order.
-#[derive(Debug, Drop)]
+#[derive(Drop)]
 pub struct Release<Z> {
     /// When it was published.
     pub stamp: Moment,

@@ -8,7 +8,7 @@ use std::alloc::Global;
 use std::marker::Model;
 
 /// An index of a list of numbers.
-#[derive(Debug, Drop)]
+#[derive(Drop)]
 pub struct ChangeIndex {
     /// Each number with its position, in rising order of the numbers.
     pub(crate) kept: Vec<Placed>,

@@ -10,7 +10,7 @@ use td_base::{Conn, NoMemory, ReadStep};
 pub const PIECE: usize = 4_096;
 
 /// What came of a connection.
-#[derive(Debug, Drop)]
+#[derive(Drop)]
 pub enum Arrival {
     /// A request.
     Request(Head),
@@ -23,7 +23,7 @@ pub enum Arrival {
 }
 
 /// What came of one read.
-#[derive(Clone, Copy, Debug, PartialEq, Eq)]
+#[derive(Clone, Copy, PartialEq, Eq)]
 pub enum Piece {
     /// At least one byte, which is held.
     Fed,

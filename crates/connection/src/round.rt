@@ -13,7 +13,7 @@ use td_base::{Accepted, Door, Role};
 use zone_meaning::Zone;
 
 /// What came of one round.
-#[derive(Clone, Copy, Debug, PartialEq, Eq)]
+#[derive(Clone, Copy, PartialEq, Eq)]
 pub enum Round {
     /// A connection was served, or none waited.
     GoesOn,

@@ -2,7 +2,7 @@ use subscribers::Wish;
 use td_base::Bytes;
 
 /// What a line of the operator asks for.
-#[derive(Debug, Drop)]
+#[derive(Drop)]
 pub enum Line {
     /// `install DIR`: to check the release in this folder and to serve it. The name of the folder
     /// has 1 to 1,024 bytes and does not begin with a dash. It may hold spaces.

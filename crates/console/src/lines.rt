@@ -14,7 +14,7 @@ use td_base::NoMemory;
 
 /// The bytes that an operator has written and that no line was made of yet. Contracts see these
 /// bytes.
-#[derive(Debug, Drop)]
+#[derive(Drop)]
 pub struct Lines {
     bytes: Vec<u8>,
     taken: usize,

@@ -1,7 +1,7 @@
 use td_base::{Bytes, ShortText, Token};
 
 /// What an operator is told.
-#[derive(Debug, Drop)]
+#[derive(Drop)]
 pub enum Said {
     /// The workers were started, with this token of the release served.
     Ready(Token),

@@ -16,7 +16,7 @@ const PIECE: usize = 4_096;
 const MOST_PIECES: u32 = 16;
 
 /// What a read in a stretch gave.
-#[derive(Clone, Copy, Debug, PartialEq, Eq)]
+#[derive(Clone, Copy, PartialEq, Eq)]
 pub enum Given {
     /// So many bytes, at least one.
     Bytes(usize),

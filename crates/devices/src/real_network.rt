@@ -17,7 +17,7 @@ use std::{io, str};
 use td_base::{Bytes, Door, Made, Network, NoMemory};
 
 /// At which address no door was opened last, if there was memory to keep it, and why.
-#[derive(Debug, Drop)]
+#[derive(Drop)]
 pub struct ListenFailure {
     pub address: Option<Bytes>,
     pub kind: ErrorKind,

@@ -8,7 +8,7 @@ use std::io::{ErrorKind, Read, Write};
 const MOST_CALLS: u32 = 64;
 
 /// What a stream that does not block gave at this moment.
-#[derive(Clone, Copy, Debug, PartialEq, Eq)]
+#[derive(Clone, Copy, PartialEq, Eq)]
 pub enum Received {
     /// So many bytes, at least one.
     Bytes(usize),
@@ -21,7 +21,7 @@ pub enum Received {
 }
 
 /// What a stream that does not block took at this moment.
-#[derive(Clone, Copy, Debug, PartialEq, Eq)]
+#[derive(Clone, Copy, PartialEq, Eq)]
 pub enum Sent {
     /// So many bytes, at least one.
     Bytes(usize),

@@ -26,7 +26,7 @@ const PIECE: usize = 4_096;
 const MOST_PIECES: u32 = 16;
 
 /// What a connection that no worker serves came to.
-#[derive(Clone, Copy, Debug, PartialEq, Eq)]
+#[derive(Clone, Copy, PartialEq, Eq)]
 pub enum Rest {
     /// It can be served.
     Ready,
@@ -37,7 +37,7 @@ pub enum Rest {
 }
 
 /// How far a connection is on its way out.
-#[derive(Clone, Copy, Debug, PartialEq, Eq)]
+#[derive(Clone, Copy, PartialEq, Eq)]
 enum Stage {
     /// It is served.
     Open,

@@ -1,7 +1,7 @@
 use td_base::Bytes;
 
 /// What a name is searched for: a text, alone or among others.
-#[derive(Debug, Drop)]
+#[derive(Drop)]
 pub struct Pattern {
     /// Whether any text may stand before it.
     pub lead: bool,

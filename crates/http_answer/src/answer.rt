@@ -1,7 +1,7 @@
 use td_base::Bytes;
 
 /// What a request is answered.
-#[derive(Debug, Drop)]
+#[derive(Drop)]
 pub struct Answer {
     /// The status code: 200, 301, 304, 400, 404 or 406.
     pub status: u16,

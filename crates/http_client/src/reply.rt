@@ -3,7 +3,7 @@ use std::fmt;
 use td_base::{Bytes, NoMemory};
 
 /// What a server answered.
-#[derive(Debug, Drop)]
+#[derive(Drop)]
 pub struct Reply {
     /// The status code.
     pub status: u16,

@@ -1,7 +1,7 @@
 use td_base::Bytes;
 
 /// What a request head asks for.
-#[derive(Debug, Drop)]
+#[derive(Drop)]
 pub struct Head {
     /// Whether the method is HEAD, so that only the head of the reply is wanted (RFC 9110,
     /// section 9.3.2).
@@ -17,7 +17,7 @@ pub struct Head {
 }
 
 /// What stands at the beginning of the held bytes.
-#[derive(Debug, Drop)]
+#[derive(Drop)]
 pub enum Next {
     /// A request head, which was taken.
     Request(Head),

@@ -19,7 +19,7 @@ use td_base::NoMemory;
 /// The bytes of a connection that are not taken yet, and the heads at their beginning. Contracts
 /// see these bytes, how many of them were searched for the end of the first head, and how many
 /// bytes the buffer has.
-#[derive(Debug, Drop)]
+#[derive(Drop)]
 pub struct Heads {
     held: Held,
     scan: Scan,

@@ -2,7 +2,7 @@ ghost use Rattle.std.specs.Prelude.{◌≡◌, ◌≤◌, ◌<◌, ◌+◌, ◌^
 ghost use Rattle.http_request.specs.Scans.{IsScanned, Searches, ends_with, past, line_past};
 
 /// What has come of a line.
-#[derive(Clone, Copy, Debug, PartialEq, Eq)]
+#[derive(Clone, Copy, PartialEq, Eq)]
 pub enum Line {
     /// Nothing.
     Nothing,
@@ -25,7 +25,7 @@ impl Line {
 }
 
 /// How far a list was searched for the end of its first head.
-#[derive(Clone, Copy, Debug)]
+#[derive(Clone, Copy)]
 pub struct Scan {
     /// How many bytes were searched.
     pub seen: usize,
@@ -38,7 +38,7 @@ pub struct Scan {
 }
 
 /// Where a search ended.
-#[derive(Clone, Copy, Debug)]
+#[derive(Clone, Copy)]
 pub enum Search {
     /// The head ends after so many bytes, with so many line feeds.
     End(usize, usize),

@@ -2,7 +2,7 @@ use crate::Head;
 use crate::scan::Scan;
 
 /// What stands at the beginning of the held bytes.
-#[derive(Debug, Drop)]
+#[derive(Drop)]
 pub enum Step {
     /// A head that is served, with its length.
     Taken(Head, usize),

@@ -4,7 +4,7 @@ use td_base::{Bytes, Items};
 use td_civil::Moment;
 
 /// A time zone of the list (RFC 7808, section 6.2).
-#[derive(Debug, Drop)]
+#[derive(Drop)]
 pub struct ListZone {
     pub tzid: Bytes,
     /// The tag of the zone's content, without quotes.
@@ -18,7 +18,7 @@ pub struct ListZone {
 }
 
 /// A list of time zones, with its synchronization token (RFC 7808, sections 5.2 and 6.2).
-#[derive(Debug, Drop)]
+#[derive(Drop)]
 pub struct ListDoc {
     pub token: Bytes,
     pub zones: Items<ListZone>,

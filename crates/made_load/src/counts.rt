@@ -10,7 +10,7 @@ use std::alloc::Global;
 use td_base::NoMemory;
 
 /// What is counted of a load. Each count stands still at the last value of its type.
-#[derive(Clone, Copy, Debug, PartialEq, Eq)]
+#[derive(Clone, Copy, PartialEq, Eq)]
 pub struct LoadCounts {
     /// Releases that were served.
     pub releases: u32,

@@ -1,5 +1,5 @@
 /// What was taken of an answer.
-#[derive(Clone, Copy, Debug, PartialEq, Eq)]
+#[derive(Clone, Copy, PartialEq, Eq)]
 pub enum Taken {
     /// It shows that the mirror holds what the upstream has.
     Settled,

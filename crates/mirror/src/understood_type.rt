@@ -1,7 +1,7 @@
 use sync_core::Heard;
 
 /// What an answer is to what was asked.
-#[derive(Debug, Drop)]
+#[derive(Drop)]
 pub enum Understood {
     /// It says this.
     Hears(Heard),

@@ -14,7 +14,7 @@ use crate::{DstRule, Edge, Footer};
 use td_civil::{Local, Moment};
 
 /// An onset, and the state that follows it.
-#[derive(Debug, Drop)]
+#[derive(Drop)]
 pub struct Change {
     pub at: Moment,
     pub state: Local,

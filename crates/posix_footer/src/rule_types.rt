@@ -1,7 +1,7 @@
 use td_civil::Local;
 
 /// The rule of a TZ string.
-#[derive(Debug, Drop, PartialEq, Eq)]
+#[derive(Drop, PartialEq, Eq)]
 pub struct Footer {
     /// The state in standard time.
     pub std: Local,
@@ -10,7 +10,7 @@ pub struct Footer {
 }
 
 /// When daylight saving time holds, each year.
-#[derive(Debug, Drop, PartialEq, Eq)]
+#[derive(Drop, PartialEq, Eq)]
 pub struct DstRule {
     /// The state in daylight saving time.
     pub dst: Local,
@@ -21,7 +21,7 @@ pub struct DstRule {
 }
 
 /// A day of each year, and a time by the clocks in force before it.
-#[derive(Clone, Copy, Debug, PartialEq, Eq)]
+#[derive(Clone, Copy, PartialEq, Eq)]
 pub struct Date {
     pub day: DayForm,
     /// Seconds from midnight of the day, from -604799 to 604799.
@@ -29,7 +29,7 @@ pub struct Date {
 }
 
 /// The forms of a day (POSIX, section 8.3).
-#[derive(Clone, Copy, Debug, PartialEq, Eq)]
+#[derive(Clone, Copy, PartialEq, Eq)]
 pub enum DayForm {
     /// `Jn`: the nth day of the year from 1, where 29 February is never counted.
     Julian(u16),
@@ -40,7 +40,7 @@ pub enum DayForm {
 }
 
 /// The two changes of a year.
-#[derive(Clone, Copy, Debug, PartialEq, Eq)]
+#[derive(Clone, Copy, PartialEq, Eq)]
 pub enum Edge {
     /// Daylight saving time begins.
     Start,

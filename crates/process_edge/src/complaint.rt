@@ -24,7 +24,7 @@ const NOT_SYNCED: u8 = 7;
 
 /// What an operator reads where a run ended by a failure of the outside: which file, stream or
 /// address, and the system's word for why.
-#[derive(Clone, Copy, Debug)]
+#[derive(Clone, Copy)]
 pub enum Complaint<'a> {
     OutOfMemory,
     File(&'a str, ErrorKind),

@@ -2,7 +2,7 @@ use devices::{ListenFailure, LookFailure};
 use std::io::ErrorKind;
 
 /// The last failure of each object, if it failed.
-#[derive(Clone, Copy, Debug)]
+#[derive(Clone, Copy)]
 pub struct Failures<'a> {
     pub store: Option<&'a LookFailure>,
     pub input: Option<ErrorKind>,

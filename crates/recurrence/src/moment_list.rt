@@ -6,7 +6,7 @@ use td_base::NoMemory;
 use td_civil::Moment;
 
 /// A list of moments. Contracts see it as that list.
-#[derive(Debug, Drop)]
+#[derive(Drop)]
 pub struct Moments {
     held: Vec<Moment>,
 }

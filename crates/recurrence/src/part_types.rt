@@ -2,7 +2,7 @@ use crate::{Moments, Rule};
 use td_civil::{Moment, Name};
 
 /// The moments for which a calendar is asked.
-#[derive(Clone, Copy, Debug, PartialEq, Eq)]
+#[derive(Clone, Copy, PartialEq, Eq)]
 pub struct Range {
     /// The first of them.
     pub from: Moment,
@@ -12,7 +12,7 @@ pub struct Range {
 
 /// A part of a VTIMEZONE (RFC 5545, section 3.6.5): changes of local time that are alike, or one in
 /// each year.
-#[derive(Debug, Drop)]
+#[derive(Drop)]
 pub struct Part {
     /// Whether daylight saving time holds after its onsets.
     pub dst: bool,

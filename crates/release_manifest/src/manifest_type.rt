@@ -5,7 +5,7 @@ use td_civil::Moment;
 pub const MOST_BYTES: usize = 4_194_304;
 
 /// What a release's manifest says.
-#[derive(Debug, Drop)]
+#[derive(Drop)]
 pub struct Manifest {
     /// 1 to 64 printable ASCII bytes, as are those of the version.
     pub publisher: Bytes,
@@ -17,7 +17,7 @@ pub struct Manifest {
 }
 
 /// A zone of a manifest. Its identifiers are any texts: who checks the release judges them.
-#[derive(Debug, Drop)]
+#[derive(Drop)]
 pub struct ManifestZone {
     pub tzid: Bytes,
     /// The name of the zone's TZif file in the release's folder.
@@ -26,7 +26,7 @@ pub struct ManifestZone {
 }
 
 /// The leap seconds of a manifest.
-#[derive(Debug, Drop)]
+#[derive(Drop)]
 pub struct ManifestLeaps {
     /// The name of the file with the leap seconds in the release's folder.
     pub file: Bytes,

@@ -3,7 +3,7 @@ use desk_pool::Beside;
 use std::sync::Wait;
 
 /// Counts its calls.
-#[derive(Debug, Drop)]
+#[derive(Drop)]
 pub struct Counted {
     pub runs: u32,
     pub stops: u32,

@@ -8,7 +8,7 @@ use std::alloc::Global;
 use td_base::NoMemory;
 
 /// Answers each key with its target, and counts its calls.
-#[derive(Debug, Drop)]
+#[derive(Drop)]
 pub struct Echo {
     pub alloc: Global,
     pub calls: u64,

@@ -2,7 +2,7 @@
 use td_base::{Begin, Spawner};
 
 /// Lets each work be done when it is joined. It refuses one, by its number from 1.
-#[derive(Debug, Drop)]
+#[derive(Drop)]
 pub struct LateSpawner {
     pub refused: u64,
     pub begun: u64,

@@ -11,7 +11,7 @@ use std::thread::Threads;
 use td_base::{NoMemory, Work};
 
 /// A work that gives its number.
-#[derive(Debug, Drop)]
+#[derive(Drop)]
 struct Numbered {
     number: u64,
 }

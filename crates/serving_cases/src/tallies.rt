@@ -6,7 +6,7 @@ use std::sync::Wait;
 use td_base::Value;
 
 /// A number, which stands for each list of so many numbers.
-#[derive(Debug, Drop)]
+#[derive(Drop)]
 pub struct Tally {
     pub number: u32,
 }

@@ -10,7 +10,7 @@ use td_base::NoMemory;
 
 /// The bytes of a connection that came and were not given yet. Whole heads alone are given, one
 /// after the other, and so who takes them never waits for the rest of one.
-#[derive(Debug, Drop)]
+#[derive(Drop)]
 pub struct Intake {
     held: Held,
     ready: usize,

@@ -14,7 +14,7 @@ pub const HEAD_MILLIS: u64 = 30_000;
 pub const LINGER_MILLIS: u64 = 2_000;
 
 /// What a connection waits for.
-#[derive(Clone, Copy, Debug, PartialEq, Eq)]
+#[derive(Clone, Copy, PartialEq, Eq)]
 pub enum Phase {
     /// The first byte of a head.
     Idle,
@@ -27,7 +27,7 @@ pub enum Phase {
 }
 
 /// A connection that rests. Times are in milliseconds, by one clock that never goes back.
-#[derive(Clone, Copy, Debug, PartialEq, Eq)]
+#[derive(Clone, Copy, PartialEq, Eq)]
 pub struct Life {
     pub phase: Phase,
     /// When it made progress last: a byte came, or went.

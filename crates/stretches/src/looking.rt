@@ -4,7 +4,7 @@ ghost use Rattle.stretches.specs.Fronts.{LooksAt};
 use http_request::{Scan, Search, find_end, is_full, is_within, searches};
 
 /// What stands at the beginning of bytes.
-#[derive(Clone, Copy, Debug)]
+#[derive(Clone, Copy)]
 pub enum Look {
     /// So many bytes can be answered: a head, or bytes of which no head can come.
     Ready(usize),

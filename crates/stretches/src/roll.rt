@@ -7,7 +7,7 @@ use std::marker::Model;
 use td_base::NoMemory;
 
 /// The lives of the connections that rest, by their keys.
-#[derive(Debug, Drop)]
+#[derive(Drop)]
 pub struct Roll {
     lives: Vec<Option<Life>>,
 }

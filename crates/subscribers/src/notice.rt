@@ -4,7 +4,7 @@ use td_base::{Bytes, Items};
 pub type Names = Items<Bytes>;
 
 /// What a subscriber is told of one install.
-#[derive(Debug, Drop)]
+#[derive(Drop)]
 pub struct Notice {
     /// The place of the installed release in the history, counted from 1.
     pub place: u32,

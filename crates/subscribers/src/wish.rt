@@ -2,7 +2,7 @@ use td_base::Bytes;
 use td_civil::Moment;
 
 /// The kinds of wishes to hear of changes.
-#[derive(Clone, Copy, Debug, PartialEq, Eq)]
+#[derive(Clone, Copy, PartialEq, Eq)]
 pub enum WishKind {
     /// Every change.
     Any,
@@ -13,7 +13,7 @@ pub enum WishKind {
 }
 
 /// A wish of its kind, which may leave `under` or `before` without a meaning.
-#[derive(Debug, Drop)]
+#[derive(Drop)]
 pub struct Wish {
     pub kind: WishKind,
     /// What the identifier of a zone is to begin with.

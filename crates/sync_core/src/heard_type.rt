@@ -2,7 +2,7 @@ use json_forms::ListDoc;
 use td_base::Bytes;
 
 /// What answers an ask.
-#[derive(Debug, Drop)]
+#[derive(Drop)]
 pub enum Heard {
     /// The list that was asked for, of all zones or of those that changed since a token.
     List(ListDoc),
@@ -13,7 +13,7 @@ pub enum Heard {
 }
 
 /// Whether the mirror holds the release of the primary that answered.
-#[derive(Clone, Copy, Debug, PartialEq, Eq)]
+#[derive(Clone, Copy, PartialEq, Eq)]
 pub enum Settled {
     /// It holds exactly that release.
     Holds,

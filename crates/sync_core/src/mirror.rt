@@ -21,7 +21,7 @@ use std::mem::replace;
 use td_base::{Ask, Bytes, MemoryStore, NoMemory};
 
 /// What a secondary holds of the primary that it follows.
-#[derive(Debug, Drop)]
+#[derive(Drop)]
 pub struct Mirror {
     token: Option<Bytes>,
     coming: Option<Bytes>,

@@ -1,7 +1,7 @@
 use td_base::Bytes;
 
 /// A parameter of a query, by how often its name stands there.
-#[derive(Debug, Drop)]
+#[derive(Drop)]
 pub enum Param {
     Absent,
     /// The decoded value, which is UTF-8.
@@ -10,7 +10,7 @@ pub enum Param {
 }
 
 /// The action of RFC 7808, section 5, that a target asks for.
-#[derive(Debug, Drop)]
+#[derive(Drop)]
 pub enum Asked {
     Capabilities,
     /// With `changedsince`.

@@ -4,7 +4,7 @@ ghost use Rattle.td_base.specs.Doors.{Accepts, Finishes, HasOut};
 use crate::{Conn, Report};
 
 /// What one call for the next connection of a [`Door`] gave.
-#[derive(Debug, Drop)]
+#[derive(Drop)]
 pub enum Accepted<C> {
     /// The next connection.
     Given(C),

@@ -7,7 +7,7 @@ use std::marker::Model;
 
 /// The calls on an object of which chosen ones are to fail: which these are, counted from 1, and
 /// how many calls were made and failed so far. Both counts stand still at their last value.
-#[derive(Debug, Drop)]
+#[derive(Drop)]
 pub struct FailingCalls {
     failing: Items<u64>,
     calls: u64,

@@ -12,7 +12,7 @@ use std::marker::Model;
 /// An object of the outside of which chosen calls fail without reaching it. Calls count from 1. Its
 /// count of faults is the number of its answers that say that it failed, the inner object's own
 /// among them.
-#[derive(Debug, Drop)]
+#[derive(Drop)]
 pub struct Faulty<S> {
     pub(crate) inner: S,
     pub(crate) calls: FailingCalls,

@@ -9,7 +9,7 @@ use std::marker::Model;
 /// A connection of which chosen reads and chosen writes fail without reaching it. Reads and writes
 /// count apart, each from 1. Its counts of faults are those of its answers that say that it failed,
 /// the inner connection's own among them.
-#[derive(Debug, Drop)]
+#[derive(Drop)]
 pub struct FaultyConn<C> {
     inner: C,
     reads: FailingCalls,

@@ -10,7 +10,7 @@ use std::marker::Model;
 /// A door of which chosen calls of `accept` fail without reaching it. Calls count from 1. Its count
 /// of faults is the number of its answers that say that it failed, those of the door inside among
 /// them.
-#[derive(Debug, Drop)]
+#[derive(Drop)]
 pub struct FaultyDoor<D> {
     inner: D,
     calls: FailingCalls,

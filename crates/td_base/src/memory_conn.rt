@@ -9,7 +9,7 @@ use crate::{Conn, MemorySink, MemorySource, ReadStep, Sink, Source, WriteStep};
 /// A connection in memory: a script that is read, and room for what is written. It keeps the whole
 /// script and tells which of its bytes its reads have given. No read fails, and a write fails only
 /// where no room is left.
-#[derive(Debug, Drop)]
+#[derive(Drop)]
 pub struct MemoryConn {
     pub source: MemorySource,
     pub sink: MemorySink,

@@ -10,7 +10,7 @@ use std::collections::VecDeque;
 use std::marker::Model;
 
 /// What a [`MemoryDoor`] answers at one call.
-#[derive(Debug, Drop)]
+#[derive(Drop)]
 pub enum DoorStep {
     /// This connection.
     Conn(FaultyConn<MemoryConn>),
@@ -19,7 +19,7 @@ pub enum DoorStep {
 }
 
 /// A connection that was handed back to a [`MemoryDoor`], with its report.
-#[derive(Debug, Drop)]
+#[derive(Drop)]
 pub struct Served {
     pub conn: FaultyConn<MemoryConn>,
     pub report: Report,
@@ -27,7 +27,7 @@ pub struct Served {
 
 /// A door in memory: a script of connections and of moments at which none waits, and room for those
 /// that are handed back, which was taken at its making. It tells all and never fails.
-#[derive(Debug, Drop)]
+#[derive(Drop)]
 pub struct MemoryDoor {
     script: VecDeque<DoorStep>,
     inputs: Vec<Bytes>,

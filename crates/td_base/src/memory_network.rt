@@ -14,7 +14,7 @@ use std::marker::Model;
 use std::mem::replace;
 
 /// An address at which a [`MemoryNetwork`] opened so many doors.
-#[derive(Debug, Drop)]
+#[derive(Drop)]
 pub struct Opened {
     pub address: Bytes,
     pub doors: u32,
@@ -23,7 +23,7 @@ pub struct Opened {
 /// A network in memory: doors and other servers that tell their content, which it gives in their
 /// order, whatever the address. It tells what it has, what it gave where, and how often it was
 /// called, and fails only where it has too few.
-#[derive(Debug, Drop)]
+#[derive(Drop)]
 pub struct MemoryNetwork<D: Door, U: Upstream> {
     doors: Vec<D>,
     opened: Vec<Opened>,

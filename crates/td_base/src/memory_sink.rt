@@ -10,7 +10,7 @@ use std::marker::Model;
 
 /// A sink in room that was taken at its making. It tells what it took and the room left, and fails
 /// only where no room is left. Its count of faults is the number of its failed writes.
-#[derive(Debug, Drop)]
+#[derive(Drop)]
 pub struct MemorySink {
     held: Vec<u8>,
     room: usize,

@@ -8,7 +8,7 @@ use crate::{Bytes, Items, ReadStep, Source};
 use std::marker::Model;
 
 /// A source over bytes in memory. It tells what is left and never fails.
-#[derive(Debug, Drop)]
+#[derive(Drop)]
 pub struct MemorySource {
     bytes: Bytes,
     at: usize,

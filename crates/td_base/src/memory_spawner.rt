@@ -6,7 +6,7 @@ use crate::{Begin, Spawner};
 
 /// What starts a work by keeping it, and does it when it is joined. It never fails to begin one,
 /// and counts the works that it is told were refused.
-#[derive(Clone, Copy, Debug, Drop)]
+#[derive(Clone, Copy, Drop)]
 pub struct MemorySpawner {
     refused: u64,
 }

@@ -10,7 +10,7 @@ use std::collections::BTreeMap;
 use std::marker::Model;
 
 /// A store in memory. It tells its files, which are what contracts see of it, and never fails.
-#[derive(Debug, Drop)]
+#[derive(Drop)]
 pub struct MemoryStore {
     files: BTreeMap<Vec<u8>, Bytes>,
 }

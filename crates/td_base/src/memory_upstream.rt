@@ -9,7 +9,7 @@ use std::marker::Model;
 
 /// Another server in memory: a script of its answers, whatever it is asked. Once the script is over
 /// it answers with no byte. It tells its exchanges and never fails.
-#[derive(Debug, Drop)]
+#[derive(Drop)]
 pub struct MemoryUpstream {
     answers: VecDeque<Bytes>,
     told: Vec<Exchange>,

@@ -6,7 +6,7 @@ use crate::{Door, Upstream};
 use std::alloc::Global;
 
 /// What a [`Network`] made of a call.
-#[derive(Debug, Drop)]
+#[derive(Drop)]
 pub enum Made<T> {
     /// What was asked for.
     Given(T),

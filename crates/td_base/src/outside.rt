@@ -26,7 +26,7 @@ pub enum WriteStep {
 }
 
 /// What a [`Store`] gave for a path.
-#[derive(Debug, Drop, PartialEq, Eq)]
+#[derive(Drop, PartialEq, Eq)]
 pub enum FileRead {
     /// The file's first bytes, up to as many as were asked for.
     Found(Bytes),

@@ -7,7 +7,7 @@ use std::marker::Model;
 
 /// The sizes of the pieces in which an object in memory gives or takes bytes, one for each call. A
 /// size of 0 counts as 1. Where none is left, a call moves as much as there is room for.
-#[derive(Debug, Drop)]
+#[derive(Drop)]
 pub struct PieceSizes {
     sizes: Items<usize>,
     at: usize,

@@ -24,7 +24,7 @@ pub enum End {
 /// The places in a history at which the requests of a connection were answered, in their order.
 /// Places count from 1. There are at most 1,000, in fixed room that never takes memory. Contracts
 /// see the list of the numbers.
-#[derive(Debug, Drop, PartialEq, Eq)]
+#[derive(Drop, PartialEq, Eq)]
 pub struct Places {
     held: ArrayVec<u32, MOST_PLACES>,
 }
@@ -68,7 +68,7 @@ impl Places {
 
 /// How a connection ended, where its requests were answered, and how many of the answers were
 /// computed for it, since none was kept.
-#[derive(Debug, Drop, PartialEq, Eq)]
+#[derive(Drop, PartialEq, Eq)]
 pub struct Report {
     pub end: End,
     pub places: Places,
@@ -77,7 +77,7 @@ pub struct Report {
 
 /// What a server is: one that publishes its own releases, or one that follows another server at
 /// this address.
-#[derive(Debug, Drop, PartialEq, Eq)]
+#[derive(Drop, PartialEq, Eq)]
 pub enum Role {
     Primary,
     Secondary(Bytes),
@@ -85,7 +85,7 @@ pub enum Role {
 
 /// What one server asks another for: the list of zones, after a token where there is one, or the
 /// zone of an identifier.
-#[derive(Debug, Drop, PartialEq, Eq)]
+#[derive(Drop, PartialEq, Eq)]
 pub enum Ask {
     List(Option<Bytes>),
     Get(Bytes),

@@ -4,7 +4,7 @@ use crate::Bytes;
 use std::alloc::Global;
 
 /// What one exchange with an [`Upstream`] gave.
-#[derive(Debug, Drop, PartialEq, Eq)]
+#[derive(Drop, PartialEq, Eq)]
 pub enum Exchanged {
     /// The answer's bytes, up to as many as were wanted.
     Got(Bytes),
@@ -16,7 +16,7 @@ pub enum Exchanged {
 
 /// An exchange that gave an answer: the request's bytes, how many bytes of the answer were wanted
 /// at the most, and those that came.
-#[derive(Debug, Drop, PartialEq, Eq)]
+#[derive(Drop, PartialEq, Eq)]
 pub struct Exchange {
     pub request: Bytes,
     pub most: u64,

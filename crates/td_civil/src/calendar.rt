@@ -39,7 +39,7 @@ pub fn new_year_day(year: i16) -> i64
 }
 
 /// A date of the proleptic Gregorian calendar.
-#[derive(Clone, Copy, Debug, PartialEq, Eq)]
+#[derive(Clone, Copy, PartialEq, Eq)]
 pub struct CivilDate {
     pub year: i32,
     pub month: u8,

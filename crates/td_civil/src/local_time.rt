@@ -39,7 +39,7 @@ impl Local {
 }
 
 /// A change of local time, or the state at the beginning of a range.
-#[derive(Debug, Drop, PartialEq, Eq)]
+#[derive(Drop, PartialEq, Eq)]
 pub struct Observance {
     pub onset: Moment,
     /// The offset before the onset, in seconds east of UTC.

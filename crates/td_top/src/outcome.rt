@@ -7,7 +7,7 @@ use std::alloc::Global;
 /// How a run ended: the status with which the process ends; the doors that were served, in the
 /// order in which the network gave them, none where no door was served to its end; and the server
 /// that was followed, as it was left, where the network gave one.
-#[derive(Debug, Drop)]
+#[derive(Drop)]
 pub struct Outcome<D, U> {
     pub status: u8,
     pub doors: Vec<D>,
@@ -15,7 +15,7 @@ pub struct Outcome<D, U> {
 }
 
 /// The same, with the status by its name.
-#[derive(Debug, Drop)]
+#[derive(Drop)]
 pub struct Ending<D, U> {
     pub status: Status,
     pub doors: Vec<D>,
@@ -23,7 +23,7 @@ pub struct Ending<D, U> {
 }
 
 /// How serving doors ended.
-#[derive(Debug, Drop)]
+#[derive(Drop)]
 pub struct Served<D> {
     pub status: Status,
     pub doors: Vec<D>,

@@ -16,7 +16,7 @@ use std::fmt::Display;
 use td_base::{Bytes, NoMemory};
 
 /// A reply as it is written.
-#[derive(Debug, Drop)]
+#[derive(Drop)]
 pub enum Reply {
     Short(ShortLine),
     Long(Bytes),

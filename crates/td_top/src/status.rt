@@ -7,7 +7,7 @@ use crate::talking::TalkEnd;
 use td_base::End;
 
 /// How a run ends.
-#[derive(Clone, Copy, Debug, PartialEq, Eq)]
+#[derive(Clone, Copy, PartialEq, Eq)]
 pub enum Status {
     /// 0: the work was done.
     Done,

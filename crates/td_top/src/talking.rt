@@ -19,7 +19,7 @@ use td_base::{NoMemory, ReadStep, Sink, Source, Written, write_whole};
 const PIECE: usize = 4_096;
 
 /// How a talk with an operator ended.
-#[derive(Clone, Copy, Debug, PartialEq, Eq)]
+#[derive(Clone, Copy, PartialEq, Eq)]
 pub enum TalkEnd {
     /// The operator quit.
     Quit,
@@ -32,7 +32,7 @@ pub enum TalkEnd {
 }
 
 /// What one turn of a talk came to.
-#[derive(Clone, Copy, Debug, PartialEq, Eq)]
+#[derive(Clone, Copy, PartialEq, Eq)]
 pub enum Turn {
     /// The talk goes on.
     On,
@@ -43,7 +43,7 @@ pub enum Turn {
 }
 
 /// What came of the next line.
-#[derive(Debug, Drop)]
+#[derive(Drop)]
 pub enum Taken {
     /// A line.
     Line(Line),

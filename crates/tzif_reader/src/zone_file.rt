@@ -9,7 +9,7 @@ pub const MOST_TRANSITIONS: u32 = 4_096;
 
 /// A leap line: at which second of the scale that counts leap seconds the correction begins to
 /// hold.
-#[derive(Clone, Copy, Debug, PartialEq, Eq)]
+#[derive(Clone, Copy, PartialEq, Eq)]
 pub struct LeapLine {
     pub at: i64,
     /// In seconds.
@@ -18,7 +18,7 @@ pub struct LeapLine {
 
 /// What a zone file tells in its data block of version 2 or later and in its footer (RFC 9636,
 /// sections 3.2 and 3.3).
-#[derive(Debug, Drop)]
+#[derive(Drop)]
 pub struct ZoneFile {
     /// The transition times, in rising order.
     pub moments: Items<Moment>,

@@ -20,7 +20,7 @@ use td_base::{Bytes, Items, NoMemory};
 use td_civil::{Moment, Name};
 
 /// What the lines of a part say, as far as they were read.
-#[derive(Debug, Drop)]
+#[derive(Drop)]
 pub struct OpenPart {
     pub dst: bool,
     /// The first local time, as it is written.

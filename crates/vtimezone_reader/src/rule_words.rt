@@ -17,14 +17,14 @@ use recurrence::Form;
 use td_civil::{HI, LO, Moment};
 
 /// One day, or seven days in a row.
-#[derive(Clone, Copy, Debug)]
+#[derive(Clone, Copy)]
 pub struct Days {
     pub first: i16,
     pub seven: bool,
 }
 
 /// A weekday, each or the nth.
-#[derive(Clone, Copy, Debug)]
+#[derive(Clone, Copy)]
 pub struct WeekDay {
     pub nth: Option<i8>,
     /// Sunday is 0.
@@ -32,7 +32,7 @@ pub struct WeekDay {
 }
 
 /// What the words of a rule say, as far as they were read.
-#[derive(Clone, Copy, Debug)]
+#[derive(Clone, Copy)]
 pub struct Words {
     pub yearly: bool,
     pub interval: bool,
@@ -45,7 +45,7 @@ pub struct Words {
 }
 
 /// A day of each year, up to a last moment where there is one.
-#[derive(Clone, Copy, Debug)]
+#[derive(Clone, Copy)]
 pub struct Recur {
     pub form: Form,
     pub until: Option<Moment>,

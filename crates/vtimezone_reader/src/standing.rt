@@ -11,7 +11,7 @@ use crate::zone_lines::{OpenZone, zone_line};
 use std::alloc::Global;
 
 /// What is open before a line, with what was read of it.
-#[derive(Debug, Drop)]
+#[derive(Drop)]
 pub enum Standing {
     Outside,
     InCalendar,

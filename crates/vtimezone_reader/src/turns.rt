@@ -17,7 +17,7 @@ use td_base::NoMemory;
 use td_civil::{HI, LO, Moment};
 
 /// An onset, and the place of the part that has it.
-#[derive(Clone, Copy, Debug)]
+#[derive(Clone, Copy)]
 pub struct Turn {
     pub onset: Moment,
     pub part: usize,

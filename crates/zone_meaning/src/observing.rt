@@ -15,7 +15,7 @@ use td_civil::{Moment, Observance};
 /// The observances of a range, handed out one at a time in rising order. Contracts see it as the
 /// list of those that are left. Each step takes as long as the next change is transitions or onsets
 /// away, and no memory.
-#[derive(Debug, Drop)]
+#[derive(Drop)]
 pub struct Changes<'a> {
     first: Option<Observance>,
     walk: Walk<'a>,

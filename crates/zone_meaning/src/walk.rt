@@ -15,7 +15,7 @@ use td_civil::{Local, Moment};
 use tzif_reader::ZoneFile;
 
 /// How far a walk has come.
-#[derive(Debug, Drop)]
+#[derive(Drop)]
 pub(crate) struct Walk<'a> {
     pub(crate) lists: &'a ZoneFile,
     pub(crate) footer: &'a Option<Footer>,
@@ -29,7 +29,7 @@ pub(crate) struct Walk<'a> {
 
 /// A moment at which the state may change, and the state from it on where that is known with it, as
 /// it is of an onset.
-#[derive(Debug, Drop)]
+#[derive(Drop)]
 pub(crate) struct Turn {
     pub(crate) at: Moment,
     pub(crate) state: Option<Local>,

@@ -13,7 +13,7 @@ use tzif_reader::ZoneFile;
 
 /// A time zone: its file, with the lists and the footer that were read from it. Contracts see it as
 /// the bytes of the file.
-#[derive(Debug, Drop)]
+#[derive(Drop)]
 pub struct Zone {
     pub(crate) file: Bytes,
     pub(crate) lists: ZoneFile,
