@@ -11,9 +11,9 @@ import sys
 import urllib.parse
 
 from calendar_model import DAY, HI, LO, civil, meaning
+from formats import usage_line
 from reader_model import Fault, calendar_in, moment_in, observances_text
 
-USAGE = "usage: tzdistd answer|serve|mirror|check|at|load|calmirror\n"
 MOST_LISTS = 16
 ONE_EACH = ("status", "fail-network", "reaches")
 OF_A_RUN = ("answer", "output", "exchange", "word", "fail-exchange", "up", "upstream")
@@ -102,7 +102,7 @@ def run(words, case):
     """The status, what is printed, and the exchanges."""
     asked, meant = [], range_in(words)
     if meant is None:
-        return 1, USAGE, asked
+        return 1, usage_line(), asked
     if case.get("fail-network") == "1":
         return 6, "", asked
     host, start, end = meant

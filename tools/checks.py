@@ -12,12 +12,13 @@ import sys
 import traceback
 from concurrent.futures import ThreadPoolExecutor
 
+from formats import usage_line
 from served import DATA, PROGRAM, Failure, slim_zone
 
 # What a busy machine may add to a time, and how long anything else may take. No check measures speed.
 SLACK, LONG = 40, 60
 
-USAGE = b"usage: tzdistd answer|serve|mirror|check|at|load|calmirror\n"
+USAGE = usage_line().encode()
 ZONES = "/tzdist/zones"
 TZIF = "Accept: application/tzif"
 
