@@ -24,10 +24,10 @@ use Rattle.subscribers.specs.declared.wish.Wish.{Wish}
 use Rattle.td_top.specs.Growth.{GrowthView}
 use Rattle.td_top.specs.Replies.{SaysWhy, nobody_text}
 use Rattle.td_top.specs.Sessions.{AnswersLine, LaterSession}
-use Rattle.td_top.specs.Operator.{GetsAnswer, Talk, TakesMemory, full, heard, no_memory, nobody, told_news, watched}
+use Rattle.td_top.specs.Operator.{GetsAnswer, Talk, TakesMemory, no_memory, told_news, watched}
 use Rattle.td_top.specs.declared.session.Session.{Session}
 use Rattle.td_top.proofs.GrowthLemmas.{growth_refl}
-use Rattle.td_top.proofs.LineLemmas.{session_refl, stays}
+use Rattle.td_top.proofs.LineLemmas.{session_refl, stays, tells_on}
 
 -- ---- sessions
 
@@ -55,13 +55,13 @@ hears : (g : GrowthView) (old new : Session) (asked : Line) (answer : List ℕ)
     (change : List SubscriberView → List ReleaseData → List SubscriberView) → LaterSession old new → new.installer.list ≡ old.installer.list
     → new.installer.subscribers ≡ change old.installer.subscribers (history_of old.installer.list)
     → ((whole : List ReleaseData) (talk : Talk) → talk.subscribers ≡ old.installer.subscribers
-    → GetsAnswer whole talk asked answer (heard talk (change talk.subscribers talk.published)))
+    → GetsAnswer whole talk asked answer (record talk { subscribers = change talk.subscribers talk.published }))
     → AnswersLine g g old new asked answer
 hears g old new asked answer change later same changes answers = record {
   growth = growth_refl g;
   later = later;
   answers = λ whole talk begins stands. (
-    heard talk (change talk.subscribers talk.published),
+    record talk { subscribers = change talk.subscribers talk.published },
     record {
       published = stands.published ∙ ap history_of (sym same);
       least = omega (arith, stands.least, prefix_length old.desk.seen new.desk.seen later.seen);
@@ -105,8 +105,8 @@ pub is_full : (g : GrowthView) (old new : Session) (wish : Wish) (answer : List 
     → MOST_SUBSCRIBERS ≤ length old.installer.subscribers → SaysWhy (fault_text fault.WatchFull) answer → AnswersLine g g old new (line.Watch wish) answer
 is_full g old new wish answer same desk many (inl none) = is_starved g old new (line.Watch wish) answer same desk tt none
 is_full g old new wish answer same desk many (inr says) =
-    stays g old new (line.Watch wish) answer (left_later old new same desk) same
-    (λ whole talk at. full wish refl (subst (λ s. MOST_SUBSCRIBERS ≤ length s) (sym at.subscribers) many) says refl)
+    tells_on g old new (line.Watch wish) answer (left_later old new same desk) same
+    (λ whole talk at. (subst (λ s. MOST_SUBSCRIBERS ≤ length s) (sym at.subscribers) many, refl, says))
 
 -- ---- news
 
@@ -144,5 +144,5 @@ pub is_of_nobody : (g : GrowthView) (a : Session) (number : ℕ) (answer : List 
     → AnswersLine g g a a (line.News number) answer
 is_of_nobody g a number answer none (inl starved) = is_starved g a a (line.News number) answer refl refl tt starved
 is_of_nobody g a number answer none (inr says) =
-    stays g a a (line.News number) answer (session_refl a) refl
-    (λ whole talk at. nobody number refl (ap (λ s. numbered s number) at.subscribers ∙ none_by (numbered a.installer.subscribers number) none) says refl)
+    tells_on g a a (line.News number) answer (session_refl a) refl
+    (λ whole talk at. (ap (λ s. numbered s number) at.subscribers ∙ none_by (numbered a.installer.subscribers number) none, refl, says))

@@ -1,8 +1,7 @@
 -- How the run of a mirror of calendars ends.
-use Rattle.std.proofs.Common.{◌≡◌, ◌≢◌, ℕ, ◌≤◌, List, [], map, inl, inr, Option, None, Some, Ok, Err, refl, sym, ap, subst, arith}
-use Rattle.std.specs.Option.{option_map}
+use Rattle.std.proofs.Common.{◌≡◌, ◌≢◌, ℕ, ◌≤◌, List, [], inl, inr, Option, None, Some, Ok, Err, refl, sym, subst, arith}
 use Rattle.std.specs.Prelude.{ℤ}
-use Rattle.td_base.specs.DoorViews.{DoorView, NetworkView}
+use Rattle.td_base.specs.DoorViews.{NetworkView}
 use Rattle.td_base.specs.Upstreams.{Reaches, UpstreamView}
 use Rattle.td_base.specs.Views.{LaterSink, SinkView, SourceView, StoreView}
 use Rattle.td_base.specs.declared.network.Made.TheVariants as made
@@ -17,7 +16,7 @@ use Rattle.zone_meaning.specs.Observed.{IsRange}
 use Rattle.td_top.specs.Command.{calmirror}
 use Rattle.td_top.specs.Outside.{outside, world}
 use Rattle.td_top.specs.Printing.{refused_line}
-use Rattle.td_top.specs.Running.{RunEndsLater, mirrored_calendars}
+use Rattle.td_top.specs.Running.{RunEndsLater}
 use Rattle.td_top.specs.Running.CalendarMirroring.{MirrorsCalendars, PrintsCalendars, SyncsCalendars, all, cut, unreached}
 use Rattle.td_top.specs.Running.CalendarMirroring.{unreached_starved}
 use Rattle.td_top.specs.Running.CalendarMirroring as page
@@ -79,11 +78,11 @@ module _ (upstream : List ℕ) (start end : ℤ) (store : StoreView) (i : Source
       page.not_synced first last s e end_is reaches h some (record { printed = line; input = refl; spawner = refl })
   ends_by first last p m is reaches laws range (steps.starved left) = page.starved first last reaches (refl, left)
 
-  ran : (p : SinkView) (m : NetworkView) (up : Option UpstreamView) (is : Status) → n.faults ≤ m.faults → LaterSink o p
+  pub ran : (p : SinkView) (m : NetworkView) (up : Option UpstreamView) (is : Status) → n.faults ≤ m.faults → LaterSink o p
       → MirrorsCalendars upstream start end (world (outside store i o) n r) (world (outside store i p) m r) up is
       → RunEndsLater (Some (calmirror upstream start end)) (world (outside store i o) n r) (world (outside store i p) m r) [] up is
   ran p m up is later sink h = record {
-    ends = mirrored_calendars upstream start end up is refl h refl refl;
+    ends = (h, refl, refl, refl);
     later = record {
       outside = record { store = store_refl store; input = source_refl i; output = sink };
       network = later;
@@ -91,39 +90,12 @@ module _ (upstream : List ℕ) (start end : ℤ) (store : StoreView) (i : Source
     };
   }
 
-  -- as the caller of the run sees it
-  module _ {D U : Type 0} (door : D → DoorView) (seen : U → UpstreamView) (p : SinkView) (m : NetworkView) where
-    shown : (doors : List D) (up : Option U) (told : Option UpstreamView) (is given : Status) → given ≡ is → doors ≡ [] → option_map seen up ≡ told
-        → RunEndsLater (Some (calmirror upstream start end)) (world (outside store i o) n r) (world (outside store i p) m r) [] told is
-        → RunEndsLater (Some (calmirror upstream start end)) (world (outside store i o) n r) (world (outside store i p) m r) (map door doors)
-        (option_map seen up) given
-    shown doors up told is given same no_doors ups h =
-        subst (λ ds. RunEndsLater (Some (calmirror upstream start end)) (world (outside store i o) n r) (world (outside store i p) m r) (map door ds)
-        (option_map seen up) given) (sym no_doors)
-        (subst (λ u. RunEndsLater (Some (calmirror upstream start end)) (world (outside store i o) n r) (world (outside store i p) m r) [] u given) (sym ups)
-        (subst (λ x. RunEndsLater (Some (calmirror upstream start end)) (world (outside store i o) n r) (world (outside store i p) m r) [] told x) (sym same)
-        h))
-
-    pub ran_synced : (reached : U) (first : UpstreamView) (server : U) (doors : List D) (up : Option U) (is given : Status) → first ≡ seen reached
-        → Reaches seen n m upstream (made.Given reached) → SyncsOnce upstream start end first (seen server) o p is → given ≡ is → doors ≡ []
-        → up ≡ Some server → CalendarLaws → IsRange start end
-        → RunEndsLater (Some (calmirror upstream start end)) (world (outside store i o) n r) (world (outside store i p) m r) (map door doors)
-        (option_map seen up) given
-    ran_synced reached first server doors up is given begun reaches h same no_doors ups laws range =
-        shown doors up (Some (seen server)) is given same no_doors (ap (λ u. option_map seen u) ups)
-        (ran p m (Some (seen server)) is reaches.later h.later
-        (ends_by first (seen server) p m is
-        (subst (λ (u : UpstreamView). ReachesServer n m upstream u) (sym begun) (reaches_server seen n m upstream reached reaches)) laws range h.ends))
-
-    pub ran_unreached : (doors : List D) (up : Option U) (is given : Status) → p ≡ o → n.faults ≤ m.faults
-        → MirrorsCalendars upstream start end (world (outside store i o) n r) (world (outside store i o) m r) None is → given ≡ is → doors ≡ []
-        → up ≡ None
-        → RunEndsLater (Some (calmirror upstream start end)) (world (outside store i o) n r) (world (outside store i p) m r) (map door doors)
-        (option_map seen up) given
-    ran_unreached doors up is given left later h same no_doors ups =
-        shown doors up None is given same no_doors (ap (λ u. option_map seen u) ups)
-        (ran p m None is later (left_sink o p left)
-        (subst (λ (v : SinkView). MirrorsCalendars upstream start end (world (outside store i o) n r) (world (outside store i v) m r) None is) (sym left) h))
+  pub ran_synced : {U : Type 0} (seen : U → UpstreamView) (p : SinkView) (m : NetworkView) (reached server : U) (is : Status)
+      → Reaches seen n m upstream (made.Given reached) → SyncsOnce upstream start end (seen reached) (seen server) o p is → CalendarLaws → IsRange start end
+      → RunEndsLater (Some (calmirror upstream start end)) (world (outside store i o) n r) (world (outside store i p) m r) [] (Some (seen server)) is
+  ran_synced seen p m reached server is reaches h laws range =
+      ran p m (Some (seen server)) is reaches.later h.later
+      (ends_by (seen reached) (seen server) p m is (reaches_server seen n m upstream reached reaches) laws range h.ends)
 
   pub unreached_ends : {U : Type 0} (seen : U → UpstreamView) (m : NetworkView) → Reaches seen n m upstream made.Failed
       → MirrorsCalendars upstream start end (world (outside store i o) n r) (world (outside store i o) m r) None status.NoNetwork

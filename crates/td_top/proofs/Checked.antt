@@ -21,18 +21,15 @@ use Rattle.installer.specs.FaultText.{fault_text}
 use Rattle.release_check.specs.declared.check_fault.CheckFault.TheVariants as fault
 use Rattle.zone_meaning.specs.Sound.{IsSound}
 use Rattle.zone_meaning.specs.ZoneHistories.{HasZoneHistory}
-use Rattle.td_top.specs.Running.Checking.{Checks, all, refused, cut, unread, out_of_memory}
-use Rattle.td_top.specs.Tells.{ChecksFolders}
+use Rattle.td_top.specs.Running.Checking.{Checks, all, cut, ok_line, ok_lines, ok_lines_after, out_of_memory, refused, unread}
 use Rattle.td_top.specs.Folders.{FoldersBegin, FoldersGive, GivesAfter, IsRefusal, none, more}
-use Rattle.td_top.specs.Running.Checking.{ok_line, ok_lines, ok_lines_after}
-use Rattle.td_top.specs.Printing.{refused_line}
-use Rattle.td_top.specs.Outside.{outside}
-use Rattle.td_top.specs.Printing.{Printed}
-use Rattle.td_top.specs.Running.Checking.CheckingSteps.{ChecksNext, EndsAt, PrintsRelease, IsCheckedTo, Stands, TellsRelease}
-use Rattle.td_top.specs.Running.Checking.CheckingSteps.{grown}
-use Rattle.td_top.specs.Tells.{EndsLater, TellsRefused, RefusesInstall}
+use Rattle.td_top.specs.Outside.{Outside, outside}
+use Rattle.td_top.specs.Printing.{Printed, refused_line}
+use Rattle.td_top.specs.Running.Checking.CheckingSteps.{ChecksNext, EndsAt, PrintsRelease, IsCheckedTo, Stands, TellsRelease, grown}
+use Rattle.td_top.specs.Tells.{TellsRefused, RefusesInstall}
 use Rattle.td_top.specs.declared.status.Status.{Status}
 use Rattle.td_top.specs.declared.status.Status.TheVariants as status
+use Rattle.td_top.proofs.Endings.{EndsLater}
 use Rattle.td_top.proofs.Installing.{gives_fault, kept_gives, no_refusal, parted, stops_here, taken_more}
 
 -- ---- lines
@@ -167,6 +164,10 @@ checked_more dirs i d last next s t u old middle new less is so h =
           (written_more old middle new (ok_lines so.history) (ok_line (so.history ++ r ∷ [])) so.lines h.comes.line);
       store = store_trans s t u so.store h.store;
     }
+
+-- how `check` ends; the input is left alone
+abbrev pub ChecksFolders : List (List ℕ) → Outside → Outside → Status → Type 0
+ChecksFolders dirs before after end = Checks dirs before.store after.store before.output after.output end × (after.input ≡ before.input)
 
 -- the ends
 checks : (dirs : List (List ℕ)) (s t : StoreView) (i : SourceView) (old new : SinkView) (end : Status) → LaterStore s t → LaterSink old new

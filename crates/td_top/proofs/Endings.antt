@@ -3,13 +3,11 @@ use Rattle.std.proofs.Common.{◌≡◌, ℕ, List, [], ◌++◌, Option, None, 
 use Rattle.std.proofs.Common.{refl, sym, subst}
 use Rattle.std.specs.Prelude.{ℤ, codes}
 use Rattle.admission.specs.declared.rules.Chosen.{Chosen}
-use Rattle.td_base.specs.Views.{StoreFailed, File, file_at, LaterStore, LaterSink, StoreView}
-use Rattle.td_base.specs.Views.{SourceView, SinkView}
+use Rattle.td_base.specs.Views.{StoreFailed, File, file_at, LaterStore, LaterSink, SinkView, SourceView, StoreView}
 use Rattle.td_base.specs.Outside.{FileTells, Looks}
 use Rattle.td_base.specs.declared.outside.FileRead.TheVariants as looked
 use Rattle.td_base.specs.declared.transfer.Written.TheVariants as written
-use Rattle.td_base.proofs.lemmas.LaterLemmas.{source_refl, sink_refl, looks_later, writes_all_later}
-use Rattle.td_base.proofs.lemmas.LaterLemmas.{prints_later}
+use Rattle.td_base.proofs.lemmas.LaterLemmas.{source_refl, sink_refl, looks_later, prints_later, writes_all_later}
 use Rattle.catalogue.specs.Releases.{ReleaseData}
 use Rattle.catalogue.specs.declared.holding.Catalogue.{Catalogue}
 use Rattle.installer.specs.FaultText.{fault_text}
@@ -22,20 +20,21 @@ use Rattle.zone_meaning.specs.Faults.{zone_fault}
 use Rattle.zone_meaning.specs.State.{zone_state}
 use Rattle.zone_meaning.specs.declared.zone_fault.ZoneFault.{ZoneFault}
 use Rattle.td_top.specs.Running.Answering.{Answers, nothing, served}
-use Rattle.td_top.specs.Folders.{StopsAtFault}
 use Rattle.td_top.specs.Opening.{InstallsAll}
-use Rattle.td_top.specs.Printing.{refused_line}
-use Rattle.td_top.specs.Running.StateLine.{state_line}
 use Rattle.td_top.specs.Outside.{Later, LeavesStreams, Outside, outside}
-use Rattle.td_top.specs.Printing.{Printed}
-use Rattle.td_top.specs.Folders.{ServesNothing, out_of_memory, refused, unread}
-use Rattle.td_top.specs.Running.StateLine.{ShowsState, no_file, no_zone, state}
+use Rattle.td_top.specs.Printing.{Printed, refused_line}
+use Rattle.td_top.specs.Folders.{ServesNothing, StopsAtFault, out_of_memory, refused, unread}
+use Rattle.td_top.specs.Running.StateLine.{ShowsState, no_file, no_zone, state, state_line}
 use Rattle.td_top.specs.Running.StateLine.{out_of_memory as out_of_memory_shown, unread as unread_shown}
-use Rattle.td_top.specs.Tells.{EndsLater, ServesLast, Tells, TellsRefused, RefusesInstall, Shows}
-use Rattle.td_top.specs.Tells.{ShowsBy}
+use Rattle.td_top.specs.Tells.{ServesLast, Tells, TellsRefused, RefusesInstall, Shows, ShowsBy}
 use Rattle.td_top.specs.declared.status.Status.{Status}
 use Rattle.td_top.specs.declared.status.Status.TheVariants as status
 use Rattle.td_top.proofs.ZonesShown.{IsOfPrefix, of_prefix}
+
+-- a run ended so, and nothing else was done to the outside than calls do
+pub record EndsLater (ends_so : Outside → Outside → Status → Type 0) (before after : Outside) (end : Status) : Type 0 where
+  pub ends : ends_so before after end
+  pub later : Later before after
 
 -- where a text was printed, the output was only written
 pub printed_later : (called end : Status) (text : List ℕ) (old new : SinkView) → Printed called text old new end → LaterSink old new
@@ -54,22 +53,12 @@ left_sink old new e = subst (λ (v : SinkView). LaterSink old v) (sym e) (sink_r
 abbrev later_by : (s t : StoreView) (i : SourceView) (old new : SinkView) → LaterStore s t → LaterSink old new → Later (outside s i old) (outside t i new)
 later_by s t i old new store output = record { store = store; input = source_refl i; output = output }
 
--- memory ran out before anything was printed
-ends_empty : (ends_so : Outside → Outside → Status → Type 0) (s t : StoreView) (i : SourceView) (old new : SinkView) (end : Status) → LaterStore s t
-    → (LeavesStreams (outside s i old) (outside t i new) → ends_so (outside s i old) (outside t i new) status.NoMemory)
-    → end ≡ status.NoMemory → new ≡ old → EndsLater ends_so (outside s i old) (outside t i new) end
-ends_empty ends_so s t i old new end store row is e =
-    subst (λ (x : Status). EndsLater ends_so (outside s i old) (outside t i new) x) (sym is) (record {
-      ends = row (refl, e);
-      later = later_by s t i old new store (left_sink old new e);
-    })
-
--- a file was not read
-ends_unread : (ends_so : Outside → Outside → Status → Type 0) (s t : StoreView) (i : SourceView) (old new : SinkView) (end : Status) → LaterStore s t
-    → (LeavesStreams (outside s i old) (outside t i new) → ends_so (outside s i old) (outside t i new) status.NotRead)
-    → end ≡ status.NotRead → new ≡ old → EndsLater ends_so (outside s i old) (outside t i new) end
-ends_unread ends_so s t i old new end store row is e =
-    subst (λ (x : Status). EndsLater ends_so (outside s i old) (outside t i new) x) (sym is) (record {
+-- nothing was printed
+ends_silent : (ends_so : Outside → Outside → Status → Type 0) (is : Status) (s t : StoreView) (i : SourceView) (old new : SinkView) (end : Status)
+    → LaterStore s t → (LeavesStreams (outside s i old) (outside t i new) → ends_so (outside s i old) (outside t i new) is)
+    → end ≡ is → new ≡ old → EndsLater ends_so (outside s i old) (outside t i new) end
+ends_silent ends_so is s t i old new end store row same e =
+    subst (λ (x : Status). EndsLater ends_so (outside s i old) (outside t i new) x) (sym same) (record {
       ends = row (refl, e);
       later = later_by s t i old new store (left_sink old new e);
     })
@@ -90,7 +79,7 @@ ends_told : (ends_so : Outside → Outside → Status → Type 0) (s t : StoreVi
     → (LeavesStreams (outside s i old) (outside t i new) → ends_so (outside s i old) (outside t i new) status.NoMemory)
     → Tells called text old new end → EndsLater ends_so (outside s i old) (outside t i new) end
 ends_told ends_so s t i old new called text end store row empty (inl h) = ends_printed ends_so s t i old new called text end store (row h) h
-ends_told ends_so s t i old new called text end store row empty (inr h) = ends_empty ends_so s t i old new end store empty h.0 h.1
+ends_told ends_so s t i old new called text end store row empty (inr h) = ends_silent ends_so status.NoMemory s t i old new end store empty h.0 h.1
 
 -- ---- folders
 
@@ -98,11 +87,11 @@ ends_told ends_so s t i old new called text end store row empty (inr h) = ends_e
 pub ends_nothing : (rules : List Chosen) (dirs : List (List ℕ)) (e : InstallFault) (s t : StoreView) (i : SourceView) (old new : SinkView) (end : Status)
     → InstallsAll rules dirs s t (Err e) → RefusesInstall e old new end
     → EndsLater (ServesNothing rules dirs) (outside s i old) (outside t i new) end
-ends_nothing rules dirs install.NoMemory s t i old new end h r = ends_empty (ServesNothing rules dirs) s t i old new end h.later (λ left. out_of_memory left)
+ends_nothing rules dirs install.NoMemory s t i old new end h r = ends_silent (ServesNothing rules dirs) status.NoMemory s t i old new end h.later (λ left. out_of_memory left)
     r.0 r.1
 ends_nothing rules dirs (install.Check fault.NoMemory) s t i old new end h r = absurd (h.memory refl)
 ends_nothing rules dirs (install.Check fault.ReadFault) s t i old new end h r =
-    ends_unread (ServesNothing rules dirs) s t i old new end h.later (λ left. unread (h.failed refl) left) r.0 r.1
+    ends_silent (ServesNothing rules dirs) status.NotRead s t i old new end h.later (λ left. unread (h.failed refl) left) r.0 r.1
 ends_nothing rules dirs (install.Check f) s t i old new end h r =
     let stops : (H : List ReleaseData) × StopsAtFault s.files rules dirs H (install.Check f) = h.came ((λ e. cc), (λ e. cc)) in
     ends_told (ServesNothing rules dirs) s t i old new status.Refused (refused_line (fault_text (install.Check f))) end h.later
@@ -128,19 +117,19 @@ ends_served dirs list s t i j old new is h (inl so) =
     })
 ends_served dirs list s t i j old new is h (inr none) =
     subst (λ (k : SourceView). EndsLater (Answers dirs) (outside s i old) (outside t k new) is) (sym none.1.0)
-    (ends_empty (Answers dirs) s t i old new is h.later (λ left. nothing status.NoMemory (out_of_memory left)) none.0 none.1.1)
+    (ends_silent (Answers dirs) status.NoMemory s t i old new is h.later (λ left. nothing status.NoMemory (out_of_memory left)) none.0 none.1.1)
 
 -- ---- a zone file
 
 pub ends_unshown : (path : List ℕ) (m : ℤ) (s t : StoreView) (i : SourceView) (old new : SinkView) → StoreFailed s t → LaterStore s t → new ≡ old
     → EndsLater (ShowsState path m) (outside s i old) (outside t i new) status.NotRead
 ends_unshown path m s t i old new failed store e =
-    ends_unread (ShowsState path m) s t i old new status.NotRead store (λ left. unread_shown failed left) refl e
+    ends_silent (ShowsState path m) status.NotRead s t i old new status.NotRead store (λ left. unread_shown failed left) refl e
 
 pub ends_starved : (path : List ℕ) (m : ℤ) (s t : StoreView) (i : SourceView) (old new : SinkView) → LaterStore s t → new ≡ old
     → EndsLater (ShowsState path m) (outside s i old) (outside t i new) status.NoMemory
 ends_starved path m s t i old new store e =
-    ends_empty (ShowsState path m) s t i old new status.NoMemory store (λ left. out_of_memory_shown left) refl e
+    ends_silent (ShowsState path m) status.NoMemory s t i old new status.NoMemory store (λ left. out_of_memory_shown left) refl e
 
 -- its state, or its fault
 shows : (path bytes : List ℕ) (m : ℤ) (s t : StoreView) (i : SourceView) (old new : SinkView) (end : Status) (f : Option ZoneFault)

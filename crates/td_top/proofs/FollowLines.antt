@@ -184,14 +184,3 @@ module _ (stored : List File) (m : Manifest) (s : MirrorState) (is : m ≡ manif
   pub opens : {A : Type 0} (left : List File) (history : A → List ReleaseData) (a : A) (list : List (Catalogue (List ℕ)))
       → InstallsStated (memory stored) (memory left) m [] [] history (Ok a) → history a ≡ history_of list → OpensStated s (Ok list)
   opens left history a list h same = (h.told.0, states stored m s is has [] h.told.0 h.told.1, sym same ∙ h.told.3)
-
-  opens_not : {A : Type 0} (left : List File) (history : A → List ReleaseData) (e : InstallFault)
-      → InstallsStated {A = A} (memory stored) (memory left) m [] [] history (Err e) → OpensStated s (Err e)
-  opens_not left history install.NoMemory h = ((λ e. cc), (λ e. cc), (λ of. absurd of))
-  opens_not left history (install.Policy k) h = absurd (cc (h.policy k refl).refused)
-  opens_not left history (install.Check f) h =
-      let cause = faults stored m s is has [] left history (install.Check f) h (λ e. cc) in (cause.0, cause.1, (λ of. cause.3))
-
-  pub opens_none : {A : Type 0} (left : List File) (history : A → List ReleaseData) (e f : InstallFault) → f ≡ e
-      → InstallsStated {A = A} (memory stored) (memory left) m [] [] history (Err e) → OpensStated s (Err f)
-  opens_none left history e f same h = subst (λ x. OpensStated s (Err x)) (sym same) (opens_not left history e h)

@@ -12,7 +12,6 @@ use Rattle.console.specs.declared.said.Said.TheVariants as said
 use Rattle.subscribers.specs.Hearing.{Audience, Event, after, after_all, cleared_by, cleared_by_all}
 use Rattle.subscribers.specs.News.{news, numbered}
 use Rattle.subscribers.specs.Views.{SubscriberView}
-use Rattle.subscribers.specs.declared.wish.Wish.{Wish}
 use Rattle.sync_core.specs.Mirrors.{MirrorState}
 use Rattle.subscribers.proofs.lemmas.Hearing.{hears_each_change_once}
 use Rattle.td_top.specs.Audiences.{AreHeard, IsHeard, TellsEachChange, TellsNoNews, audience, clears, grows, nothing, subscribes, unheard}
@@ -21,8 +20,7 @@ use Rattle.td_top.specs.Folders as folder
 use Rattle.td_top.specs.Following.{SaysStated, SyncsMirror}
 use Rattle.td_top.specs.Following as follow
 use Rattle.td_top.specs.Growth.{GrowthView, Handles, by_folder, by_sync}
-use Rattle.td_top.specs.Operator.{GetsAnswer, IsUnknown, Talk, Talks, full, grown, handled, more, no_memory, nobody, none, quit, status, talk_begun, told_news}
-use Rattle.td_top.specs.Operator.{unknown, watched}
+use Rattle.td_top.specs.Operator.{GetsAnswer, IsUnknown, Talk, Talks, TellsOnly, grown, handled, more, no_memory, none, only_told, talk_begun, told_news, unknown, watched}
 
 -- ---- several events
 
@@ -86,18 +84,10 @@ starved : (a : Audience) (asked : Line) (answer : List ℕ) → answer ≡ reply
 starved a (line.News number) answer is = inl is
 starved a other answer is = tt
 
-of_status : (a : Audience) (asked : Line) (answer : List ℕ) → asked ≡ line.Status → TellsNoNews a asked answer
-of_status a asked answer is = subst (λ l. TellsNoNews a l answer) (sym is) tt
-
-of_quit : (a : Audience) (asked : Line) (answer : List ℕ) → asked ≡ line.Quit → TellsNoNews a asked answer
-of_quit a asked answer is = subst (λ l. TellsNoNews a l answer) (sym is) tt
-
-of_watch : (a : Audience) (asked : Line) (answer : List ℕ) (wish : Wish) → asked ≡ line.Watch wish → TellsNoNews a asked answer
-of_watch a asked answer wish is = subst (λ l. TellsNoNews a l answer) (sym is) tt
-
-of_nobody : (a : Audience) (asked : Line) (answer : List ℕ) (number : ℕ) → asked ≡ line.News number → numbered a.subscribers number ≡ None
-    → TellsNoNews a asked answer
-of_nobody a asked answer number is isnt = subst (λ l. TellsNoNews a l answer) (sym is) (inr isnt)
+of_told : (whole : List ReleaseData) (t : Talk) (asked : Line) (answer : List ℕ) (least : ℕ) → TellsOnly whole t asked answer least
+    → TellsNoNews (audience t) asked answer
+of_told whole t (line.News number) answer least is = inr is.0
+of_told whole t other answer least is = tt
 
 -- what is cleared for the subscriber of a number is what it held
 clears_held : (a : Audience) (number : ℕ) (s : SubscriberView) → numbered a.subscribers number ≡ Some s → s.held ≡ cleared_by number a (Event.Clears number)
@@ -106,14 +96,10 @@ clears_held a number s here = rw (eq-eqb number number refl, here) refl
 line_heard : (whole : List ReleaseData) (t : Talk) (asked : Line) (answer : List ℕ) (u : Talk) → GetsAnswer whole t asked answer u → Hears t asked answer u
 line_heard whole t asked answer u (handled joined growth h is) =
     let so = by_growth t t.growth growth asked answer joined h in (so.0, so.1, ap audience is ∙ so.2)
-line_heard whole t asked answer u (status shown a b c d is) = (Event.IsRefused, nothing (of_status (audience t) asked answer a), ap audience is)
 line_heard whole t asked answer u (watched wish a few says is) = (Event.Subscribes wish, subscribes wish a says, ap audience is)
-line_heard whole t asked answer u (full wish a many says is) = (Event.IsRefused, nothing (of_watch (audience t) asked answer wish a), ap audience is)
 line_heard whole t asked answer u (told_news number s a here says is) =
     (Event.Clears number, clears number a (says ∙ ap news_text (clears_held (audience t) number s here)), ap audience is)
-line_heard whole t asked answer u (nobody number a isnt says is) =
-    (Event.IsRefused, nothing (of_nobody (audience t) asked answer number a isnt), ap audience is)
-line_heard whole t asked answer u (quit a b is) = (Event.IsRefused, nothing (of_quit (audience t) asked answer a), ap audience is)
+line_heard whole t asked answer u (only_told least tells is) = (Event.IsRefused, nothing (of_told whole t asked answer least tells), ap audience is)
 line_heard whole t asked answer u (unknown a b is) = (Event.IsRefused, nothing (not_known (audience t) t.growth asked answer a), ap audience is)
 line_heard whole t asked answer u (no_memory a b is) = (Event.IsRefused, nothing (starved (audience t) asked answer b), ap audience is)
 

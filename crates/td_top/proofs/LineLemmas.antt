@@ -18,8 +18,8 @@ use Rattle.zone_meaning.specs.Sound.{IsSound}
 use Rattle.zone_meaning.specs.ZoneHistories.{HasZoneHistory}
 use Rattle.td_top.specs.Growth.{GrowthView, Handles, LaterGrowth}
 use Rattle.td_top.specs.Replies.{last_token}
-use Rattle.td_top.specs.Sessions.{AnswersLine, LaterSession, StandsAt}
-use Rattle.td_top.specs.Operator.{GetsAnswer, IsUnknown, Talk, TakesMemory, grown, handled, heard_by, least_after, no_memory, quit, status, unknown, with_joined}
+use Rattle.td_top.specs.Sessions.{AnswersLine, BeginsWhole, LaterSession, StandsAt}
+use Rattle.td_top.specs.Operator.{GetsAnswer, Talk, TakesMemory, TellsOnly, grown, handled, heard_by, least_after, no_memory, only_told, with_joined}
 use Rattle.td_top.specs.declared.session.Session.{Session}
 use Rattle.td_top.proofs.GrowthLemmas.{growth_refl}
 
@@ -65,38 +65,51 @@ stays g old new asked answer later same answers = record {
 pub starved : (g : GrowthView) (a : Session) (asked : Line) → TakesMemory asked → AnswersLine g g a a asked (reply_text said.NoMemory)
 starved g a asked takes = stays g a a asked (reply_text said.NoMemory) (session_refl a) refl (λ whole talk is. no_memory takes refl refl)
 
-pub is_quit : (g : GrowthView) (a : Session) → AnswersLine g g a a line.Quit (reply_text said.Bye)
-is_quit g a = stays g a a line.Quit (reply_text said.Bye) (session_refl a) refl (λ whole talk is. quit refl refl refl)
+-- a line that tells something
+pub tells : (g : GrowthView) (old new : Session) (asked : Line) (answer : List ℕ) → LaterSession old new → new.installer ≡ old.installer
+    → ((whole : List ReleaseData) (talk : Talk) → BeginsWhole new whole → StandsAt g old talk
+    → (least : ℕ) × (least ≤ length new.desk.seen) × TellsOnly whole talk asked answer least) → AnswersLine g g old new asked answer
+tells g old new asked answer later same answers = record {
+  growth = growth_refl g;
+  later = later;
+  answers = λ whole talk begins stands.
+      let says = answers whole talk begins stands in (
+        record talk { least = says.0 },
+        record {
+          published = stands.published ∙ ap (λ i. history_of i.list) (sym same);
+          least = says.1;
+          growth = stands.growth;
+          subscribers = stands.subscribers ∙ ap (λ i. i.subscribers) (sym same);
+        },
+        only_told says.0 says.2 refl,
+      );
+}
 
--- a line that is not done
-pub not_done : (g h : GrowthView) (old new : Session) (asked : Line) (answer : List ℕ) → h ≡ g → new ≡ old
-    → IsUnknown g asked → answer ≡ reply_text said.Unknown → AnswersLine g h old new asked answer
-not_done g h old new asked answer same left is_unknown is =
-    subst (λ k. AnswersLine g k old new asked answer) (sym same)
-    (subst (λ s. AnswersLine g g old s asked answer) (sym left)
-    (stays g old old asked answer (session_refl old) refl
-    (λ whole talk at. unknown (subst (λ k. IsUnknown k asked) (sym at.growth) is_unknown) is refl)))
+-- such a line that leaves the desk as it is
+pub tells_on : (g : GrowthView) (old new : Session) (asked : Line) (answer : List ℕ) → LaterSession old new → new.installer ≡ old.installer
+    → ((whole : List ReleaseData) (talk : Talk) → StandsAt g old talk → TellsOnly whole talk asked answer talk.least) → AnswersLine g g old new asked answer
+tells_on g old new asked answer later same answers =
+    tells g old new asked answer later same (λ whole talk begins stands. (
+      talk.least,
+      omega (arith, stands.least, prefix_length old.desk.seen new.desk.seen later.seen),
+      answers whole talk stands,
+    ))
+
+pub is_quit : (g : GrowthView) (a : Session) → AnswersLine g g a a line.Quit (reply_text said.Bye)
+is_quit g a = tells_on g a a line.Quit (reply_text said.Bye) (session_refl a) refl (λ whole talk stands. (refl, refl))
 
 -- a status
 pub is_shown : (g : GrowthView) (old new : Session) (answer : List ℕ) → LaterSession old new → new.installer ≡ old.installer
     → answer ≡ reply_text (said.Serving (last_token (history_of new.desk.seen)) (length (meta (history_of new.desk.seen))))
     → AnswersLine g g old new line.Status answer
-is_shown g old new answer later same is = record {
-  growth = growth_refl g;
-  later = later;
-  answers = λ whole talk begins stands.
-      let longer : length old.desk.seen ≤ length new.desk.seen = prefix_length old.desk.seen new.desk.seen later.seen in
-      let size = history_length new.desk.seen in (
-        record talk { least = length (history_of new.desk.seen) },
-        record {
-          published = stands.published ∙ ap (λ i. history_of i.list) (sym same);
-          least = omega (arith, size);
-          growth = stands.growth;
-          subscribers = stands.subscribers ∙ ap (λ i. i.subscribers) (sym same);
-        },
-        status (history_of new.desk.seen) refl begins.seen (omega (arith, size, longer, stands.least)) is refl,
-      );
-}
+is_shown g old new answer later same is =
+    tells g old new line.Status answer later same (λ whole talk begins stands.
+    let longer : length old.desk.seen ≤ length new.desk.seen = prefix_length old.desk.seen new.desk.seen later.seen in
+    let size = history_length new.desk.seen in (
+      length (history_of new.desk.seen),
+      omega (arith, size),
+      (history_of new.desk.seen, begins.seen, omega (arith, size, longer, stands.least), refl, is),
+    ))
 
 -- the least place that may be shown was shown
 least_stands : (g : GrowthView) (talk : Talk) (joined : Option ReleaseData) (old new : Session) → StandsAt g old talk → LaterSession old new

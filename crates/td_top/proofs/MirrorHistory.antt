@@ -29,7 +29,7 @@ use Rattle.sync_world.specs.Worlds.{SyncWorld, WorldStep, world_begun}
 use Rattle.td_top.specs.Following.{SaysStated, StatesAfter, SyncsAs, SyncsMirror, faulted, faulted_starved, installed, refused, settled, starved, unchanged}
 use Rattle.td_top.specs.Growth.{GrowthView, Handles, by_folder, by_sync, following}
 use Rattle.td_top.specs.MirrorHistory.{FollowsPrimary, IsOfPrimary, IsStated, Publish, all_exchanges, joined, kept, none}
-use Rattle.td_top.specs.Operator.{GetsAnswer, Talk, Talks, full, handled, no_memory, nobody, quit, status, talk_begun, told_news, unknown, watched, with_joined}
+use Rattle.td_top.specs.Operator.{GetsAnswer, Talk, Talks, handled, no_memory, only_told, talk_begun, told_news, unknown, watched, with_joined}
 use Rattle.td_top.specs.Operator as talk
 use Rattle.zone_meaning.specs.Sound.{IsSound}
 
@@ -161,12 +161,9 @@ module _ (host : List ℕ) (first : UpstreamView) where
       → SoFar host first v
   line_so whole u v asked answer (handled r growth handles is) so =
       handled_so u v so u.growth growth asked answer r handles so.growth (ap (λ t. t.growth) is) (ap (λ t. t.published) is)
-  line_so whole u v asked answer (status shown a b c d is) so = left_so u v so (ap (λ t. t.growth) is) (ap (λ t. t.published) is)
   line_so whole u v asked answer (watched wish a b c is) so = left_so u v so (ap (λ t. t.growth) is) (ap (λ t. t.published) is)
-  line_so whole u v asked answer (full wish a b c is) so = left_so u v so (ap (λ t. t.growth) is) (ap (λ t. t.published) is)
   line_so whole u v asked answer (told_news number s a b c is) so = left_so u v so (ap (λ t. t.growth) is) (ap (λ t. t.published) is)
-  line_so whole u v asked answer (nobody number a b c is) so = left_so u v so (ap (λ t. t.growth) is) (ap (λ t. t.published) is)
-  line_so whole u v asked answer (quit a b is) so = left_so u v so (ap (λ t. t.growth) is) (ap (λ t. t.published) is)
+  line_so whole u v asked answer (only_told least a is) so = left_so u v so (ap (λ t. t.growth) is) (ap (λ t. t.published) is)
   line_so whole u v asked answer (unknown a b is) so = left_so u v so (ap (λ t. t.growth) is) (ap (λ t. t.published) is)
   line_so whole u v asked answer (no_memory a b is) so = left_so u v so (ap (λ t. t.growth) is) (ap (λ t. t.published) is)
 

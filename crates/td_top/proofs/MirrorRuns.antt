@@ -1,6 +1,5 @@
 -- How the run of a mirror ends.
-use Rattle.std.proofs.Common.{◌≡◌, ◌≢◌, ◌≤◌, ℕ, List, [], ◌∷◌, map, inl, inr, Option, None, Some, Ok, Err, refl, sym, ap, subst, arith}
-use Rattle.std.specs.Option.{option_map}
+use Rattle.std.proofs.Common.{◌≡◌, ◌≢◌, ◌≤◌, ℕ, List, [], ◌∷◌, inl, inr, Option, None, Some, Ok, Err, refl, sym, ap, subst, arith}
 use Rattle.td_base.specs.DoorViews.{DoorView, NetworkContent, NetworkView}
 use Rattle.td_base.specs.Upstreams.{ReachTold, Reaches, UpstreamView}
 use Rattle.td_base.specs.Views.{LaterSink, SinkView, SourceView, StoreView}
@@ -27,7 +26,7 @@ use Rattle.td_top.specs.Running.Mirroring.MirroringSteps.{FollowEnds, FollowsOn,
 use Rattle.td_top.specs.Running.Mirroring.MirroringSteps as steps
 use Rattle.td_top.specs.Outside.{outside, world}
 use Rattle.td_top.specs.Printing.{Printed, refused_line}
-use Rattle.td_top.specs.Running.{RunEndsLater, mirrored}
+use Rattle.td_top.specs.Running.{RunEndsLater, RunsAs}
 use Rattle.td_top.specs.Running.Server.{CalledTold, OpenedEnds, no_network, not_started, served, status_for}
 use Rattle.td_top.specs.Running.Server.{out_of_memory as out_of_memory_opened}
 use Rattle.td_top.specs.Running.Server.ServerSteps.{ServesOpened}
@@ -36,6 +35,7 @@ use Rattle.td_top.specs.Tells.{IsLeft, RefusesInstall, RefusesSync, Tells}
 use Rattle.td_top.specs.declared.status.Status.{Status}
 use Rattle.td_top.specs.declared.status.Status.TheVariants as status
 use Rattle.td_top.proofs.Endings.{left_sink, printed_later}
+use Rattle.td_top.proofs.RunLemmas.{runs_as}
 use Rattle.td_top.proofs.FollowLines.{later_sync}
 use Rattle.td_top.proofs.GrowthLemmas.{growth_refl, growth_trans}
 use Rattle.td_top.proofs.MirrorHistory.{Laws, follows_first, follows_primary}
@@ -260,7 +260,7 @@ module _ (address : List ℕ) (workers : ℕ) (upstream : List ℕ) (store : Sto
       asked h.ends in
       subst (λ x. RunEndsLater (Some (mirror address workers upstream)) (world (outside store i o) n r) (world (outside store j p) m q) doors x is) (sym same)
       (record {
-        ends = mirrored address workers upstream doors (Some last) is refl (follow_run laws reached first reaches j p m q t last doors is ends) refl;
+        ends = (follow_run laws reached first reaches j p m q t last doors is ends, refl);
         later = record {
           outside = record { store = store_refl store; input = h.later.console.input; output = h.later.console.output };
           network = omega (arith, later, h.later.network);
@@ -269,30 +269,17 @@ module _ (address : List ℕ) (workers : ℕ) (upstream : List ℕ) (store : Sto
       })
 
   -- no server was reached
-  not_ran : (m : NetworkView) (end : Status) → n.faults ≤ m.faults
+  pub not_ran : (m : NetworkView) (end : Status) → n.faults ≤ m.faults
       → Mirrors address workers upstream (world (outside store i o) n r) (world (outside store i o) m r) [] None end
-      → RunEndsLater (Some (mirror address workers upstream)) (world (outside store i o) n r) (world (outside store i o) m r) [] None end
-  not_ran m end later h = record {
-    ends = mirrored address workers upstream [] None end refl h refl;
+      → RunsAs (Some (mirror address workers upstream)) (world (outside store i o) n r) (world (outside store i o) m r) [] None end
+  not_ran m end later h = runs_as (Some (mirror address workers upstream)) (world (outside store i o) n r) (world (outside store i o) m r) [] None end (record {
+    ends = (h, refl);
     later = record {
       outside = record { store = store_refl store; input = source_refl i; output = sink_refl o };
       network = later;
       spawner = omega arith;
     };
-  }
-
-  pub ran_unreached : {D U : Type 0} (seen : D → DoorView) (told : U → UpstreamView) (m : NetworkView) (end is : Status) (doors : List D) (up : Option U)
-      → is ≡ end → doors ≡ [] → up ≡ None → n.faults ≤ m.faults
-      → Mirrors address workers upstream (world (outside store i o) n r) (world (outside store i o) m r) [] None end
-      → RunEndsLater (Some (mirror address workers upstream)) (world (outside store i o) n r) (world (outside store i o) m r) (map seen doors)
-      (option_map told up) is
-  ran_unreached seen told m end is doors up same none alone later h =
-      subst (λ ds. RunEndsLater (Some (mirror address workers upstream)) (world (outside store i o) n r) (world (outside store i o) m r) (map seen ds)
-      (option_map told up) is) (sym none)
-      (subst (λ u. RunEndsLater (Some (mirror address workers upstream)) (world (outside store i o) n r) (world (outside store i o) m r) []
-      (option_map told u) is) (sym alone)
-      (subst (λ x. RunEndsLater (Some (mirror address workers upstream)) (world (outside store i o) n r) (world (outside store i o) m r) [] None x) (sym same)
-      (not_ran m end later h)))
+  })
 
   pub unreached_ends : {U : Type 0} (seen : U → UpstreamView) (m : NetworkView) → Reaches seen n m upstream made.Failed
       → Mirrors address workers upstream (world (outside store i o) n r) (world (outside store i o) m r) [] None status.NoNetwork

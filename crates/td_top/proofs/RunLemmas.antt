@@ -1,6 +1,5 @@
 -- How a run ends over all that is outside it.
 use Rattle.std.proofs.Common.{◌≡◌, ℕ, ◌≤◌, List, [], map, Option, None, Some, Ok, refl, sym, subst, arith}
-use Rattle.std.specs.Option.{option_map}
 use Rattle.admission.specs.declared.rules.Chosen.{Chosen}
 use Rattle.td_base.specs.Views.{SinkView, SourceView, StoreView}
 use Rattle.td_base.specs.DoorViews.{DoorView, NetworkView}
@@ -14,13 +13,13 @@ use Rattle.catalogue.specs.Holdings.{history_of}
 use Rattle.td_top.specs.Command.{Asked, serve}
 use Rattle.td_top.specs.Growth.{folders}
 use Rattle.td_top.specs.Opening.{InstallsAll}
-use Rattle.td_top.specs.Outside.{IsAlone, Outside, outside, World, world}
-use Rattle.td_top.specs.Running.{RunEnds, RunEndsLater, served as served_run}
+use Rattle.td_top.specs.Outside.{Outside, outside, World, world}
+use Rattle.td_top.specs.Running.{HasRun, RunEnds, RunEndsLater, RunsAlone, RunsAs, ServesNobody}
 use Rattle.td_top.specs.Running.Server.{OpenedEnds, opened}
 use Rattle.td_top.specs.Running.Server.ServerSteps.{ServesOpened}
 use Rattle.td_top.specs.Site.{ConsoleView, LaterConsole, LaterSite, SiteView, console, site}
-use Rattle.td_top.specs.Tells.{EndsLater}
 use Rattle.td_top.specs.declared.status.Status.{Status}
+use Rattle.td_top.proofs.Endings.{EndsLater}
 use Rattle.td_top.proofs.GrowthLemmas.{growth_refl}
 
 -- nothing was done
@@ -50,20 +49,26 @@ called_later o n m r later = record { console = console_refl o; network = later;
 
 -- ---- a whole run
 
--- a run that serves no door and follows no server
-module _ {D U : Type 0} (seen : D → DoorView) (told : U → UpstreamView) where
-  pub ran_alone : (ends_so : Outside → Outside → Status → Type 0) (asked : Option Asked) (before after : Outside) (n : NetworkView) (r : ℕ) (doors : List D)
-      (up : Option U)
-      (is end : Status) → is ≡ end → doors ≡ [] → up ≡ None → EndsLater ends_so before after end
-      → (ends_so before after end → IsAlone (world before n r) (world after n r) → RunEnds asked (world before n r) (world after n r) [] None end)
-      → RunEndsLater asked (world before n r) (world after n r) (map seen doors) (option_map told up) is
-  ran_alone ends_so asked before after n r doors up is end e none alone h row =
-      subst (λ ds. RunEndsLater asked (world before n r) (world after n r) (map seen ds) (option_map told up) is) (sym none)
-      (subst (λ u. RunEndsLater asked (world before n r) (world after n r) [] (option_map told u) is) (sym alone)
-      (subst (λ s. RunEndsLater asked (world before n r) (world after n r) [] None s) (sym e) (record {
-        ends = row h.ends (refl, refl);
-        later = record { outside = h.later; network = omega arith; spawner = omega arith };
-      })))
+-- no door was served and no server followed
+nobody : (before after : Outside) (n : NetworkView) (r : ℕ) → ServesNobody (world before n r) (world after n r) [] None
+nobody before after n r = record { network = refl; spawner = refl; no_door = refl; no_server = refl }
+
+-- what a run that is asked for so comes to
+pub runs_as : (spelled : Option Asked) (before after : World) (doors : List DoorView) (up : Option UpstreamView) (is : Status)
+    → RunEndsLater spelled before after doors up is → RunsAs spelled before after doors up is
+unfolding HasRun
+runs_as spelled before after doors up is h = λ asked same. subst (λ a. RunEndsLater a before after doors up is) same h
+
+-- a run over the store, the input and the output
+pub runs_alone : (ends_so : Outside → Outside → Status → Type 0) (spelled : Option Asked) (before after : Outside) (end : Status)
+    → ((n : NetworkView) (r : ℕ) → ends_so before after end → ServesNobody (world before n r) (world after n r) [] None
+    → RunEnds spelled (world before n r) (world after n r) [] None end)
+    → EndsLater ends_so before after end → RunsAlone spelled before after end
+runs_alone ends_so spelled before after end row h = λ n r.
+    runs_as spelled (world before n r) (world after n r) [] None end (record {
+      ends = row n r h.ends (nobody before after n r);
+      later = record { outside = h.later; network = omega arith; spawner = omega arith };
+    })
 
 -- ---- from the start of a run
 
@@ -80,7 +85,7 @@ ran_doors address workers rules rules' dirs list s t u i j o p n m r q doors up 
     (λ x. OpenedEnds role.Primary address workers (history_of list) (site (console (folders rules t) i o) n r) (site (console (folders x u) j p) m q)
     h.history doors is) grew.0 h.ends in
     subst (λ x. RunEndsLater (Some (serve address workers rules dirs)) (world (outside s i o) n r) (world (outside u j p) m q) doors x is) (sym none) (record {
-      ends = served_run address workers rules dirs doors is refl (opened (history_of list) h.history t doors is all.came all.later ends);
+      ends = (opened (history_of list) h.history t doors is all.came all.later ends, refl);
       later = record {
         outside = record {
           store = store_trans s t u all.later grew.1;
@@ -91,8 +96,3 @@ ran_doors address workers rules rules' dirs list s t u i j o p n m r q doors up 
         spawner = h.later.spawner;
       };
     })
-
--- a command that is another
-pub runs_as : (asked other : Option Asked) (before after : World) (doors : List DoorView) (up : Option UpstreamView) (is : Status) → asked ≡ other
-    → RunEndsLater asked before after doors up is → RunEndsLater other before after doors up is
-runs_as asked other before after doors up is same h = subst (λ a. RunEndsLater a before after doors up is) same h

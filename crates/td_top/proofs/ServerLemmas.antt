@@ -29,7 +29,7 @@ use Rattle.td_base.proofs.lemmas.Beginnings.{prefix_self}
 use Rattle.td_top.specs.ConsoleBeside.{BesideView, Halted, Ran}
 use Rattle.td_top.specs.Running.Server.{CalledTold, ConnsTold, IsDone, OpensDoors, OpenedTold}
 use Rattle.td_top.specs.Running.Server.{ServesDoor, ServesDoors, no_door, one_more}
-use Rattle.td_top.specs.Operator.{Talks, heard, talk_begun}
+use Rattle.td_top.specs.Operator.{Talks, talk_begun}
 use Rattle.td_top.specs.Talking.{AnswersOperator, ComesTo, LaterScene, Scene, Talked}
 use Rattle.td_top.specs.Works.{AreWorks, HasSeen}
 use Rattle.td_top.specs.declared.talking.TalkEnd.{TalkEnd}
@@ -50,7 +50,7 @@ operated before now ended nobody seen t =
     }) in
     let opening : List ReleaseData = history_of before.session.installer.list in
     let talks : Talks whole (talk_begun opening before.console.growth) t.asked t.told talk.0 =
-    subst (λ s. Talks whole (heard (talk_begun opening before.console.growth) s) t.asked t.told talk.0) nobody talk.2 in
+    subst (λ s. Talks whole (record (talk_begun opening before.console.growth) { subscribers = s }) t.asked t.told talk.0) nobody talk.2 in
     record {
       read = t.read;
       asked = t.asked;

@@ -180,13 +180,11 @@ abbrev pub plain_command : Command → Asked
 plain_command (command.Answer folders) = answer folders.now
 plain_command (command.Check folders) = check folders.now
 plain_command (command.At file moment) = at file.now moment.seconds
-plain_command (command.Serve address workers rules folders) =
-    serve address.now workers rules folders.now
-plain_command (command.Mirror address workers upstream) =
-    mirror address.now workers upstream.now
+plain_command (command.Serve w) = serve w.address.now w.workers w.rules w.folders.now
+plain_command (command.Mirror w) = mirror w.address.now w.workers w.upstream.now
 plain_command (command.Load number) = load number
-plain_command (command.MirrorCalendars upstream start end) =
-    calmirror upstream.now start.seconds end.seconds
+plain_command (command.MirrorCalendars plan) =
+    calmirror plan.upstream.now plan.start.seconds plan.end.seconds
 
 -- a range that has a meaning
 abbrev pub IsRange : ℤ → ℤ → Type 0
@@ -198,9 +196,7 @@ abbrev pub IsMeantCommand : Command → Type 0
 IsMeantCommand (command.Answer folders) = 0 < length folders.now
 IsMeantCommand (command.Check folders) = ⊤
 IsMeantCommand (command.At file moment) = HasMeaning moment.seconds
-IsMeantCommand (command.Serve address workers rules folders) =
-    (workers ≤ MOST_WORKERS) × (0 < length folders.now)
-IsMeantCommand (command.Mirror address workers upstream) =
-    (workers ≤ MOST_WORKERS) × IsPlain upstream.now
+IsMeantCommand (command.Serve w) = (w.workers ≤ MOST_WORKERS) × (0 < length w.folders.now)
+IsMeantCommand (command.Mirror w) = (w.workers ≤ MOST_WORKERS) × IsPlain w.upstream.now
 IsMeantCommand (command.Load number) = (1 ≤ number) × (number ≤ MOST_RELEASES)
-IsMeantCommand (command.MirrorCalendars upstream start end) = IsRange start.seconds end.seconds
+IsMeantCommand (command.MirrorCalendars plan) = IsRange plan.start.seconds plan.end.seconds

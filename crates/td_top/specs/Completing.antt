@@ -1,7 +1,7 @@
 -- When a run does all that was asked, or memory runs out: no count of faults rose, and what its
--- command needs of the outside is there. What several commands need stands here; what one needs
--- alone, and that it then ends so, stand on the command's own page.
-use Rattle.std.specs.Prelude.{◌≡◌, ◌⊎◌, ℕ, List, [], ◌++◌, Option, Some, IfSome}
+-- command needs of the outside is there. What several commands need stands here, and what one needs
+-- alone on its own page.
+use Rattle.std.specs.Prelude.{◌≡◌, ◌⊎◌, ℕ, List, ◌++◌, Option, Some, IfSome}
 use Rattle.std.specs.List.{AllByRecursion}
 use Rattle.td_base.specs.DoorViews.{DoorView}
 use Rattle.td_base.specs.Upstreams.{UpstreamView}

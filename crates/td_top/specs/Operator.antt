@@ -58,15 +58,6 @@ grown t joined growth = record {
   subscribers = heard_by t.subscribers t.published joined;
 }
 
--- the same talk with other subscribers
-abbrev pub heard : Talk → List SubscriberView → Talk
-heard t subscribers = record {
-  published = t.published;
-  least = t.least;
-  growth = t.growth;
-  subscribers = subscribers;
-}
-
 -- a line that asks for nothing that is done
 abbrev pub IsUnknown : GrowthView → Line → Type 0
 IsUnknown growth line.Status = ⊥
@@ -83,36 +74,41 @@ TakesMemory (line.Watch wish) = ⊤
 TakesMemory (line.News number) = ⊤
 TakesMemory asked = ⊥
 
--- What one line gets said, and what it makes of the talk. `whole` is the history of the run, with
--- which each place that is shown has its releases in common.
+-- What a line gets said that changes neither the history nor who hears of it, and the least place
+-- that a status may tell after it. A status shows a place that is not before the last release
+-- installed, nor before one shown earlier; `whole` is the history of the run, with which it has its
+-- releases in common.
+abbrev pub TellsOnly : List ReleaseData → Talk → Line → List ℕ → ℕ → Type 0
+TellsOnly whole t line.Status answer least =
+    (shown : List ReleaseData) × IsPrefix shown whole × (t.least ≤ length shown)
+    × (least ≡ length shown)
+    × (answer ≡ reply_text (said.Serving (last_token shown) (length (meta shown))))
+TellsOnly whole t (line.Watch wish) answer least =
+    (MOST_SUBSCRIBERS ≤ length t.subscribers) × (least ≡ t.least)
+    × (answer ≡ reply_text (said.Refused (fault_text fault.WatchFull)))
+TellsOnly whole t (line.News number) answer least =
+    (numbered t.subscribers number ≡ None) × (least ≡ t.least)
+    × (answer ≡ reply_text (said.Refused nobody_text))
+TellsOnly whole t line.Quit answer least = (least ≡ t.least) × (answer ≡ reply_text said.Bye)
+TellsOnly whole t asked answer least = ⊥
+
+-- what one line gets said, and what it makes of the talk
 pub data GetsAnswer (whole : List ReleaseData) (t : Talk) (asked : Line) (answer : List ℕ)
     (u : Talk) : Type 0 where
   handled : (joined : Option ReleaseData) (growth : GrowthView)
       → Handles t.published t.growth asked answer joined growth → u ≡ grown t joined growth
       → GetsAnswer whole t asked answer u
-  -- a place is shown that is not before the last release installed, nor before one shown earlier
-  status : (shown : List ReleaseData) → asked ≡ line.Status → IsPrefix shown whole
-      → t.least ≤ length shown
-      → answer ≡ reply_text (said.Serving (last_token shown) (length (meta shown)))
-      → u ≡ record t { least = length shown }
-      → GetsAnswer whole t asked answer u
   -- one more subscriber, which is to hear of the releases after those published so far
   watched : (wish : Wish) → asked ≡ line.Watch wish → length t.subscribers < MOST_SUBSCRIBERS
       → answer ≡ reply_text (said.Watching (length t.subscribers + 1))
-      → u ≡ heard t (t.subscribers ++ newcomer wish (length t.published) ∷ [])
-      → GetsAnswer whole t asked answer u
-  full : (wish : Wish) → asked ≡ line.Watch wish → MOST_SUBSCRIBERS ≤ length t.subscribers
-      → answer ≡ reply_text (said.Refused (fault_text fault.WatchFull)) → u ≡ t
+      → u ≡ record t { subscribers = t.subscribers ++ newcomer wish (length t.published) ∷ [] }
       → GetsAnswer whole t asked answer u
   -- what a subscriber holds is told, and cleared
   told_news : (number : ℕ) (s : SubscriberView) → asked ≡ line.News number
       → numbered t.subscribers number ≡ Some s → answer ≡ news_text s.held
-      → u ≡ heard t (changed_numbered emptied number t.subscribers)
+      → u ≡ record t { subscribers = changed_numbered emptied number t.subscribers }
       → GetsAnswer whole t asked answer u
-  nobody : (number : ℕ) → asked ≡ line.News number → numbered t.subscribers number ≡ None
-      → answer ≡ reply_text (said.Refused nobody_text) → u ≡ t
-      → GetsAnswer whole t asked answer u
-  quit : asked ≡ line.Quit → answer ≡ reply_text said.Bye → u ≡ t
+  only_told : (least : ℕ) → TellsOnly whole t asked answer least → u ≡ record t { least = least }
       → GetsAnswer whole t asked answer u
   unknown : IsUnknown t.growth asked → answer ≡ reply_text said.Unknown → u ≡ t
       → GetsAnswer whole t asked answer u

@@ -38,7 +38,3 @@ pub record LaterWorld (before after : World) : Type 0 where
   pub outside : Later before.outside after.outside
   pub network : before.network.faults ≤ after.network.faults
   pub spawner : before.spawner ≤ after.spawner
-
--- the network and the spawner were left alone
-abbrev pub IsAlone : World → World → Type 0
-IsAlone before after = (after.network ≡ before.network) × (after.spawner ≡ before.spawner)

@@ -18,7 +18,7 @@ use Rattle.td_top.specs.Audiences.{TellsEachChange}
 use Rattle.td_top.specs.Replies.{last_token}
 use Rattle.td_top.specs.Sessions.{BeginsWhole, LaterSession, StandsAt}
 use Rattle.td_top.specs.Site.{ConsoleView, LaterConsole}
-use Rattle.td_top.specs.Operator.{KeepsTalking, Talk, Talks, heard, talk_begun}
+use Rattle.td_top.specs.Operator.{KeepsTalking, Talk, Talks, talk_begun}
 use Rattle.td_top.specs.declared.session.Session.{Session}
 use Rattle.td_top.specs.declared.talking.TalkEnd.{TalkEnd}
 use Rattle.td_top.specs.declared.talking.TalkEnd.TheVariants as end
@@ -40,8 +40,8 @@ pub record LaterScene (before now : Scene) : Type 0 where
 -- a talk that begins at a scene
 abbrev pub begun_at : Scene → Talk
 begun_at s =
-    heard (talk_begun (history_of s.session.installer.list) s.console.growth)
-    s.session.installer.subscribers
+    record (talk_begun (history_of s.session.installer.list) s.console.growth)
+    { subscribers = s.session.installer.subscribers }
 
 -- all that is said: that the server is ready, and what each line gets said
 abbrev pub talk_text : List ReleaseData → List (List ℕ) → List ℕ

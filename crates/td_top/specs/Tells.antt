@@ -14,31 +14,12 @@ use Rattle.zone_meaning.specs.Faults.{zone_fault}
 use Rattle.zone_meaning.specs.FaultText.{fault_text as zone_text}
 use Rattle.zone_meaning.specs.State.{zone_state}
 use Rattle.zone_meaning.specs.declared.zone_fault.ZoneFault.{ZoneFault}
-use Rattle.td_top.specs.Command.{usage_line}
-use Rattle.td_top.specs.Outside.{Outside, Later, outside}
+use Rattle.td_top.specs.Outside.{outside}
 use Rattle.td_top.specs.Printing.{Printed, refused_line}
 use Rattle.td_top.specs.Running.Answering.{ServesStreams, end_status}
-use Rattle.td_top.specs.Running.Checking.{Checks}
 use Rattle.td_top.specs.Running.StateLine.{state_line}
 use Rattle.td_top.specs.declared.status.Status.{Status}
 use Rattle.td_top.specs.declared.status.Status.TheVariants as status
-
--- a run ended so, and nothing else was done to the outside than calls do
-pub record EndsLater (ends_so : Outside → Outside → Status → Type 0) (before after : Outside)
-    (end : Status) : Type 0 where
-  pub ends : ends_so before after end
-  pub later : Later before after
-
--- how a run ends whose words are no command; the input is left alone
-abbrev pub ShowsUsage : Outside → Outside → Status → Type 0
-ShowsUsage before after end =
-    Printed status.Usage usage_line before.output after.output end × (after.input ≡ before.input)
-
--- how `check` ends; the input is left alone
-abbrev pub ChecksFolders : List (List ℕ) → Outside → Outside → Status → Type 0
-ChecksFolders dirs before after end =
-    Checks dirs before.store after.store before.output after.output end
-    × (after.input ≡ before.input)
 
 -- the input and the output were served, and nothing else was done to them than calls do; the store
 -- has no part in it

@@ -11,6 +11,7 @@ ghost use Rattle.td_top.specs.Command.{plain_command, serve_of};
 pub(crate) mod rules;
 
 use crate::command::rules::{Choice, read_rules};
+use crate::running::calendar_mirroring::CalendarPlan;
 use console::{meant_moment, read_number};
 use td_base::{Bytes, is_path_word};
 use td_civil::{HI, Moment, moment_of};
@@ -31,42 +32,35 @@ pub(crate) const MOST_RELEASES: u64 = 1_000;
 #[derive(Drop)]
 pub enum Command<'a> {
     /// Install the folders, and answer the input as one connection.
-    Answer {
-        folders: &'a [Bytes],
-    },
+    Answer(&'a [Bytes]),
     /// Check the folders as one history.
-    Check {
-        folders: &'a [Bytes],
-    },
+    Check(&'a [Bytes]),
     /// Print the state of a zone file at a moment.
-    At {
-        file: &'a [u8],
-        moment: Moment,
-    },
-    /// Serve an address by so many workers, over the releases of folders. Each release but the
-    /// first is asked these rules.
-    Serve {
-        address: &'a [u8],
-        workers: u32,
-        rules: Choice,
-        folders: &'a [Bytes],
-    },
-    /// Follow the server at an address, and serve another address by so many workers.
-    Mirror {
-        address: &'a [u8],
-        workers: u32,
-        upstream: &'a [u8],
-    },
+    At { file: &'a [u8], moment: Moment },
+    Serve(ServeWords<'a>),
+    Mirror(MirrorWords<'a>),
     /// Make so many releases, serve requests after each, and print what was counted.
-    Load {
-        number: u32,
-    },
+    Load(u32),
     /// Get the calendars of the server at an address, and print what they tell of a range.
-    MirrorCalendars {
-        upstream: &'a [u8],
-        start: Moment,
-        end: Moment,
-    },
+    MirrorCalendars(CalendarPlan<'a>),
+}
+
+/// Serve an address by so many workers, over the releases of folders. Each release but the first is
+/// asked these rules.
+#[derive(Drop)]
+pub struct ServeWords<'a> {
+    pub address: &'a [u8],
+    pub workers: u32,
+    pub rules: Choice,
+    pub folders: &'a [Bytes],
+}
+
+/// Follow the server at an address, and serve another address by so many workers.
+#[derive(Clone, Copy)]
+pub struct MirrorWords<'a> {
+    pub address: &'a [u8],
+    pub workers: u32,
+    pub upstream: &'a [u8],
 }
 
 /// The command that the words spell, if they are of the grammar.
@@ -110,7 +104,7 @@ fn read_answer(words: &[Bytes]) -> Option<Command<'_>>
     ensures meant { IfSome result IsMeantCommand }
 {
     if are_folders(words) {
-        Some(Command::Answer { folders: words })
+        Some(Command::Answer(words))
     } else {
         None
     }
@@ -122,7 +116,7 @@ fn read_check(words: &[Bytes]) -> Option<Command<'_>>
     ensures meant { IfSome result IsMeantCommand }
 {
     if are_folders(words) {
-        Some(Command::Check { folders: words })
+        Some(Command::Check(words))
     } else {
         None
     }
@@ -195,12 +189,12 @@ fn serve_at<'a>(address: &'a [u8], workers: &[u8], words: &'a [Bytes]) -> Option
     if !are_folders(folders) {
         return None;
     }
-    Some(Command::Serve {
+    Some(Command::Serve(ServeWords {
         address,
         workers,
         rules,
         folders,
-    })
+    }))
 }
 
 /// `mirror ADDRESS WORKERS UPSTREAM`
@@ -227,11 +221,11 @@ fn mirror_at<'a>(address: &'a [u8], workers: &[u8], upstream: &'a [u8]) -> Optio
         return None;
     }
     let workers = read_number(workers, 1, MOST_WORKERS)?;
-    Some(Command::Mirror {
+    Some(Command::Mirror(MirrorWords {
         address,
         workers,
         upstream,
-    })
+    }))
 }
 
 /// Whether a word may name a network address: 1 to 255 letters, digits and `.:-[]` that do not
@@ -267,7 +261,7 @@ fn read_load(words: &[Bytes]) -> Option<Command<'_>>
     match words {
         [number] => {
             let number = read_number(number.as_slice(), 1, MOST_RELEASES)?;
-            Some(Command::Load { number })
+            Some(Command::Load(number))
         }
         _ => None,
     }
@@ -297,11 +291,11 @@ fn calendars_in<'a>(upstream: &'a [u8], start: &[u8], end: &[u8]) -> Option<Comm
     }
     let start = meant_moment(start)?;
     let end = end_after(start, end)?;
-    Some(Command::MirrorCalendars {
+    Some(Command::MirrorCalendars(CalendarPlan {
         upstream,
         start,
         end,
-    })
+    }))
 }
 
 /// The moment that a word spells, if it comes after the start of a range. It may be the end of the

@@ -2,27 +2,14 @@ ghost use Rattle.std.specs.Prelude.{◌≡◌, ◌<◌, ◌≤◌, [], length, A
 ghost use Rattle.td_top.specs.Opening.{HasDesks, InstallsAll, InstallsRest, published_in};
 ghost use Rattle.td_top.specs.Works.{HasSeen};
 
-use crate::command::rules::Choice;
 use crate::session::Session;
-use admission::Kept;
 use catalogue::Catalogue;
 use installer::{Asked, InstallFault, Installer};
 use publication::Desk;
 use std::alloc::Global;
 use std::sync::Wait;
-use subscribers::Want;
 use td_base::{Bytes, NoMemory, Store};
 use zone_meaning::Zone;
-
-/// Folders whose releases are to be installed, in their order, the rules that each of them but the
-/// first is asked, and a test for each kind of rule and of wish.
-#[derive(Clone, Copy)]
-pub struct Plan<'w> {
-    pub folders: &'w [Bytes],
-    pub rules: &'w Choice,
-    pub kept: &'w [Kept],
-    pub wants: &'w [Want],
-}
 
 /// What the releases of folders were installed for: a session, and the desks of its workers.
 pub struct Opened {

@@ -1,5 +1,10 @@
-ghost use Rattle.std.specs.Prelude.{◌≡◌, [], None};
-ghost use Rattle.td_top.specs.Running.{number_of};
+ghost use Rattle.std.specs.Prelude.{◌≡◌, [], map, Option, None};
+ghost use Rattle.std.specs.Option.{option_map};
+ghost use Rattle.td_base.specs.DoorViews.{DoorView};
+ghost use Rattle.td_base.specs.Upstreams.{UpstreamView};
+ghost use Rattle.td_top.specs.Command.{Asked};
+ghost use Rattle.td_top.specs.Outside.{World};
+ghost use Rattle.td_top.specs.Running.{HasRun, number_of};
 
 use crate::status::Status;
 use std::alloc::Global;
@@ -58,8 +63,17 @@ impl<D, U> Ending<D, U> {
         ensures status { result.status ≡ status }
         ensures doors { result.doors.items ≡ [] }
         ensures up { result.up ≡ None }
+        ensures ends { (asked : Option Asked) (before after : World) (door : D → DoorView)
+            (server : U → UpstreamView) → HasRun asked before after [] None status
+            → HasRun asked before after (map door result.doors.items)
+            (option_map server result.up) result.status }
     {
-        Served::closed(alloc, status).after(None)
+        let doors = Vec::new(alloc);
+        Ending {
+            status,
+            doors,
+            up: None,
+        }
     }
 
     /// What the caller of the run is given.

@@ -1,20 +1,14 @@
-ghost use Rattle.std.specs.Prelude.{◌≡◌, map};
+ghost use Rattle.std.specs.Prelude.{◌≡◌, ℕ, ℤ, List, map, None};
 ghost use Rattle.std.specs.Option.{option_map};
 ghost use Rattle.td_base.specs.Views.{SourceView, StoreView};
-ghost use Rattle.td_top.specs.Command.{command_of};
 ghost use Rattle.admission.specs.Rules.{KeepsAll};
+ghost use Rattle.admission.specs.declared.rules.Chosen.{Chosen};
 ghost use Rattle.subscribers.specs.Wishes.{WantsAll};
-ghost use Rattle.td_top.specs.Site.{site_names, world_of};
+ghost use Rattle.td_top.specs.Command.{answer, at, calmirror, check, command_of, load, mirror};
+ghost use Rattle.td_top.specs.Command.{serve};
 ghost use Rattle.td_top.specs.Outside.{LaterWorld, outside, world};
-ghost use Rattle.td_top.specs.Running.{RunEnds, RunEndsLater, number_of};
-ghost use Rattle.td_top.specs.Running.Answering.{AnswersComplete};
-ghost use Rattle.td_top.specs.Running.CalendarMirroring.{CalendarsComplete};
-ghost use Rattle.td_top.specs.Running.Checking.{ChecksComplete};
-ghost use Rattle.td_top.specs.Running.Loading.{LoadComplete};
-ghost use Rattle.td_top.specs.Running.Mirroring.{MirrorsComplete};
-ghost use Rattle.td_top.specs.Running.Server.{ServesComplete};
-ghost use Rattle.td_top.specs.Running.StateLine.{StateComplete};
-ghost use Rattle.td_top.specs.Tells.{EndsLater, ShowsUsage};
+ghost use Rattle.td_top.specs.Running.{Completes, HasRun, RunEnds, RunsAlone, number_of};
+ghost use Rattle.td_top.specs.Site.{site_names, world_of};
 ghost use Rattle.td_top.specs.declared.status.Status.{Status};
 
 // The commands.
@@ -28,15 +22,14 @@ pub(crate) mod state_line;
 
 use crate::command::{Command, read_words};
 use crate::kept_tests::KeptTests;
-use crate::opening::Plan;
 use crate::outcome::{Ending, Outcome};
 use crate::printing::print;
 use crate::running::answering::{AnswerPlan, answer, answers_complete};
-use crate::running::calendar_mirroring::{CalendarPlan, calendars_complete, mirror_calendars};
+use crate::running::calendar_mirroring::{calendars_complete, mirror_calendars};
 use crate::running::checking::{check_folders, checks_complete};
 use crate::running::loading::{LoadPlan, load, load_complete};
-use crate::running::mirroring::{MirrorPlan, mirror_server, mirrors_complete};
-use crate::running::server::{Serving, serve_doors, serves_complete};
+use crate::running::mirroring::{mirror_server, mirrors_complete};
+use crate::running::server::{serve_doors, serves_complete};
 use crate::running::state_line::{state_at, state_complete};
 use crate::site::Site;
 use crate::status::Status;
@@ -45,7 +38,7 @@ use std::alloc::Global;
 use std::sync::Wait;
 use std::thread::Threads;
 use subscribers::Want;
-use td_base::{Bytes, Door, Network, Role, Sink, Source, Spawner, Store};
+use td_base::{Bytes, Door, Network, Sink, Source, Spawner, Store};
 
 /// The line that is printed for words that are no command.
 const USAGE: &[u8] = b"usage: tzdistd answer|serve|mirror|check|at|load|calmirror\n";
@@ -71,6 +64,7 @@ const USAGE: &[u8] = b"usage: tzdistd answer|serve|mirror|check|at|load|calmirro
 ///
 /// The tests of the rules and those of the wishes, one for each kind at least, are kept by the
 /// caller.
+#[tactic(auto, unfolding(crate::specs::Running::HasRun))]
 pub fn run<R, S, C, K, N, W>(
     rt: &R,
     alloc: Global,
@@ -131,88 +125,31 @@ where
     N::Door: Send + Drop + 'static,
     <N::Door as Door>::Conn: Send + 'static,
     W: Spawner,
-    requires rules { KeepsAll (map (λ k. k.kind) tests.now.kept.now) }
-    requires wants { WantsAll (map (λ w. w.kind) tests.now.wants.now) }
     ensures kept { site_names site.new ≡ site_names site.old }
-    ensures ends { RunEndsLater (command_of words.now)
+    ensures ends { HasRun (command_of words.now)
         (world_of (S.seen store.old) C.seen K.seen N.seen W.faults site.old)
         (world_of (S.seen store.new) C.seen K.seen N.seen W.faults site.new)
         (map N.Door.seen result.doors.items) (option_map N.Up.seen result.up) result.status }
 {
     match read_words(words) {
-        Some(
-            Command::Serve {
-                address,
-                workers,
-                rules,
-                folders,
-            },
-        ) => {
-            let plan = Plan {
-                folders,
-                rules: &rules,
-                kept: tests.kept,
-                wants: tests.wants,
-            };
-            let serving = Serving {
-                role: &Role::Primary,
-                address,
-                workers,
-            };
-            serve_doors(rt, alloc, &serving, &plan, store, site)
+        Some(Command::Answer(folders)) => {
+            let plan = AnswerPlan { folders, tests };
+            let status = answer(rt, alloc, &plan, store, site.input, site.output);
+            Ending::closed(alloc, status)
         }
-        Some(
-            Command::Mirror {
-                address,
-                workers,
-                upstream,
-            },
-        ) => {
-            let plan = MirrorPlan {
-                address,
-                workers,
-                upstream,
-                wants: tests.wants,
-            };
-            mirror_server(rt, alloc, &plan, site)
+        Some(Command::Check(folders)) => {
+            Ending::closed(alloc, check_folders(alloc, folders, store, site.output))
         }
-        Some(Command::Answer { folders }) => {
-            let plan = AnswerPlan {
-                folders,
-                wants: tests.wants,
-            };
-            Ending::closed(
-                alloc,
-                answer(rt, alloc, &plan, store, site.input, site.output),
-            )
+        Some(Command::At { file, moment }) => {
+            Ending::closed(alloc, state_at(alloc, file, moment, store, site.output))
         }
-        Some(Command::Check { folders }) => Ending::closed(
-            alloc,
-            check_folders(alloc, folders, store, site.output),
-        ),
-        Some(Command::At { file, moment }) => Ending::closed(
-            alloc,
-            state_at(alloc, file, moment, store, site.output),
-        ),
-        Some(Command::Load { number }) => {
-            let plan = LoadPlan {
-                number,
-                wants: tests.wants,
-            };
+        Some(Command::Load(number)) => {
+            let plan = LoadPlan { number, tests };
             Ending::closed(alloc, load(rt, alloc, &plan, site.output))
         }
-        Some(
-            Command::MirrorCalendars {
-                upstream,
-                start,
-                end,
-            },
-        ) => {
-            let plan = CalendarPlan {
-                upstream,
-                start,
-                end,
-            };
+        Some(Command::Serve(words)) => serve_doors(rt, alloc, &words, tests, store, site),
+        Some(Command::Mirror(words)) => mirror_server(rt, alloc, &words, tests, site),
+        Some(Command::MirrorCalendars(plan)) => {
             mirror_calendars(alloc, &plan, site.net, site.output)
         }
         None => Ending::closed(alloc, usage(site.output)),
@@ -223,24 +160,26 @@ where
 #[tactic(auto, unfolding(crate::specs::Command::usage_line))]
 fn usage<K: Sink>(output: &mut K) -> Status
     // The store and the input, whatever they are, are left alone.
-    ensures { (store : StoreView) (input : SourceView) → EndsLater ShowsUsage
+    ensures { (store : StoreView) (input : SourceView) → RunsAlone None
         (outside store input (K.seen output.old)) (outside store input (K.seen output.new)) result }
 {
     print(output, Status::Usage, USAGE)
 }
 
-/// A run whose words are a command does all that was asked, or memory runs out, where no count of
-/// faults rose and what the command needs of the outside is there: folders that give releases, a
-/// file of a zone, or a primary that answers until a list of changes comes back empty. Each clause
-/// is over what the row of `RunEnds` for one command says of its end.
+/// Law: a run whose words are a command does all that was asked, or memory runs out, where no count
+/// of faults rose and what the command needs of the outside is there: folders that give releases, a
+/// file of a zone, or a primary that answers until a list of changes comes back empty.
 pub fn runs_complete()
-    ensures answer { AnswersComplete }
-    ensures serve { ServesComplete }
-    ensures mirror { MirrorsComplete }
-    ensures check { ChecksComplete }
-    ensures at { StateComplete }
-    ensures load { LoadComplete }
-    ensures calmirror { CalendarsComplete }
+    ensures answer { (dirs : List (List ℕ)) → Completes (answer dirs) }
+    ensures serve { (address : List ℕ) (workers : ℕ) (rules : List Chosen) (dirs : List (List ℕ))
+        → Completes (serve address workers rules dirs) }
+    ensures mirror { (address : List ℕ) (workers : ℕ) (upstream : List ℕ)
+        → Completes (mirror address workers upstream) }
+    ensures check { (dirs : List (List ℕ)) → Completes (check dirs) }
+    ensures at { (path : List ℕ) (m : ℤ) → Completes (at path m) }
+    ensures load { (n : ℕ) → Completes (load n) }
+    ensures calmirror { (upstream : List ℕ) (start last : ℤ)
+        → Completes (calmirror upstream start last) }
 {
     answers_complete();
     serves_complete();

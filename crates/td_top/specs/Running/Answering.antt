@@ -1,5 +1,5 @@
 -- How `answer` ends: the input and the output are served as one connection, over a history.
-use Rattle.std.specs.Prelude.{◌≡◌, ℕ, List, [], length, None}
+use Rattle.std.specs.Prelude.{◌≡◌, ℕ, List, [], length}
 use Rattle.std.specs.Io.KnownBytes.{Appends, Consumes}
 use Rattle.std.specs.List.{AllByRecursion}
 use Rattle.td_base.specs.declared.report.End.{End}
@@ -9,9 +9,8 @@ use Rattle.catalogue.specs.Releases.{ReleaseData}
 use Rattle.connection.specs.FaultCounts.{FaultCounts}
 use Rattle.connection.specs.Served.{Served}
 use Rattle.connection.specs.Serving.{answer_at}
-use Rattle.td_top.specs.Completing.{FoldersAreGiven, IsComplete, NoneRose}
 use Rattle.td_top.specs.Folders.{FoldersGive, ServesNothing}
-use Rattle.td_top.specs.Outside.{Outside, World}
+use Rattle.td_top.specs.Outside.{Outside}
 use Rattle.td_top.specs.declared.status.Status.{Status}
 use Rattle.td_top.specs.declared.status.Status.TheVariants as status
 
@@ -45,11 +44,3 @@ pub data Answers (dirs : List (List ℕ)) (before after : Outside) : Status → 
   served : (H : List ReleaseData) (end : End) → FoldersGive before.store.files [] dirs H
       → ServesStreams H before after end → Answers dirs before after (end_status end)
   nothing : (end : Status) → ServesNothing [] dirs before after end → Answers dirs before after end
-
--- where nothing failed and its folders give releases, `answer` ends with the input, or memory runs
--- out
-abbrev pub AnswersComplete : Type 0
-AnswersComplete =
-    (dirs : List (List ℕ)) (before after : World) (is : Status)
-    → Answers dirs before.outside after.outside is → NoneRose before after [] None
-    → FoldersAreGiven before.outside.store [] dirs → IsComplete is

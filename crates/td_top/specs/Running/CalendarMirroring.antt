@@ -26,8 +26,6 @@ use Rattle.sync_core.specs.Published.{file_bytes}
 use Rattle.vtimezone_reader.specs.Observing.{IsFirstOnset, calendar_observed}
 use Rattle.vtimezone_reader.specs.ReadLines.{calendar_in}
 use Rattle.vtimezone_reader.specs.declared.calendar_type.Calendar.{Calendar}
-use Rattle.calendar_world.specs.Endings.{IsCalendarAnsweredOver}
-use Rattle.td_top.specs.Completing.{IsComplete, NoneRose, PrimarySettles}
 use Rattle.td_top.specs.Outside.{LeavesStreams, World}
 pub use Rattle.td_top.specs.Running.CalendarMirroring.ObservanceLines.{observance_line, shown_name}
 pub use Rattle.td_top.specs.Running.CalendarMirroring.ObservanceLines.{shown_state, zone_line}
@@ -139,11 +137,3 @@ pub data MirrorsCalendars (upstream : List ℕ) (start end : ℤ) (before after 
       → ReachesServer before.network after.network upstream first
       → LeavesStreams before.outside after.outside
       → MirrorsCalendars upstream start end before after (Some last) status.NoMemory
-
--- where nothing failed and the sync is with a primary whose second list is an empty one of changes,
--- `calmirror` prints what each calendar tells, or memory runs out
-abbrev pub CalendarsComplete : Type 0
-CalendarsComplete =
-    (upstream : List ℕ) (start end : ℤ) (before after : World) (up : Option UpstreamView)
-    (is : Status) → MirrorsCalendars upstream start end before after up is
-    → NoneRose before after [] up → PrimarySettles IsCalendarAnsweredOver up → IsComplete is

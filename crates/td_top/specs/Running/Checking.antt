@@ -1,7 +1,7 @@
 -- How folders are checked as one history: a line for each as it goes, up to the first that is
 -- refused.
 pub mod CheckingSteps
-use Rattle.std.specs.Prelude.{ℕ, List, [], ◌∷◌, ◌++◌, length, codes, decimal, None}
+use Rattle.std.specs.Prelude.{ℕ, List, [], ◌∷◌, ◌++◌, length, codes, decimal}
 use Rattle.td_base.specs.Views.{StoreFailed, SinkView, StoreView}
 use Rattle.td_base.specs.Transfer.{Prints, WritesAll}
 use Rattle.td_base.specs.declared.transfer.Written.TheVariants as written
@@ -9,9 +9,7 @@ use Rattle.catalogue.specs.Histories.{meta, token_of}
 use Rattle.catalogue.specs.Releases.{ReleaseData}
 use Rattle.installer.specs.FaultText.{fault_text}
 use Rattle.installer.specs.declared.install_fault.InstallFault.{InstallFault}
-use Rattle.td_top.specs.Completing.{FoldersAreGiven, IsComplete, NoneRose}
 use Rattle.td_top.specs.Folders.{FoldersBegin, FoldersGive, StopsAtFault}
-use Rattle.td_top.specs.Outside.{World}
 use Rattle.td_top.specs.Printing.{refused_line}
 use Rattle.td_top.specs.declared.status.Status.{Status}
 use Rattle.td_top.specs.declared.status.Status.TheVariants as status
@@ -51,12 +49,3 @@ pub data Checks (dirs : List (List ℕ)) (s t : StoreView) (old new : SinkView) 
       → Checks dirs s t old new status.NotRead
   out_of_memory : (H : List ReleaseData) → FoldersBegin s.files [] dirs H
       → WritesAll old new (ok_lines H) written.Whole → Checks dirs s t old new status.NoMemory
-
--- where nothing failed and its folders give releases, `check` prints a line for each, or memory
--- runs out
-abbrev pub ChecksComplete : Type 0
-ChecksComplete =
-    (dirs : List (List ℕ)) (before after : World) (is : Status)
-    → Checks dirs before.outside.store after.outside.store
-    before.outside.output after.outside.output is
-    → NoneRose before after [] None → FoldersAreGiven before.outside.store [] dirs → IsComplete is

@@ -16,8 +16,7 @@ use Rattle.made_load.specs.Counts.{CountsReply, no_counts, summary_text, with_re
 use Rattle.made_load.specs.Releases.{HasFiles, made_manifest}
 use Rattle.made_load.specs.Requests.{made_requests}
 use Rattle.made_load.specs.declared.counts.LoadCounts.{LoadCounts}
-use Rattle.td_top.specs.Completing.{IsComplete, NoneRose}
-use Rattle.td_top.specs.Outside.{LeavesStreams, Outside, World}
+use Rattle.td_top.specs.Outside.{LeavesStreams, Outside}
 use Rattle.td_top.specs.Printing.{Printed}
 use Rattle.td_top.specs.declared.status.Status.{Status}
 use Rattle.td_top.specs.declared.status.Status.TheVariants as status
@@ -78,9 +77,3 @@ pub data LoadEnds (n : ℕ) (before after : Outside) : Status → Type 0 where
       → Printed status.Done line before.output after.output end
       → after.input ≡ before.input → LoadEnds n before after end
   out_of_memory : LeavesStreams before after → LoadEnds n before after status.NoMemory
-
--- where nothing failed, `load` prints its line, or memory runs out
-abbrev pub LoadComplete : Type 0
-LoadComplete =
-    (n : ℕ) (before after : World) (is : Status) → LoadEnds n before.outside after.outside is
-    → NoneRose before after [] None → IsComplete is

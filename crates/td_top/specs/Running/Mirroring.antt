@@ -13,8 +13,6 @@ use Rattle.mirror.specs.FaultText.{fault_text as sync_text}
 use Rattle.mirror.specs.declared.sync_fault.SyncFault.{SyncFault}
 use Rattle.mirror.specs.declared.sync_fault.SyncFault.TheVariants as sync
 use Rattle.sync_core.specs.Mirrors.{MirrorState, empty_mirror}
-use Rattle.mirror_world.specs.Answers.{IsAnsweredOver}
-use Rattle.td_top.specs.Completing.{IsComplete, NoneRose, PrimarySettles}
 use Rattle.td_top.specs.Folders.{IsRefusal}
 use Rattle.td_top.specs.Following.{StatesAfter, SyncsAs}
 use Rattle.td_top.specs.Growth.{following}
@@ -85,12 +83,3 @@ pub data Mirrors (address : List ℕ) (workers : ℕ) (upstream : List ℕ) (bef
   -- memory ran out, at any time
   out_of_memory : (up : Option UpstreamView)
       → Mirrors address workers upstream before after [] up status.NoMemory
-
--- where nothing failed and the first sync is with a primary whose second list is an empty one of
--- changes, `mirror` ends as a server does, or memory runs out
-abbrev pub MirrorsComplete : Type 0
-MirrorsComplete =
-    (address : List ℕ) (workers : ℕ) (upstream : List ℕ) (before after : World)
-    (doors : List DoorView) (up : Option UpstreamView) (is : Status)
-    → Mirrors address workers upstream before after doors up is → NoneRose before after doors up
-    → PrimarySettles IsAnsweredOver up → IsComplete is

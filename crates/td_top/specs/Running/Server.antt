@@ -15,10 +15,9 @@ use Rattle.connection.specs.DoorWorks.{NoneComes, ServedConns, places_of}
 use Rattle.connection.specs.FaultCounts.{RoseTimes}
 use Rattle.connection.specs.Served.{NeverFall}
 use Rattle.connection.specs.declared.door_work.TheConstants.{MOST_FAILURES}
-use Rattle.td_top.specs.Completing.{FoldersAreGiven, IsComplete, NoneRose}
 use Rattle.td_top.specs.Folders.{FoldersGive, ServesNothing}
 use Rattle.td_top.specs.Growth.{folders}
-use Rattle.td_top.specs.Outside.{IsAlone, World}
+use Rattle.td_top.specs.Outside.{World}
 use Rattle.td_top.specs.Site.{SiteView, site_in}
 use Rattle.td_top.specs.Talking.{AnswersOperator}
 use Rattle.td_top.specs.declared.status.Status.{Status}
@@ -140,13 +139,5 @@ pub data Serves (address : List ℕ) (workers : ℕ) (rules : List Chosen) (dirs
       (site_in (folders rules after.outside.store) after) history doors end
       → Serves address workers rules dirs before after doors end
   nothing : (end : Status) → ServesNothing rules dirs before.outside after.outside end
-      → IsAlone before after → Serves address workers rules dirs before after [] end
-
--- where nothing failed, its folders give releases and no rule refuses one, `serve` ends by the word
--- of the operator or with the input, or memory runs out
-abbrev pub ServesComplete : Type 0
-ServesComplete =
-    (address : List ℕ) (workers : ℕ) (rules : List Chosen) (dirs : List (List ℕ))
-    (before after : World) (doors : List DoorView) (is : Status)
-    → Serves address workers rules dirs before after doors is → NoneRose before after doors None
-    → FoldersAreGiven before.outside.store rules dirs → IsComplete is
+      → after.network ≡ before.network → after.spawner ≡ before.spawner
+      → Serves address workers rules dirs before after [] end

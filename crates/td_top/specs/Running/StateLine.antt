@@ -1,7 +1,7 @@
 -- How `at` ends. The state is a function of the bytes of a file: `one_zone_file` of tzif_reader
 -- ties what a file has to its layout, and the clause `rules` of zone_meaning's `at` ties the state
 -- to the rules of RFC 9636.
-use Rattle.std.specs.Prelude.{◌≡◌, ℕ, ℤ, List, [], None, Some, IfSome, ◌++◌, codes, if◌then◌else◌}
+use Rattle.std.specs.Prelude.{◌≡◌, ℕ, ℤ, List, None, Some, IfSome, ◌++◌, codes, if◌then◌else◌}
 use Rattle.std.specs.Fmt.{signed_decimal}
 use Rattle.td_base.specs.Views.{File, StoreFailed, StoreView, file_at}
 use Rattle.td_civil.specs.declared.local_time.Local.{Local}
@@ -9,8 +9,7 @@ use Rattle.zone_meaning.specs.Faults.{zone_fault}
 use Rattle.zone_meaning.specs.FaultText.{fault_text}
 use Rattle.zone_meaning.specs.State.{zone_state}
 use Rattle.zone_meaning.specs.declared.zone_fault.ZoneFault.{ZoneFault}
-use Rattle.td_top.specs.Completing.{IsComplete, NoneRose}
-use Rattle.td_top.specs.Outside.{LeavesStreams, Outside, World}
+use Rattle.td_top.specs.Outside.{LeavesStreams, Outside}
 use Rattle.td_top.specs.Printing.{Printed, refused_line}
 use Rattle.td_top.specs.declared.status.Status.{Status}
 use Rattle.td_top.specs.declared.status.Status.TheVariants as status
@@ -46,10 +45,3 @@ pub record ZoneIsGiven (store : StoreView) (path : List ℕ) : Type 0 where
   pub bytes : List ℕ
   pub stands : file_at files path ≡ Some bytes
   pub sound : zone_fault bytes ≡ None
-
--- where nothing failed and the file is that of a zone, `at` prints the state, or memory runs out
-abbrev pub StateComplete : Type 0
-StateComplete =
-    (path : List ℕ) (m : ℤ) (before after : World) (is : Status)
-    → ShowsState path m before.outside after.outside is → NoneRose before after [] None
-    → ZoneIsGiven before.outside.store path → IsComplete is

@@ -1,11 +1,11 @@
-ghost use Rattle.std.specs.Prelude.{◌≡◌, ◌<◌, length, map, true, IfOk};
+ghost use Rattle.std.specs.Prelude.{◌≡◌, ℕ, ◌<◌, List, length, Some, true, IfOk};
 ghost use Rattle.catalogue.specs.Holdings.{history_of};
-ghost use Rattle.subscribers.specs.Wishes.{WantsAll};
-ghost use Rattle.td_top.specs.Running.Answering.{AnswersComplete};
-ghost use Rattle.td_top.specs.Running.Answering.{Answers};
+ghost use Rattle.td_top.specs.Command.{answer};
 ghost use Rattle.td_top.specs.Outside.{outside};
-ghost use Rattle.td_top.specs.Tells.{EndsLater, ServesLast, ServesLater};
+ghost use Rattle.td_top.specs.Running.{Completes, RunsAlone};
+ghost use Rattle.td_top.specs.Tells.{ServesLast, ServesLater};
 
+use crate::kept_tests::KeptTests;
 use crate::opening::{Opened, open_all};
 use crate::refusing::refuse_install;
 use crate::session::Session;
@@ -17,15 +17,14 @@ use publication::{Desk, Ended};
 use release_check::one_folder;
 use std::alloc::Global;
 use std::sync::Wait;
-use subscribers::Want;
 use td_base::{Bytes, End, Joined, NoMemory, Role, Sink, Source, Store};
 use zone_meaning::Zone;
 
-/// Folders whose releases are installed, in their order, and a test for each kind of wish.
+/// Folders whose releases are installed, in their order, and the tests that are kept.
 #[derive(Clone, Copy)]
 pub struct AnswerPlan<'w> {
     pub folders: &'w [Bytes],
-    pub wants: &'w [Want],
+    pub tests: &'w KeptTests<'w>,
 }
 
 /// Installs the releases of folders, and serves the input and the output, as one connection, over
@@ -38,13 +37,12 @@ pub fn answer<R: Wait, S: Store, C: Source, K: Sink>(
     input: &mut C,
     output: &mut K,
 ) -> Status
-    requires folders { 0 < length plan.now.folders.now }
-    requires wants { WantsAll (map (λ w. w.kind) plan.now.wants.now) }
-    ensures { EndsLater (Answers plan.now.folders.now)
+    requires { 0 < length plan.now.folders.now }
+    ensures { RunsAlone (Some (answer plan.now.folders.now))
         (outside (S.seen store.old) (C.seen input.old) (K.seen output.old))
         (outside (S.seen store.new) (C.seen input.new) (K.seen output.new)) result }
 {
-    let asked = Asked::new(Rules::none(alloc), plan.wants);
+    let asked = Asked::new(Rules::none(alloc), plan.tests.wants);
     match open_all(rt, alloc, plan.folders, &asked, store, 0) {
         Ok(Opened { session, desks: _ }) => serve_last(rt, alloc, session, input, output),
         Err(fault) => refuse_install(alloc, &fault, output),
@@ -114,9 +112,10 @@ fn serve<C: Source, K: Sink>(
     report.end
 }
 
-/// Law: when `answer` does all that was asked, or memory runs out.
+/// Law: where nothing failed and its folders give releases, `answer` ends with the input, or memory
+/// runs out.
 pub fn answers_complete()
-    ensures { AnswersComplete }
+    ensures { (dirs : List (List ℕ)) → Completes (answer dirs) }
 {
     one_folder();
 }

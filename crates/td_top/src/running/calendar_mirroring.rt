@@ -1,13 +1,12 @@
-ghost use Rattle.std.specs.Prelude.{◌≡◌, ℕ, map, Some};
+ghost use Rattle.std.specs.Prelude.{◌≡◌, ℕ, ℤ, List, map, Some};
 ghost use Rattle.std.specs.List.{AllByRecursion};
 ghost use Rattle.std.specs.Option.{option_map};
 ghost use Rattle.catalogue.specs.Order.{IsRising};
 ghost use Rattle.sync_core.specs.Mirrors.{entry_name};
 ghost use Rattle.td_base.specs.Views.{SourceView, StoreView};
-ghost use Rattle.td_top.specs.Running.CalendarMirroring.{CalendarsComplete};
 ghost use Rattle.td_top.specs.Command.{IsRange, calmirror};
 ghost use Rattle.td_top.specs.Outside.{outside, world};
-ghost use Rattle.td_top.specs.Running.{RunEndsLater};
+ghost use Rattle.td_top.specs.Running.{Completes, RunsAs};
 ghost use Rattle.td_top.specs.Running.CalendarMirroring.{KeepsCalendar, PrintsCalendars};
 ghost use Rattle.td_top.specs.Running.CalendarMirroring.CalendarSteps.{PrintsZone};
 ghost use Rattle.td_top.specs.Running.CalendarMirroring.CalendarSteps.{RefusesCalendars, SyncsOnce};
@@ -45,7 +44,7 @@ pub fn mirror_calendars<N: Network, K: Sink>(
 ) -> Ending<N::Door, N::Up>
     requires { IsRange plan.now.start.seconds plan.now.end.seconds }
     // The store, the input and the spawner, whatever they are, are left alone.
-    ensures { (store : StoreView) (input : SourceView) (spawner : ℕ) → RunEndsLater
+    ensures { (store : StoreView) (input : SourceView) (spawner : ℕ) → RunsAs
         (Some (calmirror plan.now.upstream.now plan.now.start.seconds plan.now.end.seconds))
         (world (outside store input (K.seen output.old)) (N.seen net.old) spawner)
         (world (outside store input (K.seen output.new)) (N.seen net.new) spawner)
@@ -140,9 +139,10 @@ fn refuse_sync<K: Sink>(alloc: Global, fault: &CalendarSyncFault, output: &mut K
     }
 }
 
-/// Law: when `calmirror` does all that was asked, or memory runs out.
+/// Law: where nothing failed and the sync is with a primary whose second list is an empty one of
+/// changes, `calmirror` prints what each calendar tells, or memory runs out.
 pub fn calendars_complete()
-    ensures { CalendarsComplete }
+    ensures { (upstream : List ℕ) (start last : ℤ) → Completes (calmirror upstream start last) }
 {
     syncs_settle();
 }

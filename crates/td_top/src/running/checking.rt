@@ -1,13 +1,13 @@
-ghost use Rattle.std.specs.Prelude.{List, [], IfOk, IfSome};
+ghost use Rattle.std.specs.Prelude.{ℕ, List, [], Some, IfOk, IfSome};
 ghost use Rattle.td_base.specs.Views.{SourceView};
 ghost use Rattle.catalogue.specs.Releases.{ReleaseData};
 ghost use Rattle.installer.specs.Installing.{Installs};
 ghost use Rattle.zone_meaning.specs.ZoneHistories.{HasZoneHistory};
-ghost use Rattle.td_top.specs.Running.Checking.{ChecksComplete};
+ghost use Rattle.td_top.specs.Command.{check};
 ghost use Rattle.td_top.specs.Outside.{outside};
+ghost use Rattle.td_top.specs.Running.{Completes, RunsAlone};
 ghost use Rattle.td_top.specs.Running.Checking.CheckingSteps.{AddsRelease, ChecksNext, HasLine};
 ghost use Rattle.td_top.specs.Running.Checking.CheckingSteps.{Stands, TellsRelease, grown};
-ghost use Rattle.td_top.specs.Tells.{ChecksFolders, EndsLater};
 
 use crate::refusing::refuse_install;
 use crate::status::Status;
@@ -27,7 +27,7 @@ pub fn check_folders<S: Store, K: Sink>(
     output: &mut K,
 ) -> Status
     // The input, whatever it is, is left alone.
-    ensures { (input : SourceView) → EndsLater (ChecksFolders folders.now)
+    ensures { (input : SourceView) → RunsAlone (Some (check folders.now))
         (outside (S.seen store.old) input (K.seen output.old))
         (outside (S.seen store.new) input (K.seen output.new)) result }
 {
@@ -111,9 +111,10 @@ fn ok_line(alloc: Global, catalogue: &Catalogue<Zone>) -> Result<Bytes, NoMemory
     Ok(line)
 }
 
-/// Law: when `check` does all that was asked, or memory runs out.
+/// Law: where nothing failed and its folders give releases, `check` prints a line for each, or
+/// memory runs out.
 pub fn checks_complete()
-    ensures { ChecksComplete }
+    ensures { (dirs : List (List ℕ)) → Completes (check dirs) }
 {
     one_folder();
 }

@@ -1,15 +1,15 @@
-ghost use Rattle.std.specs.Prelude.{◌≡◌, ◌+◌, ◌≤◌, [], length, map, false, All, IfOk, OnOk};
+ghost use Rattle.std.specs.Prelude.{◌≡◌, ℕ, ◌+◌, ◌≤◌, [], length, Some, false, All, IfOk, OnOk};
 ghost use Rattle.publication.specs.Views.{IsNewDesk};
-ghost use Rattle.subscribers.specs.Wishes.{WantsAll};
 ghost use Rattle.td_base.specs.Views.{SourceView, StoreView};
-ghost use Rattle.td_top.specs.Running.Loading.{LoadComplete};
-ghost use Rattle.td_top.specs.Running.Loading.{IsLoadLine, LoadEnds, LoadsAll};
-ghost use Rattle.td_top.specs.Running.Loading.LoadSteps.{JoinsMade};
+ghost use Rattle.td_top.specs.Command.{load};
 ghost use Rattle.td_top.specs.Outside.{outside};
-ghost use Rattle.td_top.specs.Tells.{EndsLater};
+ghost use Rattle.td_top.specs.Running.{Completes, RunsAlone};
+ghost use Rattle.td_top.specs.Running.Loading.{IsLoadLine, LoadsAll};
+ghost use Rattle.td_top.specs.Running.Loading.LoadSteps.{JoinsMade};
 
 pub(crate) mod load_turns;
 
+use crate::kept_tests::KeptTests;
 use crate::printing::print;
 use crate::running::loading::load_turns::serve_release;
 use crate::status::Status;
@@ -20,15 +20,14 @@ use made_load::{LoadCounts, release, summary};
 use publication::Desk;
 use std::alloc::Global;
 use std::sync::Wait;
-use subscribers::Want;
 use td_base::{Bytes, NoMemory, Sink};
 use zone_meaning::Zone;
 
-/// How many releases are made, and a test for each kind of wish.
+/// How many releases are made, and the tests that are kept.
 #[derive(Clone, Copy)]
 pub struct LoadPlan<'w> {
     pub number: u32,
-    pub wants: &'w [Want],
+    pub tests: &'w KeptTests<'w>,
 }
 
 /// Makes so many releases, serves requests after each, and prints what was counted of the replies.
@@ -36,9 +35,8 @@ pub struct LoadPlan<'w> {
 pub fn load<R: Wait, K: Sink>(rt: &R, alloc: Global, plan: &LoadPlan<'_>, output: &mut K) -> Status
     requires some { 1 ≤ plan.now.number }
     requires most { plan.now.number ≤ 1_000 }
-    requires wants { WantsAll (map (λ w. w.kind) plan.now.wants.now) }
     // The store and the input, whatever they are, are left alone.
-    ensures { (store : StoreView) (input : SourceView) → EndsLater (LoadEnds plan.now.number)
+    ensures { (store : StoreView) (input : SourceView) → RunsAlone (Some (load plan.now.number))
         (outside store input (K.seen output.old)) (outside store input (K.seen output.new)) result }
 {
     match load_line(rt, alloc, plan) {
@@ -51,7 +49,6 @@ pub fn load<R: Wait, K: Sink>(rt: &R, alloc: Global, plan: &LoadPlan<'_>, output
 fn load_line<R: Wait>(rt: &R, alloc: Global, plan: &LoadPlan<'_>) -> Result<Bytes, NoMemory>
     requires some { 1 ≤ plan.now.number }
     requires most { plan.now.number ≤ 1_000 }
-    requires wants { WantsAll (map (λ w. w.kind) plan.now.wants.now) }
     ensures { IfOk result (IsLoadLine plan.now.number) }
 {
     let counts = count_load(rt, alloc, plan)?;
@@ -64,7 +61,6 @@ fn load_line<R: Wait>(rt: &R, alloc: Global, plan: &LoadPlan<'_>) -> Result<Byte
 fn count_load<R: Wait>(rt: &R, alloc: Global, plan: &LoadPlan<'_>) -> Result<LoadCounts, NoMemory>
     requires some { 1 ≤ plan.now.number }
     requires most { plan.now.number ≤ 1_000 }
-    requires wants { WantsAll (map (λ w. w.kind) plan.now.wants.now) }
     ensures { IfOk result (LoadsAll plan.now.number) }
 {
     let (manifest, mut store) = release(alloc, plan.number, 1)?;
@@ -84,7 +80,6 @@ fn count_opened<R: Wait>(
 ) -> Result<LoadCounts, NoMemory>
     requires some { 1 ≤ plan.now.number }
     requires most { plan.now.number ≤ 1_000 }
-    requires wants { WantsAll (map (λ w. w.kind) plan.now.wants.now) }
     requires first { JoinsMade [] installer.list }
     requires one { length desks.items ≡ 1 }
     requires each { All (IsNewDesk installer.pair installer.list false) desks.items }
@@ -109,7 +104,6 @@ fn count_releases<R: Wait>(
 ) -> Result<LoadCounts, NoMemory>
     requires some { 1 ≤ plan.now.number }
     requires most { plan.now.number ≤ 1_000 }
-    requires wants { WantsAll (map (λ w. w.kind) plan.now.wants.now) }
     requires first { JoinsMade [] installer.old.list }
     requires paired { desk.old.pair ≡ installer.old.pair }
     requires seen { desk.old.seen ≡ installer.old.list }
@@ -137,7 +131,6 @@ fn publish<R: Wait>(
 ) -> Result<(), NoMemory>
     requires within { made ≤ plan.now.number }
     requires most { plan.now.number ≤ 1_000 }
-    requires wants { WantsAll (map (λ w. w.kind) plan.now.wants.now) }
     requires next { made ≡ length installer.old.list + 1 }
     requires paired { desk.old.pair ≡ installer.old.pair }
     requires seen { desk.old.seen ≡ installer.old.list }
@@ -147,7 +140,7 @@ fn publish<R: Wait>(
     ensures seen { OnOk result (desk.new.seen ≡ installer.new.list) }
 {
     let (manifest, mut store) = release(alloc, plan.number, made)?;
-    let asked = Asked::new(Rules::none(alloc), plan.wants);
+    let asked = Asked::new(Rules::none(alloc), plan.tests.wants);
     match installer.install_manifest(rt, alloc, &manifest, &mut store, &asked) {
         Ok(receipt) => {
             desk.learn(receipt);
@@ -157,7 +150,7 @@ fn publish<R: Wait>(
     }
 }
 
-/// Law: when `load` does all that was asked, or memory runs out.
+/// Law: where nothing failed, `load` prints its line, or memory runs out.
 pub fn load_complete()
-    ensures { LoadComplete }
+    ensures { (n : ℕ) → Completes (load n) }
 {}

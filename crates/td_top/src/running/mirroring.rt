@@ -1,17 +1,17 @@
-ghost use Rattle.std.specs.Prelude.{◌≡◌, ◌≤◌, [], map, Some, IfOk};
+ghost use Rattle.std.specs.Prelude.{◌≡◌, ℕ, ◌≤◌, List, [], map, Some, IfOk};
 ghost use Rattle.std.specs.Option.{option_map};
-ghost use Rattle.subscribers.specs.Wishes.{WantsAll};
 ghost use Rattle.td_base.specs.Names.{IsPlain};
 ghost use Rattle.td_base.specs.Views.{StoreView};
-ghost use Rattle.td_top.specs.Running.Mirroring.{MirrorsComplete};
 ghost use Rattle.td_top.specs.Command.{mirror};
 ghost use Rattle.td_top.specs.FollowingSteps.{follow_of};
 ghost use Rattle.td_top.specs.Running.Mirroring.MirroringSteps.{FollowsOn, ServesStated};
-ghost use Rattle.td_top.specs.Running.{RunEndsLater};
+ghost use Rattle.td_top.specs.Running.{Completes, RunsAs};
 ghost use Rattle.td_top.specs.Site.{site_names, site_of, world_of};
 ghost use Rattle.td_top.specs.Tells.{RefusesSync};
 
+use crate::command::MirrorWords;
 use crate::following::{Follow, open_stated};
+use crate::kept_tests::KeptTests;
 use crate::outcome::{Ending, Served};
 use crate::printing::refuse_shown;
 use crate::refusing::refuse_install;
@@ -27,19 +27,8 @@ use mirror_world::{
 use std::alloc::Global;
 use std::sync::Wait;
 use std::thread::Threads;
-use subscribers::Want;
 use sync_core::Mirror;
 use td_base::{Bytes, Door, Made, Network, NoMemory, Role, Sink, Source, Spawner, Upstream};
-
-/// A server that follows the one at `upstream`: the address of its doors, its workers, and a test
-/// for each kind of wish.
-#[derive(Clone, Copy)]
-pub struct MirrorPlan<'w> {
-    pub address: &'w [u8],
-    pub workers: u32,
-    pub upstream: &'w [u8],
-    pub wants: &'w [Want],
-}
 
 /// Syncs with the server at an address, publishes what the mirror states, and serves the doors of
 /// another address, each by a worker of its own, while an operator talks over the input and the
@@ -47,7 +36,8 @@ pub struct MirrorPlan<'w> {
 pub fn mirror_server<R, C, K, N, W>(
     rt: &R,
     alloc: Global,
-    plan: &MirrorPlan<'_>,
+    words: &MirrorWords<'_>,
+    tests: &KeptTests<'_>,
     site: &mut Site<'_, C, K, N, W>,
 ) -> Ending<N::Door, N::Up>
 where
@@ -58,13 +48,12 @@ where
     N::Door: Send + Drop + 'static,
     <N::Door as Door>::Conn: Send + 'static,
     W: Spawner,
-    requires workers { plan.now.workers ≤ 64 }
-    requires wants { WantsAll (map (λ w. w.kind) plan.now.wants.now) }
-    requires plain { IsPlain plan.now.upstream.now }
+    requires workers { words.now.workers ≤ 64 }
+    requires plain { IsPlain words.now.upstream.now }
     ensures kept { site_names site.new ≡ site_names site.old }
     // The store, whatever it is, is left alone.
-    ensures ends { (store : StoreView) → RunEndsLater
-        (Some (mirror plan.now.address.now plan.now.workers plan.now.upstream.now))
+    ensures ends { (store : StoreView) → RunsAs
+        (Some (mirror words.now.address.now words.now.workers words.now.upstream.now))
         (world_of store C.seen K.seen N.seen W.faults site.old)
         (world_of store C.seen K.seen N.seen W.faults site.new)
         (map N.Door.seen result.doors.items) (option_map N.Up.seen result.up) result.status }
@@ -72,14 +61,14 @@ where
     mirrors_hold_in_turn();
     histories_go_on();
     releases_are_held();
-    match site.net.upstream(alloc, plan.upstream) {
+    match site.net.upstream(alloc, words.upstream) {
         Made::Given(server) => {
             let mut follow = Follow {
                 mirror: Mirror::empty(alloc),
-                host: plan.upstream,
+                host: words.upstream,
                 upstream: server,
             };
-            let served = follow_on(rt, alloc, plan, &mut follow, site);
+            let served = follow_on(rt, alloc, words, tests, &mut follow, site);
             let Follow {
                 mirror: _,
                 host: _,
@@ -96,7 +85,8 @@ where
 fn follow_on<R, U, C, K, N, W>(
     rt: &R,
     alloc: Global,
-    plan: &MirrorPlan<'_>,
+    words: &MirrorWords<'_>,
+    tests: &KeptTests<'_>,
     follow: &mut Follow<'_, U>,
     site: &mut Site<'_, C, K, N, W>,
 ) -> Served<N::Door>
@@ -109,11 +99,10 @@ where
     N::Door: Send + Drop + 'static,
     <N::Door as Door>::Conn: Send + 'static,
     W: Spawner,
-    requires workers { plan.now.workers ≤ 64 }
-    requires wants { WantsAll (map (λ w. w.kind) plan.now.wants.now) }
+    requires workers { words.now.workers ≤ 64 }
     requires plain { IsPlain follow.old.host.now }
     ensures kept { site_names site.new ≡ site_names site.old }
-    ensures ends { FollowsOn follow.old.host.now plan.now.address.now plan.now.workers
+    ensures ends { FollowsOn follow.old.host.now words.now.address.now words.now.workers
         follow.old.mirror
         (U.seen follow.old.upstream)
         (site_of (follow_of U.seen follow.old) C.seen K.seen N.seen W.faults site.old)
@@ -121,7 +110,7 @@ where
         (map N.Door.seen result.doors.items) result.status }
 {
     match sync(alloc, &mut follow.mirror, follow.host, &mut follow.upstream) {
-        Ok(()) => serve_stated(rt, alloc, plan, follow, site),
+        Ok(()) => serve_stated(rt, alloc, words, tests, follow, site),
         Err(fault) => Served::closed(alloc, refuse_sync(alloc, &fault, site.output)),
     }
 }
@@ -130,7 +119,8 @@ where
 fn serve_stated<R, U, C, K, N, W>(
     rt: &R,
     alloc: Global,
-    plan: &MirrorPlan<'_>,
+    words: &MirrorWords<'_>,
+    tests: &KeptTests<'_>,
     follow: &mut Follow<'_, U>,
     site: &mut Site<'_, C, K, N, W>,
 ) -> Served<N::Door>
@@ -143,12 +133,11 @@ where
     N::Door: Send + Drop + 'static,
     <N::Door as Door>::Conn: Send + 'static,
     W: Spawner,
-    requires workers { plan.now.workers ≤ 64 }
-    requires wants { WantsAll (map (λ w. w.kind) plan.now.wants.now) }
+    requires workers { words.now.workers ≤ 64 }
     requires plain { IsPlain follow.old.host.now }
     requires settled { follow.old.mirror.pending ≡ [] }
     ensures kept { site_names site.new ≡ site_names site.old }
-    ensures ends { ServesStated follow.old.host.now plan.now.address.now plan.now.workers
+    ensures ends { ServesStated follow.old.host.now words.now.address.now words.now.workers
         follow.old.mirror
         (site_of (follow_of U.seen follow.old) C.seen K.seen N.seen W.faults site.old)
         (site_of (follow_of U.seen follow.new) C.seen K.seen N.seen W.faults site.new)
@@ -157,14 +146,14 @@ where
     let Ok(role) = secondary(alloc, follow.host) else {
         return Served::closed(alloc, Status::NoMemory);
     };
-    match open_stated(rt, alloc, &follow.mirror, plan.workers) {
+    match open_stated(rt, alloc, &follow.mirror, words.workers) {
         Ok(opened) => {
             let serving = Serving {
                 role: &role,
-                address: plan.address,
-                workers: plan.workers,
+                address: words.address,
+                workers: words.workers,
             };
-            let asked = Asked::new(Rules::none(alloc), plan.wants);
+            let asked = Asked::new(Rules::none(alloc), tests.wants);
             serve_opened(rt, &serving, opened, &asked, follow, site)
         }
         Err(fault) => Served::closed(alloc, refuse_install(alloc, &fault, site.output)),
@@ -188,9 +177,11 @@ fn refuse_sync<K: Sink>(alloc: Global, fault: &SyncFault, output: &mut K) -> Sta
     }
 }
 
-/// Law: when `mirror` does all that was asked, or memory runs out.
+/// Law: where nothing failed and the first sync is with a primary whose second list is an empty one
+/// of changes, `mirror` ends as a server does, or memory runs out.
 pub fn mirrors_complete()
-    ensures { MirrorsComplete }
+    ensures { (address : List ℕ) (workers : ℕ) (upstream : List ℕ)
+        → Completes (mirror address workers upstream) }
 {
     settled_mirrors_pass();
     syncs_settle();

@@ -1,22 +1,22 @@
-ghost use Rattle.std.specs.Prelude.{◌≡◌, ◌<◌, ◌≤◌, [], length, map, All, IfOk, OnOk, Some};
+ghost use Rattle.std.specs.Prelude.{◌≡◌, ℕ, ◌<◌, ◌≤◌, List, [], length, map, All, IfOk, OnOk, Some};
 ghost use Rattle.std.specs.Prelude.{false};
 ghost use Rattle.std.specs.Option.{option_map};
 ghost use mathlib.Core.List.{IsPrefix};
 ghost use Rattle.catalogue.specs.Holdings.{history_of};
 ghost use Rattle.json_forms.specs.PlainTexts.{IsPlainRole};
-ghost use Rattle.admission.specs.Rules.{KeepsAll};
-ghost use Rattle.subscribers.specs.Wishes.{WantsAll};
-ghost use Rattle.td_top.specs.Running.Server.{ServesComplete};
+ghost use Rattle.admission.specs.declared.rules.Chosen.{Chosen};
 ghost use Rattle.td_top.specs.Command.{serve};
 ghost use Rattle.td_top.specs.Opening.{HasDesks};
 ghost use Rattle.td_top.specs.Site.{console, site_names, site_of, world_of};
-ghost use Rattle.td_top.specs.Running.{RunEndsLater};
+ghost use Rattle.td_top.specs.Running.{Completes, RunsAs};
 ghost use Rattle.td_top.specs.Running.Server.ServerSteps.{Concludes, ServesBeside, ServesOpened};
 ghost use Rattle.td_top.specs.Works.{HasWorks, Learnt};
 
+use crate::command::ServeWords;
 use crate::console_beside::{Console, TalkOver};
 use crate::growth::Growth;
-use crate::opening::{Opened, Plan, open_all};
+use crate::kept_tests::KeptTests;
+use crate::opening::{Opened, open_all};
 use crate::outcome::{Ending, Served};
 use crate::refusing::refuse_install;
 use crate::session::Session;
@@ -49,8 +49,8 @@ pub struct Serving<'d> {
 pub fn serve_doors<R, S, C, K, N, W>(
     rt: &R,
     alloc: Global,
-    serving: &Serving<'_>,
-    plan: &Plan<'_>,
+    words: &ServeWords<'_>,
+    tests: &KeptTests<'_>,
     store: &mut S,
     site: &mut Site<'_, C, K, N, W>,
 ) -> Ending<N::Door, N::Up>
@@ -63,25 +63,26 @@ where
     N::Door: Send + Drop + 'static,
     <N::Door as Door>::Conn: Send + 'static,
     W: Spawner,
-    requires role { serving.now.role.now ≡ Role.Primary }
-    requires folders { 0 < length plan.now.folders.now }
-    requires workers { serving.now.workers ≤ 64 }
-    requires rules { KeepsAll (map (λ k. k.kind) plan.now.kept.now) }
-    requires wants { WantsAll (map (λ w. w.kind) plan.now.wants.now) }
+    requires folders { 0 < length words.now.folders.now }
+    requires workers { words.now.workers ≤ 64 }
     ensures kept { site_names site.new ≡ site_names site.old }
-    ensures ends { RunEndsLater
-        (Some (serve serving.now.address.now serving.now.workers
-        plan.now.rules.now plan.now.folders.now))
+    ensures ends { RunsAs
+        (Some (serve words.now.address.now words.now.workers words.now.rules words.now.folders.now))
         (world_of (S.seen store.old) C.seen K.seen N.seen W.faults site.old)
         (world_of (S.seen store.new) C.seen K.seen N.seen W.faults site.new)
         (map N.Door.seen result.doors.items) (option_map N.Up.seen result.up) result.status }
 {
-    let Ok(rules) = plan.rules.rules(alloc, plan.kept) else {
+    let Ok(rules) = words.rules.rules(alloc, tests.kept) else {
         return Ending::closed(alloc, Status::NoMemory);
     };
-    let asked = Asked::new(rules, plan.wants);
-    match open_all(rt, alloc, plan.folders, &asked, store, serving.workers) {
-        Ok(opened) => serve_opened(rt, serving, opened, &asked, store, site).after(None),
+    let asked = Asked::new(rules, tests.wants);
+    let serving = Serving {
+        role: &Role::Primary,
+        address: words.address,
+        workers: words.workers,
+    };
+    match open_all(rt, alloc, words.folders, &asked, store, words.workers) {
+        Ok(opened) => serve_opened(rt, &serving, opened, &asked, store, site).after(None),
         Err(fault) => Ending::closed(alloc, refuse_install(alloc, &fault, site.output)),
     }
 }
@@ -246,9 +247,11 @@ fn give_up<R: Wait, D>(rt: &R, session: Session, status: Status) -> Served<D>
     Served::closed(alloc, status)
 }
 
-/// Law: when `serve` does all that was asked, or memory runs out.
+/// Law: where nothing failed, its folders give releases and no rule refuses one, `serve` ends by the
+/// word of the operator or with the input, or memory runs out.
 pub fn serves_complete()
-    ensures { ServesComplete }
+    ensures { (address : List ℕ) (workers : ℕ) (rules : List Chosen) (dirs : List (List ℕ))
+        → Completes (serve address workers rules dirs) }
 {
     one_folder();
 }

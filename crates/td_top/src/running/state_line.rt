@@ -1,13 +1,14 @@
-ghost use Rattle.std.specs.Prelude.{◌≡◌, ◌≢◌, ◌++◌, None, Some, codes, if◌then◌else◌, IfOk, IfErr};
+ghost use Rattle.std.specs.Prelude.{◌≡◌, ◌≢◌, ℕ, ℤ, List, ◌++◌, None, Some, codes, if◌then◌else◌};
+ghost use Rattle.std.specs.Prelude.{IfOk, IfErr};
 ghost use Rattle.td_base.specs.Views.{SourceView};
 ghost use Rattle.td_civil.specs.Bounds.{HasMeaning};
 ghost use Rattle.zone_meaning.specs.Faults.{zone_fault};
 ghost use Rattle.zone_meaning.specs.State.{zone_state};
-ghost use Rattle.td_top.specs.Running.StateLine.{StateComplete};
-ghost use Rattle.td_top.specs.Running.StateLine.{state_line};
+ghost use Rattle.td_top.specs.Command.{at};
 ghost use Rattle.td_top.specs.Outside.{outside};
-ghost use Rattle.td_top.specs.Running.StateLine.{ShowsState};
-ghost use Rattle.td_top.specs.Tells.{EndsLater, TellsRefused, Shows};
+ghost use Rattle.td_top.specs.Running.{Completes, RunsAlone};
+ghost use Rattle.td_top.specs.Running.StateLine.{state_line};
+ghost use Rattle.td_top.specs.Tells.{TellsRefused, Shows};
 
 use crate::printing::{print, refuse, refuse_shown};
 use crate::status::Status;
@@ -31,7 +32,7 @@ pub fn state_at<S: Store, K: Sink>(
 ) -> Status
     requires { HasMeaning moment.seconds }
     // The input, whatever it is, is left alone.
-    ensures { (input : SourceView) → EndsLater (ShowsState file.now moment.seconds)
+    ensures { (input : SourceView) → RunsAlone (Some (at file.now moment.seconds))
         (outside (S.seen store.old) input (K.seen output.old))
         (outside (S.seen store.new) input (K.seen output.new)) result }
 {
@@ -108,7 +109,8 @@ fn absent_text(alloc: Global, file: &[u8]) -> Result<Bytes, NoMemory>
     Ok(text)
 }
 
-/// Law: when `at` does all that was asked, or memory runs out.
+/// Law: where nothing failed and the file is that of a zone, `at` prints the state, or memory runs
+/// out.
 pub fn state_complete()
-    ensures { StateComplete }
+    ensures { (path : List ℕ) (m : ℤ) → Completes (at path m) }
 {}

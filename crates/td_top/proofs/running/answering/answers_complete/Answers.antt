@@ -1,12 +1,15 @@
-use Rattle.std.proofs.Common.{List, []}
+use Rattle.std.proofs.Common.{ℕ, List, [], Option}
+use Rattle.td_base.specs.DoorViews.{DoorView}
+use Rattle.td_base.specs.Upstreams.{UpstreamView}
 use Rattle.td_base.specs.Views.{Rose}
 use Rattle.catalogue.specs.Releases.{ReleaseData}
 use Rattle.td_base.specs.declared.report.End.{End}
 use Rattle.td_base.specs.declared.report.End.TheVariants as ended
-use Rattle.td_top.specs.Completing.{IsComplete}
-use Rattle.td_top.specs.Outside.{Outside}
-use Rattle.td_top.specs.Running.Answering.{ServesStreams, end_status, AnswersComplete}
+use Rattle.td_top.specs.Completing.{FoldersAreGiven, IsComplete, NoneRose}
+use Rattle.td_top.specs.Outside.{Outside, World}
+use Rattle.td_top.specs.Running.Answering.{Answers, ServesStreams, end_status}
 use Rattle.td_top.specs.Running.Answering as answering
+use Rattle.td_top.specs.declared.status.Status.{Status}
 use Rattle.td_top.proofs.Completing.{done, memory}
 use Rattle.td_top.proofs.GivenFolders.{OneFolder, nothing_complete}
 use Rattle.td_top.proofs.running.answering.answers_complete.Goals as goal
@@ -18,11 +21,12 @@ streams_complete H before after ended.ReadFault k read wrote = absurd (read ((k.
 streams_complete H before after ended.WriteFault k read wrote = absurd (wrote ((k.served).ends).cause.once.least)
 streams_complete H before after ended.NoMemory k read wrote = memory
 
-ends_complete : OneFolder → AnswersComplete
-ends_complete one dirs before after is (answering.served H end give serves) none k =
-    streams_complete H before.outside after.outside end serves none.input none.output
-ends_complete one dirs before after is (answering.nothing end ends) none k =
-    nothing_complete one [] dirs before.outside after.outside is ends k none.store
+module _ (one : OneFolder) (dirs : List (List ℕ)) (before after : World) (doors : List DoorView) (up : Option UpstreamView)
+    (none : NoneRose before after doors up) (k : FoldersAreGiven before.outside.store [] dirs) where
+  ends_complete : (is : Status) → Answers dirs before.outside after.outside is → IsComplete is
+  ends_complete is (answering.served H end give serves) =
+      streams_complete H before.outside after.outside end serves none.input none.output
+  ends_complete is (answering.nothing end ends) = nothing_complete one [] dirs before.outside after.outside is ends k none.store
 
 pub returns : goal.returns
-returns c = ends_complete c.one_folder.ensures.one
+returns c = λ dirs before after doors up is h none k. ends_complete c.one_folder.ensures.one dirs before after doors up none k is h.0

@@ -1,5 +1,6 @@
-use Rattle.std.proofs.Common.{◌≡◌, ◌≢◌, ℕ, List, ◌++◌, Some, Result, Err, refl}
+use Rattle.std.proofs.Common.{◌≡◌, ◌≢◌, ℕ, List, ◌++◌, Option, Some, Result, Err, refl}
 use Rattle.std.specs.Prelude.{ℤ}
+use Rattle.td_base.specs.DoorViews.{DoorView}
 use Rattle.td_base.specs.Upstreams.{IsNewUpstream, UpstreamView}
 use Rattle.td_base.specs.Views.{Rose, SinkView}
 use Rattle.td_base.specs.declared.upstream.Exchange.{Exchange}
@@ -11,8 +12,9 @@ use Rattle.calendar_mirror.specs.declared.sync_fault.CalendarSyncFault.TheVarian
 use Rattle.sync_core.specs.Mirrors.{MirrorState, empty_mirror}
 use Rattle.mirror_world.specs.Settling.{SettlesSecond}
 use Rattle.calendar_world.specs.Endings.{IsCalendarAnsweredOver, IsSettled as IsCalendarSettled}
-use Rattle.td_top.specs.Completing.{IsComplete, TellsFirst}
-use Rattle.td_top.specs.Running.CalendarMirroring.{PrintsCalendars, SyncsCalendars, CalendarsComplete}
+use Rattle.td_top.specs.Completing.{IsComplete, NoneRose, PrimarySettles, TellsFirst}
+use Rattle.td_top.specs.Outside.{World}
+use Rattle.td_top.specs.Running.CalendarMirroring.{MirrorsCalendars, PrintsCalendars, SyncsCalendars}
 use Rattle.td_top.specs.Running.CalendarMirroring as calendars
 use Rattle.td_top.specs.declared.status.Status.{Status}
 use Rattle.td_top.proofs.Completing.{done, memory, parts_told, never_failed}
@@ -47,14 +49,16 @@ printed_complete s start end old new is (calendars.all lines rising tell writes)
 printed_complete s start end old new is (calendars.cut zones rest lines are tell writes) none = absurd (none (writes.failed refl))
 printed_complete s start end old new is (calendars.part zones rest lines are tell writes) none = memory
 
-ends_complete : CalendarsSettle → CalendarsComplete
-ends_complete settle upstream start end before after up is (calendars.printed first last s how reaches syncs prints input primary) none k =
+ends_complete : CalendarsSettle → (upstream : List ℕ) (start end : ℤ) (before after : World) (doors : List DoorView) (up : Option UpstreamView) (is : Status)
+    → MirrorsCalendars upstream start end before after up is → NoneRose before after doors up → PrimarySettles IsCalendarAnsweredOver up → IsComplete is
+ends_complete settle upstream start end before after doors up is (calendars.printed first last s how reaches syncs prints input primary) none k =
     printed_complete s start end before.outside.output after.outside.output is prints none.output
-ends_complete settle upstream start end before after up is (calendars.not_synced first last s e how reaches syncs some ends) none k =
+ends_complete settle upstream start end before after doors up is (calendars.not_synced first last s e how reaches syncs some ends) none k =
     absurd (never_told settle upstream first last k.exchanges k.first k.settles reaches.new none.followed s e syncs some)
-ends_complete settle upstream start end before after up is (calendars.unreached left called rose) none k = absurd (none.network rose)
-ends_complete settle upstream start end before after up is (calendars.unreached_starved left called) none k = memory
-ends_complete settle upstream start end before after up is (calendars.starved first last reaches left) none k = memory
+ends_complete settle upstream start end before after doors up is (calendars.unreached left called rose) none k = absurd (none.network rose)
+ends_complete settle upstream start end before after doors up is (calendars.unreached_starved left called) none k = memory
+ends_complete settle upstream start end before after doors up is (calendars.starved first last reaches left) none k = memory
 
 pub returns : goal.returns
-returns c = ends_complete c.syncs_settle.ensures
+returns c = λ upstream start last before after doors up is h none k.
+    ends_complete c.syncs_settle.ensures upstream start last before after doors up is h.0 none k

@@ -1,6 +1,17 @@
+use Rattle.std.proofs.Common.{ℕ, List, Some}
 use Rattle.std.proofs.lemmas.List.{take_all}
-use Rattle.td_top.proofs.Checked.{checked_more, checked_none, ends_checked, ends_stopped}
+use Rattle.td_top.specs.Command.{check}
+use Rattle.td_top.specs.Outside.{Outside}
+use Rattle.td_top.specs.Running.{RunsAlone}
+use Rattle.td_top.specs.declared.status.Status.{Status}
+use Rattle.td_top.proofs.Checked.{ChecksFolders, checked_more, checked_none, ends_checked, ends_stopped}
+use Rattle.td_top.proofs.Endings.{EndsLater}
+use Rattle.td_top.proofs.RunLemmas.{runs_alone}
 use Rattle.td_top.proofs.running.checking.check_folders.Goals as goal
+
+checked : (dirs : List (List ℕ)) (before after : Outside) (end : Status) → EndsLater (ChecksFolders dirs) before after end
+    → RunsAlone (Some (check dirs)) before after end
+checked dirs before after end = runs_alone (ChecksFolders dirs) (Some (check dirs)) before after end (λ n r ends nobody. (ends.0, ends.1, nobody))
 
 pub loop-folder-init : goal.loop-folder-init
 loop-folder-init g c = checked_none _ _
@@ -8,8 +19,9 @@ loop-folder-init g c = checked_none _ _
 pub returns-in-Err : goal.returns-in-Err
 returns-in-Err g c = λ input.
     let so = c.loop-folder.invariant in
-    ends_stopped c.args.folders.now c.loop-folder.folder-index c.folder-item.result c.loop-folder.last _ _ _ input _ _ _ c.in-Err.status
-    c.loop-folder-test.true c.folder-item.is so (rw c.as_slice.ensures at (c.in-Err.ensures so.history so.stands))
+    checked c.args.folders.now _ _ _
+    (ends_stopped c.args.folders.now c.loop-folder.folder-index c.folder-item.result c.loop-folder.last _ _ _ input _ _ _ c.in-Err.status
+    c.loop-folder-test.true c.folder-item.is so (rw c.as_slice.ensures at (c.in-Err.ensures so.history so.stands)))
 
 pub loop-folder-preserved : goal.loop-folder-preserved
 loop-folder-preserved g c =
@@ -19,4 +31,5 @@ loop-folder-preserved g c =
 
 pub returns : goal.returns
 returns g c = λ input.
-    ends_checked c.args.folders.now _ c.loop-folder.last _ _ input _ _ (take_all _ c.args.folders.now c.loop-folder-test.false) c.loop-folder.invariant
+    checked c.args.folders.now _ _ _
+    (ends_checked c.args.folders.now _ c.loop-folder.last _ _ input _ _ (take_all _ c.args.folders.now c.loop-folder-test.false) c.loop-folder.invariant)

@@ -1,17 +1,23 @@
-use Rattle.std.proofs.Common.{[], refl}
-use Rattle.td_top.specs.Running.Checking.{ChecksComplete}
+use Rattle.std.proofs.Common.{ℕ, List, [], Option, refl}
+use Rattle.td_base.specs.DoorViews.{DoorView}
+use Rattle.td_base.specs.Upstreams.{UpstreamView}
+use Rattle.td_top.specs.Completing.{FoldersAreGiven, IsComplete, NoneRose}
+use Rattle.td_top.specs.Outside.{World}
+use Rattle.td_top.specs.Running.Checking.{Checks}
 use Rattle.td_top.specs.Running.Checking as checking
+use Rattle.td_top.specs.declared.status.Status.{Status}
 use Rattle.td_top.proofs.Completing.{done, memory}
 use Rattle.td_top.proofs.GivenFolders.{OneFolder, never_stopped}
 use Rattle.td_top.proofs.running.checking.checks_complete.Goals as goal
 
-ends_complete : OneFolder → ChecksComplete
-ends_complete one dirs before after is (checking.all H give writes) none k = done
-ends_complete one dirs before after is (checking.refused H f middle stops writes prints) none k =
-    absurd (never_stopped one before.outside.store [] dirs H f k stops)
-ends_complete one dirs before after is (checking.cut H begin writes) none k = absurd (none.output (writes.failed refl))
-ends_complete one dirs before after is (checking.unread H begin writes failed) none k = absurd (none.store failed)
-ends_complete one dirs before after is (checking.out_of_memory H begin writes) none k = memory
+module _ (one : OneFolder) (dirs : List (List ℕ)) (before after : World) (doors : List DoorView) (up : Option UpstreamView)
+    (none : NoneRose before after doors up) (k : FoldersAreGiven before.outside.store [] dirs) where
+  ends_complete : (is : Status) → Checks dirs before.outside.store after.outside.store before.outside.output after.outside.output is → IsComplete is
+  ends_complete is (checking.all H give writes) = done
+  ends_complete is (checking.refused H f middle stops writes prints) = absurd (never_stopped one before.outside.store [] dirs H f k stops)
+  ends_complete is (checking.cut H begin writes) = absurd (none.output (writes.failed refl))
+  ends_complete is (checking.unread H begin writes failed) = absurd (none.store failed)
+  ends_complete is (checking.out_of_memory H begin writes) = memory
 
 pub returns : goal.returns
-returns c = ends_complete c.one_folder.ensures.one
+returns c = λ dirs before after doors up is h none k. ends_complete c.one_folder.ensures.one dirs before after doors up none k is h.0

@@ -1,4 +1,5 @@
-use Rattle.std.proofs.Common.{◌≡◌, ◌≢◌, ℕ, List, [], ◌∷◌, ◌++◌, Some, Result, Ok, Err, refl, subst}
+use Rattle.std.proofs.Common.{◌≡◌, ◌≢◌, ℕ, List, [], ◌∷◌, ◌++◌, Option, Some, Result, Ok, Err, refl, subst}
+use Rattle.td_base.specs.DoorViews.{DoorView}
 use Rattle.td_base.specs.Upstreams.{IsNewUpstream, UpstreamView}
 use Rattle.td_base.specs.Views.{File, Rose}
 use Rattle.td_base.specs.declared.upstream.Exchange.{Exchange}
@@ -18,10 +19,12 @@ use Rattle.release_check.specs.declared.check_fault.CheckFault.{CheckFault}
 use Rattle.mirror_world.specs.Answers.{IsAnsweredOver}
 use Rattle.mirror_world.specs.Settling.{IsSettled, SecondListIsEmpty, SettlesSecond}
 use Rattle.installer.specs.Installing.{refusal}
-use Rattle.td_top.specs.Completing.{TellsFirst}
+use Rattle.td_top.specs.Completing.{IsComplete, NoneRose, PrimarySettles, TellsFirst}
 use Rattle.td_top.specs.Following.{StatesAfter, SyncsAs}
-use Rattle.td_top.specs.Running.Mirroring.{MirrorsComplete}
+use Rattle.td_top.specs.Outside.{World}
+use Rattle.td_top.specs.Running.Mirroring.{Mirrors}
 use Rattle.td_top.specs.Running.Mirroring as mirroring
+use Rattle.td_top.specs.declared.status.Status.{Status}
 use Rattle.td_top.proofs.Completing.{memory, parts_told, never_failed, opened_complete}
 use Rattle.td_top.proofs.running.mirroring.mirrors_complete.Goals as goal
 
@@ -62,7 +65,9 @@ module _ (settle : SyncsSettle) (pass : StatedPass) (upstream : List ℕ) (first
       by (sync.Refused n number) g some is = is
       by (sync.NotSettled n) g some is = is
 
-ends_complete : SyncsSettle → StatedPass → MirrorsComplete
+ends_complete : SyncsSettle → StatedPass → (address : List ℕ) (workers : ℕ) (upstream : List ℕ) (before after : World) (doors : List DoorView)
+    (up : Option UpstreamView) (is : Status) → Mirrors address workers upstream before after doors up is → NoneRose before after doors up
+    → PrimarySettles IsAnsweredOver up → IsComplete is
 ends_complete settle pass address workers upstream before after doors up is
     (mirroring.opened reached first ready last s t r history ds end reaches syncs states ends follows) none k =
     opened_complete _ address workers (r ∷ []) _ _ history doors is ends none.input none.output
@@ -76,4 +81,5 @@ ends_complete settle pass address workers upstream before after doors up is (mir
 ends_complete settle pass address workers upstream before after doors up is (mirroring.out_of_memory u) none k = memory
 
 pub returns : goal.returns
-returns c = ends_complete c.syncs_settle.ensures.ends c.settled_mirrors_pass.ensures
+returns c = λ address workers upstream before after doors up is h none k.
+    ends_complete c.syncs_settle.ensures.ends c.settled_mirrors_pass.ensures address workers upstream before after doors up is h.0 none k

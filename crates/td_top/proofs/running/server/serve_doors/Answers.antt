@@ -1,37 +1,42 @@
-use Rattle.std.proofs.Common.{Some, refl}
+use Rattle.std.proofs.Common.{ℕ, List, Some, refl}
+use Rattle.admission.specs.declared.rules.Chosen.{Chosen}
 use Rattle.installer.specs.declared.install_fault.InstallFault.TheVariants as install
 use Rattle.td_top.specs.Command.{serve}
 use Rattle.td_top.specs.Folders.{ServesNothing}
-use Rattle.td_top.specs.Running.{served}
+use Rattle.td_top.specs.Outside.{Outside}
+use Rattle.td_top.specs.Running.{RunsAlone}
 use Rattle.td_top.specs.Running.Server.{nothing}
-use Rattle.td_top.proofs.Endings.{ends_nothing}
+use Rattle.td_top.specs.declared.status.Status.{Status}
+use Rattle.td_top.proofs.Endings.{EndsLater, ends_nothing}
 use Rattle.td_top.proofs.Installing.{all_starved}
-use Rattle.td_top.proofs.RunLemmas.{ran_alone, ran_doors, served_as}
+use Rattle.td_top.proofs.RunLemmas.{ran_doors, runs_alone, runs_as}
 use Rattle.td_top.proofs.running.server.serve_doors.Goals as goal
+
+not_served : (address : List ℕ) (workers : ℕ) (rules : List Chosen) (dirs : List (List ℕ)) (before after : Outside) (end : Status)
+    → EndsLater (ServesNothing rules dirs) before after end → RunsAlone (Some (serve address workers rules dirs)) before after end
+not_served address workers rules dirs before after end =
+    runs_alone (ServesNothing rules dirs) (Some (serve address workers rules dirs)) before after end
+    (λ n r ends nobody. (nothing _ ends nobody.network nobody.spawner, nobody.no_server))
 
 pub returns-in-Ok-open_all-clause-ends : goal.returns-in-Ok-open_all-clause-ends
 returns-in-Ok-open_all-clause-ends g c =
-    let plan = c.args.plan.now in
-    rw (c.after.ensures.doors, c.after.ensures.status, c.after.ensures.up)
-    (ran_doors c.args.serving.now.address.now c.args.serving.now.workers plan.rules.now _ plan.folders.now _ _ _ _ _ _ _ _ _ _ _ _ _ _ _ refl
+    let words = c.args.words.now in
+    runs_as _ _ _ _ _ _ (rw (c.after.ensures.doors, c.after.ensures.status, c.after.ensures.up)
+    (ran_doors words.address.now words.workers words.rules _ words.folders.now _ _ _ _ _ _ _ _ _ _ _ _ _ _ _ refl
     (rw (c.new-asked.ensures, c.in-Ok.ensures) at c.in-Ok-open_all.ensures.all)
-    (served_as _ _ _ _ _ _ _ _ _ c.requires.role (rw (c.new-asked.ensures, c.in-Ok.ensures) at c.serve_opened.ensures.ends)))
+    (rw (c.new-asked.ensures, c.in-Ok.ensures) at c.serve_opened.ensures.ends)))
 
 pub returns-clause-ends : goal.returns-clause-ends
-returns-clause-ends g c =
-    let plan = c.args.plan.now in
-    ran_alone g.N.Door.Door.seen g.N.Up.Upstream.seen (ServesNothing plan.rules.now plan.folders.now)
-    (Some (serve c.args.serving.now.address.now c.args.serving.now.workers plan.rules.now plan.folders.now)) _ _ _ _ _ _ _ _
-    c.closed-in-Err.ensures.status c.closed-in-Err.ensures.doors c.closed-in-Err.ensures.up
-    (ends_nothing plan.rules.now plan.folders.now c.in-Err.fault _ _ _ _ _ _ (rw (c.new-asked.ensures, c.in-Ok.ensures) at c.in-Err.ensures.all)
-    c.refuse_install.ensures)
-    (λ none alone. served c.args.serving.now.address.now c.args.serving.now.workers plan.rules.now plan.folders.now _ _ refl (nothing _ none alone))
+returns-clause-ends g c = λ asked same.
+    let words = c.args.words.now in
+    c.closed-in-Err.ensures.ends asked _ _ g.N.Door.Door.seen g.N.Up.Upstream.seen
+    (not_served words.address.now words.workers words.rules words.folders.now _ _ _
+    (ends_nothing words.rules words.folders.now c.in-Err.fault _ _ _ _ _ _ (rw (c.new-asked.ensures, c.in-Ok.ensures) at c.in-Err.ensures.all)
+    c.refuse_install.ensures) _ _ asked same)
 
 pub returns-in_default-clause-ends : goal.returns-in_default-clause-ends
-returns-in_default-clause-ends g c =
-    let plan = c.args.plan.now in
-    ran_alone g.N.Door.Door.seen g.N.Up.Upstream.seen (ServesNothing plan.rules.now plan.folders.now)
-    (Some (serve c.args.serving.now.address.now c.args.serving.now.workers plan.rules.now plan.folders.now)) _ _ _ _ _ _ _ _
-    c.closed.ensures.status c.closed.ensures.doors c.closed.ensures.up
-    (ends_nothing plan.rules.now plan.folders.now install.NoMemory _ _ _ _ _ _ (all_starved _ _ _) (refl, refl))
-    (λ none alone. served c.args.serving.now.address.now c.args.serving.now.workers plan.rules.now plan.folders.now _ _ refl (nothing _ none alone))
+returns-in_default-clause-ends g c = λ asked same.
+    let words = c.args.words.now in
+    c.closed.ensures.ends asked _ _ g.N.Door.Door.seen g.N.Up.Upstream.seen
+    (not_served words.address.now words.workers words.rules words.folders.now _ _ _
+    (ends_nothing words.rules words.folders.now install.NoMemory _ _ _ _ _ _ (all_starved _ _ _) (refl, refl)) _ _ asked same)
