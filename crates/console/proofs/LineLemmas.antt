@@ -1,22 +1,20 @@
 -- The lines of a list, by what has come of the first.
-use Rattle.std.proofs.Common.{cond, codes, subst, ◌≡◌, ◌<◌, ◌≤◌, ℕ, ◌⊎◌, inl, inr, Bool, true, false, not, ◌&&◌, ◌||◌, List, [], ◌∷◌, ◌++◌, length, take, drop}
+use Rattle.std.proofs.Common.{cond, ◌≡◌, ◌<◌, ◌≤◌, ℕ, ◌⊎◌, inl, inr, Bool, true, false, not, ◌&&◌, ◌||◌, List, [], ◌∷◌, ◌++◌, length, take, drop}
 use Rattle.std.proofs.Common.{map, nat_le, Option, None, Some, refl, sym, ap, ◌∙◌, arith, append_assoc, length-append, take-append-drop}
-use Rattle.std.specs.Str.{bytes_eq}
 use Rattle.std.specs.List.{before_first, after_first, list_all, flat_map}
 use Rattle.std.specs.Option.{option_map_or}
-use Rattle.std.proofs.lemmas.Bool.{cases_Bool, true≢false}
+use Rattle.std.proofs.lemmas.Bool.{cases_Bool}
 use Rattle.std.proofs.lemmas.Bool.Decides.{nat_tests}
 use Rattle.std.proofs.lemmas.List.{append-nil, length-take, take_all}
 use Rattle.std.proofs.lemmas.List.Folds.{list_any-append}
 use Rattle.console.proofs.PlaceLemmas.{before_here, after_here, before_later, after_later}
 use Rattle.console.specs.declared.line.Line.{Line}
 use Rattle.console.specs.declared.line.Line.TheVariants as line
-use Rattle.console.specs.declared.reading.TheConstants.{MOST_BYTES}
+use Rattle.console.specs.declared.line.TheConstants.{MOST_BYTES}
 use Rattle.console.specs.Steps.{most_held}
 use Rattle.td_base.specs.Names.{is_path_word}
 use Rattle.subscribers.specs.declared.wish.Wish.{Wish}
-use Rattle.console.specs.Words.{number_in}
-use Rattle.console.specs.Lines.{without_return, install_of, watch_of, wish_in, news_of, most_number, words_of, asked_in, is_feed, has_feed}
+use Rattle.console.specs.Lines.{without_return, install_of, words_of, asked_in, is_feed, has_feed}
 use Rattle.console.specs.Lines.{is_whole_text, ended_lines, line_of, lines_from, lines_of}
 
 pub lines_none : (begun : List ℕ) → lines_from begun [] ≡ []
@@ -139,73 +137,42 @@ written (text ∷ texts) e =
     let parts : (is_whole_text text ≡ true) × (list_all is_whole_text texts ≡ true) = both (is_whole_text text) (list_all is_whole_text texts) e in
     whole_line text (flat_map ended_lines texts) (not_true (has_feed text) parts.0) ∙ ap (λ l. line_of text ∷ l) (written texts parts.1)
 
--- the folder of a line, or another list
-abbrev folder_or : List ℕ → Line → List ℕ
-folder_or other (line.Install folder) = folder
-folder_or other (line.Watch wish) = other
-folder_or other (line.News number) = other
-folder_or other line.Sync = other
-folder_or other line.Status = other
-folder_or other line.Quit = other
-folder_or other line.Strange = other
+-- a folder that a line asks to install has a path
+abbrev names_path : Line → Bool
+names_path (line.Install folder) = is_path_word folder
+names_path asked = true
 
-abbrev is_install : Line → Bool
-is_install (line.Install folder) = true
-is_install (line.Watch wish) = false
-is_install (line.News number) = false
-is_install line.Sync = false
-is_install line.Status = false
-is_install line.Quit = false
-is_install line.Strange = false
+either : (test : Bool) (a b : Line) → names_path a ≡ true → names_path b ≡ true → names_path (cond test a b) ≡ true
+either true a b h k = h
+either false a b h k = k
 
-no_install : {P : Type 0} (l : Line) (text : List ℕ) → is_install l ≡ false → l ≡ line.Install text → P
-no_install l text other e = absurd (true≢false (sym (ap is_install e) ∙ other))
+install_by : (test : Bool) (folder : List ℕ) → is_path_word folder ≡ test → names_path (cond test (line.Install folder) line.Strange) ≡ true
+install_by true folder is = is
+install_by false folder is = refl
 
-install_by : (folder : Bool) (text rest : List ℕ) → is_path_word rest ≡ folder
-    → cond folder (line.Install rest) line.Strange ≡ line.Install text → is_path_word text ≡ true
-install_by true text rest f e = subst (λ l. is_path_word l ≡ true) (ap (folder_or []) e) f
-install_by false text rest f e = no_install line.Strange text refl e
+pub is_install : (folder : List ℕ) → names_path (install_of folder) ≡ true
+is_install folder = install_by (is_path_word folder) folder refl
 
-no_watch : (wish : Option Wish) (text : List ℕ) → option_map_or line.Watch wish line.Strange ≡ line.Install text → is_path_word text ≡ true
-no_watch None text e = no_install line.Strange text refl e
-no_watch (Some wish) text e = no_install (line.Watch wish) text refl e
+pub is_watch : (wish : Option Wish) → names_path (option_map_or line.Watch wish line.Strange) ≡ true
+is_watch None = refl
+is_watch (Some wish) = refl
 
-no_news : (number : Option ℕ) (text : List ℕ) → option_map_or line.News number line.Strange ≡ line.Install text → is_path_word text ≡ true
-no_news None text e = no_install line.Strange text refl e
-no_news (Some number) text e = no_install (line.News number) text refl e
+pub is_news : (number : Option ℕ) → names_path (option_map_or line.News number line.Strange) ≡ true
+is_news None = refl
+is_news (Some number) = refl
 
-asks_by : (install watch news : Bool) (text words : List ℕ)
-    → cond install (install_of (drop 8 words)) (cond watch (watch_of (drop 6 words)) (cond news (news_of (drop 5 words)) line.Strange)) ≡ line.Install text
-    → is_path_word text ≡ true
-asks_by true watch news text words e = install_by (is_path_word (drop 8 words)) text (drop 8 words) refl e
-asks_by false true news text words e = no_watch (wish_in (drop 6 words)) text e
-asks_by false false true text words e = no_news (number_in 0 most_number (drop 5 words)) text e
-asks_by false false false text words e = no_install line.Strange text refl e
-
-of_words : (words text : List ℕ) → words_of words ≡ line.Install text → is_path_word text ≡ true
+of_words : (words : List ℕ) → names_path (words_of words) ≡ true
 unfolding words_of
-of_words words text e =
-    asks_by (bytes_eq (take 8 words) (codes "install ")) (bytes_eq (take 6 words) (codes "watch ")) (bytes_eq (take 5 words) (codes "news ")) text words e
+of_words words = search (either, is_install, is_watch, is_news)
 
-words_by : (sync status quit : Bool) (l : Line) (text : List ℕ) → (l ≡ line.Install text → is_path_word text ≡ true)
-    → cond sync line.Sync (cond status line.Status (cond quit line.Quit l)) ≡ line.Install text → is_path_word text ≡ true
-words_by true status quit l text h e = no_install line.Sync text refl e
-words_by false true quit l text h e = no_install line.Status text refl e
-words_by false false true l text h e = no_install line.Quit text refl e
-words_by false false false l text h e = h e
-
-of_command : (bytes text : List ℕ) → asked_in bytes ≡ line.Install text → is_path_word text ≡ true
+of_command : (bytes : List ℕ) → names_path (asked_in bytes) ≡ true
 unfolding asked_in
-of_command bytes text e =
-    words_by (bytes_eq bytes (codes "sync")) (bytes_eq bytes (codes "status")) (bytes_eq bytes (codes "quit")) (words_of bytes) text (of_words bytes text) e
+of_command bytes = search (either, of_words)
 
-short_by : (short : Bool) (l : Line) (text : List ℕ) → (l ≡ line.Install text → is_path_word text ≡ true)
-    → cond short l line.Strange ≡ line.Install text → is_path_word text ≡ true
-short_by true l text h e = h e
-short_by false l text h e = no_install line.Strange text refl e
+of_line : (bytes : List ℕ) → names_path (line_of bytes) ≡ true
+unfolding line_of
+of_line bytes = either (nat_le (length bytes) MOST_BYTES) (asked_in (without_return bytes)) line.Strange (of_command (without_return bytes)) refl
 
 -- the folder of an `install` is named as folders are
 pub named_folder : (bytes folder : List ℕ) → line_of bytes ≡ line.Install folder → is_path_word folder ≡ true
-unfolding line_of
-named_folder bytes folder e =
-    short_by (nat_le (length bytes) MOST_BYTES) (asked_in (without_return bytes)) folder (of_command (without_return bytes) folder) e
+named_folder bytes folder e = sym (ap names_path e) ∙ of_line bytes

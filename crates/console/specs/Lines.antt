@@ -13,7 +13,7 @@ use Rattle.subscribers.specs.declared.wish.WishKind.TheVariants as kind
 use Rattle.console.specs.Words.{is_beginning, meant_moment, number_in}
 use Rattle.console.specs.declared.line.Line.{Line}
 use Rattle.console.specs.declared.line.Line.TheVariants as line
-use Rattle.console.specs.declared.reading.TheConstants.{MOST_BYTES}
+use Rattle.console.specs.declared.line.TheConstants.{MOST_BYTES}
 
 -- the text without one carriage return at its end
 abbrev pub without_return : List ℕ → List ℕ
@@ -107,12 +107,7 @@ ended_lines text = text ++ 10 ∷ []
 -- the line is to install
 abbrev pub IsInstall : Line → Type 0
 IsInstall (line.Install folder) = ⊤
-IsInstall (line.Watch wish) = ⊥
-IsInstall (line.News number) = ⊥
-IsInstall line.Sync = ⊥
-IsInstall line.Status = ⊥
-IsInstall line.Quit = ⊥
-IsInstall line.Strange = ⊥
+IsInstall asked = ⊥
 
 -- a wish for zones by how their identifiers begin
 abbrev pub IsUnder : WishKind → Type 0
@@ -125,8 +120,4 @@ IsUnder kind.Past = ⊥
 abbrev pub HasText : Line → Type 0
 HasText (line.Install folder) = ⊤
 HasText (line.Watch wish) = IsUnder wish.kind
-HasText (line.News number) = ⊥
-HasText line.Sync = ⊥
-HasText line.Status = ⊥
-HasText line.Quit = ⊥
-HasText line.Strange = ⊥
+HasText asked = ⊥

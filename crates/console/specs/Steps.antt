@@ -4,7 +4,7 @@ use Rattle.std.specs.Prelude.{IsTrue, Option, Some, None, ⊤}
 use Rattle.std.specs.List.{before_first, after_first}
 use Rattle.console.specs.Lines.{is_feed, has_feed, line_of, lines_of, HasText}
 use Rattle.console.specs.declared.line.Line.{Line}
-use Rattle.console.specs.declared.reading.TheConstants.{MOST_BYTES}
+use Rattle.console.specs.declared.line.TheConstants.{MOST_BYTES}
 
 -- how many bytes stay where no line feed is held: of a longer line these show that it is too long
 abbrev pub most_held : ℕ

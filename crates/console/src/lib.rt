@@ -9,7 +9,6 @@
 // Lines out of the operator's bytes, and what each asks for.
 mod line;
 mod lines;
-mod reading;
 mod wishes;
 mod words;
 

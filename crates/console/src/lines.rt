@@ -7,7 +7,7 @@ ghost use Rattle.console.specs.Steps.{LineTakesBytes, StepsLine, first_line};
 ghost use Rattle.console.specs.declared.line.Line.{Line};
 
 use crate::Line;
-use crate::reading::{MOST_BYTES, read_line};
+use crate::line::{MOST_BYTES, read_line};
 use std::alloc::Global;
 use std::marker::Model;
 use td_base::NoMemory;
