@@ -42,12 +42,7 @@ hears_later old new subscribers is desk = record {
 }
 
 left_later : (old new : Session) → new.installer ≡ old.installer → new.desk ≡ old.desk → LaterSession old new
-left_later old new is desk = record {
-  installer = ap (λ i. i.pair) is;
-  desk = ap (λ d. d.pair) desk;
-  published = subst (λ i. IsPrefix old.installer.list i.list) (sym is) (prefix_self old.installer.list);
-  seen = subst (λ d. IsPrefix old.desk.seen d.seen) (sym desk) (prefix_self old.desk.seen);
-}
+left_later old new is desk = hears_later old new old.installer.subscribers is desk
 
 -- ---- lines that change nothing but who hears of installs
 
@@ -57,6 +52,7 @@ hears : (g : GrowthView) (old new : Session) (asked : Line) (answer : List ℕ)
     → ((whole : List ReleaseData) (talk : Talk) → talk.subscribers ≡ old.installer.subscribers
     → GetsAnswer whole talk asked answer (record talk { subscribers = change talk.subscribers talk.published }))
     → AnswersLine g g old new asked answer
+unfolding AnswersLine
 hears g old new asked answer change later same changes answers = record {
   growth = growth_refl g;
   later = later;

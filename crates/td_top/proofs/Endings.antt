@@ -87,8 +87,8 @@ ends_told ends_so s t i old new called text end store row empty (inr h) = ends_s
 pub ends_nothing : (rules : List Chosen) (dirs : List (List ℕ)) (e : InstallFault) (s t : StoreView) (i : SourceView) (old new : SinkView) (end : Status)
     → InstallsAll rules dirs s t (Err e) → RefusesInstall e old new end
     → EndsLater (ServesNothing rules dirs) (outside s i old) (outside t i new) end
-ends_nothing rules dirs install.NoMemory s t i old new end h r = ends_silent (ServesNothing rules dirs) status.NoMemory s t i old new end h.later (λ left. out_of_memory left)
-    r.0 r.1
+ends_nothing rules dirs install.NoMemory s t i old new end h r =
+    ends_silent (ServesNothing rules dirs) status.NoMemory s t i old new end h.later (λ left. out_of_memory left) r.0 r.1
 ends_nothing rules dirs (install.Check fault.NoMemory) s t i old new end h r = absurd (h.memory refl)
 ends_nothing rules dirs (install.Check fault.ReadFault) s t i old new end h r =
     ends_silent (ServesNothing rules dirs) status.NotRead s t i old new end h.later (λ left. unread (h.failed refl) left) r.0 r.1

@@ -19,7 +19,8 @@ use Rattle.zone_meaning.specs.ZoneHistories.{HasZoneHistory}
 use Rattle.td_top.specs.Growth.{GrowthView, Handles, LaterGrowth}
 use Rattle.td_top.specs.Replies.{last_token}
 use Rattle.td_top.specs.Sessions.{AnswersLine, BeginsWhole, LaterSession, StandsAt}
-use Rattle.td_top.specs.Operator.{GetsAnswer, Talk, TakesMemory, TellsOnly, grown, handled, heard_by, least_after, no_memory, only_told, with_joined}
+use Rattle.td_top.specs.Operator.{GetsAnswer, IsUnknown, Talk, TakesMemory, TellsOnly, grown, handled, heard_by, least_after}
+use Rattle.td_top.specs.Operator.{no_memory, only_told, unknown, with_joined}
 use Rattle.td_top.specs.declared.session.Session.{Session}
 use Rattle.td_top.proofs.GrowthLemmas.{growth_refl}
 
@@ -44,56 +45,56 @@ few_zones c h =
 
 -- ---- lines
 
+-- a line that changes nothing of a talk but the least place that a status may tell
+gets : (g : GrowthView) (old new : Session) (asked : Line) (answer : List ℕ) → LaterSession old new → new.installer ≡ old.installer
+    → ((whole : List ReleaseData) (talk : Talk) → BeginsWhole new whole → StandsAt g old talk
+    → (least : ℕ) × (least ≤ length new.desk.seen) × GetsAnswer whole talk asked answer (record talk { least = least })) → AnswersLine g g old new asked answer
+unfolding AnswersLine
+gets g old new asked answer later same answers = record {
+  growth = growth_refl g;
+  later = later;
+  answers = λ whole talk begins stands.
+      let got = answers whole talk begins stands in (
+        record talk { least = got.0 },
+        record {
+          published = stands.published ∙ ap (λ i. history_of i.list) (sym same);
+          least = got.1;
+          growth = stands.growth;
+          subscribers = stands.subscribers ∙ ap (λ i. i.subscribers) (sym same);
+        },
+        got.2,
+      );
+}
+
 -- a line that leaves the talk as it is
 pub stays : (g : GrowthView) (old new : Session) (asked : Line) (answer : List ℕ) → LaterSession old new → new.installer ≡ old.installer
     → ((whole : List ReleaseData) (talk : Talk) → StandsAt g old talk → GetsAnswer whole talk asked answer talk) → AnswersLine g g old new asked answer
-stays g old new asked answer later same answers = record {
-  growth = growth_refl g;
-  later = later;
-  answers = λ whole talk begins stands. (
-    talk,
-    record {
-      published = stands.published ∙ ap (λ i. history_of i.list) (sym same);
-      least = omega (arith, stands.least, prefix_length old.desk.seen new.desk.seen later.seen);
-      growth = stands.growth;
-      subscribers = stands.subscribers ∙ ap (λ i. i.subscribers) (sym same);
-    },
-    answers whole talk stands,
-  );
-}
+stays g old new asked answer later same answers =
+    gets g old new asked answer later same
+    (λ whole talk begins stands. (talk.least, omega (arith, stands.least, prefix_length old.desk.seen new.desk.seen later.seen), answers whole talk stands))
 
 pub starved : (g : GrowthView) (a : Session) (asked : Line) → TakesMemory asked → AnswersLine g g a a asked (reply_text said.NoMemory)
 starved g a asked takes = stays g a a asked (reply_text said.NoMemory) (session_refl a) refl (λ whole talk is. no_memory takes refl refl)
+
+-- a line that asks for nothing that is done
+pub is_unknown : (g : GrowthView) (a : Session) (asked : Line) → IsUnknown g asked → AnswersLine g g a a asked (reply_text said.Unknown)
+is_unknown g a asked is =
+    stays g a a asked (reply_text said.Unknown) (session_refl a) refl
+    (λ whole talk stands. unknown (subst (λ h. IsUnknown h asked) (sym stands.growth) is) refl refl)
 
 -- a line that tells something
 pub tells : (g : GrowthView) (old new : Session) (asked : Line) (answer : List ℕ) → LaterSession old new → new.installer ≡ old.installer
     → ((whole : List ReleaseData) (talk : Talk) → BeginsWhole new whole → StandsAt g old talk
     → (least : ℕ) × (least ≤ length new.desk.seen) × TellsOnly whole talk asked answer least) → AnswersLine g g old new asked answer
-tells g old new asked answer later same answers = record {
-  growth = growth_refl g;
-  later = later;
-  answers = λ whole talk begins stands.
-      let says = answers whole talk begins stands in (
-        record talk { least = says.0 },
-        record {
-          published = stands.published ∙ ap (λ i. history_of i.list) (sym same);
-          least = says.1;
-          growth = stands.growth;
-          subscribers = stands.subscribers ∙ ap (λ i. i.subscribers) (sym same);
-        },
-        only_told says.0 says.2 refl,
-      );
-}
+tells g old new asked answer later same answers =
+    gets g old new asked answer later same
+    (λ whole talk begins stands. let says = answers whole talk begins stands in (says.0, says.1, only_told says.0 says.2 refl))
 
 -- such a line that leaves the desk as it is
 pub tells_on : (g : GrowthView) (old new : Session) (asked : Line) (answer : List ℕ) → LaterSession old new → new.installer ≡ old.installer
     → ((whole : List ReleaseData) (talk : Talk) → StandsAt g old talk → TellsOnly whole talk asked answer talk.least) → AnswersLine g g old new asked answer
 tells_on g old new asked answer later same answers =
-    tells g old new asked answer later same (λ whole talk begins stands. (
-      talk.least,
-      omega (arith, stands.least, prefix_length old.desk.seen new.desk.seen later.seen),
-      answers whole talk stands,
-    ))
+    stays g old new asked answer later same (λ whole talk stands. only_told talk.least (answers whole talk stands) refl)
 
 pub is_quit : (g : GrowthView) (a : Session) → AnswersLine g g a a line.Quit (reply_text said.Bye)
 is_quit g a = tells_on g a a line.Quit (reply_text said.Bye) (session_refl a) refl (λ whole talk stands. (refl, refl))
@@ -132,6 +133,7 @@ pub is_done : (g h : GrowthView) (old new : Session) (asked : Line) (answer : Li
     → history_of new.installer.list ≡ with_joined (history_of old.installer.list) joined
     → new.installer.subscribers ≡ heard_by old.installer.subscribers (history_of old.installer.list) joined
     → length new.installer.list ≤ length new.desk.seen → AnswersLine g h old new asked answer
+unfolding AnswersLine
 is_done g h old new asked answer joined growth later handles grows hears knows = record {
   growth = growth;
   later = later;

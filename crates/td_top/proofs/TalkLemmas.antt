@@ -227,6 +227,7 @@ over_more : (start : Scene) (s t : GrowthView) (i : SourceView) (o p : SinkView)
     (a : List ℕ)
     → AllByRecursion KeepsTalking asked → LaterSink o p → TalksOver start (scene (console s i o) x) asked told → AnswersLine s t x y next a
     → TalksOver start (scene (console t i p) y) (asked ++ next ∷ []) (told ++ a ∷ [])
+unfolding AnswersLine
 over_more start s t i o p x y asked told next a goes sink over answers = record {
   later = record {
     console = record {

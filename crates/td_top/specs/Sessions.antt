@@ -29,10 +29,14 @@ pub record BeginsWhole (session : Session) (whole : List ReleaseData) : Type 0 w
 
 -- One line was answered: over each history that begins with all that was published and seen then,
 -- a talk goes on by what was said.
-pub record AnswersLine (old new : GrowthView) (before now : Session) (asked : Line)
+pub record LineAnswered (old new : GrowthView) (before now : Session) (asked : Line)
     (answer : List ℕ) : Type 0 where
   pub growth : LaterGrowth old new
   pub later : LaterSession before now
   pub answers : (whole : List ReleaseData) (talk : Talk)
       → BeginsWhole now whole → StandsAt old before talk
       → (next : Talk) × StandsAt new now next × GetsAnswer whole talk asked answer next
+
+-- The same as one fact, which a search takes as it is.
+unfoldable pub AnswersLine : GrowthView → GrowthView → Session → Session → Line → List ℕ → Type 0
+AnswersLine old new before now asked answer = LineAnswered old new before now asked answer

@@ -17,8 +17,8 @@ use td_base::{Bytes, NoMemory};
 
 /// Adds a subscriber with a wish of its own, and gives the reply, which takes no memory then.
 pub fn watch(session: &mut Session, wish: &Wish) -> Reply
-    ensures { (growth : GrowthView) → AnswersLine growth growth session.old session.new
-        (Line.Watch wish.now) (reply_bytes result) }
+    ensures { (growth : GrowthView) (asked : Line) → asked ≡ Line.Watch wish.now
+        → AnswersLine growth growth session.old session.new asked (reply_bytes result) }
 {
     let Ok(own) = copy_of(session.alloc, wish) else {
         return Reply::brief(&Said::NoMemory);
@@ -46,8 +46,8 @@ fn copy_of(alloc: Global, wish: &Wish) -> Result<Wish, NoMemory>
 /// Gives the reply with what the subscriber of a number holds, which it does not hold any more
 /// then. Where there is no memory for the reply, it holds all of it.
 pub fn tell_news(session: &mut Session, number: u32) -> Reply
-    ensures { (growth : GrowthView) → AnswersLine growth growth session.old session.new
-        (Line.News number) (reply_bytes result) }
+    ensures { (growth : GrowthView) (asked : Line) → asked ≡ Line.News number
+        → AnswersLine growth growth session.old session.new asked (reply_bytes result) }
 {
     match held_text(session.alloc, &session.installer, number) {
         Ok(Some(text)) => {

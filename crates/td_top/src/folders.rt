@@ -1,3 +1,4 @@
+ghost use Rattle.std.specs.Prelude.{◌≡◌};
 ghost use Rattle.td_top.specs.Growth.{folders};
 ghost use Rattle.td_top.specs.Replies.{reply_bytes};
 ghost use Rattle.td_top.specs.Sessions.{AnswersLine};
@@ -37,9 +38,10 @@ fn install<R: Wait, S: Store>(
     store: &mut S,
     dir: &Bytes,
 ) -> Reply
-    ensures { AnswersLine (folders asked.now.rules.chosen (S.seen store.old))
+    ensures { (line : Line) → line ≡ Line.Install dir.now
+        → AnswersLine (folders asked.now.rules.chosen (S.seen store.old))
         (folders asked.now.rules.chosen (S.seen store.new)) session.old session.new
-        (Line.Install dir.now) (reply_bytes result) }
+        line (reply_bytes result) }
 {
     match session.install(rt, dir.as_slice(), store, asked) {
         Ok(()) => Reply::brief(&Said::Installed(newest(&session.installer))),

@@ -54,9 +54,9 @@ fn sync_once<R: Wait, U: Upstream>(
     asked: &Asked<'_>,
     follow: &mut Follow<'_, U>,
 ) -> Reply
-    ensures { AnswersLine
+    ensures { (line : Line) → line ≡ Line.Sync → AnswersLine
         (follow_of U.seen follow.old) (follow_of U.seen follow.new) session.old session.new
-        Line.Sync (reply_bytes result) }
+        line (reply_bytes result) }
 {
     let alloc = session.alloc;
     match sync(alloc, &mut follow.mirror, follow.host, &mut follow.upstream) {

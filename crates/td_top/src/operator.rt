@@ -7,6 +7,7 @@ ghost use Rattle.zone_meaning.specs.ZoneHistories.{ForEachZoneHistory, HasZoneHi
 ghost use Rattle.td_top.specs.Growth.{GrowthView};
 ghost use Rattle.td_top.specs.Replies.{last_token, reply_bytes};
 ghost use Rattle.td_top.specs.Sessions.{AnswersLine};
+ghost use Rattle.td_top.specs.declared.session.Session.{Session as SessionView};
 
 use crate::audience::{tell_news, watch};
 use crate::growth::Growth;
@@ -35,7 +36,7 @@ pub fn answer_line<R: Wait, G: Growth>(
         Line::Watch(wish) => watch(session, wish),
         Line::News(number) => tell_news(session, *number),
         Line::Status => show(session),
-        Line::Quit => Reply::brief(&Said::Bye),
+        Line::Quit => bye(),
         Line::Install(_) | Line::Sync | Line::Strange => {
             match growth.grow(rt, session, asked, line) {
                 Some(reply) => reply,
@@ -53,10 +54,18 @@ pub fn newest(installer: &Installer) -> Token
     last.token(last.count())
 }
 
+/// What is said to a line that asks that the talk end.
+fn bye() -> Reply
+    ensures { (growth : GrowthView) (session : SessionView) (asked : Line) → asked ≡ Line.Quit
+        → AnswersLine growth growth session session asked (reply_bytes result) }
+{
+    Reply::brief(&Said::Bye)
+}
+
 /// Shows the release that the desk holds after one enter.
 fn show(session: &mut Session) -> Reply
-    ensures answers { (growth : GrowthView) → AnswersLine growth growth session.old session.new
-        Line.Status (reply_bytes result) }
+    ensures answers { (growth : GrowthView) (asked : Line) → asked ≡ Line.Status
+        → AnswersLine growth growth session.old session.new asked (reply_bytes result) }
     // What is shown is what was found by an enter of this call.
     ensures enters { (session.new.desk.enters ≡ session.old.desk.enters + 1)
         ⊎ (reply_bytes result ≡ reply_text said.NoMemory) }

@@ -247,8 +247,8 @@ fn give_up<R: Wait, D>(rt: &R, session: Session, status: Status) -> Served<D>
     Served::closed(alloc, status)
 }
 
-/// Law: where nothing failed, its folders give releases and no rule refuses one, `serve` ends by the
-/// word of the operator or with the input, or memory runs out.
+/// Law: where nothing failed, its folders give releases and no rule refuses one, `serve` ends by
+/// the word of the operator or with the input, or memory runs out.
 pub fn serves_complete()
     ensures { (address : List ℕ) (workers : ℕ) (rules : List Chosen) (dirs : List (List ℕ))
         → Completes (serve address workers rules dirs) }
