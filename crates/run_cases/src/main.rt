@@ -64,6 +64,6 @@ fn main(rt: HostRuntime) -> io::Result<()> {
             println!(rt; "{told}")?;
         }
     }
-    let tally = script.tally();
-    println!(rt; "{tally}")
+    let told = script.last_told()?;
+    println!(rt; "{told}")
 }

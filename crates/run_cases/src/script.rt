@@ -22,6 +22,7 @@ pub struct Script {
     files: Vec<File>,
     case: Option<Case>,
     tally: Tally,
+    stated: u64,
 }
 
 impl Script {
@@ -32,12 +33,21 @@ impl Script {
             files: Vec::new(alloc),
             case: None,
             tally: Tally::new(),
+            stated: 0,
         }
     }
 
-    /// How many runs there were, and how many of them ended as the table says.
-    pub fn tally(&self) -> Tally {
-        self.tally
+    /// How many runs ended otherwise than the table says, where it had as many as its line `runs`
+    /// says.
+    pub fn last_told(&self) -> Result<String, AllocError> {
+        let (cases, right, stated) = (self.tally.cases, self.tally.right, self.stated);
+        if cases != stated {
+            return format!(in self.alloc; "{cases} runs, where the table says {stated}");
+        }
+        let others = cases.saturating_sub(right);
+        format!(in self.alloc;
+            "all runs of the table, of which {others} ended otherwise than it says"
+        )
     }
 
     /// Does what a line says, and gives what is to be told of it, if anything.
@@ -76,6 +86,7 @@ impl Script {
             "remove" => self.files = Vec::new(self.alloc),
             "case" => self.case = Some(Case::new(self.alloc, rest)?),
             "run" => return self.run_case(rt, kept, wants, rest),
+            "runs" => self.stated = number(rest.as_bytes())?,
             _ => {
                 if !self.texts.define(word, rest)? {
                     self.add_to_case(word, rest)?;
