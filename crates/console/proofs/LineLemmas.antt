@@ -13,7 +13,6 @@ use Rattle.console.specs.declared.line.Line.TheVariants as line
 use Rattle.console.specs.declared.line.TheConstants.{MOST_BYTES}
 use Rattle.console.specs.Steps.{most_held}
 use Rattle.td_base.specs.Names.{is_path_word}
-use Rattle.subscribers.specs.declared.wish.Wish.{Wish}
 use Rattle.console.specs.Lines.{without_return, install_of, words_of, asked_in, is_feed, has_feed}
 use Rattle.console.specs.Lines.{is_whole_text, ended_lines, line_of, lines_from, lines_of}
 
@@ -150,24 +149,21 @@ install_by : (test : Bool) (folder : List ℕ) → is_path_word folder ≡ test 
 install_by true folder is = is
 install_by false folder is = refl
 
-pub is_install : (folder : List ℕ) → names_path (install_of folder) ≡ true
+is_install : (folder : List ℕ) → names_path (install_of folder) ≡ true
 is_install folder = install_by (is_path_word folder) folder refl
 
-pub is_watch : (wish : Option Wish) → names_path (option_map_or line.Watch wish line.Strange) ≡ true
-is_watch None = refl
-is_watch (Some wish) = refl
-
-pub is_news : (number : Option ℕ) → names_path (option_map_or line.News number line.Strange) ≡ true
-is_news None = refl
-is_news (Some number) = refl
+if_any : {A : Type 0} (line_of_it : A → Line) (o : Option A) → ((a : A) → names_path (line_of_it a) ≡ true)
+    → names_path (option_map_or line_of_it o line.Strange) ≡ true
+if_any line_of_it None h = refl
+if_any line_of_it (Some a) h = h a
 
 of_words : (words : List ℕ) → names_path (words_of words) ≡ true
 unfolding words_of
-of_words words = search (either, is_install, is_watch, is_news)
+of_words words = search (either, is_install, if_any) depth 40
 
 of_command : (bytes : List ℕ) → names_path (asked_in bytes) ≡ true
 unfolding asked_in
-of_command bytes = search (either, of_words)
+of_command bytes = search (either, of_words) depth 40
 
 of_line : (bytes : List ℕ) → names_path (line_of bytes) ≡ true
 unfolding line_of

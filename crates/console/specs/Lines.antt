@@ -1,6 +1,6 @@
 -- The lines of an operator: what stands before each line feed, and what it asks for.
-use Rattle.std.specs.Prelude.{ℕ, ◌-◌, List, [], ◌∷◌, ◌++◌, length, take, drop, codes, Bool, not}
-use Rattle.std.specs.Prelude.{◌==◌, nat_le, if◌then◌else◌, ⊤}
+use Rattle.std.specs.Prelude.{◌≡◌, ℕ, ◌-◌, List, [], ◌∷◌, ◌++◌, length, take, drop, codes, Bool}
+use Rattle.std.specs.Prelude.{◌==◌, nat_le, not, if◌then◌else◌, ⊤}
 use Rattle.std.specs.Prelude.{ℤ, Option, None, Some}
 use Rattle.std.specs.List.{list_any}
 use Rattle.std.specs.Option.{option_map, option_map_or}
@@ -8,7 +8,6 @@ use Rattle.std.specs.Str.{bytes_eq}
 use Rattle.td_base.specs.Names.{is_path_word}
 use Rattle.td_civil.specs.declared.moment_type.TheConstants.{LO}
 use Rattle.subscribers.specs.declared.wish.Wish.{Wish}
-use Rattle.subscribers.specs.declared.wish.WishKind.{WishKind}
 use Rattle.subscribers.specs.declared.wish.WishKind.TheVariants as kind
 use Rattle.console.specs.Words.{is_beginning, meant_moment, number_in}
 use Rattle.console.specs.declared.line.Line.{Line}
@@ -104,20 +103,9 @@ is_whole_text text = not (has_feed text)
 abbrev pub ended_lines : List ℕ → List ℕ
 ended_lines text = text ++ 10 ∷ []
 
--- the line is to install
-abbrev pub IsInstall : Line → Type 0
-IsInstall (line.Install folder) = ⊤
-IsInstall asked = ⊥
-
--- a wish for zones by how their identifiers begin
-abbrev pub IsUnder : WishKind → Type 0
-IsUnder kind.Any = ⊥
-IsUnder kind.Under = ⊤
-IsUnder kind.Past = ⊥
-
 -- the line has a text of its own, which takes memory: the path of a folder, or the beginning of
 -- identifiers
 abbrev pub HasText : Line → Type 0
 HasText (line.Install folder) = ⊤
-HasText (line.Watch wish) = IsUnder wish.kind
+HasText (line.Watch wish) = wish.kind ≡ kind.Under
 HasText asked = ⊥
