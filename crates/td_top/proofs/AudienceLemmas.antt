@@ -1,14 +1,13 @@
 -- What the lines that ask for news of installs make of a talk.
 use Rattle.std.proofs.Common.{◌≡◌, ℕ, zero, suc, ◌+◌, ◌<◌, ◌≤◌, List, [], ◌∷◌, ◌++◌, length, Option, None, Some, inl, inr, ◌⊎◌, refl, sym, subst, ap, ◌∙◌}
 use Rattle.std.proofs.Common.{arith}
-use Rattle.std.proofs.lemmas.Bool.{cases_lt}
-use Rattle.std.specs.Option.{option_map}
+use Rattle.std.proofs.lemmas.Bool.{cases_lt, eq-eqb}
+use Rattle.std.specs.Option.{IsSome, option_map, option_map_or}
 use Rattle.std.proofs.lemmas.List.{length_push}
 use Rattle.std.proofs.lemmas.Option.{slice_get_within}
 use mathlib.Core.List.{IsPrefix}
 use Rattle.td_base.proofs.lemmas.Beginnings.{prefix_length, prefix_self}
 use Rattle.catalogue.specs.Holdings.{history_of}
-use Rattle.catalogue.specs.Releases.{ReleaseData}
 use Rattle.catalogue.proofs.lemmas.HistoryLemmas.{history_length}
 use Rattle.console.specs.Replies.{news_text, reply_text}
 use Rattle.console.specs.declared.line.Line.{Line}
@@ -16,6 +15,7 @@ use Rattle.console.specs.declared.line.Line.TheVariants as line
 use Rattle.console.specs.declared.said.Said.TheVariants as said
 use Rattle.installer.specs.Views.{with_subscribers}
 use Rattle.subscribers.specs.FaultText.{fault_text}
+use Rattle.subscribers.specs.Hearing.{Audience, Event, after}
 use Rattle.subscribers.specs.News.{numbered}
 use Rattle.subscribers.specs.Views.{SubscriberView, changed_numbered, emptied, newcomer}
 use Rattle.subscribers.specs.declared.subscribe_fault.SubscribeFault.TheVariants as fault
@@ -24,7 +24,7 @@ use Rattle.subscribers.specs.declared.wish.Wish.{Wish}
 use Rattle.td_top.specs.Growth.{GrowthView}
 use Rattle.td_top.specs.Replies.{SaysWhy, nobody_text}
 use Rattle.td_top.specs.Sessions.{AnswersLine, LaterSession}
-use Rattle.td_top.specs.Operator.{GetsAnswer, Talk, TakesMemory, no_memory, told_news, watched}
+use Rattle.td_top.specs.Operator.{ChangesHearing, TakesMemory, audience, changed, no_memory}
 use Rattle.td_top.specs.declared.session.Session.{Session}
 use Rattle.td_top.proofs.GrowthLemmas.{growth_refl}
 use Rattle.td_top.proofs.LineLemmas.{session_refl, stays, tells_on}
@@ -32,7 +32,7 @@ use Rattle.td_top.proofs.LineLemmas.{session_refl, stays, tells_on}
 -- ---- sessions
 
 -- one in which all but who hears of installs is the same
-hears_later : (old new : Session) (subscribers : List SubscriberView) → new.installer ≡ with_subscribers subscribers old.installer → new.desk ≡ old.desk
+pub hears_later : (old new : Session) (subscribers : List SubscriberView) → new.installer ≡ with_subscribers subscribers old.installer → new.desk ≡ old.desk
     → LaterSession old new
 hears_later old new subscribers is desk = record {
   installer = ap (λ i. i.pair) is;
@@ -46,26 +46,30 @@ left_later old new is desk = hears_later old new old.installer.subscribers is de
 
 -- ---- lines that change nothing but who hears of installs
 
-hears : (g : GrowthView) (old new : Session) (asked : Line) (answer : List ℕ)
-    (change : List SubscriberView → List ReleaseData → List SubscriberView) → LaterSession old new → new.installer.list ≡ old.installer.list
-    → new.installer.subscribers ≡ change old.installer.subscribers (history_of old.installer.list)
-    → ((whole : List ReleaseData) (talk : Talk) → talk.subscribers ≡ old.installer.subscribers
-    → GetsAnswer whole talk asked answer (record talk { subscribers = change talk.subscribers talk.published }))
+-- a session as it is to those who hear
+abbrev heard_at : Session → Audience
+heard_at a = record { history = history_of a.installer.list; subscribers = a.installer.subscribers }
+
+pub hears : (g : GrowthView) (old new : Session) (asked : Line) (answer : List ℕ) (event : Event) → LaterSession old new
+    → new.installer.list ≡ old.installer.list → (after (heard_at old) event).history ≡ history_of old.installer.list
+    → new.installer.subscribers ≡ (after (heard_at old) event).subscribers → ChangesHearing (heard_at old) asked answer event
     → AnswersLine g g old new asked answer
 unfolding AnswersLine
-hears g old new asked answer change later same changes answers = record {
+hears g old new asked answer event later same history subscribers changes = record {
   growth = growth_refl g;
   later = later;
-  answers = λ whole talk begins stands. (
-    record talk { subscribers = change talk.subscribers talk.published },
-    record {
-      published = stands.published ∙ ap history_of (sym same);
-      least = omega (arith, stands.least, prefix_length old.desk.seen new.desk.seen later.seen);
-      growth = stands.growth;
-      subscribers = rw (stands.subscribers, stands.published) (sym changes);
-    },
-    answers whole talk stands.subscribers,
-  );
+  answers = λ whole talk begins stands.
+      let at : heard_at old ≡ audience talk = rw (stands.published, stands.subscribers) refl in (
+        record talk { subscribers = (after (audience talk) event).subscribers },
+        record {
+          published = stands.published ∙ ap history_of (sym same);
+          least = omega (arith, stands.least, prefix_length old.desk.seen new.desk.seen later.seen);
+          growth = stands.growth;
+          subscribers = ap (λ a. (after a event).subscribers) (sym at) ∙ sym subscribers;
+        },
+        changed event (subst (λ a. ChangesHearing a asked answer event) at changes)
+            (ap (λ a. (after a event).history) (sym at) ∙ history ∙ sym stands.published) refl,
+      );
 }
 
 -- ---- a watch
@@ -84,12 +88,9 @@ pub is_watched : (g : GrowthView) (old new : Session) (wish : Wish) (number : �
 is_watched g old new wish number answer is desk count few says =
     let before : List SubscriberView = old.installer.subscribers in
     let counted : number ≡ length before + 1 = count ∙ ap (λ i. length i.subscribers) is ∙ length_push before (newcomer wish (length old.installer.list)) in
-    hears g old new (line.Watch wish) answer (λ subscribers H. subscribers ++ newcomer wish (length H) ∷ []) (hears_later old new _ is desk)
-    (ap (λ i. i.list) is)
+    hears g old new (line.Watch wish) answer (Event.Subscribes wish) (hears_later old new _ is desk) (ap (λ i. i.list) is) refl
     (ap (λ i. i.subscribers) is ∙ ap (λ n. before ++ newcomer wish n ∷ []) (sym (history_length old.installer.list)))
-    (λ whole talk same.
-    watched wish refl (subst (λ s. length s < MOST_SUBSCRIBERS) (sym same) (fewer (length before) MOST_SUBSCRIBERS few))
-    (says ∙ ap (λ n. reply_text (said.Watching n)) (counted ∙ ap (λ s. length s + 1) (sym same))) refl)
+    (refl, fewer (length before) MOST_SUBSCRIBERS few, says ∙ ap (λ n. reply_text (said.Watching n)) counted)
 
 -- a line for which memory ran out leaves all as it was
 pub is_starved : (g : GrowthView) (old new : Session) (asked : Line) (answer : List ℕ) → new.installer ≡ old.installer → new.desk ≡ old.desk
@@ -108,21 +109,22 @@ is_full g old new wish answer same desk many (inr says) =
 
 -- a number under which something was found
 held_by : (o : Option SubscriberView) (text : List ℕ) → Some text ≡ option_map (λ s. news_text s.held) o
-    → (s : SubscriberView) × (o ≡ Some s) × (text ≡ news_text s.held)
+    → IsSome o × (text ≡ news_text (option_map_or (λ s. s.held) o []))
 held_by None text e = absurd (cc e)
-held_by (Some s) text e = (s, refl, cc e)
+held_by (Some s) text e = (refl, cc e)
 
 none_by : (o : Option SubscriberView) → None ≡ option_map (λ s. news_text s.held) o → o ≡ None
 none_by None e = refl
 none_by (Some s) e = absurd (cc e)
 
-there : (xs : List SubscriberView) (k : ℕ) (s : SubscriberView) → numbered xs k ≡ Some s → (0 < k) × (k ≤ length xs)
-there xs zero s e = absurd (cc e)
-there xs (suc i) s e = (omega arith, omega (arith, slice_get_within xs i s e))
+there : (xs : List SubscriberView) (k : ℕ) (o : Option SubscriberView) → numbered xs k ≡ o → IsSome o → (0 < k) × (k ≤ length xs)
+there xs k None e some = absurd (cc some)
+there xs zero (Some s) e some = absurd (cc e)
+there xs (suc i) (Some s) e some = (omega arith, omega (arith, slice_get_within xs i s e))
 
 pub has_number : (xs : List SubscriberView) (k : ℕ) (text : List ℕ) → Some text ≡ option_map (λ s. news_text s.held) (numbered xs k)
     → (0 < k) × (k ≤ length xs)
-has_number xs k text e = let found = held_by (numbered xs k) text e in there xs k found.0 found.1
+has_number xs k text e = there xs k (numbered xs k) refl (held_by (numbered xs k) text e).0
 
 pub is_told : (g : GrowthView) (old new : Session) (number : ℕ) (text answer : List ℕ)
     → new.installer ≡ with_subscribers (changed_numbered emptied number old.installer.subscribers) old.installer → new.desk ≡ old.desk
@@ -130,10 +132,8 @@ pub is_told : (g : GrowthView) (old new : Session) (number : ℕ) (text answer :
     → AnswersLine g g old new (line.News number) answer
 is_told g old new number text answer is desk holds says =
     let found = held_by (numbered old.installer.subscribers number) text holds in
-    hears g old new (line.News number) answer (λ subscribers H. changed_numbered emptied number subscribers) (hears_later old new _ is desk)
-    (ap (λ i. i.list) is) (ap (λ i. i.subscribers) is)
-    (λ whole talk same.
-    told_news number found.0 refl (ap (λ s. numbered s number) same ∙ found.1) (says ∙ found.2) refl)
+    hears g old new (line.News number) answer (Event.Clears number) (hears_later old new _ is desk) (ap (λ i. i.list) is) refl (ap (λ i. i.subscribers) is)
+    (refl, found.0, says ∙ found.1 ∙ rw (eq-eqb number number refl) refl)
 
 pub is_of_nobody : (g : GrowthView) (a : Session) (number : ℕ) (answer : List ℕ)
     → None ≡ option_map (λ s. news_text s.held) (numbered a.installer.subscribers number) → SaysWhy nobody_text answer

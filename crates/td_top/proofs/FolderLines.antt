@@ -5,7 +5,7 @@ use Rattle.td_base.specs.Views.{LaterStore, StoreView}
 use Rattle.catalogue.specs.Holdings.{history_of}
 use Rattle.catalogue.specs.Releases.{ReleaseData}
 use Rattle.console.specs.Replies.{reply_text}
-use Rattle.console.specs.declared.line.Line.TheVariants as line
+use Rattle.console.specs.declared.line.Line.{Line}
 use Rattle.console.specs.declared.said.Said.TheVariants as said
 use Rattle.installer.specs.FaultText.{fault_text}
 use Rattle.installer.specs.Installing.{GrowsBy, Installs}
@@ -14,7 +14,7 @@ use Rattle.installer.specs.declared.install_fault.InstallFault.TheVariants as in
 use Rattle.release_check.specs.declared.check_fault.CheckFault.TheVariants as fault
 use Rattle.subscribers.specs.Hearing.{all_hear}
 use Rattle.td_top.specs.Folders.{InstallsFolder, installed, refused, starved, unread}
-use Rattle.td_top.specs.Growth.{by_folder, folders}
+use Rattle.td_top.specs.Growth.{AsksFolder, folders}
 use Rattle.td_top.specs.Replies.{SaysRefused, last_token}
 use Rattle.td_top.specs.Sessions.{AnswersLine, LaterSession}
 use Rattle.td_top.specs.Operator.{heard_by, with_joined}
@@ -23,26 +23,26 @@ use Rattle.td_top.proofs.Installing.{gives, gives_fault}
 use Rattle.td_top.proofs.LineLemmas.{is_done}
 
 -- a folder was looked into
-looked : (rules : List Chosen) (s t : StoreView) (old new : Session) (dir answer : List ℕ) (joined : Option ReleaseData)
-    → LaterStore s t → InstallsFolder s t rules (history_of old.installer.list) dir answer joined → LaterSession old new
+looked : (rules : List Chosen) (s t : StoreView) (old new : Session) (asked : Line) (dir answer : List ℕ) (joined : Option ReleaseData)
+    → AsksFolder asked dir → LaterStore s t → InstallsFolder s t rules (history_of old.installer.list) dir answer joined → LaterSession old new
     → history_of new.installer.list ≡ with_joined (history_of old.installer.list) joined
     → new.installer.subscribers ≡ heard_by old.installer.subscribers (history_of old.installer.list) joined
-    → length new.installer.list ≤ length new.desk.seen → AnswersLine (folders rules s) (folders rules t) old new (line.Install dir) answer
-looked rules s t old new dir answer joined store installs later grows hears knows =
-    is_done (folders rules s) (folders rules t) old new (line.Install dir) answer joined (refl, store) later
-    (by_folder rules s t dir answer joined store installs) grows hears knows
+    → length new.installer.list ≤ length new.desk.seen → AnswersLine (folders rules s) (folders rules t) old new asked answer
+looked rules s t old new asked dir answer joined asks store installs later grows hears knows =
+    is_done (folders rules s) (folders rules t) old new asked answer joined (refl, store) later
+    (dir, asks, refl, store, installs) grows hears knows
 
 -- a release joined the history
-pub is_installed : {A : Type 0} (rules : List Chosen) (s t : StoreView) (old new : Session) (dir answer : List ℕ) (history : A → List ReleaseData) (a : A)
-    → Installs s t dir rules (history_of old.installer.list) history (Ok a) → history a ≡ history_of new.installer.list
-    → GrowsBy rules (history_of old.installer.list) (history_of new.installer.list)
+pub is_installed : {A : Type 0} (rules : List Chosen) (s t : StoreView) (old new : Session) (asked : Line) (dir answer : List ℕ)
+    (history : A → List ReleaseData) (a : A) → AsksFolder asked dir → Installs s t dir rules (history_of old.installer.list) history (Ok a)
+    → history a ≡ history_of new.installer.list → GrowsBy rules (history_of old.installer.list) (history_of new.installer.list)
     → new.installer.subscribers ≡ all_hear (history_of new.installer.list) old.installer.subscribers
     → LaterSession old new → length new.installer.list ≤ length new.desk.seen
     → answer ≡ reply_text (said.Installed (last_token (history_of new.installer.list)))
-    → AnswersLine (folders rules s) (folders rules t) old new (line.Install dir) answer
-is_installed rules s t old new dir answer history a installs same grows hears later knows said_is =
+    → AnswersLine (folders rules s) (folders rules t) old new asked answer
+is_installed rules s t old new asked dir answer history a asks installs same grows hears later knows said_is =
     let H : List ReleaseData = history_of old.installer.list in
-    looked rules s t old new dir answer (Some grows.release) installs.later
+    looked rules s t old new asked dir answer (Some grows.release) asks installs.later
     (installed grows.release (gives s t dir rules H history a grows.release (same ∙ grows.now_is) grows.allowed installs)
     (said_is ∙ ap (λ (K : List ReleaseData). reply_text (said.Installed (last_token K))) grows.now_is))
     later grows.now_is (hears ∙ ap (λ K. all_hear K old.installer.subscribers) grows.now_is) knows
@@ -65,11 +65,11 @@ not_installed s t rules H dir e answer history installs (inl none) = starved non
 not_installed s t rules H dir e answer history installs (inr said_so) =
     subst (λ a. InstallsFolder s t rules H dir a None) (sym said_so.1) (why s t rules H dir e history installs said_so.0)
 
-pub is_refused : {A : Type 0} (rules : List Chosen) (s t : StoreView) (old new : Session) (dir : List ℕ) (e : InstallFault) (answer : List ℕ)
-    (history : A → List ReleaseData) → Installs {A = A} s t dir rules (history_of old.installer.list) history (Err e)
+pub is_refused : {A : Type 0} (rules : List Chosen) (s t : StoreView) (old new : Session) (asked : Line) (dir : List ℕ) (e : InstallFault) (answer : List ℕ)
+    (history : A → List ReleaseData) → AsksFolder asked dir → Installs {A = A} s t dir rules (history_of old.installer.list) history (Err e)
     → new.installer.list ≡ old.installer.list → new.installer.subscribers ≡ old.installer.subscribers
     → LaterSession old new → length new.installer.list ≤ length new.desk.seen → SaysRefused e answer
-    → AnswersLine (folders rules s) (folders rules t) old new (line.Install dir) answer
-is_refused rules s t old new dir e answer history installs same hears later knows says =
-    looked rules s t old new dir answer None installs.later (not_installed s t rules (history_of old.installer.list) dir e answer history installs says) later
-    (ap history_of same) hears knows
+    → AnswersLine (folders rules s) (folders rules t) old new asked answer
+is_refused rules s t old new asked dir e answer history asks installs same hears later knows says =
+    looked rules s t old new asked dir answer None asks installs.later
+    (not_installed s t rules (history_of old.installer.list) dir e answer history installs says) later (ap history_of same) hears knows

@@ -11,7 +11,7 @@ use Rattle.catalogue.specs.Order.{rising_by}
 use Rattle.catalogue.specs.Releases.{ReleaseData}
 use Rattle.catalogue.specs.declared.holding.Catalogue.{Catalogue}
 use Rattle.console.specs.Replies.{reply_text}
-use Rattle.console.specs.declared.line.Line.TheVariants as line
+use Rattle.console.specs.declared.line.Line.{Line}
 use Rattle.console.specs.declared.said.Said.TheVariants as said
 use Rattle.installer.specs.Installing.{InstallsStated}
 use Rattle.installer.specs.Serving.{FindsWhether, IsServed, IsStated, stated_content, stated_contents, stated_release}
@@ -29,7 +29,7 @@ use Rattle.sync_core.specs.Published.{HasFiles, manifest_of}
 use Rattle.td_top.specs.Folders.{IsRefusal}
 use Rattle.td_top.specs.Following.{StatesAfter, StatesLast, SyncsAs, faulted, faulted_starved, installed, refused, settled, starved, unchanged}
 use Rattle.td_top.specs.FollowingSteps.{OpensStated, PublishesStated}
-use Rattle.td_top.specs.Growth.{LaterGrowth, by_sync, following}
+use Rattle.td_top.specs.Growth.{Grows, LaterGrowth, following}
 use Rattle.td_top.specs.Replies.{SaysFaulted, SaysRefused, last_token}
 use Rattle.td_top.specs.Sessions.{AnswersLine, LaterSession}
 use Rattle.td_top.specs.declared.session.Session.{Session}
@@ -42,22 +42,22 @@ pub later_sync : (host : List ℕ) (s t : MirrorState) (old new : UpstreamView) 
     → LaterGrowth (following host s old) (following host t new)
 later_sync host s t old new result h = (refl, record { exchanges = h.taken ++ h.untaken; told = h.told; faults = h.later })
 
-pub is_synced : (host : List ℕ) (s t : MirrorState) (old new : UpstreamView) (x y : Session) (answer : List ℕ) → SyncsAs host s t old new (Ok tt)
-    → PublishesStated t x y answer → length y.installer.list ≤ length y.desk.seen
-    → AnswersLine (following host s old) (following host t new) x y line.Sync answer
-is_synced host s t old new x y answer h p knows =
-    is_done (following host s old) (following host t new) x y line.Sync answer p.joined (later_sync host s t old new (Ok tt) h) p.later
-    (by_sync host s t old new answer p.joined (settled h p.says)) p.grown p.heard knows
+pub is_synced : (host : List ℕ) (s t : MirrorState) (old new : UpstreamView) (x y : Session) (asked : Line) (answer : List ℕ)
+    → Grows (following host s old) asked → SyncsAs host s t old new (Ok tt) → PublishesStated t x y answer → length y.installer.list ≤ length y.desk.seen
+    → AnswersLine (following host s old) (following host t new) x y asked answer
+is_synced host s t old new x y asked answer grows h p knows =
+    is_done (following host s old) (following host t new) x y asked answer p.joined (later_sync host s t old new (Ok tt) h) p.later
+    (grows, refl, settled h p.says) p.grown p.heard knows
 
-pub is_faulted : (host : List ℕ) (s t : MirrorState) (old new : UpstreamView) (x : Session) (e : SyncFault) (answer : List ℕ)
-    → SyncsAs host s t old new (Err e) → SaysFaulted e answer → length x.installer.list ≤ length x.desk.seen
-    → AnswersLine (following host s old) (following host t new) x x line.Sync answer
-is_faulted host s t old new x e answer h (inl none) knows =
-    is_done (following host s old) (following host t new) x x line.Sync answer None (later_sync host s t old new (Err e) h) (session_refl x)
-    (by_sync host s t old new answer None (faulted_starved e h none refl)) refl refl knows
-is_faulted host s t old new x e answer h (inr why) knows =
-    is_done (following host s old) (following host t new) x x line.Sync answer None (later_sync host s t old new (Err e) h) (session_refl x)
-    (by_sync host s t old new answer None (faulted e h why.0 why.1 refl)) refl refl knows
+pub is_faulted : (host : List ℕ) (s t : MirrorState) (old new : UpstreamView) (x : Session) (e : SyncFault) (asked : Line) (answer : List ℕ)
+    → Grows (following host s old) asked → SyncsAs host s t old new (Err e) → SaysFaulted e answer → length x.installer.list ≤ length x.desk.seen
+    → AnswersLine (following host s old) (following host t new) x x asked answer
+is_faulted host s t old new x e asked answer grows h (inl none) knows =
+    is_done (following host s old) (following host t new) x x asked answer None (later_sync host s t old new (Err e) h) (session_refl x)
+    (grows, refl, faulted_starved e h none refl) refl refl knows
+is_faulted host s t old new x e asked answer grows h (inr why) knows =
+    is_done (following host s old) (following host t new) x x asked answer None (later_sync host s t old new (Err e) h) (session_refl x)
+    (grows, refl, faulted e h why.0 why.1 refl) refl refl knows
 
 -- ---- files of one mirror
 

@@ -16,10 +16,10 @@ use Rattle.console.specs.declared.line.Line.TheVariants as line
 use Rattle.console.specs.declared.said.Said.TheVariants as said
 use Rattle.zone_meaning.specs.Sound.{IsSound}
 use Rattle.zone_meaning.specs.ZoneHistories.{HasZoneHistory}
-use Rattle.td_top.specs.Growth.{GrowthView, Handles, LaterGrowth}
+use Rattle.td_top.specs.Growth.{GrowthView, Grows, Handles, LaterGrowth}
 use Rattle.td_top.specs.Replies.{last_token}
 use Rattle.td_top.specs.Sessions.{AnswersLine, BeginsWhole, LaterSession, StandsAt}
-use Rattle.td_top.specs.Operator.{GetsAnswer, IsUnknown, Talk, TakesMemory, TellsOnly, grown, handled, heard_by, least_after}
+use Rattle.td_top.specs.Operator.{GetsAnswer, IsForGrowth, Talk, TakesMemory, TellsOnly, grown, handled, heard_by, least_after}
 use Rattle.td_top.specs.Operator.{no_memory, only_told, unknown, with_joined}
 use Rattle.td_top.specs.declared.session.Session.{Session}
 use Rattle.td_top.proofs.GrowthLemmas.{growth_refl}
@@ -77,10 +77,11 @@ pub starved : (g : GrowthView) (a : Session) (asked : Line) → TakesMemory aske
 starved g a asked takes = stays g a a asked (reply_text said.NoMemory) (session_refl a) refl (λ whole talk is. no_memory takes refl refl)
 
 -- a line that asks for nothing that is done
-pub is_unknown : (g : GrowthView) (a : Session) (asked : Line) → IsUnknown g asked → AnswersLine g g a a asked (reply_text said.Unknown)
-is_unknown g a asked is =
+pub is_unknown : (g : GrowthView) (a : Session) (asked : Line) → IsForGrowth asked → (Grows g asked → ⊥)
+    → AnswersLine g g a a asked (reply_text said.Unknown)
+is_unknown g a asked others other =
     stays g a a asked (reply_text said.Unknown) (session_refl a) refl
-    (λ whole talk stands. unknown (subst (λ h. IsUnknown h asked) (sym stands.growth) is) refl refl)
+    (λ whole talk stands. unknown others (subst (λ h. Grows h asked → ⊥) (sym stands.growth) other) refl refl)
 
 -- a line that tells something
 pub tells : (g : GrowthView) (old new : Session) (asked : Line) (answer : List ℕ) → LaterSession old new → new.installer ≡ old.installer

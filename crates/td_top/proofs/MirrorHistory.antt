@@ -27,9 +27,9 @@ use Rattle.sync_world.specs.Hearing.{action_service}
 use Rattle.sync_world.specs.Holding.{HoldsLast}
 use Rattle.sync_world.specs.Worlds.{SyncWorld, WorldStep, world_begun}
 use Rattle.td_top.specs.Following.{SaysStated, StatesAfter, SyncsAs, SyncsMirror, faulted, faulted_starved, installed, refused, settled, starved, unchanged}
-use Rattle.td_top.specs.Growth.{GrowthView, Handles, by_folder, by_sync, following}
+use Rattle.td_top.specs.Growth.{GrowthView, Handles, following}
 use Rattle.td_top.specs.MirrorHistory.{FollowsPrimary, IsOfPrimary, IsStated, Publish, all_exchanges, joined, kept, none}
-use Rattle.td_top.specs.Operator.{GetsAnswer, Talk, Talks, handled, no_memory, only_told, talk_begun, told_news, unknown, watched, with_joined}
+use Rattle.td_top.specs.Operator.{GetsAnswer, Talk, Talks, changed, handled, no_memory, only_told, talk_begun, unknown, with_joined}
 use Rattle.td_top.specs.Operator as talk
 use Rattle.zone_meaning.specs.Sound.{IsSound}
 
@@ -131,19 +131,11 @@ module _ (host : List ℕ) (first : UpstreamView) where
   synced_so u v so t new answer r (faulted_starved e h is isnt) growth published = fault_so u v so t new e r h isnt growth published
 
   -- a line that makes the history of a mirror grow is one that syncs
-  handled_so : (u v : Talk) (so : SoFar host first u) (g h : GrowthView) (asked : Line) (answer : List ℕ) (r : Option ReleaseData)
-      → Handles u.published g asked answer r h → g ≡ following host so.after so.upstream → v.growth ≡ h
-      → v.published ≡ with_joined u.published r → SoFar host first v
-  handled_so u v so g h asked answer r (by_folder rules old new dir said which store installs) is growth published = absurd (cc is)
-  handled_so u v so g h asked answer r (by_sync name s t old new said which syncs) is growth published =
-      let asks : name ≡ host = cc is in
-      let from : s ≡ so.after = cc is in
-      let over : old ≡ so.upstream = cc is in
-      synced_so u v so t new answer r
-      (subst (λ x. SyncsMirror x so.after t so.upstream new u.published answer r) asks
-      (subst (λ x. SyncsMirror name x t so.upstream new u.published answer r) from
-      (subst (λ x. SyncsMirror name s t x new u.published answer r) over syncs)))
-      (growth ∙ ap (λ x. following x t new) asks) published
+  handled_so : (u v : Talk) (so : SoFar host first u) (g : GrowthView) (asked : Line) (answer : List ℕ) (r : Option ReleaseData)
+      → Handles u.published (following host so.after so.upstream) asked answer r g → v.growth ≡ g → v.published ≡ with_joined u.published r → SoFar host first v
+  handled_so u v so (following name t new) asked answer r handles growth published =
+      synced_so u v so t new answer r handles.2 (growth ∙ ap (λ x. following x t new) handles.1) published
+  handled_so u v so other asked answer r handles growth published = absurd handles
 
   -- a line that leaves the history as it is
   left_so : (u v : Talk) → SoFar host first u → v.growth ≡ u.growth → v.published ≡ u.published → SoFar host first v
@@ -160,11 +152,11 @@ module _ (host : List ℕ) (first : UpstreamView) where
   line_so : (whole : List ReleaseData) (u v : Talk) (asked : Line) (answer : List ℕ) → GetsAnswer whole u asked answer v → SoFar host first u
       → SoFar host first v
   line_so whole u v asked answer (handled r growth handles is) so =
-      handled_so u v so u.growth growth asked answer r handles so.growth (ap (λ t. t.growth) is) (ap (λ t. t.published) is)
-  line_so whole u v asked answer (watched wish a b c is) so = left_so u v so (ap (λ t. t.growth) is) (ap (λ t. t.published) is)
-  line_so whole u v asked answer (told_news number s a b c is) so = left_so u v so (ap (λ t. t.growth) is) (ap (λ t. t.published) is)
+      handled_so u v so growth asked answer r (subst (λ g. Handles u.published g asked answer r growth) so.growth handles) (ap (λ t. t.growth) is)
+      (ap (λ t. t.published) is)
+  line_so whole u v asked answer (changed event a b is) so = left_so u v so (ap (λ t. t.growth) is) (ap (λ t. t.published) is)
   line_so whole u v asked answer (only_told least a is) so = left_so u v so (ap (λ t. t.growth) is) (ap (λ t. t.published) is)
-  line_so whole u v asked answer (unknown a b is) so = left_so u v so (ap (λ t. t.growth) is) (ap (λ t. t.published) is)
+  line_so whole u v asked answer (unknown a b c is) so = left_so u v so (ap (λ t. t.growth) is) (ap (λ t. t.published) is)
   line_so whole u v asked answer (no_memory a b is) so = left_so u v so (ap (λ t. t.growth) is) (ap (λ t. t.published) is)
 
   talk_so : (whole : List ReleaseData) (t u : Talk) (asked : List Line) (told : List (List ℕ)) → Talks whole t asked told u → SoFar host first t

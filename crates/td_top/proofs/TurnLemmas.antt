@@ -20,14 +20,12 @@ is_passed old held new same has over = (
 
 -- such a line takes memory, and the talk goes on after it
 pub takes_memory : (next : Line) → HasText next → TakesMemory next
-takes_memory (line.Install dir) has = tt
-takes_memory (line.Watch wish) has = tt
-takes_memory other has = absurd has
+takes_memory line.Quit has = has
+takes_memory other has = search has
 
 pub keeps_talking : (next : Line) → HasText next → KeepsTalking next
-keeps_talking (line.Install dir) has = refl
-keeps_talking (line.Watch wish) has = refl
-keeps_talking other has = absurd has
+keeps_talking line.Quit has = absurd has
+keeps_talking other has = refl
 
 -- the line that ends a talk
 pub is_last : (held new : List ℕ) (next : Line) → is_quit next ≡ true → IsNextLine held new next → IsNextLine held new line.Quit

@@ -1,19 +1,21 @@
 -- What an operator's lines get said, one after the other, while a history grows by what they ask
 -- for.
-use Rattle.std.specs.Prelude.{◌≡◌, ℕ, ◌+◌, ◌<◌, ◌≤◌, List, [], ◌∷◌, ◌++◌, length, ⊤, Bool, true}
-use Rattle.std.specs.Prelude.{false, Option, None, Some}
+use Rattle.std.specs.Prelude.{◌≡◌, ◌≢◌, ℕ, ◌+◌, ◌<◌, ◌≤◌, List, [], ◌∷◌, ◌++◌, length, ⊤, Bool}
+use Rattle.std.specs.Prelude.{true, false, Option, None, Some}
 use Rattle.std.specs.List.{AllByRecursion}
+use Rattle.std.specs.Option.{IsSome}
 use mathlib.Core.List.{IsPrefix}
 use Rattle.catalogue.specs.Histories.{meta}
 use Rattle.catalogue.specs.Releases.{ReleaseData}
+use Rattle.console.specs.Lines.{HasText}
 use Rattle.console.specs.declared.line.Line.{Line}
 use Rattle.console.specs.declared.line.Line.TheVariants as line
 use Rattle.console.specs.Replies.{news_text, reply_text}
 use Rattle.console.specs.declared.said.Said.TheVariants as said
 use Rattle.subscribers.specs.FaultText.{fault_text}
-use Rattle.subscribers.specs.Hearing.{all_hear}
+use Rattle.subscribers.specs.Hearing.{Audience, Event, after, all_hear, cleared_by}
 use Rattle.subscribers.specs.News.{numbered}
-use Rattle.subscribers.specs.Views.{SubscriberView, changed_numbered, emptied, newcomer}
+use Rattle.subscribers.specs.Views.{SubscriberView}
 use Rattle.subscribers.specs.declared.subscribe_fault.SubscribeFault.TheVariants as fault
 use Rattle.subscribers.specs.declared.subscriber_list.TheConstants.{MOST_SUBSCRIBERS}
 use Rattle.subscribers.specs.declared.wish.Wish.{Wish}
@@ -27,6 +29,10 @@ pub record Talk : Type 0 where
   pub least : ℕ
   pub growth : GrowthView
   pub subscribers : List SubscriberView
+
+-- the releases published in a talk, and who hears of them
+abbrev pub audience : Talk → Audience
+audience t = record { history = t.published; subscribers = t.subscribers }
 
 -- the server is ready, over these releases, and nobody has subscribed
 abbrev pub talk_begun : List ReleaseData → GrowthView → Talk
@@ -58,21 +64,18 @@ grown t joined growth = record {
   subscribers = heard_by t.subscribers t.published joined;
 }
 
--- a line that asks for nothing that is done
-abbrev pub IsUnknown : GrowthView → Line → Type 0
-IsUnknown growth line.Status = ⊥
-IsUnknown growth line.Quit = ⊥
-IsUnknown growth (line.Watch wish) = ⊥
-IsUnknown growth (line.News number) = ⊥
-IsUnknown growth asked = Grows growth asked → ⊥
+-- a line that the talk does not do itself, so that the growth is asked for it
+abbrev pub IsForGrowth : Line → Type 0
+IsForGrowth asked =
+    (asked ≢ line.Status) × (asked ≢ line.Quit) × ((wish : Wish) → asked ≢ line.Watch wish)
+    × ((number : ℕ) → asked ≢ line.News number)
 
--- a line for which memory may run out before it is done
+-- a line for which memory may run out before it is done, be it for its text alone
 abbrev pub TakesMemory : Line → Type 0
 TakesMemory line.Status = ⊤
-TakesMemory (line.Install dir) = ⊤
 TakesMemory (line.Watch wish) = ⊤
 TakesMemory (line.News number) = ⊤
-TakesMemory asked = ⊥
+TakesMemory asked = HasText asked
 
 -- What a line gets said that changes neither the history nor who hears of it, and the least place
 -- that a status may tell after it. A status shows a place that is not before the last release
@@ -92,26 +95,33 @@ TellsOnly whole t (line.News number) answer least =
 TellsOnly whole t line.Quit answer least = (least ≡ t.least) × (answer ≡ reply_text said.Bye)
 TellsOnly whole t asked answer least = ⊥
 
+-- what a line gets said that changes who hears of installs and nothing else, and what it is to them
+abbrev pub ChangesHearing : Audience → Line → List ℕ → Event → Type 0
+-- one more subscriber, which is to hear of the releases after those published so far
+ChangesHearing a (line.Watch wish) answer event =
+    (event ≡ Event.Subscribes wish) × (length a.subscribers < MOST_SUBSCRIBERS)
+    × (answer ≡ reply_text (said.Watching (length a.subscribers + 1)))
+-- what a subscriber holds is told, and cleared
+ChangesHearing a (line.News number) answer event =
+    (event ≡ Event.Clears number) × IsSome (numbered a.subscribers number)
+    × (answer ≡ news_text (cleared_by number a event))
+ChangesHearing a asked answer event = ⊥
+
 -- what one line gets said, and what it makes of the talk
 pub data GetsAnswer (whole : List ReleaseData) (t : Talk) (asked : Line) (answer : List ℕ)
     (u : Talk) : Type 0 where
   handled : (joined : Option ReleaseData) (growth : GrowthView)
       → Handles t.published t.growth asked answer joined growth → u ≡ grown t joined growth
       → GetsAnswer whole t asked answer u
-  -- one more subscriber, which is to hear of the releases after those published so far
-  watched : (wish : Wish) → asked ≡ line.Watch wish → length t.subscribers < MOST_SUBSCRIBERS
-      → answer ≡ reply_text (said.Watching (length t.subscribers + 1))
-      → u ≡ record t { subscribers = t.subscribers ++ newcomer wish (length t.published) ∷ [] }
-      → GetsAnswer whole t asked answer u
-  -- what a subscriber holds is told, and cleared
-  told_news : (number : ℕ) (s : SubscriberView) → asked ≡ line.News number
-      → numbered t.subscribers number ≡ Some s → answer ≡ news_text s.held
-      → u ≡ record t { subscribers = changed_numbered emptied number t.subscribers }
+  -- it is this to those who hear, and the history is as it was
+  changed : (event : Event) → ChangesHearing (audience t) asked answer event
+      → (after (audience t) event).history ≡ t.published
+      → u ≡ record t { subscribers = (after (audience t) event).subscribers }
       → GetsAnswer whole t asked answer u
   only_told : (least : ℕ) → TellsOnly whole t asked answer least → u ≡ record t { least = least }
       → GetsAnswer whole t asked answer u
-  unknown : IsUnknown t.growth asked → answer ≡ reply_text said.Unknown → u ≡ t
-      → GetsAnswer whole t asked answer u
+  unknown : IsForGrowth asked → (Grows t.growth asked → ⊥) → answer ≡ reply_text said.Unknown
+      → u ≡ t → GetsAnswer whole t asked answer u
   -- memory ran out, and nothing was done
   no_memory : TakesMemory asked → answer ≡ reply_text said.NoMemory → u ≡ t
       → GetsAnswer whole t asked answer u

@@ -14,11 +14,11 @@ use Rattle.console.specs.declared.line.Line.{Line}
 use Rattle.console.specs.declared.line.Line.TheVariants as line
 use Rattle.console.specs.declared.said.Said.TheVariants as said
 use Rattle.catalogue.specs.Holdings.{history_of}
-use Rattle.td_top.specs.Audiences.{TellsEachChange}
+use Rattle.td_top.specs.Audiences.{TellsEachChange, events_of}
 use Rattle.td_top.specs.Replies.{last_token}
 use Rattle.td_top.specs.Sessions.{BeginsWhole, LaterSession, StandsAt}
 use Rattle.td_top.specs.Site.{ConsoleView, LaterConsole}
-use Rattle.td_top.specs.Operator.{KeepsTalking, Talk, Talks, talk_begun}
+use Rattle.td_top.specs.Operator.{KeepsTalking, Talk, Talks, audience, talk_begun}
 use Rattle.td_top.specs.declared.session.Session.{Session}
 use Rattle.td_top.specs.declared.talking.TalkEnd.{TalkEnd}
 use Rattle.td_top.specs.declared.talking.TalkEnd.TheVariants as end
@@ -139,7 +139,7 @@ pub record AnswersOperator (opening whole : List ReleaseData) (before now : Cons
   pub reads : ReadsLines before.input now.input read asked ignored
   pub needed : IsNeeded read asked
   pub talks : Talks whole (talk_begun opening before.growth) asked told last
-  pub hears : TellsEachChange opening asked told last
+  pub hears : TellsEachChange (audience (talk_begun opening before.growth)) (events_of talks) last
   pub published : last.published ≡ whole
   pub growth : last.growth ≡ now.growth
   pub written : WritesTalk ended opening before.output now.output told

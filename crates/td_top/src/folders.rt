@@ -1,5 +1,4 @@
-ghost use Rattle.std.specs.Prelude.{◌≡◌};
-ghost use Rattle.td_top.specs.Growth.{folders};
+ghost use Rattle.td_top.specs.Growth.{AsksFolder, folders};
 ghost use Rattle.td_top.specs.Replies.{reply_bytes};
 ghost use Rattle.td_top.specs.Sessions.{AnswersLine};
 
@@ -38,7 +37,7 @@ fn install<R: Wait, S: Store>(
     store: &mut S,
     dir: &Bytes,
 ) -> Reply
-    ensures { (line : Line) → line ≡ Line.Install dir.now
+    ensures { (line : Line) → AsksFolder line dir.now
         → AnswersLine (folders asked.now.rules.chosen (S.seen store.old))
         (folders asked.now.rules.chosen (S.seen store.new)) session.old session.new
         line (reply_bytes result) }

@@ -4,6 +4,7 @@ ghost use Rattle.sync_core.specs.Mirrors.{MirrorState};
 ghost use Rattle.sync_core.specs.Published.{HasFiles, manifest_of};
 ghost use Rattle.td_top.specs.Following.{StatesLast};
 ghost use Rattle.td_top.specs.FollowingSteps.{OpensStated, PublishesStated, follow_of};
+ghost use Rattle.td_top.specs.Growth.{Grows};
 ghost use Rattle.td_top.specs.Opening.{HasDesks, published_in};
 ghost use Rattle.td_top.specs.Replies.{reply_bytes};
 ghost use Rattle.td_top.specs.Sessions.{AnswersLine};
@@ -54,7 +55,7 @@ fn sync_once<R: Wait, U: Upstream>(
     asked: &Asked<'_>,
     follow: &mut Follow<'_, U>,
 ) -> Reply
-    ensures { (line : Line) → line ≡ Line.Sync → AnswersLine
+    ensures { (line : Line) → Grows (follow_of U.seen follow.old) line → AnswersLine
         (follow_of U.seen follow.old) (follow_of U.seen follow.new) session.old session.new
         line (reply_bytes result) }
 {

@@ -37,12 +37,10 @@ pub fn answer_line<R: Wait, G: Growth>(
         Line::News(number) => tell_news(session, *number),
         Line::Status => show(session),
         Line::Quit => bye(),
-        Line::Install(_) | Line::Sync | Line::Strange => {
-            match growth.grow(rt, session, asked, line) {
-                Some(reply) => reply,
-                None => Reply::brief(&Said::Unknown),
-            }
-        }
+        _ => match growth.grow(rt, session, asked, line) {
+            Some(reply) => reply,
+            None => Reply::brief(&Said::Unknown),
+        },
     }
 }
 

@@ -5,9 +5,10 @@ pub publish-requires : goal.publish-requires
 publish-requires g c = c.in-Ok.ensures.settled
 
 pub returns-in-Ok : goal.returns-in-Ok
-returns-in-Ok g c = λ line same. rw same (
-    is_synced c.args.follow.now.host.now _ _ _ _ c.args.session.now _ _ c.in-Ok.ensures.syncs c.publish.ensures c.publish.new.session.knows)
+returns-in-Ok g c = λ line grows.
+    is_synced c.args.follow.now.host.now _ _ _ _ c.args.session.now _ line _ grows c.in-Ok.ensures.syncs c.publish.ensures c.publish.new.session.knows
 
 pub returns-in-Err : goal.returns-in-Err
-returns-in-Err g c = λ line same. rw same (
-    is_faulted c.args.follow.now.host.now _ _ _ _ c.args.session.now c.in-Err.fault _ c.in-Err.ensures.syncs c.sync_refusal.ensures c.args.session.now.knows)
+returns-in-Err g c = λ line grows.
+    is_faulted c.args.follow.now.host.now _ _ _ _ c.args.session.now c.in-Err.fault line _ grows c.in-Err.ensures.syncs c.sync_refusal.ensures
+    c.args.session.now.knows
