@@ -1,0 +1,5 @@
+pub mod SameBytes
+pub mod SameHistories
+pub mod Short
+pub mod Sized
+pub mod Stated
