@@ -1,0 +1,3 @@
+pub mod CalendarReads
+pub mod CapabilityReads
+pub mod Readable
