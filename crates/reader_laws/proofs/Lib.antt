@@ -1,0 +1,6 @@
+pub mod LatestPart
+pub mod Lined
+pub mod OnsetTests
+pub mod Parted
+pub mod Tests
+pub mod Worded

@@ -1,0 +1,4 @@
+pub mod Latest
+pub mod Lines
+pub mod Texts
+pub mod Words
