@@ -1,0 +1,5 @@
+pub mod Calendars
+pub mod Expansions
+pub mod Files
+pub mod Lists
+pub mod Requested
