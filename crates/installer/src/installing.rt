@@ -1,5 +1,5 @@
-ghost use Rattle.std.specs.Prelude.{◌≡◌, ◌↔◌, ◌<◌, ◌≤◌, [], ◌∷◌, ◌++◌, length, All, None, Some};
-ghost use Rattle.std.specs.Prelude.{IfOk, IsErr, IsErrOf, OnErr, OnOk, true, false};
+ghost use Rattle.std.specs.Prelude.{◌≡◌, ◌↔◌, ◌⊎◌, ◌<◌, ◌≤◌, [], ◌∷◌, ◌++◌, length, All, None};
+ghost use Rattle.std.specs.Prelude.{Some, IfOk, IsErr, IsErrOf, OnErr, OnOk, true, false};
 ghost use Rattle.std.specs.List.{last_or};
 ghost use Rattle.std.specs.Option.{option_map};
 ghost use mathlib.Core.List.{IsPrefix};
@@ -9,6 +9,7 @@ ghost use Rattle.subscribers.specs.Hearing.{all_hear};
 ghost use Rattle.subscribers.specs.News.{numbered};
 ghost use Rattle.subscribers.specs.Views.{changed_numbered, emptied, newcomer};
 ghost use Rattle.subscribers.specs.declared.subscriber_list.TheConstants.{MOST_SUBSCRIBERS};
+ghost use Rattle.td_base.specs.Views.{one_more};
 ghost use Rattle.zone_meaning.specs.Sound.{IsSound};
 ghost use Rattle.zone_meaning.specs.ZoneHistories.{zone_bytes};
 ghost use Rattle.installer.specs.Installing.{GrowsBy, Installs, InstallsStated};
@@ -48,6 +49,7 @@ impl Model for Installer {
       pair = i.publisher.pair;
       list = i.publisher.list;
       stuck = i.publisher.stuck;
+      tries = i.publisher.tries;
       subscribers = subscribers_of i.subscribers;
     } };
 
@@ -141,6 +143,8 @@ impl Installer {
         ensures pair { self.new.pair ≡ self.old.pair }
         ensures free { IfOk result (λ _. self.new.stuck ≡ false) }
         ensures blocked { self.old.stuck ≡ true → IsErr result }
+        ensures stuck { OnErr result ((self.new.stuck ≡ self.old.stuck)
+            ⊎ (self.new.tries ≡ one_more self.old.tries)) }
     {
         let last = self.publisher.last();
         let admitted = admitted_in(alloc, dir, store, last, &asked.rules, &self.subscribers)?;
@@ -171,6 +175,8 @@ impl Installer {
         ensures pair { self.new.pair ≡ self.old.pair }
         ensures free { IfOk result (λ _. self.new.stuck ≡ false) }
         ensures blocked { self.old.stuck ≡ true → IsErr result }
+        ensures stuck { OnErr result ((self.new.stuck ≡ self.old.stuck)
+            ⊎ (self.new.tries ≡ one_more self.old.tries)) }
     {
         let last = self.publisher.last();
         let admitted = admitted_stated(
@@ -207,6 +213,8 @@ impl Installer {
         ensures pair { self.new.pair ≡ self.old.pair }
         ensures free { IfOk result (λ _. self.new.stuck ≡ false) }
         ensures blocked { self.old.stuck ≡ true → IsErr result }
+        ensures stuck { OnErr result ((self.new.stuck ≡ self.old.stuck)
+            ⊎ (self.new.tries ≡ one_more self.old.tries)) }
     {
         let place = next.catalogue.count();
         prepare(&mut self.subscribers, asked, place, &next.delta)?;

@@ -3,12 +3,14 @@ use Rattle.std.specs.Prelude.{◌≡◌, ℕ, List, Bool}
 use Rattle.logbook.specs.Pages.{Book}
 
 -- A publisher, or what one leaves that has ended: the history that it writes, which all that is
--- made with it has in common, the values published, the earliest first, and whether a value stands
--- in that history which was not shown, so that nothing more is published.
+-- made with it has in common, the values published, the earliest first, whether a value stands
+-- in that history which was not shown, so that nothing more is published, and how often that history
+-- was asked to grow (0 after the end).
 pub record PublishedView (V : Type 0) : Type 0 where
   pub pair : Book
   pub list : List V
   pub stuck : Bool
+  pub tries : ℕ
 
 -- A desk. `seen`: the published values up to the one that it holds; `ended`: whether it knows that
 -- nothing follows. As the rule of what is shown counts them, `enters` is the number of its enters,

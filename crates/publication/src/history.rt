@@ -5,6 +5,7 @@ ghost use Rattle.std.specs.Prelude.{false};
 ghost use mathlib.Core.List.{IsPrefix};
 ghost use Rattle.publication.specs.Histories.{AreOfOne, values, ended_in};
 ghost use Rattle.publication.specs.HistoryRule.{head_of};
+ghost use Rattle.td_base.specs.Views.{one_more};
 
 use logbook::{Gain, Offer, Plain, Play, Rule, Seen, Start, Word};
 use std::marker::PhantomData;
@@ -78,6 +79,8 @@ pub type Prefix<V> = Seen<Option<V>, u64, HistoryRule<V>>;
 pub struct HistoryWriter<V: Value> {
     head: Word<Option<V>, u64, HistoryRule<V>>,
     pub prefix: Prefix<V>,
+    /// How often it was asked to grow.
+    pub tries: u64,
     count: u64,
     ghost counted: { count ≡ length prefix.log },
     ghost head_is: { head ≡ head_of prefix.book },
@@ -91,6 +94,7 @@ impl<V: Value> HistoryWriter<V> {
         HistoryWriter {
             head: Word::tracked(0, &mut first),
             prefix,
+            tries: 0,
             count: 0,
         }
     }
@@ -101,6 +105,7 @@ impl<V: Value> HistoryWriter<V> {
         requires stands { V.stands value.now
             (map V.last (values self.old.prefix.log ++ value.now ∷ [])) }
         ensures book { self.new.prefix.book ≡ self.old.prefix.book }
+        ensures tries { self.new.tries ≡ one_more self.old.tries }
         ensures added { MatchBool result
             (self.new.prefix.log ≡ self.old.prefix.log ++ Some value.now ∷ [])
             (IsPrefix self.old.prefix.log self.new.prefix.log) }
@@ -112,6 +117,7 @@ impl<V: Value> HistoryWriter<V> {
     pub fn finish(&mut self) -> bool
         requires going { ended_in self.old.prefix.log ≡ false }
         ensures book { self.new.prefix.book ≡ self.old.prefix.book }
+        ensures tries { self.new.tries ≡ one_more self.old.tries }
         ensures added { MatchBool result
             (self.new.prefix.log ≡ self.old.prefix.log ++ None ∷ [])
             (IsPrefix self.old.prefix.log self.new.prefix.log) }
@@ -126,10 +132,12 @@ impl<V: Value> HistoryWriter<V> {
         requires stands { IfSome (M.ask about.now) (λ value. V.stands value
             (map V.last (values self.old.prefix.log ++ value ∷ []))) }
         ensures book { self.new.prefix.book ≡ self.old.prefix.book }
+        ensures tries { self.new.tries ≡ one_more self.old.tries }
         ensures added { MatchBool result
             (self.new.prefix.log ≡ self.old.prefix.log ++ M.ask about.now ∷ [])
             (IsPrefix self.old.prefix.log self.new.prefix.log) }
     {
+        self.tries = self.tries.saturating_add(1);
         let Some(next) = self.count.checked_add(1) else {
             return false;
         };

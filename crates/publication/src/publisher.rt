@@ -1,10 +1,11 @@
-ghost use Rattle.std.specs.Prelude.{◌≡◌, [], ◌∷◌, ◌++◌, map, true, false};
+ghost use Rattle.std.specs.Prelude.{◌≡◌, ◌⊎◌, [], ◌∷◌, ◌++◌, map, true, false};
 ghost use Rattle.std.specs.Prelude.{Some, None, IfOk, IsErr, OnErr};
 ghost use Rattle.std.specs.List.{last_or};
 ghost use Rattle.left_right.specs.Sides.{view};
 ghost use Rattle.publication.specs.declared.view.SeatRole.TheVariants.{Publisher as AtStage};
 ghost use Rattle.publication.specs.Histories.{values, ended_in};
 ghost use Rattle.publication.specs.ShownRule.{home_of};
+ghost use Rattle.td_base.specs.Views.{one_more};
 
 use crate::edition::Edition;
 use crate::history::{HistoryWriter, are_of_one};
@@ -49,6 +50,7 @@ impl<V: Value, T: Sets<V>> Model for PublisherOf<V, T> {
       pair = p.history.prefix.book;
       list = values p.last.prefix.log;
       stuck = p.stuck;
+      tries = p.history.tries;
     } };
 
     ghost invariant = { λ p.
@@ -66,7 +68,8 @@ impl<V: Value, T: Sets<V>> PublisherOf<V, T> {
     ///
     /// All memory but that of the operation that shows the value is taken before the history
     /// grows. Where that is refused, what was published and shown is as before, and the publisher
-    /// is stuck: no later value is published.
+    /// is stuck: no later value is published. Where memory was refused before, the publisher is as
+    /// it was.
     pub fn publish<R: Wait>(&mut self, rt: &R, next: V) -> Result<Receipt<V>, NoMemory>
         requires { V.stands next (map V.last (self.old.list ++ next ∷ [])) }
         ensures ok { IfOk result (λ r. (r.pair ≡ self.old.pair)
@@ -76,6 +79,8 @@ impl<V: Value, T: Sets<V>> PublisherOf<V, T> {
         ensures pair { self.new.pair ≡ self.old.pair }
         ensures free { IfOk result (λ _. self.new.stuck ≡ false) }
         ensures blocked { self.old.stuck ≡ true → IsErr result }
+        ensures stuck { OnErr result ((self.new ≡ self.old)
+            ⊎ (self.new.tries ≡ one_more self.old.tries)) }
     {
         if self.stuck {
             return Err(NoMemory);
@@ -206,6 +211,7 @@ impl<V: Value, T: Sets<V>> Model for EndedOf<V, T> {
       pair = e.edition.prefix.book;
       list = values e.edition.prefix.log;
       stuck = false;
+      tries = 0;
     } };
 
     ghost invariant = { λ e. ended_in e.edition.prefix.log ≡ true };
