@@ -1,6 +1,6 @@
 //! Works in threads of their own, beside one thing of the caller's thread.
 ghost use Rattle.std.specs.Prelude.{◌≡◌, ◌<◌, ◌≤◌, [], map, vec_len};
-ghost use Rattle.std.specs.Prelude.{false, IfOk};
+ghost use Rattle.std.specs.Prelude.{All, false, IfOk};
 ghost use Rattle.std.specs.Vec.{vec_capacity};
 ghost use Rattle.td_base.specs.Works.{work_of};
 ghost use Rattle.desk_pool.specs.Pool.{DoesEach, GivesResults, HasRefusal, IsStopped};
@@ -9,6 +9,7 @@ ghost use Rattle.desk_pool.specs.Starting.{StartsWorks, HasRefused};
 
 use crate::beside::Beside;
 use crate::pool_end::PoolEnd;
+use crate::stops_by::StopsBy;
 use std::alloc::Global;
 use std::sync::Wait;
 use std::thread::Threads;
@@ -16,7 +17,8 @@ use td_base::{NoMemory, Running, Spawner, Work};
 
 /// Starts each work, does what is beside them in the caller's thread, stops that, and joins the
 /// works. Where a work is refused, that and the later ones are dropped, and what is beside them is
-/// stopped without having run. All memory is taken before anything is started.
+/// stopped without having run. All memory is taken before anything is started. The works stop by
+/// the flag of what is beside them, so none of them ends early while that still runs.
 pub fn run_beside<W, S, M, R>(
     rt: &R,
     alloc: Global,
@@ -25,12 +27,13 @@ pub fn run_beside<W, S, M, R>(
     beside: &mut M,
 ) -> PoolEnd<W::Done>
 where
-    W: Work + Send + Drop + 'static,
+    W: Work + StopsBy + Send + Drop + 'static,
     W::Done: Send + Drop + 'static,
     S: Spawner,
     M: Beside,
     R: Threads + Wait + Copy + Send + 'static,
-    requires { M.stopped beside.old ≡ false }
+    requires goes_on { M.stopped beside.old ≡ false }
+    requires flag { All (λ w. W.flag w ≡ M.flag beside.old) works.items }
     ensures results { GivesResults W.does works.items result }
     ensures beside { LeavesBeside M.ran M.halted beside.old beside.new result }
     ensures stopped { IsStopped (M.stopped beside.new) result }

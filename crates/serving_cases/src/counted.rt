@@ -12,6 +12,10 @@ pub struct Counted {
 
 impl Beside for Counted {
     ghost use Rattle.std.specs.Prelude.{◌≡◌};
+    ghost use Rattle.serving_cases.specs.NoFlag.{no_flag};
+
+    // The works beside it look at no flag.
+    ghost flag = { λ c. no_flag };
 
     ghost stopped = { λ c. c.stopped };
 

@@ -4,7 +4,7 @@ ghost use Rattle.std.specs.Prelude.{◌≡◌};
 use crate::counted::Counted;
 use crate::late_spawner::LateSpawner;
 use case_lines::{Answer, Row};
-use desk_pool::{PoolEnd, run_beside};
+use desk_pool::{PoolEnd, StopsBy, run_beside};
 use std::alloc::Global;
 use std::sync::Wait;
 use std::thread::Threads;
@@ -24,6 +24,12 @@ impl Work for Numbered {
     fn run<R: Wait>(self, _rt: &R) -> u64 {
         self.number
     }
+}
+
+impl StopsBy for Numbered {
+    ghost use Rattle.serving_cases.specs.NoFlag.{no_flag};
+
+    ghost flag = { λ w. no_flag };
 }
 
 /// `works NUMBER REFUSED`: what comes of so many works, each of which gives its number from 1,
