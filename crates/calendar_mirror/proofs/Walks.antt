@@ -41,6 +41,7 @@ module _ (written : Ask → List ℕ) (s t : MirrorState) (old new : UpstreamVie
     told = k.told;
     later = k.later;
     failed = λ e. k.failed (upstream_failed r e);
+    steady = λ not. k.steady (λ e. not (ap of_sync e));
   }
 
 -- ---- ends
@@ -60,8 +61,9 @@ module _ (written : Ask → List ℕ) (s t u : MirrorState) (old now new : Upstr
     untaken = k.exchange ∷ [];
     ends = ends;
     told = tells_on old.told now.told new.told w.taken (k.exchange ∷ []) w.told k.told;
-    later = omega (arith, w.later, k.later);
+    later = omega (arith, w.steady, k.steady);
     failed = λ e. absurd (other e);
+    steady = λ not. k.steady ∙ w.steady;
   }
 
   counted : number ≡ Rattle.mirror.specs.Shares.number_after w.taken
@@ -110,7 +112,7 @@ module _ (written : Ask → List ℕ) (s t : MirrorState) (old new : UpstreamVie
     is_judged = subst (λ b. IsJudged b answer j) same k;
     state = state;
     told = e.told;
-    later = e.later;
+    steady = e.steady refl;
   }
 
   pub got_turn : (r : Result Taken CalendarSyncFault) → TakesCalendar a s t answer number r → CalendarTurn written s t old new number r

@@ -58,3 +58,5 @@ module _ (written : Ask → List ℕ) where
     pub told : TellsMore old.told new.told (taken ++ untaken)
     pub later : old.faults ≤ new.faults
     pub failed : result ≡ Err (fault.Sync sync_fault.UpstreamFault) → Rose old.faults new.faults
+    pub steady : (result ≡ Err (fault.Sync sync_fault.UpstreamFault) → ⊥)
+        → new.faults ≡ old.faults

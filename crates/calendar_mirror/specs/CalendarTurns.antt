@@ -1,5 +1,5 @@
 -- One exchange of a sync of calendars: words of its inner functions.
-use Rattle.std.specs.Prelude.{◌≡◌, ℕ, ◌≤◌, List, [], ◌∷◌, Result, Ok, Err}
+use Rattle.std.specs.Prelude.{◌≡◌, ℕ, List, [], ◌∷◌, Result, Ok, Err}
 use Rattle.td_base.specs.Upstreams.{TellsMore, UpstreamView}
 use Rattle.td_base.specs.declared.report.Ask.{Ask}
 use Rattle.td_base.specs.declared.upstream.Exchange.{Exchange}
@@ -33,7 +33,7 @@ pub record TurnsAway (written : Ask → List ℕ) (s t : MirrorState) (old new :
   pub is_judged : IsJudged (ask_of s) exchange.answer j
   pub state : t ≡ s
   pub told : TellsMore old.told new.told (exchange ∷ [])
-  pub later : old.faults ≤ new.faults
+  pub steady : new.faults ≡ old.faults
 
 -- the exchange of this number, if there was one, and what became of it
 abbrev pub CalendarTurn : (Ask → List ℕ) → MirrorState → MirrorState → UpstreamView → UpstreamView

@@ -92,3 +92,4 @@ module _ (written : Ask → List ℕ) (means : Ask → List ℕ → Understood �
     pub told : TellsMore old.told new.told (taken ++ untaken)
     pub later : old.faults ≤ new.faults
     pub failed : result ≡ Err fault.UpstreamFault → Rose old.faults new.faults
+    pub steady : (result ≡ Err fault.UpstreamFault → ⊥) → new.faults ≡ old.faults

@@ -65,6 +65,7 @@ module _ (written : Ask → List ℕ) (means : Ask → List ℕ → Understood �
     pub told : TellsMore old.told new.told exchanges
     pub later : old.faults ≤ new.faults
     pub failed : result ≡ Err fault.UpstreamFault → Rose old.faults new.faults
+    pub steady : (result ≡ Err fault.UpstreamFault → ⊥) → new.faults ≡ old.faults
 
   -- what a sync has come to, after so many exchanges, so many of them with answers to lists
   pub record HasWalked (s t : MirrorState) (old now : UpstreamView) (lists asked : ℕ)
@@ -73,5 +74,5 @@ module _ (written : Ask → List ℕ) (means : Ask → List ℕ → Understood �
     pub walks : WalksOn written means s taken 0 lists t
     pub count : asked ≡ min (length taken) (2 ^ 64 - 1)
     pub told : TellsMore old.told now.told taken
-    pub later : old.faults ≤ now.faults
+    pub steady : now.faults ≡ old.faults
     pub few_lists : lists ≤ MOST_LISTS

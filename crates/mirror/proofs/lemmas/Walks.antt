@@ -129,14 +129,18 @@ module _ (written : Ask → List ℕ) (means : Ask → List ℕ → Understood �
   same_cause : (e : SyncFault) (r : Result (Unit {0}) SyncFault) → r ≡ Err e → r ≡ Err fault.UpstreamFault → e ≡ fault.UpstreamFault
   same_cause e r says f = cc
 
+  cause_of : (e : SyncFault) (r : Result Taken SyncFault) → r ≡ Err e → r ≡ Err fault.UpstreamFault → e ≡ fault.UpstreamFault
+  cause_of e r says f = cc
+
   pub fault_syncs : (e : SyncFault) → TurnsOn written means t u now new number (Err e) → Syncs written means s u old new (Err e)
   fault_syncs e o = record {
     taken = w.taken;
     untaken = o.exchanges;
     ends = fault_ends e o.exchanges o.turn;
     told = told_on o.exchanges o.told;
-    later = omega (arith, w.later, o.later);
-    failed = λ f. rose_on old.faults now.faults new.faults w.later (o.failed (ap Err (same_cause e (Err e) refl f)));
+    later = omega (arith, w.steady, o.later);
+    failed = λ f. rose_on old.faults now.faults new.faults (omega (arith, w.steady)) (o.failed (ap Err (same_cause e (Err e) refl f)));
+    steady = λ not. o.steady (λ f. not (ap Err (cause_of e (Err e) refl f))) ∙ w.steady;
   }
 
   -- an answer that was taken
@@ -153,6 +157,9 @@ module _ (written : Ask → List ℕ) (means : Ask → List ℕ → Understood �
   not_failed : (k : Taken) (r : Result Taken SyncFault) → r ≡ Ok k → (r ≡ Err fault.UpstreamFault) ⊎ (r ≡ Err fault.NoMemory) → ⊥
   not_failed k r says (inl e) = cc
   not_failed k r says (inr e) = cc
+
+  no_fault : (k : Taken) (r : Result Taken SyncFault) → r ≡ Ok k → r ≡ Err fault.UpstreamFault → ⊥
+  no_fault k r says e = cc
 
   is_taken : (k : Taken) (xs : List Exchange) → Turn written means t u xs number (Ok k) → IsTaken xs k
   is_taken k xs (asked_none is pair) = absurd (not_failed k (Ok k) refl pair.1)
@@ -174,8 +181,9 @@ module _ (written : Ask → List ℕ) (means : Ask → List ℕ → Understood �
         ends = settled w.taken k.x t k.h (asks_on k.x (understood.Hears k.h) k.request k.most k.is_meant)
             (settled_by (ask_of t) (settles t k.h) k.by) k.state (ap (λ l. w.taken ++ l) k.is) refl refl;
         told = subst (TellsMore old.told new.told) (sym (append-nil (w.taken ++ o.exchanges))) (told_on o.exchanges o.told);
-        later = omega (arith, w.later, o.later);
+        later = omega (arith, w.steady, o.later);
         failed = λ f. absurd (cc);
+        steady = λ not. o.steady (no_fault took.Settled (Ok took.Settled) refl) ∙ w.steady;
       }
 
   goes_on : (k : Taken) (o : TurnsOn written means t u now new number (Ok k)) (i : IsTaken o.exchanges k) → settles t i.h ≡ More
@@ -191,7 +199,7 @@ module _ (written : Ask → List ℕ) (means : Ask → List ℕ → Understood �
             (subst (λ l. WalksOn written means s (w.taken ++ l) 0 (lists + lists_in (ask_of t)) (sync_step t i.h)) (sym i.is) walks);
         count = omega (arith, next, w.count, longer);
         told = told_on o.exchanges o.told;
-        later = omega (arith, w.later, o.later);
+        steady = o.steady (no_fault k (Ok k) refl) ∙ w.steady;
         few_lists = omega (arith, few, few_in);
       }
 
@@ -261,7 +269,7 @@ begins written means s old = record {
   walks = (refl, refl);
   count = omega arith;
   told = tells_none old.told;
-  later = omega arith;
+  steady = refl;
   few_lists = omega arith;
 }
 
@@ -273,8 +281,9 @@ unsettled written means s t old now lists asked w all = record {
   untaken = [];
   ends = not_settled (subst (λ n. WalksOn written means s w.taken 0 n t) full w.walks) refl refl;
   told = subst (TellsMore old.told now.told) (sym (append-nil w.taken)) w.told;
-  later = w.later;
+  later = omega (arith, w.steady);
   failed = λ f. absurd (cc);
+  steady = λ not. w.steady;
 }
   where
     full : lists ≡ MOST_LISTS
@@ -305,21 +314,22 @@ got_turn written means s t old new a request answer number r same is e takes =
       told = e.told;
       later = e.later;
       failed = λ f. absurd (never_upstream means a s t answer number r takes f);
+      steady = λ not. e.steady refl;
     }
 
 pub failed_turn : (written : Ask → List ℕ) (means : Ask → List ℕ → Understood → Type 0)
     (s : MirrorState) (old new : UpstreamView) (request : List ℕ) (number : ℕ)
     → Exchanges old new request MOST_ANSWER exchanged.Failed → TurnsOn written means s s old new number (Err fault.UpstreamFault)
 failed_turn written means s old new request number e =
-    record { exchanges = []; turn = asked_none refl (refl, inl refl); told = e.told; later = e.later; failed = λ f. e.failed refl }
+    record { exchanges = []; turn = asked_none refl (refl, inl refl); told = e.told; later = e.later; failed = λ f. e.failed refl; steady = λ not. absurd (not refl) }
 
 pub starved_turn : (written : Ask → List ℕ) (means : Ask → List ℕ → Understood → Type 0)
     (s : MirrorState) (old new : UpstreamView) (request : List ℕ) (number : ℕ)
     → Exchanges old new request MOST_ANSWER exchanged.NoMemory → TurnsOn written means s s old new number (Err fault.NoMemory)
 starved_turn written means s old new request number e =
-    record { exchanges = []; turn = asked_none refl (refl, inr refl); told = e.told; later = e.later; failed = λ f. absurd (cc) }
+    record { exchanges = []; turn = asked_none refl (refl, inr refl); told = e.told; later = e.later; failed = λ f. absurd (cc); steady = λ not. e.steady refl }
 
 pub no_turn : (written : Ask → List ℕ) (means : Ask → List ℕ → Understood → Type 0)
     (s : MirrorState) (old : UpstreamView) (number : ℕ) → TurnsOn written means s s old old number (Err fault.NoMemory)
 no_turn written means s old number =
-    record { exchanges = []; turn = asked_none refl (refl, inr refl); told = tells_none old.told; later = omega arith; failed = λ f. absurd (cc) }
+    record { exchanges = []; turn = asked_none refl (refl, inr refl); told = tells_none old.told; later = omega arith; failed = λ f. absurd (cc); steady = λ not. refl }
