@@ -1,3 +1,4 @@
 pub mod AnswerLemmas
 pub mod CallLemmas
 pub mod FrontLemmas
+pub mod RollLemmas

@@ -1,7 +1,10 @@
 pub mod Calls
+pub mod Failures
 pub mod Fates
 pub mod Fronts
 pub mod Intakes
 pub mod Lives
+pub mod Queues
 pub mod Rolls
 pub mod Shares
+pub mod Turns

@@ -1,4 +1,4 @@
-ghost use Rattle.std.specs.Prelude.{◌≡◌, ◌<◌, ◌++◌, ◌↔◌, [], OnOk, OnErr, IsTrue, false};
+ghost use Rattle.std.specs.Prelude.{◌≡◌, ◌<◌, ◌++◌, ◌↔◌, [], length, OnOk, OnErr, IsTrue, false};
 ghost use Rattle.stretches.specs.Fronts.{front_length};
 ghost use Rattle.stretches.specs.Intakes.{Gives, ready_after};
 
@@ -47,6 +47,31 @@ impl Intake {
         ensures { IsTrue result ↔ (self.now.bytes ≡ []) }
     {
         self.held.as_slice().is_empty()
+    }
+
+    /// Whether it stands between two heads: no part of one was given that is not given whole.
+    pub fn is_between(&self) -> bool
+        ensures { IsTrue result ↔ (self.now.ready ≡ 0) }
+    {
+        self.ready == 0
+    }
+
+    /// How many bytes are held.
+    pub fn len(&self) -> usize
+        ensures { result ≡ length self.now.bytes }
+    {
+        self.held.as_slice().len()
+    }
+
+    /// Moves what is held into memory of its size, where there is some.
+    pub fn fit(&mut self, alloc: Global)
+        ensures { self.new ≡ self.old }
+    {
+        searches();
+        let mut held = Held::new(alloc);
+        if held.append(self.held.as_slice()).is_ok() {
+            self.held = held;
+        }
     }
 
     /// Appends what came.

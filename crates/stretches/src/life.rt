@@ -1,5 +1,6 @@
 ghost use Rattle.std.specs.Prelude.{◌≡◌};
-ghost use Rattle.stretches.specs.Lives.{is_late, is_over, patience};
+ghost use Rattle.stretches.specs.Lives.{comes_before, is_late, is_over, patience, rank, weight};
+ghost use Rattle.stretches.specs.Lives.{yields};
 
 /// For how many milliseconds a connection may rest between two heads.
 pub const IDLE_MILLIS: u64 = 60_000;
@@ -13,10 +14,15 @@ pub const HEAD_MILLIS: u64 = 30_000;
 /// For how many milliseconds a connection that was closed waits for its peer to end.
 pub const LINGER_MILLIS: u64 = 2_000;
 
+/// For how many milliseconds a reply may stand still before its connection gives way to a new one.
+pub const STALLED_MILLIS: u64 = 2_000;
+
 /// What a connection waits for.
 #[derive(Clone, Copy, PartialEq, Eq)]
 pub enum Phase {
-    /// The first byte of a head.
+    /// The first byte of its first head.
+    Silent,
+    /// The first byte of a head, after a reply.
     Idle,
     /// The rest of a head, of which the first byte came then.
     Hearing(u64),
@@ -24,6 +30,8 @@ pub enum Phase {
     Sending,
     /// The end of its peer, after its last reply.
     Leaving,
+    /// A worker. Its head has come whole.
+    Ready,
 }
 
 /// A connection that rests. Times are in milliseconds, by one clock that never goes back.
@@ -32,9 +40,12 @@ pub struct Life {
     pub phase: Phase,
     /// When it made progress last: a byte came, or went.
     pub moved: u64,
-    /// The number of its last turn: it was accepted, handed out or had sent the whole of a reply.
-    /// Turns are counted as they come.
+    /// The number of its last turn: it was accepted or handed back, began a head, or sent a good part
+    /// or the last of a reply. Turns are counted as they come.
     pub turned: u64,
+    /// How many bytes of memory it holds, and since when it holds any.
+    pub held: u64,
+    pub since: u64,
 }
 
 impl Phase {
@@ -43,9 +54,24 @@ impl Phase {
         ensures { result ≡ patience self }
     {
         match self {
-            Phase::Idle => IDLE_MILLIS,
+            Phase::Silent | Phase::Idle => IDLE_MILLIS,
             Phase::Hearing(_) | Phase::Sending => PROGRESS_MILLIS,
             Phase::Leaving => LINGER_MILLIS,
+            Phase::Ready => u64::MAX,
+        }
+    }
+
+    /// In which order phases give way: the lowest first.
+    pub fn rank(self) -> u8
+        ensures { result ≡ rank self }
+    {
+        match self {
+            Phase::Silent => 0,
+            Phase::Leaving => 1,
+            Phase::Idle => 2,
+            Phase::Hearing(_) => 3,
+            Phase::Sending => 4,
+            Phase::Ready => 5,
         }
     }
 
@@ -55,7 +81,7 @@ impl Phase {
     {
         match self {
             Phase::Hearing(since) => now.saturating_sub(since) >= HEAD_MILLIS,
-            Phase::Idle | Phase::Sending | Phase::Leaving => false,
+            Phase::Silent | Phase::Idle | Phase::Sending | Phase::Leaving | Phase::Ready => false,
         }
     }
 }
@@ -66,5 +92,35 @@ impl Life {
         ensures { result ≡ is_over self now }
     {
         now.saturating_sub(self.moved) >= self.phase.patience() || self.phase.is_late(now)
+    }
+
+    /// Whether it may be closed for the sake of a new connection: not one that a worker is to serve,
+    /// nor one that takes its reply.
+    pub fn yields(self, now: u64) -> bool
+        ensures { result ≡ yields self now }
+    {
+        match self.phase {
+            Phase::Ready => false,
+            Phase::Sending => now.saturating_sub(self.moved) >= STALLED_MILLIS,
+            Phase::Silent | Phase::Idle | Phase::Hearing(_) | Phase::Leaving => true,
+        }
+    }
+
+    /// Whether it gives way before another: by what they wait for, and then as the one that turned
+    /// longer ago.
+    pub fn comes_before(self, other: Life) -> bool
+        ensures { result ≡ comes_before self other }
+    {
+        let (rank, others) = (self.phase.rank(), other.phase.rank());
+        rank < others || (rank == others && self.turned < other.turned)
+    }
+
+    /// How much memory it has held for how long: bytes times milliseconds, of which the first is
+    /// counted as begun.
+    pub fn weight(self, now: u64) -> u64
+        ensures { result ≡ weight self now }
+    {
+        let lasted = now.saturating_sub(self.since).saturating_add(1);
+        self.held.saturating_mul(lasted)
     }
 }

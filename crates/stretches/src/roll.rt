@@ -1,5 +1,6 @@
-ghost use Rattle.std.specs.Prelude.{◌≡◌, ◌↔◌, ℕ, [], length, Some, None, OnOk, OnErr, IsTrue};
-ghost use Rattle.stretches.specs.Rolls.{IsLongest, IsNextOver, Puts, is_sooner, life_at};
+ghost use Rattle.std.specs.Prelude.{◌≡◌, ◌<◌, ◌+◌, ◌↔◌, ℕ, [], length, Some, None, OnOk, OnErr, IsTrue};
+ghost use Rattle.stretches.specs.Rolls.{FirstAmong, IsFirstToYield, IsHeaviest, IsNextOver, Puts};
+ghost use Rattle.stretches.specs.Rolls.{is_heavier, is_sooner, life_at};
 
 use crate::life::Life;
 use std::alloc::Global;
@@ -66,14 +67,47 @@ impl Roll {
         }
     }
 
-    /// The connection that turned longest ago, if any rests.
-    pub fn longest(&self) -> Option<usize>
-        ensures { IsLongest self.now (length self.now) result }
+    /// The first connection to give way to a new one, if one may.
+    pub fn first_to_yield(&self, now: u64) -> Option<usize>
+        ensures { IsFirstToYield self.now (length self.now) now result }
+    {
+        let mut found: Option<(usize, Life)> = None;
+        for key in 0..self.lives.len() {
+            found = self.sooner_of(found, key, now);
+        }
+        match found {
+            Some((key, _)) => Some(key),
+            None => None,
+        }
+    }
+
+    /// The one that was found, or the next, where that gives way before it.
+    #[tactic(auto, using(crate::proofs::RollLemmas::step_found, crate::proofs::RollLemmas::step_kept, crate::proofs::RollLemmas::step_none))]
+    fn sooner_of(&self, found: Option<(usize, Life)>, key: usize, now: u64) -> Option<(usize, Life)>
+        requires key { key < length self.now }
+        requires found { FirstAmong self.now key now found }
+        ensures { FirstAmong self.now (key + 1) now result }
+    {
+        match self.lives[key] {
+            Some(life) => {
+                if is_sooner(life, found, now) {
+                    Some((key, life))
+                } else {
+                    found
+                }
+            }
+            None => found,
+        }
+    }
+
+    /// The connection that has held most memory for the longest time, if any rests.
+    pub fn heaviest(&self, now: u64) -> Option<usize>
+        ensures { IsHeaviest self.now (length self.now) now result }
     {
         let mut found: Option<(usize, Life)> = None;
         for key in 0..self.lives.len() {
             if let Some(life) = self.lives[key] {
-                if is_sooner(life, found) {
+                if is_heavier(life, found, now) {
                     found = Some((key, life));
                 }
             }
@@ -99,12 +133,23 @@ impl Roll {
     }
 }
 
-/// Whether the life turned before the one that was found, if one was.
-fn is_sooner(life: Life, found: Option<(usize, Life)>) -> bool
-    ensures { result ≡ is_sooner life found }
+/// Whether the life may give way, and before the one that was found, if one was.
+fn is_sooner(life: Life, found: Option<(usize, Life)>, now: u64) -> bool
+    ensures { result ≡ is_sooner life found now }
+{
+    life.yields(now)
+        && match found {
+            Some((_, other)) => life.comes_before(other),
+            None => true,
+        }
+}
+
+/// Whether the life weighs more than the one that was found, if one was.
+fn is_heavier(life: Life, found: Option<(usize, Life)>, now: u64) -> bool
+    ensures { result ≡ is_heavier life found now }
 {
     match found {
-        Some((_, other)) => life.turned < other.turned,
+        Some((_, other)) => life.weight(now) > other.weight(now),
         None => true,
     }
 }

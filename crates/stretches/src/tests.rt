@@ -1,4 +1,4 @@
-use crate::{Fate, Intake, Life, Phase, Roll, fate_after};
+use crate::{Fate, Intake, fate_after};
 use std::alloc::Global;
 use std::process::Abort;
 use td_base::{Bytes, End, NoMemory};
@@ -60,33 +60,4 @@ fn fates(rt: HostRuntime) {
     assert!(rt; fate_after(End::Closed, true, true) == Fate::Leaves);
     assert!(rt; fate_after(End::NoMemory, true, false) == Fate::Leaves);
     assert!(rt; fate_after(End::ReadFault, true, false) == Fate::Breaks);
-}
-
-fn life(phase: Phase, moved: u64, turned: u64) -> Life {
-    Life {
-        phase,
-        moved,
-        turned,
-    }
-}
-
-#[test]
-fn the_roll_tells_who_is_over(rt: HostRuntime) -> Result<(), NoMemory> {
-    let mut roll = Roll::new(rt.alloc());
-    assert!(rt; roll.longest().is_none());
-    roll.set(2, life(Phase::Idle, 1_000, 1_000))?;
-    roll.set(0, life(Phase::Hearing(2_000), 5_000, 900))?;
-    roll.set(5, life(Phase::Sending, 70_000, 69_000))?;
-    assert!(rt; roll.longest() == Some(0));
-    assert!(rt; roll.next_over(0, 14_999).is_none());
-    assert!(rt; roll.next_over(0, 15_000) == Some(0));
-    assert!(rt; roll.next_over(1, 60_999).is_none());
-    assert!(rt; roll.next_over(1, 61_000) == Some(2));
-    roll.clear(0);
-    assert!(rt; roll.longest() == Some(2));
-    roll.clear(2);
-    roll.clear(9);
-    assert!(rt; roll.next_over(0, 79_999).is_none());
-    assert!(rt; roll.next_over(0, 80_000) == Some(5));
-    Ok(())
 }

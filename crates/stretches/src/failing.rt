@@ -1,0 +1,44 @@
+ghost use Rattle.std.specs.Prelude.{◌≡◌};
+ghost use Rattle.stretches.specs.Failures.{after_failure, is_broken};
+
+/// Within how many milliseconds failures of a door are counted together.
+pub const FAILURE_WINDOW_MILLIS: u64 = 10_000;
+
+/// How many failures within that time break a door.
+pub const MOST_WINDOW_FAILURES: u32 = 16;
+
+/// The failures of a door, of which only those count that came within a short time: many that pass
+/// do it no harm, however long it serves.
+#[derive(Clone, Copy, PartialEq, Eq)]
+pub struct FailureWindow {
+    /// When the first of those came that are counted, in milliseconds, and how many they are.
+    pub since: u64,
+    pub count: u32,
+}
+
+impl FailureWindow {
+    /// Nothing failed yet.
+    pub const NONE: FailureWindow = FailureWindow { since: 0, count: 0 };
+
+    /// Whether too many came within the time. It then stays broken.
+    pub fn is_broken(self) -> bool
+        ensures { result ≡ is_broken self }
+    {
+        self.count >= MOST_WINDOW_FAILURES
+    }
+
+    /// A failure came at this time.
+    pub fn fail(&mut self, now: u64)
+        ensures { self.new ≡ after_failure self.old now }
+    {
+        if self.is_broken() {
+            return;
+        }
+        if self.count == 0 || now.saturating_sub(self.since) >= FAILURE_WINDOW_MILLIS {
+            self.since = now;
+            self.count = 1;
+        } else {
+            self.count += 1;
+        }
+    }
+}

@@ -1,0 +1,55 @@
+ghost use Rattle.std.specs.Prelude.{◌≡◌, max};
+ghost use Rattle.stretches.specs.Turns.{is_spent, turn_cost};
+
+/// For how many microseconds a worker serves a connection that others come after, before it may
+/// turn to these: one request, or a few.
+pub const SHORT_TURN_MICROS: u64 = 2_000;
+
+/// For how many microseconds a worker serves a connection of which a turn before took long.
+pub const LONG_TURN_MICROS: u64 = 10_000;
+
+/// A turn of a connection at a worker. Times are in microseconds, by one clock that never goes
+/// back.
+#[derive(Clone, Copy, PartialEq, Eq)]
+pub struct WorkerTurn {
+    pub began: u64,
+    /// After how long it is spent.
+    pub limit: u64,
+    /// The time when the clock was read last.
+    pub seen: u64,
+}
+
+impl WorkerTurn {
+    /// A turn that begins at this time.
+    pub fn new(began: u64, limit: u64) -> WorkerTurn
+        ensures { result ≡ record { began = began; limit = limit; seen = began } }
+    {
+        WorkerTurn {
+            began,
+            limit,
+            seen: began,
+        }
+    }
+
+    /// The clock shows this time.
+    pub fn see(&mut self, now: u64)
+        ensures { self.new ≡ record self.old { seen = max self.old.seen now } }
+    {
+        self.seen = self.seen.max(now);
+    }
+
+    /// Whether its time is over. It then ends at the next request, however little was written.
+    pub fn is_spent(self) -> bool
+        ensures { result ≡ is_spent self }
+    {
+        self.seen.saturating_sub(self.began) >= self.limit
+    }
+
+    /// What it cost until now, of the time that its thread ran since it began: a thread that was
+    /// stopped meanwhile did nothing for the connection.
+    pub fn cost(self, now: u64, ran: u64) -> u64
+        ensures { result ≡ turn_cost self now ran }
+    {
+        now.saturating_sub(self.began).min(ran)
+    }
+}
