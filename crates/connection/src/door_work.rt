@@ -5,7 +5,7 @@ ghost use Rattle.json_forms.specs.PlainTexts.{IsPlainRole};
 use crate::kept_answers::KeptAnswers;
 use crate::round::{Round, serve_next};
 use catalogue::Catalogue;
-use desk_pool::StopSign;
+use desk_pool::{StopSign, StopsBy};
 use publication::Desk;
 use std::alloc::Global;
 use std::marker::Model;
@@ -76,6 +76,10 @@ pub struct DoorDone<D: Door> {
     pub desk: Desk<Catalogue<Zone>>,
     pub sign: StopSign,
     pub worn: bool,
+}
+
+impl<D: Door> StopsBy for DoorWork<D> {
+    ghost flag = { λ w. w.stop.flag };
 }
 
 impl<D: Door> Work for DoorWork<D> {

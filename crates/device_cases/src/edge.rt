@@ -76,28 +76,40 @@ fn file(alloc: Global) -> Result<LookFailure, CaseFault> {
     })
 }
 
-/// A listener that is refused, whose address is known where the row does not say `nameless`.
+/// A listener that is refused, whose address is known where the row does not say `nameless`, and
+/// has no name that resolves where it says `nowhere`.
 fn listener(alloc: Global, row: &Row) -> Result<ListenFailure, CaseFault> {
     let address = if fails(row, b"nameless") {
         None
     } else {
         Some(Bytes::from_slice(alloc, b"127.0.0.1:80")?)
     };
-    Ok(ListenFailure {
-        address,
-        kind: ErrorKind::AddrInUse,
-    })
+    let kind = if fails(row, b"nowhere") {
+        ErrorKind::NotFound
+    } else {
+        ErrorKind::AddrInUse
+    };
+    Ok(ListenFailure { address, kind })
 }
 
 /// What failed of the objects that the row names.
 fn failures<'a>(row: &Row, file: &'a LookFailure, listener: &'a ListenFailure) -> Failures<'a> {
     Failures {
         store: named(row, b"store", file),
-        input: named(row, b"input", ErrorKind::TimedOut),
+        input: input(row),
         output: named(row, b"output", ErrorKind::BrokenPipe),
         network: named(row, b"network", listener),
         door: named(row, b"door", ErrorKind::ConnectionAborted),
         upstream: named(row, b"upstream", ErrorKind::ConnectionRefused),
+    }
+}
+
+/// Why the input failed, where the row names it: as `closed` for a reason that has no word.
+fn input(row: &Row) -> Option<ErrorKind> {
+    if fails(row, b"closed") {
+        Some(ErrorKind::Uncategorized)
+    } else {
+        named(row, b"input", ErrorKind::TimedOut)
     }
 }
 

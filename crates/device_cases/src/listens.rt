@@ -3,7 +3,7 @@ use crate::fault::refused;
 use case_lines::{Answer, CaseFault, Row, Told, printed};
 use devices::{RealDoor, RealNetwork};
 use std::alloc::Global;
-use std::io::ErrorKind;
+use std::io::{Eprint, ErrorKind};
 use std::net::{Net, TcpListener, TcpStream};
 use std::time::Clock;
 use td_base::{Made, Network};
@@ -12,7 +12,7 @@ use td_base::{Made, Network};
 /// address. `taken` stands for the address of a door that is open.
 pub fn listen<R>(rt: &R, alloc: Global, row: &Row) -> Answer
 where
-    R: Net<Listener = TcpListener, Stream = TcpStream> + Clock + Copy,
+    R: Net<Listener = TcpListener, Stream = TcpStream> + Clock + Eprint + Copy,
 {
     let address = row.word(0)?;
     if address != b"taken".as_slice() {
@@ -24,13 +24,13 @@ where
 }
 
 /// The address of a door.
-fn address_of<R: Clock>(alloc: Global, door: &RealDoor<R>) -> Answer {
+fn address_of<R: Clock + Eprint + Copy>(alloc: Global, door: &RealDoor<R>) -> Answer {
     printed(alloc, &door.local_addr().map_err(refused)?)
 }
 
 fn told<R>(rt: &R, alloc: Global, address: &[u8]) -> Answer
 where
-    R: Net<Listener = TcpListener, Stream = TcpStream> + Clock + Copy,
+    R: Net<Listener = TcpListener, Stream = TcpStream> + Clock + Eprint + Copy,
 {
     let mut network = RealNetwork::new(rt);
     let before = failure(&network);
@@ -56,7 +56,7 @@ fn failure<R>(network: &RealNetwork<R>) -> Option<ErrorKind> {
 /// A door at a free port.
 pub fn open<R>(rt: &R, alloc: Global) -> Result<RealDoor<R>, CaseFault>
 where
-    R: Net<Listener = TcpListener, Stream = TcpStream> + Clock + Copy,
+    R: Net<Listener = TcpListener, Stream = TcpStream> + Clock + Eprint + Copy,
 {
     match RealNetwork::new(rt).doors(alloc, b"127.0.0.1:0", 1) {
         Made::Given(mut doors) => doors.pop().ok_or(CaseFault::Strange),

@@ -14,6 +14,9 @@ mod squares;
 // The words of a command line, and what is said of a failure.
 mod edge;
 
+// What a door decides of its connections.
+mod decisions;
+
 // A TCP listener, a door at it, and clients.
 mod fault;
 mod listens;
@@ -23,6 +26,7 @@ mod talks;
 use case_lines::{Answer, CaseFault, Row, Table};
 use std::alloc::Global;
 use std::io;
+use std::io::Eprint;
 use std::net::{Net, TcpListener, TcpStream};
 use std::rt::Files;
 use std::sync::Wait;
@@ -45,6 +49,7 @@ fn try_line<R>(rt: &R, alloc: Global, table: &mut Table, line: &str) -> io::Resu
 where
     R: Net<Listener = TcpListener, Stream = TcpStream>
         + Clock
+        + Eprint
         + Files
         + Threads
         + Wait
@@ -68,6 +73,7 @@ fn answer<R>(rt: &R, alloc: Global, row: &Row) -> Answer
 where
     R: Net<Listener = TcpListener, Stream = TcpStream>
         + Clock
+        + Eprint
         + Files
         + Threads
         + Wait
@@ -93,6 +99,10 @@ fn alone(alloc: Global, row: &Row) -> Answer {
         "writes" => streams::writes(alloc, row),
         "gates-alone" => gates::alone(alloc, row),
         "gates-turned" => gates::turned(alloc, row),
+        "roll" => decisions::roll(alloc, row),
+        "queues" => decisions::queues(alloc, row),
+        "turn" => decisions::turn(alloc, row),
+        "failures" => decisions::failures(alloc, row),
         "words" => edge::words(alloc, row),
         "complaint" => edge::complaint(alloc, row),
         _ => Err(CaseFault::Strange),

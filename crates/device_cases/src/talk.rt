@@ -4,7 +4,7 @@ use case_lines::CaseFault;
 use devices::{RealConn, RealDoor};
 use std::alloc::Global;
 use std::io;
-use std::io::{Read, Write};
+use std::io::{Eprint, Read, Write};
 use std::net::{Net, Shutdown, TcpStream};
 use std::time::Clock;
 use td_base::{Accepted, Conn, Door, DoorAnswer, End, Places, ReadStep, Report, WriteStep};
@@ -19,10 +19,10 @@ pub struct Talk<R> {
     /// The clients, the latest last. A step of a client is one of the last.
     pub clients: Vec<TcpStream>,
     /// The connection that the door gave and that is not handed back.
-    pub conn: Option<RealConn<TcpStream>>,
+    pub conn: Option<RealConn<TcpStream, R>>,
 }
 
-impl<R: Clock> Talk<R> {
+impl<R: Clock + Eprint + Copy> Talk<R> {
     /// Nothing but the door.
     pub fn new(alloc: Global, door: RealDoor<R>) -> Talk<R> {
         Talk {
@@ -158,7 +158,7 @@ impl<R: Clock> Talk<R> {
 }
 
 /// A client of the door.
-pub fn client<R: Net<Stream = TcpStream> + Clock>(
+pub fn client<R: Net<Stream = TcpStream> + Clock + Eprint + Copy>(
     rt: &R,
     talk: &mut Talk<R>,
 ) -> Result<(), CaseFault> {

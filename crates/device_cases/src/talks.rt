@@ -3,6 +3,7 @@ use crate::listens::open;
 use crate::talk::{Talk, client};
 use case_lines::{Answer, CaseFault, Row, Told, number, shown};
 use std::alloc::Global;
+use std::io::Eprint;
 use std::net::{Net, TcpListener, TcpStream};
 use std::time::Clock;
 use td_base::{ReadStep, texts};
@@ -11,7 +12,7 @@ use td_base::{ReadStep, texts};
 /// that tells something. A step is a name, and may have a number or a text after a colon.
 pub fn talk<R>(rt: &R, alloc: Global, row: &Row) -> Answer
 where
-    R: Net<Listener = TcpListener, Stream = TcpStream> + Clock + Copy,
+    R: Net<Listener = TcpListener, Stream = TcpStream> + Clock + Eprint + Copy,
 {
     let mut talk = Talk::new(alloc, open(rt, alloc)?);
     let mut told = Told::new(alloc);
@@ -33,7 +34,7 @@ fn step<R>(
     told: &mut Told,
 ) -> Result<(), CaseFault>
 where
-    R: Net<Stream = TcpStream> + Clock,
+    R: Net<Stream = TcpStream> + Clock + Eprint + Copy,
 {
     let (name, text) = texts::cut(word, b':');
     let text = text.unwrap_or(&[]);
@@ -55,7 +56,12 @@ where
 }
 
 /// What is told of a step that tells something.
-fn telling<R: Clock>(alloc: Global, talk: &mut Talk<R>, name: &[u8], text: &[u8]) -> Answer {
+fn telling<R: Clock + Eprint + Copy>(
+    alloc: Global,
+    talk: &mut Talk<R>,
+    name: &[u8],
+    text: &[u8],
+) -> Answer {
     match name {
         b"read" => read(alloc, talk, number(text)?),
         b"write" => shown(alloc, &talk.write(text)?),
@@ -67,7 +73,7 @@ fn telling<R: Clock>(alloc: Global, talk: &mut Talk<R>, name: &[u8], text: &[u8]
 }
 
 /// What is told of a step that tells how the door stands.
-fn looking<R: Clock>(alloc: Global, talk: &mut Talk<R>, name: &[u8]) -> Answer {
+fn looking<R: Clock + Eprint + Copy>(alloc: Global, talk: &mut Talk<R>, name: &[u8]) -> Answer {
     match name {
         b"twice" => shown(alloc, &talk.twice()),
         b"next" => shown(alloc, &talk.next()),
@@ -78,7 +84,7 @@ fn looking<R: Clock>(alloc: Global, talk: &mut Talk<R>, name: &[u8]) -> Answer {
 }
 
 /// A read of the connection into a room of this size, and what it gave.
-fn read<R: Clock>(alloc: Global, talk: &mut Talk<R>, size: u64) -> Answer {
+fn read<R: Clock + Eprint + Copy>(alloc: Global, talk: &mut Talk<R>, size: u64) -> Answer {
     let mut room = vec![in alloc; 0; size as usize]?;
     let step = talk.read(room.as_mut_slice())?;
     let mut told = Told::new(alloc);
@@ -91,14 +97,14 @@ fn read<R: Clock>(alloc: Global, talk: &mut Talk<R>, size: u64) -> Answer {
 }
 
 /// How many of so many bytes the connection took.
-fn write_all<R: Clock>(alloc: Global, talk: &mut Talk<R>, size: u64) -> Answer {
+fn write_all<R: Clock + Eprint + Copy>(alloc: Global, talk: &mut Talk<R>, size: u64) -> Answer {
     let bytes = vec![in alloc; b'y'; size as usize]?;
     let took = talk.write_all(bytes.as_slice())?;
     shown(alloc, &took)
 }
 
 /// How many bytes the last client read, of so many.
-fn pump<R: Clock>(alloc: Global, talk: &mut Talk<R>, most: u64) -> Answer {
+fn pump<R: Clock + Eprint + Copy>(alloc: Global, talk: &mut Talk<R>, most: u64) -> Answer {
     let mut room = vec![in alloc; 0; 2_000_000]?;
     let got = talk.pump(room.as_mut_slice(), most as usize)?;
     shown(alloc, &got)

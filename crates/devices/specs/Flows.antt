@@ -1,9 +1,11 @@
 -- What a connection holds between its stream and those who read and write it: no byte is lost, and
 -- none changes its place.
 use Rattle.std.specs.Prelude.{◌≡◌, ◌⊎◌, ℕ, ◌<◌, ◌≤◌, List, length, ◌++◌, take, Option, ⊤}
-use Rattle.std.specs.Prelude.{Bool, false, ◌&&◌, ◌==◌, nat_lt}
+use Rattle.std.specs.Prelude.{Bool, true, false, ◌&&◌, ◌==◌, nat_lt}
 use Rattle.std.specs.Io.KnownBytes.{Consumes, Keeps, append_known, prepend_known}
 use Rattle.stretches.specs.Fronts.{front_length}
+use Rattle.stretches.specs.Turns.{is_spent}
+use Rattle.stretches.specs.declared.turn.WorkerTurn.{WorkerTurn}
 use Rattle.td_base.specs.declared.outside.ReadStep.{ReadStep}
 use Rattle.td_base.specs.declared.outside.ReadStep.TheVariants as read
 use Rattle.devices.specs.declared.incoming.Given.{Given}
@@ -25,10 +27,12 @@ written outgoing contents = append_known contents outgoing.unsent.rest
 abbrev pub is_open : Outgoing → Bool
 is_open outgoing = (length outgoing.unsent.rest == 0) && nat_lt outgoing.count STRETCH_BYTES
 
--- a stretch ends only where it may not go on, or where of what came a server could only wait
-abbrev pub EndsStretch : Outgoing → Incoming → Type 0
-EndsStretch outgoing incoming =
-    (is_open outgoing ≡ false) ⊎ (front_length incoming.intake.bytes ≡ 0)
+-- a stretch ends only where it may not go on, between two heads where by the clock its turn is spent,
+-- or where of what came a server could only wait
+abbrev pub EndsStretch : Outgoing → WorkerTurn → Incoming → Type 0
+EndsStretch outgoing turn incoming = (is_open outgoing ≡ false)
+    ⊎ ((is_spent turn ≡ true) × (incoming.intake.ready ≡ 0))
+    ⊎ (front_length incoming.intake.bytes ≡ 0)
 
 -- the bytes still to be given begin with those that a read in a stretch gave, and lose them; the
 -- stretch ends with all of them kept

@@ -1,3 +1,4 @@
+pub mod Buffers
 pub mod Flows
 pub mod Gates
 pub mod Opened

@@ -6,8 +6,8 @@ use Rattle.devices.specs.declared.real_door.RealDoor.{RealDoor}
 use Rattle.td_base.specs.DoorViews.{DoorView}
 use Rattle.td_base.specs.Views.{ConnView}
 
-module _ {S : Type 0} where
-  abbrev pub conn_view : RealConn S → ConnView
+module _ {S R : Type 0} where
+  abbrev pub conn_view : RealConn S R → ConnView
   conn_view c = record {
     given = None;
     left = None;

@@ -1,5 +1,5 @@
 ghost use Rattle.std.specs.Prelude.{◌≡◌, ◌<◌, ◌≤◌, ◌⊎◌, ◌++◌, length, take, IfSome, None};
-ghost use Rattle.std.specs.Prelude.{true, false};
+ghost use Rattle.std.specs.Prelude.{◌↔◌, IsTrue, true, false};
 ghost use Rattle.std.specs.Io.KnownBytes.{IsAtEnd, Keeps};
 ghost use Rattle.devices.specs.Flows.{Gives, GivesHeld, to_give};
 ghost use Rattle.stretches.specs.Fronts.{front_length};
@@ -30,6 +30,8 @@ pub enum Given {
 #[derive(Drop)]
 pub struct Incoming {
     intake: Intake,
+    /// How many bytes its memory has had to hold at most.
+    peak: usize,
     /// Whether nothing more had come when bytes were received last.
     drained: bool,
     /// Whether its peer is known to have ended its side, so that the end is still to be received.
@@ -44,6 +46,7 @@ impl Incoming {
     pub fn new(alloc: Global) -> Incoming {
         Incoming {
             intake: Intake::new(alloc),
+            peak: 0,
             drained: false,
             ending: false,
             ended: false,
@@ -68,6 +71,18 @@ impl Incoming {
         self.intake.is_empty()
     }
 
+    /// Whether no head was given in part.
+    pub fn is_between(&self) -> bool
+        ensures { IsTrue result ↔ (self.now.intake.ready ≡ 0) }
+    {
+        self.intake.is_between()
+    }
+
+    /// How many bytes of memory are taken by what is held, at most: memory grows to twice its size.
+    pub fn room(&self) -> usize {
+        self.peak.saturating_mul(2)
+    }
+
     /// More may have come; `ending` tells that the peer has ended its side.
     pub fn wake(&mut self, ending: bool)
         ensures { self.new.intake ≡ self.old.intake }
@@ -82,6 +97,10 @@ impl Incoming {
     {
         if self.intake.is_empty() {
             self.intake = Intake::new(alloc);
+            self.peak = 0;
+        } else if self.intake.len() <= self.peak / 4 {
+            self.intake.fit(alloc);
+            self.peak = self.intake.len();
         }
     }
 
@@ -170,6 +189,7 @@ impl Incoming {
             self.broken = true;
             return false;
         }
+        self.peak = self.peak.max(self.intake.len());
         true
     }
 

@@ -9,6 +9,7 @@
 #![tactic(auto)]
 
 // Streams and files.
+mod blocking;
 mod real_sink;
 mod real_source;
 mod real_store;
@@ -22,6 +23,7 @@ mod now;
 mod outgoing;
 mod real_conn;
 mod socket;
+mod unsent;
 mod wire;
 
 // A TCP listener, its doors, and the connections that rest at them.
@@ -47,6 +49,7 @@ mod gates;
 // What may cross threads.
 mod send_sync;
 
+pub use blocking::Blocking;
 pub use gate_conn::GateConn;
 pub use gate_door::GateDoor;
 pub use gates::gate_pair;
@@ -61,6 +64,6 @@ pub use real_source::RealSource;
 pub use real_spawner::RealSpawner;
 pub use real_store::{LookFailure, RealStore};
 pub use real_upstream::RealUpstream;
-pub use resting::MOST_UNSENT_OF_ALL;
+pub use resting::MOST_HELD_OF_ALL;
 pub use shares::RESERVED_DESCRIPTORS;
 pub use wire::LINGER_BYTES;

@@ -1,3 +1,5 @@
+use std::time::Duration;
+
 /// A moment of a door: the time by its clock, in milliseconds, and the number of the turn that a
 /// connection has which turns now. Numbers rise from one look at events, one accept or one
 /// connection that comes back to the next, so that it is known who turned first, however little
@@ -6,4 +8,27 @@
 pub struct Now {
     pub millis: u64,
     pub turn: u64,
+}
+
+/// For how many microseconds this thread has run, or none where the system does not tell.
+pub fn thread_micros() -> Option<u64> {
+    let mut time = libc::types::timespec {
+        tv_sec: 0,
+        tv_nsec: 0,
+    };
+    if libc::clock_gettime(libc::CLOCK_THREAD_CPUTIME_ID, &mut time) != 0 {
+        return None;
+    }
+    let seconds = u64::try_from(time.tv_sec).ok()?;
+    let nanos = u64::try_from(time.tv_nsec).ok()?;
+    Some(
+        seconds
+            .saturating_mul(1_000_000)
+            .saturating_add(nanos / 1_000),
+    )
+}
+
+/// A reading of a clock in microseconds.
+pub fn micros(time: Duration) -> u64 {
+    u64::try_from(time.as_micros()).unwrap_or(u64::MAX)
 }

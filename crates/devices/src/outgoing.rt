@@ -4,11 +4,11 @@ ghost use Rattle.devices.specs.Flows.{is_open, written};
 ghost use Rattle.devices.specs.Sockets.{Holds, Sends};
 
 use crate::socket::{Sent, send};
-use http_request::Held;
+use crate::unsent::Unsent;
 use std::alloc::Global;
 use std::io::Write;
 
-/// How many bytes that a peer has not taken are held of one connection.
+/// How many bytes that a peer has not taken are held of one connection at most.
 pub const MOST_UNSENT: usize = 8_388_608;
 
 /// After how many bytes of replies a stretch ends, so that others have their turn.
@@ -17,7 +17,7 @@ pub const STRETCH_BYTES: usize = 1_048_576;
 /// The bytes that were written and that the stream has not taken yet.
 #[derive(Drop)]
 pub struct Outgoing {
-    unsent: Held,
+    unsent: Unsent,
     /// How many bytes were written in this stretch, and how many may be held in it.
     count: usize,
     allowance: usize,
@@ -27,7 +27,7 @@ impl Outgoing {
     /// Nothing was written yet, and nothing may be held.
     pub fn new(alloc: Global) -> Outgoing {
         Outgoing {
-            unsent: Held::new(alloc),
+            unsent: Unsent::new(alloc),
             count: 0,
             allowance: 0,
         }
@@ -48,6 +48,11 @@ impl Outgoing {
         self.unsent.as_slice().len()
     }
 
+    /// How many bytes of memory are taken by what is held.
+    pub fn room(&self) -> usize {
+        self.unsent.room()
+    }
+
     /// Whether all that was written went out, and the stretch may go on.
     pub fn is_open(&self) -> bool
         ensures { result ≡ is_open self.now }
@@ -60,7 +65,7 @@ impl Outgoing {
         ensures { self.new.unsent.rest ≡ self.old.unsent.rest }
     {
         if self.unsent.as_slice().is_empty() {
-            self.unsent = Held::new(alloc);
+            self.unsent = Unsent::new(alloc);
         }
     }
 

@@ -5,28 +5,37 @@ ghost use Rattle.devices.specs.Flows.{EndsStretch, GivesStep, to_give, written};
 ghost use Rattle.devices.specs.RealDoors.{conn_view};
 
 use crate::incoming::Given;
+use crate::now::micros;
 use crate::socket::Sent;
 use crate::wire::Wire;
 use std::io::{Read, Write};
+use std::time::Clock;
 use td_base::{Conn, ReadStep, WriteStep};
 
 /// A connection over a stream that does not block, as those of TCP, for a stretch of whole heads.
-/// To the contract of [`Conn`] it tells nothing of its bytes, since the end of a stretch is not
-/// that of its stream. Its counts are those of the stretch's failed reads and failed writes.
+/// It reads the clock before each read but the first, so that the stretch ends once its turn is
+/// spent, and not before something was served in it. To the contract of [`Conn`] it says nothing of
+/// its bytes, since the end of a stretch is not that of its stream. Its counts are those of the
+/// stretch's failed reads and failed writes.
 #[derive(Drop)]
-pub struct RealConn<S> {
+pub struct RealConn<S, R> {
     wire: Wire<S>,
+    clock: R,
+    /// Whether it was read in this stretch.
+    was_read: bool,
     read_faults: u64,
     write_faults: u64,
 }
 
-impl<S> RealConn<S> {
+impl<S, R: Drop> RealConn<S, R> {
     /// The connection, of which no call failed in this stretch yet.
-    pub(crate) fn new(wire: Wire<S>) -> RealConn<S>
+    pub(crate) fn new(wire: Wire<S>, clock: R) -> RealConn<S, R>
         ensures { IsUnfailed (conn_view result) }
     {
         RealConn {
             wire,
+            clock,
+            was_read: false,
             read_faults: 0,
             write_faults: 0,
         }
@@ -41,7 +50,25 @@ impl<S> RealConn<S> {
     }
 }
 
-impl<S: Read + Write> Conn for RealConn<S> {
+impl<S, R: Clock> RealConn<S, R> {
+    /// Reads the clock for its turn, where it was read before in this stretch.
+    fn look_at_clock(&mut self)
+        ensures incoming { self.new.wire.incoming ≡ self.old.wire.incoming }
+        ensures outgoing { self.new.wire.outgoing ≡ self.old.wire.outgoing }
+        ensures stream { self.new.wire.stream ≡ self.old.wire.stream }
+        ensures faults { conn_view self.new ≡ conn_view self.old }
+    {
+        if !self.was_read {
+            self.was_read = true;
+            return;
+        }
+        if let Ok(time) = self.clock.monotonic() {
+            self.wire.see(micros(time));
+        }
+    }
+}
+
+impl<S: Read + Write, R: Clock> Conn for RealConn<S, R> {
     ghost seen = { conn_view };
 
     /// The end is that of the stretch.
@@ -52,8 +79,9 @@ impl<S: Read + Write> Conn for RealConn<S> {
             (to_give self.old.wire.incoming (S.remaining self.old.wire.stream))
             (to_give self.new.wire.incoming (S.remaining self.new.wire.stream)) result room.new }
         ensures end { result ≡ ReadStep.End
-            → EndsStretch self.old.wire.outgoing self.new.wire.incoming }
+            → EndsStretch self.old.wire.outgoing self.new.wire.turn self.new.wire.incoming }
     {
+        self.look_at_clock();
         match self.wire.read(room) {
             Given::Bytes(count) => ReadStep::Got(count),
             Given::End => ReadStep::End,

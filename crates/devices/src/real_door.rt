@@ -5,7 +5,7 @@ ghost use Rattle.devices.specs.RealDoors.{door_view};
 use crate::hall::Hall;
 use crate::real_conn::RealConn;
 use std::io;
-use std::io::ErrorKind;
+use std::io::{Eprint, ErrorKind};
 use std::net::{SocketAddr, TcpStream};
 use std::time::Clock;
 use td_base::{Accepted, Door, DoorAnswer, Report};
@@ -25,7 +25,7 @@ pub struct RealDoor<R> {
     failure: Option<ErrorKind>,
 }
 
-impl<R: Clock> RealDoor<R> {
+impl<R: Clock + Eprint + Copy> RealDoor<R> {
     /// A door that was not asked yet.
     pub(crate) fn new(hall: Hall<R>) -> RealDoor<R>
         ensures { IsNewDoor (door_view result) }
@@ -65,7 +65,7 @@ impl<R: Clock> RealDoor<R> {
 
 /// Closes the connections of doors that are asked no more, each once what was written to it has
 /// gone out. Where peers do not take that, it waits for them for so many milliseconds at most.
-pub fn drain<R: Clock>(doors: &mut [RealDoor<R>], millis: u64) {
+pub fn drain<R: Clock + Eprint + Copy>(doors: &mut [RealDoor<R>], millis: u64) {
     let Some(first) = doors.first_mut() else {
         return;
     };
@@ -79,7 +79,7 @@ pub fn drain<R: Clock>(doors: &mut [RealDoor<R>], millis: u64) {
 }
 
 /// No connection is served any more.
-fn leave<R: Clock>(doors: &mut [RealDoor<R>]) {
+fn leave<R: Clock + Eprint + Copy>(doors: &mut [RealDoor<R>]) {
     for door in doors.iter_mut() {
         door.hall.leave();
     }
@@ -87,7 +87,7 @@ fn leave<R: Clock>(doors: &mut [RealDoor<R>]) {
 
 /// Has each door send on for a moment, so that none waits for the peers of another. It tells
 /// whether one has more to send.
-fn drain_in_turn<R: Clock>(doors: &mut [RealDoor<R>], end: u64) -> bool {
+fn drain_in_turn<R: Clock + Eprint + Copy>(doors: &mut [RealDoor<R>], end: u64) -> bool {
     let mut owes = false;
     for door in doors.iter_mut() {
         owes |= door.hall.drain(end);
@@ -95,16 +95,16 @@ fn drain_in_turn<R: Clock>(doors: &mut [RealDoor<R>], end: u64) -> bool {
     owes
 }
 
-impl<R: Clock> Door for RealDoor<R> {
-    type Conn = RealConn<TcpStream>;
+impl<R: Clock + Eprint + Copy> Door for RealDoor<R> {
+    type Conn = RealConn<TcpStream, R>;
 
     ghost seen = { door_view };
 
-    fn accept(&mut self) -> Accepted<RealConn<TcpStream>> {
+    fn accept(&mut self) -> Accepted<RealConn<TcpStream, R>> {
         match self.hall.next() {
             Ok(Some(wire)) => {
                 self.last = Some(DoorAnswer::Given);
-                Accepted::Given(RealConn::new(wire))
+                Accepted::Given(RealConn::new(wire, self.hall.clock()))
             }
             Ok(None) => {
                 self.last = Some(DoorAnswer::Idle);
@@ -119,7 +119,7 @@ impl<R: Clock> Door for RealDoor<R> {
         }
     }
 
-    fn finish(&mut self, conn: RealConn<TcpStream>, report: Report) {
+    fn finish(&mut self, conn: RealConn<TcpStream, R>, report: Report) {
         self.hall.take_back(conn.into_wire(), report.end);
     }
 }

@@ -4,12 +4,12 @@ ghost use Rattle.td_base.specs.Doors.{IsNewDoor};
 ghost use Rattle.devices.specs.RealDoors.{door_view};
 
 use crate::hall::Hall;
-use crate::listening::Listening;
+use crate::listening::{Listening, lengthen};
 use crate::real_door::RealDoor;
 use crate::real_upstream::RealUpstream;
 use crate::shares::{Counter, counter, most_of_each};
 use std::alloc::{AllocError, AllocFailed, Global};
-use std::io::{Error, ErrorKind};
+use std::io::{Eprint, Error, ErrorKind};
 use std::net::{Net, TcpListener, TcpStream};
 use std::sync::Arc;
 use std::time::Clock;
@@ -88,7 +88,7 @@ impl<'a, R> RealNetwork<'a, R> {
     }
 }
 
-impl<'a, R: Net<Listener = TcpListener, Stream = TcpStream> + Clock + Copy> Network
+impl<'a, R: Net<Listener = TcpListener, Stream = TcpStream> + Clock + Eprint + Copy> Network
     for RealNetwork<'a, R> {
     type Door = RealDoor<R>;
 
@@ -119,7 +119,7 @@ impl<'a, R: Net<Listener = TcpListener, Stream = TcpStream> + Clock + Copy> Netw
 }
 
 /// Binds a socket and makes so many doors at it.
-fn open<R: Net<Listener = TcpListener, Stream = TcpStream> + Clock + Copy>(
+fn open<R: Net<Listener = TcpListener, Stream = TcpStream> + Clock + Eprint + Copy>(
     rt: &R,
     alloc: Global,
     address: &[u8],
@@ -130,7 +130,7 @@ fn open<R: Net<Listener = TcpListener, Stream = TcpStream> + Clock + Copy>(
 {
     let listening = listen(rt, alloc, address)?;
     let most = most_of_each(number);
-    let all = counter(alloc)?;
+    let all = counter(alloc, number)?;
     let mut doors = Vec::new(alloc);
     for _ in 0..number {
         doors.push(door_at(rt, alloc, &listening, &all, number, most)?)?;
@@ -139,7 +139,7 @@ fn open<R: Net<Listener = TcpListener, Stream = TcpStream> + Clock + Copy>(
 }
 
 /// One of so many doors at a socket.
-fn door_at<R: Net + Clock + Copy>(
+fn door_at<R: Net + Clock + Eprint + Copy>(
     rt: &R,
     alloc: Global,
     listening: &Listening,
@@ -162,7 +162,18 @@ fn listen<R: Net<Listener = TcpListener, Stream = TcpStream>>(
     let Ok(address) = str::from_utf8(address) else {
         return Err(OpenFault::System(ErrorKind::InvalidInput));
     };
-    let listener = TcpListener::bind(rt, address)?;
+    let listener = TcpListener::bind(rt, address).map_err(bind_fault)?;
     listener.set_nonblocking(true)?;
+    lengthen(&listener);
     Ok(Arc::new(alloc, listener)?)
+}
+
+/// Why no socket was bound. A failure without a number of the system is that of its resolver.
+fn bind_fault(error: Error) -> OpenFault {
+    match error.kind() {
+        ErrorKind::Uncategorized if error.raw_os_error().is_none() => {
+            OpenFault::System(ErrorKind::NotFound)
+        }
+        kind => OpenFault::System(kind),
+    }
 }

@@ -1,5 +1,6 @@
 //! The connections of a door that no worker serves.
 use crate::now::Now;
+use crate::outgoing::MOST_UNSENT;
 use crate::wire::{Rest, Wire};
 use mio::event::Event;
 use mio::unix::SourceFd;
@@ -8,22 +9,33 @@ use slab::Slab;
 use std::alloc::Global;
 use std::collections::VecDeque;
 use std::net::TcpStream;
-use stretches::Roll;
+use stretches::{Queue, Roll, Waiting};
 
-/// How many bytes that peers have not taken are held of all connections of a door.
-pub const MOST_UNSENT_OF_ALL: usize = 67_108_864;
+/// How many bytes of memory the connections of a door hold at most, the one that is served among
+/// them.
+pub const MOST_HELD_OF_ALL: usize = 67_108_864;
+
+/// How many of them those hold that rest, so that there is room for any reply.
+const MOST_HELD_AT_REST: usize = MOST_HELD_OF_ALL - MOST_UNSENT;
+
+/// How many keys of connections that are gone are taken out of a queue at a time.
+const MOST_STALE: u32 = 1_024;
 
 /// The token of the listening socket. Those of connections are one more than their keys.
 pub const LISTENS: Token = Token(0);
 
-/// The connections of a door that rest: those that can be served wait in a row, and of all others
-/// the roll says what they wait for, and since when.
+/// The connections of a door that rest. Those that can be served wait in two queues, and of all the
+/// roll says what they wait for, and since when. A key in a queue counts only while its connection
+/// says that it waits there.
 #[derive(Drop)]
 pub struct Resting {
     wires: Slab<Wire<TcpStream>>,
     roll: Roll,
-    ready: VecDeque<usize>,
+    light: VecDeque<usize>,
+    heavy: VecDeque<usize>,
+    /// How many bytes of replies they have not sent, and how much memory they hold.
     unsent: usize,
+    held: usize,
 }
 
 impl Resting {
@@ -32,8 +44,10 @@ impl Resting {
         Resting {
             wires: Slab::new(alloc),
             roll: Roll::new(alloc),
-            ready: VecDeque::new(alloc),
+            light: VecDeque::new(alloc),
+            heavy: VecDeque::new(alloc),
             unsent: 0,
+            held: 0,
         }
     }
 
@@ -42,14 +56,18 @@ impl Resting {
         self.wires.len()
     }
 
-    /// Whether one can be served.
-    pub fn has_ready(&self) -> bool {
-        !self.ready.is_empty()
+    /// In which queues one may wait, beside new connections.
+    pub fn waiting(&self, fresh: bool) -> Waiting {
+        Waiting {
+            fresh,
+            light: !self.light.is_empty(),
+            heavy: !self.heavy.is_empty(),
+        }
     }
 
-    /// How many bytes a connection may hold that is served now.
+    /// How many bytes of a reply a connection may hold that is served now.
     pub fn allowance(&self) -> usize {
-        MOST_UNSENT_OF_ALL.saturating_sub(self.unsent)
+        MOST_HELD_OF_ALL.saturating_sub(self.held)
     }
 
     /// Whether a reply waits to go out.
@@ -59,21 +77,23 @@ impl Resting {
 
     /// Takes a connection that is not served, and asks for its events. Where there is no memory or
     /// no room for that it is closed.
-    pub fn keep(&mut self, registry: &Registry, wire: Wire<TcpStream>, rest: Rest) {
+    pub fn keep(&mut self, registry: &Registry, wire: Wire<TcpStream>, rest: Rest, now: Now) {
         if rest == Rest::Gone {
             return;
         }
-        let unsent = wire.unsent();
+        let (unsent, held) = (wire.unsent(), wire.room());
         let known = wire.key;
         let Ok(key) = self.wires.insert(wire) else {
             return;
         };
         self.unsent = self.unsent.saturating_add(unsent);
+        self.held = self.held.saturating_add(held);
         if known != Some(key) && !self.ask_for(registry, key, known.is_some()) {
             self.discard(key);
             return;
         }
         self.place(key, rest);
+        self.make_memory(now);
     }
 
     /// Asks for the events of a connection under its key.
@@ -97,28 +117,36 @@ impl Resting {
     fn place(&mut self, key: usize, rest: Rest) {
         match rest {
             Rest::Ready => self.line_up(key),
-            Rest::Waits => {
-                let life = match self.wires.get(key) {
-                    Some(wire) => wire.life(),
-                    None => return,
-                };
-                if self.roll.set(key, life).is_err() {
-                    self.discard(key);
-                }
-            }
+            Rest::Waits => self.enroll(key),
             Rest::Gone => self.discard(key),
+        }
+    }
+
+    /// Says in the roll what the connection at a key waits for.
+    fn enroll(&mut self, key: usize) {
+        let Some(wire) = self.wires.get(key) else {
+            return;
+        };
+        let life = wire.life();
+        if self.roll.set(key, life).is_err() {
+            self.discard(key);
         }
     }
 
     /// The connection at a key can be served.
     fn line_up(&mut self, key: usize) {
-        self.roll.clear(key);
-        if self.ready.push_back(key).is_err() {
-            self.discard(key);
+        let Some(wire) = self.wires.get_mut(key) else {
             return;
-        }
-        if let Some(wire) = self.wires.get_mut(key) {
-            wire.queued = true;
+        };
+        wire.queued = true;
+        let lined_up = match wire.queue() {
+            Queue::Heavy => self.heavy.push_back(key).is_ok(),
+            Queue::Fresh | Queue::Light => self.light.push_back(key).is_ok(),
+        };
+        if lined_up {
+            self.enroll(key);
+        } else {
+            self.discard(key);
         }
     }
 
@@ -153,37 +181,76 @@ impl Resting {
         if wire.queued {
             return;
         }
-        let before = wire.unsent();
+        let (unsent, held) = (wire.unsent(), wire.room());
         let rest = wire.advance(now);
-        let after = wire.unsent();
-        self.unsent = self.unsent.saturating_sub(before).saturating_add(after);
+        let (unsent_after, held_after) = (wire.unsent(), wire.room());
+        self.unsent = self
+            .unsent
+            .saturating_sub(unsent)
+            .saturating_add(unsent_after);
+        self.held = self.held.saturating_sub(held).saturating_add(held_after);
         self.place(key, rest);
+        self.make_memory(now);
     }
 
-    /// The connection that has waited to be served for the longest time.
-    pub fn take_ready(&mut self) -> Option<Wire<TcpStream>> {
-        let key = self.ready.pop_front()?;
+    /// The connection that has waited in a queue for the longest time.
+    pub fn take_ready(&mut self, queue: Queue) -> Option<Wire<TcpStream>> {
+        for _ in 0..MOST_STALE {
+            let key = match queue {
+                Queue::Heavy => self.heavy.pop_front()?,
+                Queue::Fresh | Queue::Light => self.light.pop_front()?,
+            };
+            if self.is_queued(key) {
+                return self.remove(key);
+            }
+        }
+        None
+    }
+
+    /// Whether the connection at a key waits in a queue.
+    fn is_queued(&self, key: usize) -> bool {
+        match self.wires.get(key) {
+            Some(wire) => wire.queued,
+            None => false,
+        }
+    }
+
+    /// Takes the connection at a key out.
+    fn remove(&mut self, key: usize) -> Option<Wire<TcpStream>> {
+        self.roll.clear(key);
         let wire = self.wires.try_remove(key)?;
         self.unsent = self.unsent.saturating_sub(wire.unsent());
+        self.held = self.held.saturating_sub(wire.room());
         Some(wire)
     }
 
     /// Closes the connection at a key.
     fn discard(&mut self, key: usize) {
-        self.roll.clear(key);
-        if let Some(wire) = self.wires.try_remove(key) {
-            self.unsent = self.unsent.saturating_sub(wire.unsent());
-        }
+        let _ = self.remove(key);
     }
 
-    /// Closes the connection that turned longest ago, and tells whether there was one.
-    pub fn make_room(&mut self) -> bool {
-        match self.roll.longest() {
+    /// Closes the connection that is the first to give way to a new one, and tells whether there
+    /// was one.
+    pub fn make_room(&mut self, now: Now) -> bool {
+        match self.roll.first_to_yield(now.millis) {
             Some(key) => {
                 self.discard(key);
                 true
             }
             None => false,
+        }
+    }
+
+    /// Closes those that have held most memory for the longest time, while all hold too much.
+    fn make_memory(&mut self, now: Now) {
+        for _ in 0..self.wires.len() {
+            if self.held <= MOST_HELD_AT_REST {
+                return;
+            }
+            match self.roll.heaviest(now.millis) {
+                Some(key) => self.discard(key),
+                None => return,
+            }
         }
     }
 

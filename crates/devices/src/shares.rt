@@ -13,8 +13,15 @@ pub const RESERVED_DESCRIPTORS: u64 = 64;
 /// How many connections one door keeps at most.
 const MOST_CONNECTIONS: u64 = 65_536;
 
-/// How many connections all doors at a socket have.
-pub type Counter = Arc<AtomicU64, Global>;
+/// How many connections all doors at a socket have, and how many doors are not broken.
+#[derive(Drop)]
+pub struct Doors {
+    connections: AtomicU64,
+    whole: AtomicU64,
+}
+
+/// The same, of which each door has a share.
+pub type Counter = Arc<Doors, Global>;
 
 /// How many connections one of the doors has beside the others.
 #[derive(Drop)]
@@ -35,25 +42,34 @@ impl Shares {
         let own = u32::try_from(own).unwrap_or(u32::MAX);
         if own > self.own {
             let more = u64::from(own - self.own);
-            self.all.fetch_add(more, Ordering::SeqCst);
+            self.all.connections.fetch_add(more, Ordering::SeqCst);
         }
         if own < self.own {
             let fewer = u64::from(self.own - own);
-            self.all.fetch_sub(fewer, Ordering::SeqCst);
+            self.all.connections.fetch_sub(fewer, Ordering::SeqCst);
         }
         self.own = own;
     }
 
+    /// The door is broken, and tells whether it was the last that was not.
+    pub fn breaks(&self) -> bool {
+        self.all.whole.fetch_sub(1, Ordering::SeqCst) == 1
+    }
+
     /// Whether the door takes a connection that has waited for so many milliseconds.
     pub fn takes(&self, waited: u64) -> bool {
-        let all = self.all.load(Ordering::SeqCst);
+        let all = self.all.connections.load(Ordering::SeqCst);
         accepts(self.own, all, self.doors, waited)
     }
 }
 
-/// A count of none.
-pub fn counter(alloc: Global) -> Result<Counter, AllocError> {
-    Ok(Arc::new(alloc, AtomicU64::new(0))?)
+/// A count of no connections, for so many doors.
+pub fn counter(alloc: Global, doors: u32) -> Result<Counter, AllocError> {
+    let doors = Doors {
+        connections: AtomicU64::new(0),
+        whole: AtomicU64::new(u64::from(doors)),
+    };
+    Ok(Arc::new(alloc, doors)?)
 }
 
 /// How many connections each of so many doors may keep: its share of the descriptors that the

@@ -1,4 +1,4 @@
-ghost use Rattle.std.specs.Prelude.{◌<◌, ◌≡◌, length, false};
+ghost use Rattle.std.specs.Prelude.{◌<◌, ◌≡◌, length, max, false};
 ghost use Rattle.std.specs.Io.KnownBytes.{Keeps};
 ghost use Rattle.devices.specs.Flows.{EndsStretch, Gives, to_give, written};
 ghost use Rattle.devices.specs.Sockets.{Sends};
@@ -12,7 +12,7 @@ use std::alloc::Global;
 use std::io::{Read, Write};
 use std::net::{Shutdown, TcpStream};
 use std::os::fd::{AsRawFd, RawFd};
-use stretches::{Fate, Life, Phase, fate_after};
+use stretches::{Fate, Life, Phase, Queue, WorkerTurn, fate_after};
 use td_base::End;
 
 /// How many bytes of a connection that was closed are thrown away, so that its peer gets the last
@@ -24,6 +24,9 @@ const PIECE: usize = 4_096;
 
 /// How many pieces are sent or thrown away before others have their turn.
 const MOST_PIECES: u32 = 16;
+
+/// How many bytes of a reply a peer takes for a turn: one that takes fewer makes little progress.
+const PROGRESS_BYTES: usize = 65_536;
 
 /// What a connection that no worker serves came to.
 #[derive(Clone, Copy, PartialEq, Eq)]
@@ -60,11 +63,19 @@ pub struct Wire<S> {
     stage: Stage,
     /// Whether its last read told the end of a stretch.
     stretch_ended: bool,
-    /// When a byte came or went last; the number of its last turn, as it was accepted, handed back or
-    /// had sent the whole of a reply; and when the first byte was seen of a head that is not whole.
+    /// The turn of the worker that serves it, or that served it last, and whether that took long.
+    turn: WorkerTurn,
+    heavy: bool,
+    /// When a byte came or went last; the number of its last turn, as it was accepted or handed back,
+    /// began a head or sent a good part or the last of a reply; how much was sent since; when the
+    /// first byte was seen of a head that is not whole; and whether no byte came yet.
     moved: u64,
     turned: u64,
+    taken: usize,
     began: Option<u64>,
+    silent: bool,
+    /// Since when it has held memory: since its last stretch, or since it held none.
+    since: u64,
     /// The key under which its events come, and whether it stands among those that can be served.
     pub key: Option<usize>,
     pub queued: bool,
@@ -80,23 +91,65 @@ impl<S> Wire<S> {
             alloc,
             stage: Stage::Open,
             stretch_ended: false,
+            turn: WorkerTurn::new(0, 0),
+            heavy: false,
             moved: now.millis,
             turned: now.turn,
+            taken: 0,
             began: None,
+            silent: true,
+            since: now.millis,
             key: None,
             queued: false,
         }
     }
 
-    /// Begins a stretch, in which so many bytes may be held.
-    pub fn begin(&mut self, allowance: usize)
+    /// Begins a stretch, in which so many bytes may be held, and which lasts for this turn.
+    pub fn begin(&mut self, allowance: usize, turn: WorkerTurn)
         ensures incoming { self.new.incoming.intake.bytes ≡ self.old.incoming.intake.bytes }
         ensures outgoing { self.new.outgoing.unsent.rest ≡ self.old.outgoing.unsent.rest }
+        ensures turn { self.new.turn ≡ turn }
     {
         self.queued = false;
         self.stretch_ended = false;
         self.began = None;
+        self.silent = false;
+        self.turn = turn;
         self.outgoing.begin(allowance);
+    }
+
+    /// The clock shows this time, in microseconds, by which its turn may be over.
+    pub fn see(&mut self, micros: u64)
+        ensures wire { self.new ≡ record self.old {
+          turn = record self.old.turn {
+            seen = max self.old.turn.seen micros;
+          };
+        } }
+    {
+        self.turn.see(micros);
+    }
+
+    /// The turn of the worker that serves it, or that served it last.
+    pub fn turn(&self) -> WorkerTurn
+        ensures { result ≡ self.now.turn }
+    {
+        self.turn
+    }
+
+    /// Its last turn was a long one, or was not.
+    pub fn weigh(&mut self, heavy: bool)
+        ensures { self.new ≡ record self.old { heavy = heavy } }
+    {
+        self.heavy = heavy;
+    }
+
+    /// Where it waits for its next turn.
+    pub fn queue(&self) -> Queue {
+        if self.heavy {
+            Queue::Heavy
+        } else {
+            Queue::Light
+        }
     }
 
     /// What becomes of it at the end of a stretch, which was served to such an end.
@@ -107,6 +160,8 @@ impl<S> Wire<S> {
     {
         self.moved = now.millis;
         self.turned = now.turn;
+        self.taken = 0;
+        self.since = now.millis;
         let fate = fate_after(end, self.stretch_ended, self.incoming.is_ended());
         if fate == Fate::Leaves {
             self.leave();
@@ -132,6 +187,11 @@ impl<S> Wire<S> {
         self.outgoing.len()
     }
 
+    /// How many bytes of memory it takes for what came and for what was written.
+    pub fn room(&self) -> usize {
+        self.incoming.room().saturating_add(self.outgoing.room())
+    }
+
     /// Its peer may have sent more; `ending` tells that it has ended its side.
     pub fn wake(&mut self, ending: bool)
         ensures incoming { self.new.incoming.intake.bytes ≡ self.old.incoming.intake.bytes }
@@ -146,32 +206,56 @@ impl<S> Wire<S> {
             phase: self.phase(),
             moved: self.moved,
             turned: self.turned,
+            held: u64::try_from(self.room()).unwrap_or(u64::MAX),
+            since: self.since,
         }
     }
 
     fn phase(&self) -> Phase {
+        if self.queued {
+            return Phase::Ready;
+        }
         if self.unsent() > 0 {
-            Phase::Sending
-        } else if self.stage != Stage::Open {
-            Phase::Leaving
-        } else {
-            match self.began {
-                Some(since) => Phase::Hearing(since),
-                None => Phase::Idle,
-            }
+            return Phase::Sending;
+        }
+        if self.stage != Stage::Open {
+            return Phase::Leaving;
+        }
+        match self.began {
+            Some(since) => Phase::Hearing(since),
+            None if self.silent => Phase::Silent,
+            None => Phase::Idle,
+        }
+    }
+
+    /// So many bytes of a reply were sent.
+    fn progress(&mut self, count: usize, now: Now)
+        ensures incoming { self.new.incoming ≡ self.old.incoming }
+        ensures outgoing { self.new.outgoing ≡ self.old.outgoing }
+        ensures stream { self.new.stream ≡ self.old.stream }
+    {
+        self.moved = now.millis;
+        self.taken = self.taken.saturating_add(count);
+        if self.taken >= PROGRESS_BYTES {
+            self.taken = 0;
+            self.turned = now.turn;
         }
     }
 
     /// It waits for the next head, or for the rest of one. Memory that it does not need meanwhile
     /// is given back.
-    fn settle(&mut self, millis: u64)
+    fn settle(&mut self, now: Now)
         ensures incoming { self.new.incoming.intake.bytes ≡ self.old.incoming.intake.bytes }
         ensures outgoing { self.new.outgoing.unsent.rest ≡ self.old.outgoing.unsent.rest }
     {
         if self.incoming.is_empty() {
             self.began = None;
+            self.since = now.millis;
         } else if self.began.is_none() {
-            self.began = Some(millis);
+            self.began = Some(now.millis);
+            self.turned = now.turn;
+            self.since = now.millis;
+            self.silent = false;
         }
         self.incoming.let_go(self.alloc);
         self.outgoing.let_go(self.alloc);
@@ -180,14 +264,17 @@ impl<S> Wire<S> {
 
 impl<S: Read + Write> Wire<S> {
     /// Gives bytes of heads that have come whole. The stretch ends where no further head has come,
-    /// where the peer has not taken the reply before, and where it has lasted for long.
+    /// where the peer has not taken the reply before, where much was written, and between two heads
+    /// where its turn is spent.
     pub fn read(&mut self, room: &mut [u8]) -> Given
         requires { 0 < length room.old }
         ensures gives { Gives (to_give self.old.incoming (S.remaining self.old.stream))
             (to_give self.new.incoming (S.remaining self.new.stream)) result room.new }
-        ensures end { result ≡ Given.End → EndsStretch self.old.outgoing self.new.incoming }
+        ensures end { result ≡ Given.End
+            → EndsStretch self.old.outgoing self.old.turn self.new.incoming }
+        ensures turn { self.new.turn ≡ self.old.turn }
     {
-        if !self.outgoing.is_open() {
+        if !self.outgoing.is_open() || (self.turn.is_spent() && self.incoming.is_between()) {
             self.stretch_ended = true;
             return Given::End;
         }
@@ -218,7 +305,7 @@ impl<S: Read + Write> Wire<S> {
                 return true;
             }
             match self.outgoing.flush(&mut self.stream) {
-                Sent::Bytes(_) => self.moved = now.millis,
+                Sent::Bytes(count) => self.progress(count, now),
                 Sent::Nothing => return true,
                 Sent::Broken => return false,
             }
@@ -256,21 +343,21 @@ impl Wire<TcpStream> {
             }
         }
         match self.stage {
-            Stage::Open => self.listen(now.millis),
+            Stage::Open => self.listen(now),
             Stage::Leaving => self.shut(now.millis),
             Stage::Shut(thrown) => self.linger(thrown),
         }
     }
 
     /// Receives until it can be served.
-    fn listen(&mut self, millis: u64) -> Rest {
-        self.hear(millis);
+    fn listen(&mut self, now: Now) -> Rest {
+        self.hear(now.millis);
         if self.incoming.is_ready() {
             Rest::Ready
         } else if self.incoming.is_over() {
             Rest::Gone
         } else {
-            self.settle(millis);
+            self.settle(now);
             Rest::Waits
         }
     }

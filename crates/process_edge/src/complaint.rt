@@ -90,13 +90,29 @@ impl Display for Complaint<'_> {
     fn fmt<W: fmt::Write>(&self, f: &mut Formatter<W>) -> fmt::Result {
         match *self {
             Complaint::OutOfMemory => f.write_str("out of memory"),
-            Complaint::File(path, kind) => write!(f, "cannot read {path}: {kind}"),
-            Complaint::Input(kind) => write!(f, "cannot read standard input: {kind}"),
-            Complaint::Output(kind) => write!(f, "cannot write standard output: {kind}"),
+            Complaint::File(path, kind) => write!(f, "cannot read {path}: {}", Reason(kind)),
+            Complaint::Input(kind) => write!(f, "cannot read standard input: {}", Reason(kind)),
+            Complaint::Output(kind) => write!(f, "cannot write standard output: {}", Reason(kind)),
             Complaint::Worker => f.write_str("cannot start a worker"),
+            Complaint::Address(address, ErrorKind::NotFound) => {
+                write!(f, "cannot listen at {address}: its name does not resolve")
+            }
             Complaint::Address(address, kind) => write!(f, "cannot listen at {address}: {kind}"),
             Complaint::Door(kind) => write!(f, "cannot accept connections: {kind}"),
             Complaint::Upstream(kind) => write!(f, "cannot ask the other server: {kind}"),
+        }
+    }
+}
+
+/// The system's word for why a file or a stream failed, where it has one.
+#[derive(Clone, Copy)]
+struct Reason(ErrorKind);
+
+impl Display for Reason {
+    fn fmt<W: fmt::Write>(&self, f: &mut Formatter<W>) -> fmt::Result {
+        match self.0 {
+            ErrorKind::Uncategorized => f.write_str("it is closed, or its device failed"),
+            kind => write!(f, "{kind}"),
         }
     }
 }

@@ -1,0 +1,135 @@
+//! What a door decides of the connections that it keeps.
+use case_lines::{Answer, CaseFault, Row, Told, shown};
+use std::alloc::Global;
+use stretches::{FailureWindow, Life, Phase, Queue, Roll, Shared, Waiting, WorkerTurn};
+
+/// How many words of a row say what a connection waits for, and since when.
+const LIFE_WORDS: usize = 5;
+
+/// How many connections a row has at most.
+const MOST_LIVES: usize = 16;
+
+/// `roll NOW (PHASE MOVED TURNED HELD SINCE)..`: the connection that is the first to give way to a
+/// new one, the one that has held most memory for the longest time, and the first to be given up.
+/// They are counted from 0.
+pub fn roll(alloc: Global, row: &Row) -> Answer {
+    let now = row.number(0)?;
+    let mut roll = Roll::new(alloc);
+    for key in 0..MOST_LIVES {
+        if row.words().len() < (key + 1) * LIFE_WORDS + 1 {
+            break;
+        }
+        roll.set(key, life(row, key * LIFE_WORDS + 1)?)?;
+    }
+    shown(
+        alloc,
+        &(
+            roll.first_to_yield(now),
+            roll.heaviest(now),
+            roll.next_over(0, now),
+        ),
+    )
+}
+
+/// What a connection waits for, by the words from a place on.
+fn life(row: &Row, at: usize) -> Result<Life, CaseFault> {
+    let since = row.number(at.saturating_add(4))?;
+    Ok(Life {
+        phase: phase(row.text(at)?, since)?,
+        moved: row.number(at.saturating_add(1))?,
+        turned: row.number(at.saturating_add(2))?,
+        held: row.number(at.saturating_add(3))?,
+        since,
+    })
+}
+
+/// A phase by its name. A head began when memory was first held.
+fn phase(name: &str, since: u64) -> Result<Phase, CaseFault> {
+    match name {
+        "silent" => Ok(Phase::Silent),
+        "idle" => Ok(Phase::Idle),
+        "hearing" => Ok(Phase::Hearing(since)),
+        "sending" => Ok(Phase::Sending),
+        "leaving" => Ok(Phase::Leaving),
+        "ready" => Ok(Phase::Ready),
+        _ => Err(CaseFault::Strange),
+    }
+}
+
+/// `queues MICROS TURNS QUEUE..`: of so many turns, each of which takes so long, those that each
+/// queue had where one always waits in these, and none in the others until half of the turns.
+pub fn queues(alloc: Global, row: &Row) -> Answer {
+    let (micros, turns) = (row.number(0)?, row.number(1)?);
+    let (half, named) = (turns - turns / 2, waiting(row));
+    let mut shared = Shared::NONE;
+    let mut counts = (0u64, 0u64, 0u64);
+    for turn in 0..turns {
+        let now = if turn < half { named } else { ALL_WAIT };
+        let Some(queue) = shared.next(now) else {
+            continue;
+        };
+        shared.serve(queue, now);
+        shared.charge(queue, micros);
+        count(&mut counts, queue);
+    }
+    shown(alloc, &counts)
+}
+
+/// In each queue one waits.
+const ALL_WAIT: Waiting = Waiting {
+    fresh: true,
+    light: true,
+    heavy: true,
+};
+
+/// In which queues one waits, by their names.
+fn waiting(row: &Row) -> Waiting {
+    Waiting {
+        fresh: names(row, b"fresh"),
+        light: names(row, b"light"),
+        heavy: names(row, b"heavy"),
+    }
+}
+
+/// Whether a row has this word.
+fn names(row: &Row, name: &[u8]) -> bool {
+    for word in row.words() {
+        if word.as_slice() == name {
+            return true;
+        }
+    }
+    false
+}
+
+/// One more turn of a queue.
+fn count(counts: &mut (u64, u64, u64), queue: Queue) {
+    match queue {
+        Queue::Fresh => counts.0 = counts.0.saturating_add(1),
+        Queue::Light => counts.1 = counts.1.saturating_add(1),
+        Queue::Heavy => counts.2 = counts.2.saturating_add(1),
+    }
+}
+
+/// `turn BEGAN LIMIT SEEN RAN`: whether a turn is spent by what the clock shows, and what it cost
+/// of so long as its thread ran.
+pub fn turn(alloc: Global, row: &Row) -> Answer {
+    let (began, limit) = (row.number(0)?, row.number(1)?);
+    let (seen, ran) = (row.number(2)?, row.number(3)?);
+    let mut turn = WorkerTurn::new(began, limit);
+    turn.see(seen);
+    shown(alloc, &(turn.is_spent(), turn.cost(seen, ran)))
+}
+
+/// `failures MILLIS..`: how many of the failures at these times are counted after each, and whether
+/// the door is broken then.
+pub fn failures(alloc: Global, row: &Row) -> Answer {
+    let mut window = FailureWindow::NONE;
+    let mut told = Told::new(alloc);
+    for at in 0..row.words().len() {
+        window.fail(row.number(at)?);
+        told.text(&window.count);
+        told.bytes(b" ");
+    }
+    told.value(&window.is_broken());
+    told.answer()
+}

@@ -1,0 +1,5 @@
+use Rattle.std.specs.Io.KnownBytes.{Keeps}
+use Rattle.devices.proofs.blocking.BlockingWrite.write.Given as goal
+
+abbrev pub invariant-loop : goal.invariant-loop
+invariant-loop g l = Keeps (g.S.Write.contents l.fn.self.stream) (g.S.Write.contents l.self.stream)
