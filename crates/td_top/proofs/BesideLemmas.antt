@@ -85,7 +85,7 @@ module _ {D C : Type 0} (seen : D → DoorView) where
         ends = subst
             (λ e. OpenedEnds server address workers opening (site before.console asked r) (site now.console n q) (history_of list) (map seen doors) e)
             (sym learnt.ending)
-            (served (history_of list) given (map seen doors) ended worn (operated before now ended nobody learnt.seen talked) opens all);
+            (served (history_of list) given (map seen doors) ended worn learnt.fits (operated before now ended nobody learnt.seen talked) opens all);
       }
   concluded server address workers given asked n r q before now ended works dones doors is later opens are does nobody talked (inr none) =
       given_up seen server address workers (history_of before.session.installer.list) (site before.console asked r) (site now.console n q) doors is

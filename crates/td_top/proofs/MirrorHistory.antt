@@ -28,7 +28,8 @@ use Rattle.sync_world.specs.Holding.{HoldsLast}
 use Rattle.sync_world.specs.Worlds.{SyncWorld, WorldStep, world_begun}
 use Rattle.td_top.specs.Following.{SaysStated, StatesAfter, SyncsAs, SyncsMirror, faulted, faulted_starved, installed, refused, settled, starved, unchanged}
 use Rattle.td_top.specs.Growth.{GrowthView, Handles, following}
-use Rattle.td_top.specs.MirrorHistory.{FollowsPrimary, IsOfPrimary, IsStated, Publish, all_exchanges, joined, kept, none}
+use Rattle.td_top.specs.MirrorHistory.{FollowsPrimary, IsOfPrimary, IsStated, Publish, PublishInTurn, all_exchanges, joined, joined_at, kept, kept_at}
+use Rattle.td_top.specs.MirrorHistory.{none, none_yet}
 use Rattle.td_top.specs.Operator.{GetsAnswer, Talk, Talks, changed, handled, no_memory, only_told, talk_begun, unknown, with_joined}
 use Rattle.td_top.specs.Operator as talk
 use Rattle.zone_meaning.specs.Sound.{IsSound}
@@ -68,7 +69,7 @@ record SoFar (host : List ℕ) (first : UpstreamView) (u : Talk) : Type 0 where
   pub growth : u.growth ≡ following host after upstream
   pub syncs : SyncsInTurn (request_text host) Means empty_mirror shares after
   pub told : TellsMore first.told upstream.told (all_exchanges shares)
-  pub publish : Publish IsStated shares u.published
+  pub publish : Publish shares u.published
 
 -- the share of one sync
 abbrev share_of : (host : List ℕ) (s t : MirrorState) (old new : UpstreamView) (result : Result (Unit {0}) SyncFault) → SyncsAs host s t old new result → Share
@@ -78,7 +79,7 @@ module _ (host : List ℕ) (first : UpstreamView) where
   -- with one sync more
   more_so : (u v : Talk) (so : SoFar host first u) (t : MirrorState) (new : UpstreamView) (result : Result (Unit {0}) SyncFault)
       → (h : SyncsAs host so.after t so.upstream new result) → v.growth ≡ following host t new
-      → Publish IsStated (so.shares ++ share_of host so.after t so.upstream new result h ∷ []) v.published → SoFar host first v
+      → Publish (so.shares ++ share_of host so.after t so.upstream new result h ∷ []) v.published → SoFar host first v
   more_so u v so t new result h growth publish =
       let share = share_of host so.after t so.upstream new result h in
       record {
@@ -98,19 +99,19 @@ module _ (host : List ℕ) (first : UpstreamView) where
       → v.published ≡ with_joined u.published r → SoFar host first v
   stated_so u v so t new answer r h (installed release other states is) growth published =
       more_so u v so t new (Ok tt) h growth
-      (subst (λ H. Publish IsStated (so.shares ++ share_of host so.after t so.upstream new (Ok tt) h ∷ []) H) (sym published)
+      (subst (λ H. Publish (so.shares ++ share_of host so.after t so.upstream new (Ok tt) h ∷ []) H) (sym published)
       (joined so.shares (share_of host so.after t so.upstream new (Ok tt) h) u.published release so.publish (refl, states)))
   stated_so u v so t new answer r h (unchanged last is) growth published =
       more_so u v so t new (Ok tt) h growth
-      (subst (λ H. Publish IsStated (so.shares ++ share_of host so.after t so.upstream new (Ok tt) h ∷ []) H) (sym published)
+      (subst (λ H. Publish (so.shares ++ share_of host so.after t so.upstream new (Ok tt) h ∷ []) H) (sym published)
       (kept so.shares (share_of host so.after t so.upstream new (Ok tt) h) u.published so.publish))
   stated_so u v so t new answer r h (refused e other states of is) growth published =
       more_so u v so t new (Ok tt) h growth
-      (subst (λ H. Publish IsStated (so.shares ++ share_of host so.after t so.upstream new (Ok tt) h ∷ []) H) (sym published)
+      (subst (λ H. Publish (so.shares ++ share_of host so.after t so.upstream new (Ok tt) h ∷ []) H) (sym published)
       (kept so.shares (share_of host so.after t so.upstream new (Ok tt) h) u.published so.publish))
   stated_so u v so t new answer r h (starved is) growth published =
       more_so u v so t new (Ok tt) h growth
-      (subst (λ H. Publish IsStated (so.shares ++ share_of host so.after t so.upstream new (Ok tt) h ∷ []) H) (sym published)
+      (subst (λ H. Publish (so.shares ++ share_of host so.after t so.upstream new (Ok tt) h ∷ []) H) (sym published)
       (kept so.shares (share_of host so.after t so.upstream new (Ok tt) h) u.published so.publish))
 
   -- a sync that ended by a fault published nothing
@@ -119,7 +120,7 @@ module _ (host : List ℕ) (first : UpstreamView) where
       → SoFar host first v
   fault_so u v so t new e r h isnt growth published =
       more_so u v so t new (Err e) h growth
-      (subst (λ H. Publish IsStated (so.shares ++ share_of host so.after t so.upstream new (Err e) h ∷ []) H)
+      (subst (λ H. Publish (so.shares ++ share_of host so.after t so.upstream new (Err e) h ∷ []) H)
       (sym (published ∙ ap (λ x. with_joined u.published x) isnt))
       (kept so.shares (share_of host so.after t so.upstream new (Err e) h) u.published so.publish))
 
@@ -146,7 +147,7 @@ module _ (host : List ℕ) (first : UpstreamView) where
     growth = growth ∙ so.growth;
     syncs = so.syncs;
     told = so.told;
-    publish = subst (λ H. Publish IsStated so.shares H) (sym published) so.publish;
+    publish = subst (λ H. Publish so.shares H) (sym published) so.publish;
   }
 
   line_so : (whole : List ReleaseData) (u v : Talk) (asked : Line) (answer : List ℕ) → GetsAnswer whole u asked answer v → SoFar host first u
@@ -184,40 +185,47 @@ first_so host first ready s r h states =
 
 module _ (laws : Laws) (H : List ReleaseData) (steps : List WorldStep) (xs : List Exchange) (v : SyncWorld) (sound : IsHistory IsSound H) (some : 1 ≤ length H)
     (logs : Logs IsSound IsAnsweredOver Means (world_begun H) steps xs v) where
-  -- the place of the last sync, of some
-  parted : (least : ℕ) (shares : List Share) (share : Share) → 1 ≤ least → HoldInTurn IsAnsweredOver action_service v.history least (shares ++ share ∷ [])
-      → HoldInTurn IsAnsweredOver action_service v.history least shares
-      × ((from n : ℕ) × (1 ≤ from) × HoldsAt IsAnsweredOver action_service v.history from n share.taken share.after share.result)
-  parted least [] share positive h = (tt, (least, h.0, positive, h.1))
+  -- the place of the last sync
+  abbrev ends_at : (least : ℕ) (shares : List Share) → HoldInTurn IsAnsweredOver action_service v.history least shares → ℕ
+  ends_at least [] h = least
+  ends_at least (share ∷ shares) h = ends_at h.0 shares h.2
+
+  -- the last sync, and those before it
+  parted : (least : ℕ) (shares : List Share) (share : Share) → 1 ≤ least
+      → (h : HoldInTurn IsAnsweredOver action_service v.history least (shares ++ share ∷ []))
+      → (first : HoldInTurn IsAnsweredOver action_service v.history least shares) × (1 ≤ ends_at least shares first)
+      × HoldsAt IsAnsweredOver action_service v.history (ends_at least shares first) (ends_at least (shares ++ share ∷ []) h) share.taken share.after
+      share.result
+  parted least [] share positive h = (tt, positive, h.1)
   parted least (x ∷ rest) share positive h =
       let after = parted h.0 rest share (omega (arith, positive, h.1.from)) h.2 in
-      ((h.0, h.1, after.0), after.1)
+      ((h.0, h.1, after.0), after.1, after.2)
 
   one_had : (before : List ReleaseData) (share : Share) (r : ReleaseData) (from n : ℕ) → 1 ≤ from
       → HoldsAt IsAnsweredOver action_service v.history from n share.taken share.after share.result → IsStated before share r
-      → IsOfPrimary v.history share r
+      → IsOfPrimary v.history n share r
   one_had before share r from n positive at stated =
       let place : 1 ≤ n = omega (arith, positive, at.from) in
       let long : 1 ≤ length (take n v.history) = omega (arith, place, length-take n v.history, at.upto) in
       let states = stated.1 in
       record {
-        place = n;
         is_place = (place, at.upto);
         answered = at.answered stated.0;
         contents = laws.held (take n v.history) share.after states.0 (before_of before) r (laws.go_on H steps xs v n sound logs).1 long (at.holds stated.0)
             states.1 states.2;
       }
 
-  all_had : (shares : List Share) (history : List ReleaseData) → Publish IsStated shares history
-      → HoldInTurn IsAnsweredOver action_service v.history (length H) shares
-      → Publish (λ before share r. IsStated before share r × IsOfPrimary v.history share r) shares history
-  all_had shares history none h = none
+  all_had : (shares : List Share) (history : List ReleaseData) → Publish shares history
+      → (h : HoldInTurn IsAnsweredOver action_service v.history (length H) shares)
+      → PublishInTurn v.history (length H) shares history (ends_at (length H) shares h)
+  all_had shares history none h = none_yet
   all_had shares history (kept before share past publish) h =
-      kept before share past (all_had before past publish (parted (length H) before share some h).0)
+      let parts = parted (length H) before share some h in
+      kept_at before share past _ _ (all_had before past publish parts.0) parts.2.from parts.2.upto
   all_had shares history (joined before share past r publish stated) h =
       let parts = parted (length H) before share some h in
-      joined before share past r (all_had before past publish parts.0)
-      (stated, one_had past share r parts.1.0 parts.1.1 parts.1.2 parts.1.3 stated)
+      joined_at before share past r _ _ (all_had before past publish parts.0) parts.2.from stated
+      (one_had past share r _ _ parts.1 parts.2 stated)
 
 follows_so : (laws : Laws) (host : List ℕ) (first last : UpstreamView) (u : Talk) (t : MirrorState) (history : List ReleaseData) → SoFar host first u
     → u.published ≡ history → u.growth ≡ following host t last → FollowsPrimary host first last history
@@ -228,10 +236,12 @@ follows_so laws host first last u t history so published growth =
       after = so.after;
       syncs = so.syncs;
       told = subst (λ x. TellsMore first.told x.told (all_exchanges so.shares)) same so.told;
-      publish = subst (λ H. Publish IsStated so.shares H) published so.publish;
+      publish = subst (λ H. Publish so.shares H) published so.publish;
       holds = λ H steps v sound some logs.
-          all_had laws H steps (all_taken so.shares) v sound some logs so.shares history (subst (λ K. Publish IsStated so.shares K) published so.publish)
-          (laws.in_turn H steps v host so.shares so.after sound some logs so.syncs);
+          let turns = laws.in_turn H steps v host so.shares so.after sound some logs so.syncs in (
+            ends_at laws H steps (all_taken so.shares) v sound some logs (length H) so.shares turns,
+            all_had laws H steps (all_taken so.shares) v sound some logs so.shares history (subst (λ K. Publish so.shares K) published so.publish) turns,
+          );
     }
 
 pub follows_primary : (laws : Laws) (host : List ℕ) (first ready last : UpstreamView) (s t : MirrorState) (r : ReleaseData) (history : List ReleaseData)

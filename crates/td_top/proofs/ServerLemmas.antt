@@ -1,6 +1,6 @@
 -- What doors that were served beside a talk come to, over the history of the run.
 use Rattle.std.proofs.Common.{◌≡◌, ℕ, ◌≤◌, List, [], ◌∷◌, length, map, Bool, true, false, All, Option, arith}
-use Rattle.std.proofs.Common.{None, Some, IfSome, inl, inr, sym, subst, ap, ◌∙◌}
+use Rattle.std.proofs.Common.{None, Some, IfSome, inl, inr, refl, sym, subst, ap, ◌∙◌}
 use Rattle.std.specs.List.{list_any}
 use Rattle.std.specs.Global.{Vec}
 use Rattle.std.proofs.lemmas.List.{length-map}
@@ -14,7 +14,7 @@ use Rattle.td_base.specs.declared.network.Made.TheVariants as made
 use Rattle.td_base.specs.declared.report.Role.{Role}
 use Rattle.catalogue.specs.Releases.{ReleaseData}
 use Rattle.catalogue.specs.declared.holding.Catalogue.{Catalogue}
-use Rattle.connection.specs.DoorWorks.{DoesDoor, NoneOut, ServesTold, Stops, WorkView, at_end}
+use Rattle.connection.specs.DoorWorks.{DoesDoor, FailedFew, NoneOut, ServesTold, Stops, WorkView, at_end}
 use Rattle.connection.specs.DoorWorks.{at_flag, by_faults, places_of}
 use Rattle.connection.proofs.PlaceLemmas.{all_weaker}
 use Rattle.connection.specs.FaultCounts.{RoseTimes}
@@ -65,6 +65,7 @@ operated before now ended nobody seen t =
       growth = talk.1.growth;
       written = t.written;
       ends = t.ends;
+      fails = t.fails;
     }
 
 -- ---- doors
@@ -86,9 +87,9 @@ told_over server least list (Some before) None desk desk' many seen h = absurd h
 told_over server least list None (Some now) desk desk' many seen h = absurd h
 told_over server least list None None desk desk' many seen h = tt
 
-done_by : (before now : DoorView) (raised worn : Bool) → Stops before now raised worn → worn ≡ false → IsDone now
-done_by before now raised worn (at_end last none few is) e = inl (last, none)
-done_by before now raised worn (at_flag last up few is) e = inr last
+done_by : (before now : DoorView) (raised worn : Bool) → Stops before now raised worn → worn ≡ false → IsDone now × FailedFew before.faults now.faults
+done_by before now raised worn (at_end last none few is) e = (inl (last, none), few)
+done_by before now raised worn (at_flag last up few is) e = (inr last, few)
 done_by before now raised worn (by_faults last rose is) e = absurd (true≢false (sym is ∙ e))
 
 worn_by : (before now : DoorView) (raised worn : Bool) → Stops before now raised worn → worn ≡ true → RoseTimes MOST_FAILURES before.faults now.faults
@@ -190,6 +191,7 @@ module _ {D : Type 0} (seen : D → DoorView) where
         many = many;
         new = all_new doors.items h.fits.1;
         told = opened_told before.content now.content address n doors many h.told;
+        steady = h.steady refl;
       }
 
   -- of a new door no connection is out

@@ -1,5 +1,5 @@
 -- How a talk with an operator goes on by a turn, and ends.
-use Rattle.std.proofs.Common.{◌≡◌, ℕ, ◌≤◌, List, [], ◌∷◌, ◌++◌, length, flat_map, Option, Some}
+use Rattle.std.proofs.Common.{◌≡◌, ℕ, ◌+◌, ◌≤◌, List, [], ◌∷◌, ◌++◌, length, flat_map, Option, Some}
 use Rattle.std.proofs.Common.{refl, sym, subst, ap, ◌∙◌, append_assoc, append-nil, arith}
 use Rattle.std.specs.Io.KnownBytes.{Consumes, IsAtEnd}
 use Rattle.std.specs.List.{AllByRecursion}
@@ -125,6 +125,7 @@ starts s i o p x text knows is h gives = record {
   gives = gives;
   needed = needs_none;
   goes_on = tt;
+  steady = refl;
   over = nothing_asked s i o p x knows (writes_all_later o p text written.Whole h);
   written = as_text o p text (talk_text (history_of x.installer.list) []) written.Whole (is ∙ first_text (history_of x.installer.list)) h;
 }
@@ -142,6 +143,7 @@ cut_at_once s i o p x text knows is h gives = record {
   over = nothing_asked s i o p x knows (writes_all_later o p text written.Cut h);
   written = at_ready (as_text o p text (reply_text (said.Ready (last_token (history_of x.installer.list)))) written.Cut is h);
   ends = tt;
+  fails = refl;
 }
 
 -- ---- a piece of the input
@@ -173,6 +175,7 @@ fed start s i j o x held held' new at whole input f = record {
       (gives_more at.read held' f.read at.asked (whole at.read at.asked at.gives).0);
   needed = needs_piece at.read f.read at.asked (whole at.read at.asked at.gives).1 f.few;
   goes_on = at.goes_on;
+  steady = f.steady ∙ at.steady;
   over = over_input start s i j o x at.asked at.told input at.over;
   written = at.written;
 }
@@ -182,8 +185,8 @@ consumed_on a b c bs h k = subst (λ (l : List ℕ). Consumes a c l) (append-nil
 
 input_done : (start : Scene) (s : GrowthView) (i j : SourceView) (o : SinkView) (x : Session) (held held' : List ℕ)
     → IsAt start (scene (console s i o) x) held → HasNone held held' → LaterSource i j → Consumes i.left j.left [] → IsAtEnd j.left
-    → ComesTo start (scene (console s j o) x) (Some end.InputEnded)
-input_done start s i j o x held held' at whole input consumed ended = record {
+    → j.faults ≡ i.faults → ComesTo start (scene (console s j o) x) (Some end.InputEnded)
+input_done start s i j o x held held' at whole input consumed ended steady = record {
   read = at.read;
   asked = at.asked;
   ignored = [];
@@ -193,12 +196,13 @@ input_done start s i j o x held held' at whole input consumed ended = record {
   over = over_input start s i j o x at.asked at.told input at.over;
   written = at.written;
   ends = (at.goes_on, refl, ended);
+  fails = steady ∙ at.steady;
 }
 
 input_failed : (start : Scene) (s : GrowthView) (i j : SourceView) (o : SinkView) (x : Session) (held held' : List ℕ)
     → IsAt start (scene (console s i o) x) held → HasNone held held' → LaterSource i j → Consumes i.left j.left [] → SourceFailed i j
-    → ComesTo start (scene (console s j o) x) (Some end.NotRead)
-input_failed start s i j o x held held' at whole input consumed failed = record {
+    → j.faults ≤ i.faults + 1 → ComesTo start (scene (console s j o) x) (Some end.NotRead)
+input_failed start s i j o x held held' at whole input consumed failed once = record {
   read = at.read;
   asked = at.asked;
   ignored = [];
@@ -208,6 +212,7 @@ input_failed start s i j o x held held' at whole input consumed failed = record 
   over = over_input start s i j o x at.asked at.told input at.over;
   written = at.written;
   ends = (at.goes_on, refl, source_then_failed start.console.input i j at.over.later.console.input failed);
+  fails = subst (λ n. j.faults ≤ n + 1) at.steady once;
 }
 
 -- a turn that reads
@@ -215,8 +220,8 @@ pub read_turn : (start : Scene) (s : GrowthView) (i j : SourceView) (o : SinkVie
     → IsAt start (scene (console s i o) x) held → HasNone held held' → LaterSource i j → FeedsTalk i j held' new r
     → Reaches start (scene (console s j o) x) new r
 read_turn start s i j o x held held' new turn.On at whole input f = fed start s i j o x held held' new at whole input f
-read_turn start s i j o x held held' new (turn.End end.InputEnded) at whole input f = input_done start s i j o x held held' at whole input f.0 f.1
-read_turn start s i j o x held held' new (turn.End end.NotRead) at whole input f = input_failed start s i j o x held held' at whole input f.0 f.1
+read_turn start s i j o x held held' new (turn.End end.InputEnded) at whole input f = input_done start s i j o x held held' at whole input f.0 f.1 f.2
+read_turn start s i j o x held held' new (turn.End end.NotRead) at whole input f = input_failed start s i j o x held held' at whole input f.0 f.1 f.2
 read_turn start s i j o x held held' new (turn.End end.Quit) at whole input f = absurd f
 read_turn start s i j o x held held' new (turn.End end.NotWritten) at whole input f = absurd f
 read_turn start s i j o x held held' new turn.NoMemory at whole input f = later_input start s i j o x at.over.later input
@@ -259,6 +264,7 @@ cut_by start s t i o p x y held new next a at is answers h = record {
   over = over_more start s t i o p x y at.asked at.told next a at.goes_on (writes_all_later o p a written.Cut h) at.over answers;
   written = at_reply at.told a o at.written h;
   ends = tt;
+  fails = at.steady;
 }
 
 said_whole : (start : Scene) (o p : SinkView) (told : List (List ℕ)) (a : List ℕ)
@@ -280,6 +286,7 @@ answered start s t i o p x y held new next a goes at is answers h = record {
   gives = is at.read at.asked at.gives;
   needed = needs_more at.read at.asked next at.needed;
   goes_on = all_more KeepsTalking at.asked next at.goes_on goes;
+  steady = at.steady;
   over = over_more start s t i o p x y at.asked at.told next a at.goes_on (writes_all_later o p a written.Whole h) at.over answers;
   written = said_whole start o p at.told a at.written h;
 }
@@ -310,6 +317,7 @@ quit_by start s i o p x held new at is answers h = record {
       answers;
   written = said_whole start o p at.told (reply_text said.Bye) at.written h;
   ends = (at.asked, refl);
+  fails = at.steady;
 }
 
 pub quit_turn : (start : Scene) (s : GrowthView) (i : SourceView) (o p : SinkView) (x : Session) (held new : List ℕ) (ended : TalkEnd)

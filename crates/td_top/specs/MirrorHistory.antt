@@ -22,41 +22,52 @@ abbrev pub all_exchanges : List Share → List Exchange
 all_exchanges [] = []
 all_exchanges (share ∷ shares) = (share.taken ++ share.untaken) ++ all_exchanges shares
 
--- some syncs, and the releases that were published by them, by what is so of the releases before,
--- of the sync that published one, and of that
-pub data Publish (is_so : List ReleaseData → Share → ReleaseData → Type 0)
-    : List Share → List ReleaseData → Type 0 where
-  none : Publish is_so [] []
-  kept : (shares : List Share) (share : Share) (H : List ReleaseData)
-      → Publish is_so shares H → Publish is_so (shares ++ share ∷ []) H
-  joined : (shares : List Share) (share : Share) (H : List ReleaseData) (r : ReleaseData)
-      → Publish is_so shares H → is_so H share r
-      → Publish is_so (shares ++ share ∷ []) (H ++ r ∷ [])
-
 -- a release is what the mirror stated at the end of a sync that ended well
 abbrev pub IsStated : List ReleaseData → Share → ReleaseData → Type 0
 IsStated H share r = (share.result ≡ Ok tt) × StatesAfter H share.after (Ok r)
 
--- it has the zones, and so their tags, of the release of a primary with this history that answered
--- the last exchange of the sync, which is the empty list of changes
-pub record IsOfPrimary (G : List ReleaseData) (share : Share) (r : ReleaseData) : Type 0 where
-  pub place : ℕ
+-- some syncs, and the releases that were published by them
+pub data Publish : List Share → List ReleaseData → Type 0 where
+  none : Publish [] []
+  kept : (shares : List Share) (share : Share) (H : List ReleaseData)
+      → Publish shares H → Publish (shares ++ share ∷ []) H
+  joined : (shares : List Share) (share : Share) (H : List ReleaseData) (r : ReleaseData)
+      → Publish shares H → IsStated H share r → Publish (shares ++ share ∷ []) (H ++ r ∷ [])
+
+-- it has the zones, and so their tags, of the release at a place of a primary with this history,
+-- which answered the last exchange of the sync, the empty list of changes
+pub record IsOfPrimary (G : List ReleaseData) (place : ℕ) (share : Share) (r : ReleaseData)
+    : Type 0 where
   pub is_place : IsPlace G place
   pub answered : LastIsOver IsAnsweredOver action_service (take place G) share.taken
   pub contents : r.contents ≡ zones_of (take place G)
 
+-- Some syncs with a primary, each at a place of its history that is not before those of the syncs
+-- before it, and the releases that were published by them, each that of the primary at the place of
+-- its own sync. The first place is not before `least`; the last is the number at the end.
+pub data PublishInTurn (G : List ReleaseData) (least : ℕ)
+    : List Share → List ReleaseData → ℕ → Type 0 where
+  none_yet : PublishInTurn G least [] [] least
+  kept_at : (shares : List Share) (share : Share) (H : List ReleaseData) (before place : ℕ)
+      → PublishInTurn G least shares H before → before ≤ place → place ≤ length G
+      → PublishInTurn G least (shares ++ share ∷ []) H place
+  joined_at : (shares : List Share) (share : Share) (H : List ReleaseData) (r : ReleaseData)
+      (before place : ℕ)
+      → PublishInTurn G least shares H before → before ≤ place → IsStated H share r
+      → IsOfPrimary G place share r
+      → PublishInTurn G least (shares ++ share ∷ []) (H ++ r ∷ []) place
+
 -- The told exchanges are those of some syncs, one after another from a mirror that holds nothing,
 -- which published the history. In every world of a primary whose answers are those that were taken,
--- each release of the history is one of the primary's.
+-- each release of the history is one of the primary's, at places that never fall.
 pub record FollowsPrimary (host : List ℕ) (first last : UpstreamView)
     (history : List ReleaseData) : Type 0 where
   pub shares : List Share
   pub after : MirrorState
   pub syncs : SyncsInTurn (request_text host) Means empty_mirror shares after
   pub told : TellsMore first.told last.told (all_exchanges shares)
-  pub publish : Publish IsStated shares history
+  pub publish : Publish shares history
   pub holds : (H : List ReleaseData) (steps : List WorldStep) (v : SyncWorld)
       → IsHistory IsSound H → 1 ≤ length H
       → Logs IsSound IsAnsweredOver Means (world_begun H) steps (all_taken shares) v
-      → Publish (λ before share r. IsStated before share r × IsOfPrimary v.history share r) shares
-      history
+      → (place : ℕ) × PublishInTurn v.history (length H) shares history place

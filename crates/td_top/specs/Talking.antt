@@ -1,6 +1,6 @@
 -- How a talk with an operator goes, over what the history grows by, an input and an output.
-use Rattle.std.specs.Prelude.{◌≡◌, ◌≤◌, ℕ, List, [], ◌∷◌, ◌++◌, length, flat_map, ⊤, Option, None}
-use Rattle.std.specs.Prelude.{Some}
+use Rattle.std.specs.Prelude.{◌≡◌, ◌≤◌, ◌+◌, ℕ, List, [], ◌∷◌, ◌++◌, length, flat_map, ⊤, Option}
+use Rattle.std.specs.Prelude.{None, Some}
 use Rattle.std.specs.Io.KnownBytes.{Consumes, IsAtEnd}
 use Rattle.std.specs.List.{AllByRecursion}
 use Rattle.td_base.specs.Views.{SinkView, SourceFailed, SourceView}
@@ -79,6 +79,11 @@ EndsBy before now asked ignored end.NotRead =
     AllByRecursion KeepsTalking asked × (ignored ≡ []) × SourceFailed before.input now.input
 EndsBy before now asked ignored end.NotWritten = ⊤
 
+-- how often a read of the input failed: at most once where that ended the talk, and else never
+abbrev pub FailsReads : TalkEnd → SourceView → SourceView → Type 0
+FailsReads end.NotRead before now = now.faults ≤ before.faults + 1
+FailsReads ended before now = now.faults ≡ before.faults
+
 -- a failed write cut what was said last, and all before it was written: no line after it got
 -- anything said
 pub data IsCut (opening : List ReleaseData) (old new : SinkView) : List (List ℕ) → Type 0 where
@@ -107,6 +112,7 @@ pub record Talked (before now : Scene) (ended : TalkEnd) : Type 0 where
   pub written : WritesTalk ended (history_of before.session.installer.list)
       before.console.output now.console.output told
   pub ends : EndsBy before.console now.console asked ignored ended
+  pub fails : FailsReads ended before.console.input now.console.input
 
 -- what a talk came to: an end, or memory ran out, and then nothing is said but what any calls do
 abbrev pub ComesTo : Scene → Scene → Option TalkEnd → Type 0
@@ -122,6 +128,7 @@ pub record IsAt (before now : Scene) (held : List ℕ) : Type 0 where
   pub gives : GivesLines read asked held
   pub needed : IsNeeded read asked
   pub goes_on : AllByRecursion KeepsTalking asked
+  pub steady : now.console.input.faults ≡ before.console.input.faults
   pub over : TalksOver before now asked told
   pub written : WritesAll before.console.output now.console.output
       (talk_text (history_of before.session.installer.list) told) written.Whole
@@ -144,3 +151,4 @@ pub record AnswersOperator (opening whole : List ReleaseData) (before now : Cons
   pub growth : last.growth ≡ now.growth
   pub written : WritesTalk ended opening before.output now.output told
   pub ends : EndsBy before now asked ignored ended
+  pub fails : FailsReads ended before.input now.input

@@ -46,14 +46,16 @@ pub record FeedsHeld (before now : SourceView) (held new : List ℕ) : Type 0 wh
   pub consumed : Consumes before.left now.left read
   pub joined : new ≡ held ++ read
   pub few : length read ≤ PIECE
+  pub steady : now.faults ≡ before.faults
 
 -- what a read of the input came to
 abbrev pub FeedsTalk : SourceView → SourceView → List ℕ → List ℕ → Turn → Type 0
 FeedsTalk before now held new turn.On = FeedsHeld before now held new
 FeedsTalk before now held new (turn.End end.InputEnded) =
-    Consumes before.left now.left [] × IsAtEnd now.left
+    Consumes before.left now.left [] × IsAtEnd now.left × (now.faults ≡ before.faults)
 FeedsTalk before now held new (turn.End end.NotRead) =
     Consumes before.left now.left [] × SourceFailed before now
+    × (now.faults ≤ before.faults + 1)
 FeedsTalk before now held new turn.NoMemory = ⊤
 FeedsTalk before now held new done = ⊥
 

@@ -62,6 +62,8 @@ impl<'a, Q, G, C, K> Console<'a, Q, G, C, K> {
 }
 
 impl<'a, 'k, G: Growth, C: Source, K: Sink> Beside for Console<'a, Asked<'k>, G, C, K> {
+    ghost flag = { λ c. c.over.now.flag.flag };
+
     ghost stopped = { λ c. c.over.now.flag.raised };
 
     ghost ran = { λ c d. Ran

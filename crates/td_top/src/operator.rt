@@ -28,9 +28,13 @@ pub fn answer_line<R: Wait, G: Growth>(
     growth: &mut G,
     line: &Line,
 ) -> Reply
-    ensures { AnswersLine (G.seen growth.old asked.now.rules.chosen)
+    ensures answers { AnswersLine (G.seen growth.old asked.now.rules.chosen)
         (G.seen growth.new asked.now.rules.chosen)
         session.old session.new line.now (reply_bytes result) }
+    // A status is what an enter for this line found.
+    ensures enters { line.now ≡ Line.Status
+        → (session.new.desk.enters ≡ session.old.desk.enters + 1)
+        ⊎ (reply_bytes result ≡ reply_text said.NoMemory) }
 {
     match line {
         Line::Watch(wish) => watch(session, wish),

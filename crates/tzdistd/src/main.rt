@@ -10,7 +10,8 @@ ghost use Rattle.std.specs.Process.{exit_status};
 
 use admission::{Changed, Delta, Kept, RuleKind, Test, changes_at_most, changes_no_past};
 use devices::{
-    RealDoor, RealNetwork, RealSink, RealSource, RealSpawner, RealStore, RealUpstream, drain,
+    Blocking, RealDoor, RealNetwork, RealSink, RealSource, RealSpawner, RealStore, RealUpstream,
+    drain,
 };
 use process_edge::{Failures, OUT_OF_MEMORY, collect, complain};
 use std::io::ErrorKind;
@@ -67,8 +68,8 @@ fn main(rt: HostRuntime) -> ExitCode {
         return out_of_memory(&rt);
     };
     let mut store = RealStore::new(&rt);
-    let mut input = RealSource::new(rt.stdin());
-    let mut output = RealSink::new(rt.stdout());
+    let mut input = RealSource::new(Blocking::new(rt.stdin(), libc::STDIN_FILENO));
+    let mut output = RealSink::new(Blocking::new(rt.stdout(), libc::STDOUT_FILENO));
     let mut net = RealNetwork::new(&rt);
     let mut spawner = RealSpawner::new();
     let mut outcome = td_top::run(

@@ -10,8 +10,9 @@ use Rattle.td_base.specs.Doors.{IsNewDoor, called, new_content, opened_at}
 use Rattle.td_base.specs.declared.door.DoorAnswer.TheVariants as answer
 use Rattle.td_base.specs.declared.report.Role.{Role}
 use Rattle.td_base.specs.declared.report.Role.TheVariants as role
+use Rattle.catalogue.specs.Histories.{IsHistory}
 use Rattle.catalogue.specs.Releases.{ReleaseData}
-use Rattle.connection.specs.DoorWorks.{NoneComes, ServedConns, places_of}
+use Rattle.connection.specs.DoorWorks.{FailedFew, NoneComes, ServedConns, places_of}
 use Rattle.connection.specs.FaultCounts.{RoseTimes}
 use Rattle.connection.specs.Served.{NeverFall}
 use Rattle.connection.specs.declared.door_work.TheConstants.{MOST_FAILURES}
@@ -24,6 +25,7 @@ use Rattle.td_top.specs.declared.status.Status.{Status}
 use Rattle.td_top.specs.declared.status.Status.TheVariants as status
 use Rattle.td_top.specs.declared.talking.TalkEnd.{TalkEnd}
 use Rattle.td_top.specs.declared.talking.TalkEnd.TheVariants as talk
+use Rattle.zone_meaning.specs.Sound.{IsSound}
 
 -- ---- doors
 
@@ -52,12 +54,12 @@ abbrev pub IsDone : DoorView → Type 0
 IsDone door =
     ((door.last ≡ Some answer.Ended) × NoneComes door) ⊎ (door.last ≡ Some answer.Idle)
 
--- a door was served until it was done, or until it had failed so many times, of all its calls, that
--- it is worn
+-- a door was served until it was done, having failed too few times to be worn, or until it had
+-- failed so many times, of all its calls, that it is worn
 pub record ServesDoor (server : Role) (least : ℕ) (H : List ReleaseData) (before now : DoorView)
     (worn : Bool) : Type 0 where
   pub told : ConnsTold server least H before.content now.content
-  pub done : worn ≡ false → IsDone now
+  pub done : worn ≡ false → IsDone now × FailedFew before.faults now.faults
   pub failed : worn ≡ true → RoseTimes MOST_FAILURES before.faults now.faults
 
 -- each door, in order; whether one of them is worn
@@ -85,12 +87,14 @@ CalledTold (Some before) (Some now) = now ≡ called before
 CalledTold None None = ⊤
 CalledTold before now = ⊥
 
--- the network was called once, for so many doors at an address, and gave these, which are new
+-- the network was called once, for so many doors at an address, did not fail, and gave these, which
+-- are new
 pub record OpensDoors (before now : NetworkView) (address : List ℕ) (number : ℕ)
     (doors : List DoorView) : Type 0 where
   pub many : length doors ≡ number
   pub new : All IsNewDoor doors
   pub told : OpenedTold before.content now.content address doors
+  pub steady : now.faults ≡ before.faults
 
 -- ---- the end of a run
 
@@ -106,9 +110,11 @@ pub data OpenedEnds (server : Role) (address : List ℕ) (workers : ℕ) (openin
     (before after : SiteView) : List ReleaseData → List DoorView → Status → Type 0 where
   -- with the end of the talk, once the workers were done: the doors that the network gave were
   -- served over the history of the run, which grows by the releases that came of the operator's
-  -- lines, and none was answered from before the opening's last
+  -- lines, and none was answered from before the opening's last; each release of that history is
+  -- sound and may follow those before it
   served : (history : List ReleaseData) (given doors : List DoorView) (ended : TalkEnd)
       (worn : Bool)
+      → IsHistory IsSound history
       → AnswersOperator opening history before.console after.console ended
       → OpensDoors before.network after.network address workers given
       → ServesDoors server (length opening) history given doors worn

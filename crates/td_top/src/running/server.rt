@@ -161,6 +161,7 @@ where
     D::Conn: Send + 'static,
     W: Spawner,
     requires flag { staff.flag.raised ≡ false }
+    requires signs { All (λ w. w.stop ≡ staff.flag) staff.works.items }
     requires nobody { staff.session.installer.subscribers ≡ [] }
     requires works { HasWorks staff.session.installer.pair staff.works.items }
     ensures { ServesBeside staff.entry.session staff.entry.works.items
@@ -207,6 +208,8 @@ fn conclude<R: Wait, D: Door + Drop>(
         installer,
         mut desk,
     } = session;
+    // The last release stands for a history in which each release may follow those before it.
+    installer.last();
     let Ok(mut ended) = installer.end(rt) else {
         return Served::closed(alloc, Status::NoMemory);
     };

@@ -27,5 +27,5 @@ returns-else-is_quit-clause-turns g c = λ start at.
     line_turn start _ _ _ _ _ _ _ c.args.lines.now c.take_line.new.lines c.in-Line.line c.as_slice-in-Line.result.now c.say-in-Line.result
     (sym c.is_quit.ensures ∙ c.if-is_quit.false) at
     c.in-Line.ensures.takes
-    (said_as _ _ _ _ _ _ _ c.as_slice-in-Line.ensures c.answer_line-reply.ensures)
+    (said_as _ _ _ _ _ _ _ c.as_slice-in-Line.ensures c.answer_line-reply.ensures.answers)
     c.say-in-Line.ensures

@@ -4,6 +4,7 @@ use Rattle.std.specs.List.{list_any}
 use mathlib.Core.List.{IsPrefix}
 use Rattle.td_base.specs.DoorViews.{DoorView, NetworkView}
 use Rattle.td_base.specs.declared.report.Role.{Role}
+use Rattle.catalogue.specs.Histories.{IsHistory}
 use Rattle.catalogue.specs.Releases.{ReleaseData}
 use Rattle.connection.specs.DoorWorks.{WorkView}
 use Rattle.connection.specs.declared.door_work.DoorDone.{DoorDone}
@@ -15,10 +16,13 @@ use Rattle.td_top.specs.declared.session.Session.{Session}
 use Rattle.td_top.specs.declared.status.Status.{Status}
 use Rattle.td_top.specs.declared.status.Status.TheVariants as status
 use Rattle.td_top.specs.declared.talking.TalkEnd.{TalkEnd}
+use Rattle.zone_meaning.specs.Sound.{IsSound}
 
--- every desk learnt all that was published, and the doors are those of the workers
+-- every desk learnt all that was published, each release of which may follow those before it, and
+-- the doors are those of the workers
 pub record LearntAll {D C : Type 0} (session : Session) (dones : List (DoorDone D C))
     (end : TalkEnd) (doors : List D) (is : Status) : Type 0 where
+  pub fits : IsHistory IsSound (history_of session.installer.list)
   pub seen : IsPrefix session.desk.seen session.installer.list
   pub workers : Learnt session.installer.list dones doors (list_any (λ d. d.worn) dones)
   pub ending : is ≡ status_for end (list_any (λ d. d.worn) dones)

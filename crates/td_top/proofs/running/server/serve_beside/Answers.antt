@@ -1,10 +1,14 @@
-use Rattle.std.proofs.Common.{rules, ap, sym, subst, ◌≡◌, [], Some}
+use Rattle.std.proofs.Common.{rules, ap, sym, subst, ◌≡◌, ◌∙◌, [], Some}
 use Rattle.td_top.specs.Running.Server.ServerSteps.{Concludes}
 use Rattle.td_top.specs.Works.{HasWorks}
 use Rattle.td_top.specs.ConsoleBeside.{beside_of}
 use Rattle.td_top.proofs.BesideLemmas.{beside_done, beside_left, beside_starved, beside_unstarted, pairs_now}
 use Rattle.td_top.proofs.ServerLemmas.{came, same_rules}
 use Rattle.td_top.proofs.running.server.serve_beside.Goals as goal
+
+pub run_beside-pool-requires-clause-flag : goal.run_beside-pool-requires-clause-flag
+run_beside-pool-requires-clause-flag g c = λ κs alive k w less.
+    ap (λ s. s.flag) (c.requires.signs k w less) ∙ ap (λ o. o.flag.flag) (sym c.new-console.ensures.over_now)
 
 pub conclude-requires : goal.conclude-requires
 conclude-requires g c =
