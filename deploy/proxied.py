@@ -1,7 +1,8 @@
-"""Services by the scripts of this folder, nginx with its site in front of them, and clients of that, for trials and
-measurements.
+"""Services by the scripts of this folder, nginx with its site in front of them, and clients of
+that, for trials and measurements.
 
-All stands on high ports of one machine and in a temporary folder, and is ended by `close`. It needs nginx and openssl.
+All stands on high ports of one machine and in a temporary folder, and is ended by `close`. It
+needs nginx and openssl.
 """
 
 import contextlib
@@ -23,6 +24,8 @@ from served import HOST, Failure, free_port
 
 NAME = "tz.example.org"
 NOT_MODIFIED = b"HTTP/1.1 304 "
+# Edits of the site for measurements from one address, which its limits would slow down.
+UNLIMITED = [("limit_req zone=tzdistd_rate burst=2000 delay=1000;", ""), ("limit_conn tzdistd_open 256;", "")]
 CONF = """
 daemon off;
 worker_processes {workers};
@@ -70,30 +73,37 @@ def edited(text, edits):
 
 
 class Service:
-    """A server or a mirror at a free port, started by the script of its unit, with its console in a folder."""
+    """A server or a mirror at a free port, started by the script of its unit, with its console in
+    a folder."""
 
     def __init__(self, script, at, program, **values):
         os.makedirs(at)
         self.script, self.at, self.port = script, at, free_port()
         self.address = f"{HOST}:{self.port}"
-        names = {"RUNTIME_DIRECTORY": at, "ADDRESS": self.address, "WORKERS": "2", "TZDISTD": program}
+        self.state = os.path.join(at, "state")
+        os.makedirs(self.state)
+        names = {"RUNTIME_DIRECTORY": at, "STATE_DIRECTORY": self.state, "ADDRESS": self.address, "WORKERS": "2",
+                 "TZDISTD": program, "TZDISTD_SETTINGS": os.devnull}
         self.environment = {**os.environ, **names, **values}
         self.start()
 
     def start(self):
         with contextlib.suppress(FileNotFoundError):
             os.unlink(os.path.join(self.at, "replies"))
-        self.child = started(self.script, self.environment)
+        with open(os.path.join(self.at, "journal"), "ab") as journal:
+            self.child = started(self.script, self.environment, stdout=journal, stderr=journal)
 
     def first_reply(self):
-        """The first line at its console."""
+        """The first line at its console, for which a busy machine may need minutes."""
         replies = os.path.join(self.at, "replies")
-        for _ in range(100):
+        for _ in range(1800):
             if os.path.exists(replies) and os.path.getsize(replies):
-                break
+                with open(replies) as file:
+                    return file.read()
+            if self.child.poll() is not None:
+                raise Failure(f"{self.script} ended with the status {self.child.returncode}: {self.journal()}")
             time.sleep(0.1)
-        with open(replies) as file:
-            return file.read()
+        raise Failure(f"{self.script} is not ready: {self.journal()}")
 
     def say(self, *line):
         """Status and output of a line at its console."""
@@ -101,14 +111,19 @@ class Service:
         done = subprocess.run(words, env=self.environment, capture_output=True, text=True, timeout=90)
         return done.returncode, done.stdout + done.stderr
 
+    def journal(self):
+        """What the script and the program printed."""
+        with open(os.path.join(self.at, "journal")) as file:
+            return file.read()
+
     def close(self):
         if self.child.poll() is None:
             self.child.kill()
             self.child.wait(20)
 
 
-def started(script, environment):
-    return subprocess.Popen([os.path.join(HERE, script)], env=environment, stdin=subprocess.DEVNULL)
+def started(script, environment, **more):
+    return subprocess.Popen([os.path.join(HERE, script)], env=environment, stdin=subprocess.DEVNULL, **more)
 
 
 def one_server(port):
@@ -118,31 +133,18 @@ def one_server(port):
 
 def two_mirrors(site, ports):
     """The site with two mirrors at ports of this machine in the place of one server."""
-    begin, end = site.index("# Which group"), site.index("# Answers are kept")
+    begin, end = site.index("# Which group"), site.index("# Answers are cached")
     edits = [(f"server 192.0.2.{number}:8008", f"server {HOST}:{port}") for number, port in enumerate(ports, 1)]
     return site[:begin] + edited(text_of("nginx-mirrors.conf"), edits) + "\n" + site[end:]
 
 
-class Proxy:
-    """nginx with a site, which is the one of this folder or made of it, and a certificate of its own."""
+class Nginx:
+    """nginx with a site in a folder, which listens at a port of this machine."""
 
-    def __init__(self, at, site, workers=2):
-        self.at, self.port = at, free_port()
+    def __init__(self, at, site, port, workers=2):
+        self.at, self.port = at, port
         os.makedirs(at, exist_ok=True)
         os.chmod(at, 0o755)
-        subprocess.run(
-            ["openssl", "req", "-x509", "-newkey", "ec", "-pkeyopt", "ec_paramgen_curve:prime256v1", "-nodes",
-             "-days", "2", "-subj", f"/CN={NAME}", "-addext", f"subjectAltName=DNS:{NAME},IP:{HOST}",
-             "-keyout", f"{at}/key.pem", "-out", self.certificate],
-            check=True, capture_output=True, timeout=60,
-        )
-        site = edited(site, [
-            ("/var/cache/tzdistd ", f"{at}/cache "),
-            ("/usr/share/tzdistd/page;", f"{HERE}/page;"),
-            ("listen 443 ", f"listen {HOST}:{self.port} "),
-            ("    listen [::]:443 ssl http2;\n", ""),
-            ("/etc/ssl/tzdistd/", f"{at}/"),
-        ])
         for name, text in (("site", site), ("conf", CONF.format(at=at, workers=workers))):
             with open(f"{at}/{name}", "w") as file:
                 file.write(text)
@@ -151,8 +153,60 @@ class Proxy:
         if tried.returncode != 0:
             raise Failure(f"nginx refuses the site: {tried.stderr}")
         self.child = subprocess.Popen(words, stdin=subprocess.DEVNULL)
+        try:
+            listens("nginx", port)
+        except Failure:
+            self.close()
+            raise
+
+    @property
+    def address(self):
+        return f"{HOST}:{self.port}"
+
+    def close(self):
+        if self.child.poll() is None:
+            self.child.send_signal(signal.SIGTERM)
+            self.child.wait(20)
+
+
+def listens(what, port):
+    """Waits until something listens at a port."""
+    for _ in range(100):
+        try:
+            socket.create_connection((HOST, port), 20).close()
+            return
+        except OSError:
+            time.sleep(0.1)
+    raise Failure(f"{what} does not listen")
+
+
+class Proxy(Nginx):
+    """nginx with the site of this folder, or one that is made of it, and a certificate of its own.
+    """
+
+    def __init__(self, at, site, workers=2):
+        os.makedirs(at, exist_ok=True)
+        self.at, port = at, free_port()
+        self._certify()
+        site = edited(site, [
+            ("/var/cache/tzdistd ", f"{at}/cache "),
+            ("/var/log/nginx/tzdistd.log ", f"{at}/log "),
+            ("/run/tzdistd-metrics/", f"{at}/"),
+            ("/usr/share/tzdistd/page;", f"{HERE}/page;"),
+            ("listen 443 ", f"listen {HOST}:{port} "),
+            ("    listen [::]:443 ssl http2;\n", ""),
+            ("/etc/ssl/tzdistd/", f"{at}/"),
+        ])
         self.context = ssl.create_default_context(cafile=self.certificate)
-        self._listens()
+        super().__init__(at, site, port, workers)
+
+    def _certify(self):
+        subprocess.run(
+            ["openssl", "req", "-x509", "-newkey", "ec", "-pkeyopt", "ec_paramgen_curve:prime256v1", "-nodes",
+             "-days", "2", "-subj", f"/CN={NAME}", "-addext", f"subjectAltName=DNS:{NAME},IP:{HOST}",
+             "-keyout", f"{self.at}/key.pem", "-out", self.certificate],
+            check=True, capture_output=True, timeout=60,
+        )
 
     @property
     def certificate(self):
@@ -160,23 +214,44 @@ class Proxy:
 
     @property
     def url(self):
-        return f"https://{HOST}:{self.port}"
-
-    def _listens(self):
-        for _ in range(100):
-            try:
-                self.connect().close()
-                return
-            except OSError:
-                time.sleep(0.1)
-        self.close()
-        raise Failure("nginx does not listen")
+        return f"https://{self.address}"
 
     def connect(self, source=None):
         """A client's connection, from an address of the loopback if one is given."""
         client = Client(self.port, self.context, source)
         client.connect()
         return client
+
+
+def tunnel(at, front, name=NAME):
+    """nginx with the recipe for TLS to an upstream, which is the proxy `front` and must have that
+    name."""
+    port = free_port()
+    site = edited(text_of("nginx-upstream.conf"), [
+        (f"server {NAME}:443;", f"server {front.address};"),
+        ("listen 127.0.0.1:8007;", f"listen {HOST}:{port};"),
+        (f"proxy_ssl_name {NAME};", f"proxy_ssl_name {name};"),
+        ("/etc/ssl/certs/ca-certificates.crt", front.certificate),
+    ])
+    return Nginx(at, site, port)
+
+
+class Stunnel:
+    """stunnel with one part of the recipe for TLS to an upstream."""
+
+    def __init__(self, at, part, edits):
+        os.makedirs(at, exist_ok=True)
+        parts = text_of("stunnel-upstream.conf").split("\n[")
+        text = next(one for one in parts if one.startswith(part + "]")).rpartition("\n\n;")[0] or parts[-1]
+        self.port = free_port()
+        with open(f"{at}/conf", "w") as file:
+            file.write(f"foreground = yes\npid =\noutput = {at}/log\n[" + edited(text, edits(self.port)) + "\n")
+        self.child = subprocess.Popen(["stunnel4", f"{at}/conf"], stdin=subprocess.DEVNULL, stderr=subprocess.DEVNULL)
+        listens("stunnel", self.port)
+
+    @property
+    def address(self):
+        return f"{HOST}:{self.port}"
 
     def close(self):
         if self.child.poll() is None:

@@ -1,13 +1,15 @@
 #!/usr/bin/env python3
 """Tries the files of this folder with a real nginx, on high ports and in a temporary folder.
 
-    deploy/try.py [PROGRAM]
+    deploy/try.py [PROGRAM] [--clients N]
 
-Between nginx and the server stands a relay, which counts what reaches the server. It needs nginx,
-openssl and Python's standard library; it is run by hand, and everything that it starts ends with
-it. systemd itself is not tried, and the page is only fetched: try_page.py looks at it.
+Between nginx and the server stands a relay, which counts what reaches the server. The site by
+itself is tried by site_trials.py: attacks on its cache among them. It needs nginx, openssl, curl
+and Python's standard library; it is run by hand, and everything that it starts ends with it.
+systemd itself is not tried, and the page is only fetched: try_page.py looks at it.
 """
 
+import argparse
 import contextlib
 import gzip
 import http.client
@@ -28,8 +30,8 @@ sys.path.insert(0, os.path.join(os.path.dirname(HERE), "tools"))
 import fetch_zoneinfo
 from proxied import Proxy, Relay, Service, ask, edited, needed, one_server, same, started, text_of
 from served import DATA, HOST, PROGRAM, Failure, slim_zone
+from site_trials import TRIALS
 
-CLIENTS = 1000
 FIRST, SECOND = "1-e2b2cb478d218163", "2-d7dd2fc2e202fff3"
 UTC = "/tzdist/zones/Etc%2FUTC"
 
@@ -37,8 +39,8 @@ UTC = "/tzdist/zones/Etc%2FUTC"
 class Deployed:
     """The server, started by the script of its unit, with nginx in front of it."""
 
-    def __init__(self, room, program):
-        self.room, self.program = room, program
+    def __init__(self, room, program, clients=1000):
+        self.room, self.program, self.clients = room, program, clients
         self.releases = os.path.join(room, "releases")
         os.chmod(room, 0o755)
         self.add("a", "2025a")
@@ -126,7 +128,7 @@ def proxy(deployed):
 def cache(deployed):
     """Many clients cost one request, and what is kept is asked for again by its tag."""
     relay = deployed.relay
-    clients = [deployed.connect() for _ in range(CLIENTS)]
+    clients = [deployed.connect() for _ in range(deployed.clients)]
     for target in ("/tzdist/zones", UTC):
         time.sleep(2.5)
         relay.clear()
@@ -134,7 +136,7 @@ def cache(deployed):
         with ThreadPoolExecutor(20) as pool:
             statuses = set(pool.map(lambda client: ask(client, target)[0].status, clients))
         took = time.monotonic() - begin
-        same(f"{CLIENTS} clients that ask for {target}", statuses, {200})
+        same(f"{len(clients)} clients that ask for {target}", statuses, {200})
         print(f"  of them reached the server: {len(relay.heads)}, in {took:.1f} s")
         if not 1 <= len(relay.heads) <= 1 + took:
             raise Failure("more than a request a second reached the server")
@@ -246,7 +248,7 @@ def mirror(deployed):
     nothing = {name: value for name, value in deployed.server.environment.items() if name != "UPSTREAM"}
     same("a mirror of nothing", started("tzdistd-mirror", nothing).wait(20), 1)
     deployed.start_mirror()
-    token = deployed.mirror.first_reply().removeprefix("ready ")
+    token = deployed.mirror.first_reply().partition(" ")[2]
     same("its first token", token[:2], "1-")
     same("a sync", deployed.mirror.say("sync"), (0, f"unchanged {token}"))
     same("an install at the server", deployed.server.say("install", deployed.add_moved("2025h", 3))[0], 0)
@@ -269,13 +271,16 @@ def end(deployed):
 
 
 def main():
-    program = os.path.abspath(sys.argv[1]) if len(sys.argv) > 1 else PROGRAM
-    needed("nginx", "openssl")
+    parser = argparse.ArgumentParser(description="Tries the files of this folder with nginx.")
+    parser.add_argument("program", nargs="?", default=PROGRAM)
+    parser.add_argument("--clients", type=int, default=1000, help="how many use the cache at once")
+    options = parser.parse_args()
+    needed("nginx", "openssl", "curl")
     resource.setrlimit(resource.RLIMIT_NOFILE, (resource.getrlimit(resource.RLIMIT_NOFILE)[1],) * 2)
     with tempfile.TemporaryDirectory() as room:
-        deployed = Deployed(room, program)
+        deployed = Deployed(room, os.path.abspath(options.program), options.clients)
         try:
-            for part in (ready, console, Deployed.start_nginx, proxy, cache, load, device, watching, mirror, end):
+            for part in (ready, console, Deployed.start_nginx, proxy, cache, *TRIALS, load, device, watching, mirror, end):
                 print(part.__name__.replace("_", " "), flush=True)
                 part(deployed)
         except Failure as fault:

@@ -1,14 +1,18 @@
 #!/usr/bin/env python3
-"""Tries the way to many machines on one: a primary, a mirror of it, a mirror of that mirror, and a proxy over both mirrors.
+"""Tries the way to many machines on one: a primary, a mirror of it, a mirror of that mirror, and a
+proxy over both mirrors.
 
     deploy/try_mirrors.py [PROGRAM] [--zones FOLDER] [--clients N]
 
-Each is started by the script of its unit, the proxy by the site of this folder with the blocks of nginx-mirrors.conf. A
-release of the system's zones is served. Another one is installed at the primary, and seen at the proxy once the mirrors
-have had their syncs. A mirror is killed and comes again, and the primary ends. Between the proxy and each mirror stands a
-relay, which counts what reaches the mirror.
+Each is started by the script of its unit, the proxy by the site of this folder with the blocks of
+nginx-mirrors.conf. A release of the system's zones is served. Another one is installed at the
+primary, and seen at the proxy once the mirrors have had their syncs. A mirror is killed and comes
+again. A mirror follows the primary over TLS, by nginx and by stunnel. A mirror is restarted while
+the primary is away, and the primary ends. Between the proxy and each mirror stands a relay, which
+counts what reaches the mirror.
 
-It needs what try.py needs, and is run by hand. Everything that it starts ends with it.
+It needs what try.py needs, and stunnel4, and is run by hand. Everything that it starts ends with
+it.
 """
 
 import argparse
@@ -27,13 +31,15 @@ ROOT = os.path.dirname(HERE)
 sys.path[:0] = [HERE, os.path.join(ROOT, "tools")]
 
 import fetch_zoneinfo
-from proxied import Proxy, Relay, Service, ask, needed, same, text_of, two_mirrors
-from served import PROGRAM, Failure, slim_zone
+from proxied import NAME, Proxy, Relay, Service, Stunnel, ask, edited, needed, one_server, same, text_of, tunnel, two_mirrors
+from served import HOST, PROGRAM, Client, Failure, slim_zone
 
 ZONES = "/tzdist/zones"
 MOVED = "/tzdist/zones/Test%2FMoved"
 # Seconds within which the proxy must give what a mirror has, on a busy machine, too.
 PATIENCE = 20
+# Seconds that anything else may take on a busy machine.
+LONG = 300
 
 
 class Machines:
@@ -48,7 +54,8 @@ class Machines:
         os.makedirs(self.releases)
         self.pack(zones, "2025a", "2025-06-01T00:00:00Z")
         self.primary = self.service("primary", "tzdistd-serve", program, RELEASES=self.releases)
-        self.near = self.service("near", "tzdistd-mirror", program, UPSTREAM=self.primary.address)
+        self.program = program
+        self.near = self.service("near", "tzdistd-mirror", program, UPSTREAM=self.primary.address, RETRY_SECONDS="1")
         self.far = self.service("far", "tzdistd-mirror", program, UPSTREAM=self.near.address)
         self.mirrors = [self.near, self.far]
         self.relays = [Relay(one.port) for one in self.mirrors]
@@ -214,6 +221,96 @@ def failure(machines):
     same("a device whose token it may not know", machines.fetch()[1], slim_zone(2))
 
 
+def zones_of(service):
+    """The zones that a service lists, with their tags. The moments and versions of a mirror are
+    its own."""
+    with Client(service.port) as client:
+        return {entry["tzid"]: entry["etag"] for entry in json.loads(client.ask(ZONES).body)["timezones"]}
+
+
+def same_zones(one, other):
+    same("each zone that it serves", zones_of(one) == zones_of(other), True)
+
+
+def by_nginx(machines):
+    """A mirror follows the primary over TLS, and never gets what the primary's site has in its
+    cache."""
+    front = machines.front = Proxy(os.path.join(machines.room, "front"), edited(text_of("nginx-tzdistd.conf"), one_server(machines.primary.port)))
+    through = tunnel(os.path.join(machines.room, "tunnel"), front)
+    machines.all += [front, through]
+    remote = machines.service("remote", "tzdistd-mirror", machines.program, UPSTREAM=through.address)
+    same_zones(remote, machines.primary)
+    with front.connect() as client:
+        for _ in range(2):
+            ask(client, ZONES)
+        folder = machines.later("2025d", "2025-09-01T00:00:00Z", 3)
+        same("an install at the primary", machines.primary.say("install", folder)[1][:12], "installed 4-")
+        same("a sync right after it", remote.say("sync")[1][:12], "installed 2-")
+    same_zones(remote, machines.primary)
+    other = tunnel(os.path.join(machines.room, "other"), front, "other.example.org")
+    machines.all.append(other)
+    with Client(other.port) as client:
+        same("an upstream with another name", client.ask(ZONES).status, 502)
+
+
+def by_stunnel(machines):
+    """The same without nginx."""
+    front = machines.front
+    far_end = Stunnel(os.path.join(machines.room, "far-end"), "tzdistd", lambda port: [
+        ("accept = 8443", f"accept = {HOST}:{port}"), ("127.0.0.1:8008", machines.primary.address),
+        ("/etc/ssl/tzdistd/", f"{front.at}/"),
+    ])
+    machines.all.append(far_end)
+    near_end = Stunnel(os.path.join(machines.room, "near-end"), "tzdistd-upstream", lambda port: [
+        ("accept = 127.0.0.1:8007", f"accept = {HOST}:{port}"), (f"{NAME}:8443", far_end.address),
+        ("/etc/ssl/certs/ca-certificates.crt", front.certificate),
+    ])
+    machines.all.append(near_end)
+    begin = time.monotonic()
+    mirror = machines.service("stunnelled", "tzdistd-mirror", machines.program, UPSTREAM=near_end.address)
+    print(f"  its first sync took {time.monotonic() - begin:.1f} s")
+    same_zones(mirror, machines.primary)
+
+
+def away(machines):
+    """A mirror that is restarted while the primary is away serves its last copy, and then follows
+    the primary again."""
+    primary, near = machines.primary, machines.near
+    same("the near mirror's sync", near.say("sync")[1][:10], "installed ")
+    before = zones_of(near)
+    awaited("the copy of it", lambda: "kept the last copy" in near.journal().rpartition("synced")[2])
+    for one in (primary, near):
+        one.child.terminate()
+        same("SIGTERM", one.child.wait(20), 0)
+    begin = time.monotonic()
+    near.start()
+    same("the near mirror without the primary", near.first_reply()[:8], "ready 1-")
+    print(f"  it served {time.monotonic() - begin:.2f} s after its start")
+    same("each zone that it serves", zones_of(near) == before, True)
+    same("a sync", near.say("sync"), (1, "refused 1 UpstreamFault\n"))
+    same("the far mirror's sync", machines.far.say("sync")[0], 0)
+    same("a device meanwhile", machines.fetch()[1], slim_zone(3))
+    with Client(near.port) as client:
+        machines.later("2025e", "2025-10-01T00:00:00Z", 4)
+        primary.start()
+        begin = time.monotonic()
+        same("the primary again", primary.first_reply()[:6], "ready ")
+        while client.ask(MOVED, "Accept: application/tzif").body != slim_zone(4):
+            if time.monotonic() > begin + LONG:
+                raise Failure("the mirror does not follow the primary again")
+            time.sleep(0.05)
+        print(f"  {time.monotonic() - begin:.1f} s later a connection to the mirror from before had its next release")
+    same("the far mirror's sync after it", machines.far.say("sync")[1][:10], "installed ")
+
+
+def awaited(what, holds):
+    begin = time.monotonic()
+    while not holds():
+        if time.monotonic() > begin + LONG:
+            raise Failure(f"{what}: not within {LONG} seconds")
+        time.sleep(0.05)
+
+
 def end(machines):
     """Without the primary all is served as before."""
     for side, one in enumerate([machines.primary, *machines.mirrors]):
@@ -230,14 +327,14 @@ def main():
     parser.add_argument("--zones", metavar="FOLDER", default="/usr/share/zoneinfo", help="the zone files to serve")
     parser.add_argument("--clients", type=int, default=1000, help="how many ask for the list at once")
     options = parser.parse_args()
-    needed("nginx", "openssl")
+    needed("nginx", "openssl", "stunnel4")
     with tempfile.TemporaryDirectory() as room:
         os.chmod(room, 0o755)
         machines = Machines(room, options.clients)
         try:
             print("start", flush=True)
             machines.start(os.path.abspath(options.program), options.zones)
-            for part in (clients, many, install, device, failure, end):
+            for part in (clients, many, install, device, failure, by_nginx, by_stunnel, away, end):
                 print(part.__name__, flush=True)
                 part(machines)
         except Failure as fault:

@@ -1,0 +1,132 @@
+"""What scripts that make Debian packages share: the files of a package, what it says of itself,
+and a trial in a root.
+
+Python's standard library only. It needs dpkg-deb.
+"""
+
+import gzip
+import hashlib
+import os
+import re
+import subprocess
+import sys
+import tempfile
+import time
+
+ROOT = os.path.dirname(os.path.dirname(os.path.abspath(__file__)))
+MAINTAINER = "The authors of tzdistd <tzdistd@tz.example.org>"
+CHANGES = """\
+{name} ({version}) unstable; urgency=medium
+
+  * Built from commit {commit}.
+
+ -- {maintainer}  {date}
+"""
+
+
+def output(*words, **more):
+    return subprocess.run(words, check=True, capture_output=True, text=True, **more).stdout.strip()
+
+
+def commit():
+    """The commit of the repository, and when it was made."""
+    when, name = output("git", "-C", ROOT, "log", "-1", "--format=%ct %h").split()
+    return name, int(when)
+
+
+def version_of(name, when):
+    """The version of a package of a commit: by the second, so that later commits sort later."""
+    return time.strftime("0~%Y%m%d.%H%M%S.", time.gmtime(when)) + "g" + name
+
+
+def write(path, data, mode=0o644):
+    os.makedirs(os.path.dirname(path), exist_ok=True)
+    with open(path, "wb") as file:
+        file.write(data)
+    os.chmod(path, mode)
+
+
+def read(path):
+    """The bytes of a file of the repository."""
+    with open(os.path.join(ROOT, path), "rb") as file:
+        return file.read()
+
+
+def packed(data):
+    return gzip.compress(data, 9, mtime=0)
+
+
+def describe(stage, control, conffiles, scripts):
+    """Writes what the package says of itself, the sums of its files, and its scripts."""
+    walk = os.walk(stage)
+    files = sorted(os.path.join(folder, name) for folder, _, names in walk for name in names)
+    sums = ""
+    for path in files:
+        with open(path, "rb") as file:
+            sums += f"{hashlib.md5(file.read()).hexdigest()}  {os.path.relpath(path, stage)}\n"
+    size = sum(os.path.getsize(path) for path in files) // 1024 + 1
+    at = os.path.join(stage, "DEBIAN")
+    write(os.path.join(at, "control"), control.format(size=size).encode())
+    write(os.path.join(at, "md5sums"), sums.encode())
+    write(os.path.join(at, "conffiles"), "".join(f"{path}\n" for path in conffiles).encode())
+    for name, data in scripts.items():
+        write(os.path.join(at, name), data, 0o755)
+
+
+def build(stage, path, when):
+    """Makes the package of a folder. The same commit and files give the same package."""
+    environment = {**os.environ, "SOURCE_DATE_EPOCH": str(when)}
+    os.makedirs(os.path.dirname(os.path.abspath(path)), exist_ok=True)
+    output("dpkg-deb", "--root-owner-group", "--build", stage, path, env=environment)
+    return path
+
+
+def lint(path):
+    """The errors that lintian finds, after all that it says was printed."""
+    done = subprocess.run(["lintian", "--allow-root", path], capture_output=True, text=True)
+    print(done.stdout or "lintian: no error and no warning\n", end="")
+    return [line for line in done.stdout.splitlines() if line.startswith("E:")]
+
+
+# What dpkg and the tools of users keep for themselves, whatever the package.
+KEPT = re.compile(
+    r"(var/lib/dpkg|var/log|var/cache/(apt|debconf|ldconfig|man)|proc|sys|dev|tmp)/.*"
+    r"|etc/[a-z]+-|run/adduser"
+)
+
+
+def picture(root):
+    """Each file of a root with its digest, each folder and each link."""
+    found = {}
+    for folder, folders, names in os.walk(root):
+        for name in folders + names:
+            path = os.path.join(folder, name)
+            inside = os.path.relpath(path, root)
+            if KEPT.fullmatch(inside):
+                continue
+            if os.path.islink(path):
+                found[inside] = os.readlink(path)
+            elif os.path.isfile(path):
+                with open(path, "rb") as file:
+                    found[inside] = hashlib.sha256(file.read()).hexdigest()
+            else:
+                found[inside] = "folder"
+    return found
+
+
+PLAIN = {"PATH": "/usr/sbin:/usr/bin:/sbin:/bin", "LC_ALL": "C.UTF-8"}
+
+
+def in_root(root, *words, user=None, **values):
+    """What a command prints in a root, which is to end well."""
+    by = [f"--userspec={user}:{user}"] if user else []
+    words = ["chroot", *by, root, *words]
+    done = subprocess.run(words, capture_output=True, text=True, env={**PLAIN, **values})
+    if done.returncode != 0:
+        sys.exit(f"{' '.join(words)}: {done.stdout}{done.stderr}")
+    return done.stdout.strip()
+
+
+def room():
+    """A folder in which a package is put together."""
+    return tempfile.TemporaryDirectory()
