@@ -1,11 +1,15 @@
 #!/usr/bin/env python3
 """Packs a tree of compiled zone files, as systems ship them, into a release folder for tzdistd.
 
-    pack_zoneinfo.py ZONEINFO DIR [--tzdata-zi FILE] [--version V] [--stamp MOMENT] [--publisher P] [--leap-seconds]
+    pack_zoneinfo.py /usr/share/zoneinfo releases/2025b
 
-DIR is made new, and it appears whole or not at all. Zones and their aliases are those of `tzdata.zi` in the tree, or of
-the file that `--tzdata-zi` names. Where there is neither, the files themselves tell: names whose files have the same
-bytes are one zone. `docs/FORMATS.md` says what a release folder holds.
+The folder is made new, and it appears whole or not at all. Zones and their aliases are those of
+`tzdata.zi` in the tree, or of the file that `--tzdata-zi` names. Without either, names whose files
+have the same bytes are one zone. `docs/FORMATS.md` says what a release folder holds.
+
+A zone file is written in its slim form: its second block ends where the TZ string of the footer
+says the same. Before that its states are compared with those of the file that came. A file that
+would say anything else stays as it came.
 """
 
 import argparse
@@ -13,16 +17,22 @@ import json
 import os
 import re
 import shutil
-import struct
 import sys
 import tempfile
 import time
 from pathlib import Path
 
+# The modules beside this file leave nothing in the folder that a package owns.
+sys.dont_write_bytecode = True
+
+from leap_table import date_of, leap_table, warn_of_expiry
+from slim_zone import is_tz_string, slim_form
+from tz_release import MOMENT_FORM, release_moment, version_in
+from zone_file import Refused, read_bytes, read_zone_file
+from zone_states import States, first_difference
+
 MOST_ZONES = 4_096
 MOST_NAMES = 16_384
-MOST_ZONE_BYTES = 65_536
-MOST_TRANSITIONS = 4_096
 MOST_MANIFEST_BYTES = 4_194_304
 
 IDENTIFIER = re.compile(r"[A-Za-z0-9_+.-]+(/[A-Za-z0-9_+.-]+)*")
@@ -36,11 +46,7 @@ SKIPPED_NAMES = {"localtime", "posixrules"}
 # The name of the leap table's file in a release. No zone can have it, since no zone is named so.
 LEAP_FILE = "leap-seconds.tzif"
 
-NTP_TO_UNIX = 2_208_988_800
-
-
-class Refused(Exception):
-    """What the program would refuse, in one line that names the file or the value."""
+FOLDER_MODE, FILE_MODE = 0o755, 0o644
 
 
 def is_identifier(name):
@@ -53,39 +59,6 @@ def check_name(name, where):
         raise Refused(f"{where}: {name!r} is no identifier of at most 64 bytes")
     if any(part in (".", "..") for part in name.split("/")):
         raise Refused(f"{where}: {name!r} has a segment that names a folder")
-
-
-def read_bytes(path):
-    try:
-        return path.read_bytes()
-    except OSError as error:
-        raise Refused(f"{path}: {error.strerror}") from error
-
-
-def counts_of_second_block(data, path):
-    """Leap lines and transitions of a TZif file's block with times of 8 bytes (RFC 9636, section 3)."""
-    if data[:4] != b"TZif" or len(data) < 44:
-        raise Refused(f"{path}: no TZif file")
-    if data[4:5] not in (b"2", b"3", b"4"):
-        raise Refused(f"{path}: a TZif file of a version other than 2, 3 or 4")
-    ut, standard, leaps, times, types, chars = struct.unpack(">6I", data[20:44])
-    second = 44 + 5 * times + 6 * types + chars + 8 * leaps + standard + ut
-    if len(data) < second + 44 or data[second : second + 4] != b"TZif":
-        raise Refused(f"{path}: a TZif file without a second block")
-    return struct.unpack(">2I", data[second + 28 : second + 36])
-
-
-def check_zone_file(path):
-    """The bytes of a zone file that keeps the limits of a release and has no leap seconds."""
-    data = read_bytes(path)
-    if len(data) > MOST_ZONE_BYTES:
-        raise Refused(f"{path}: {len(data)} bytes, more than {MOST_ZONE_BYTES}")
-    leaps, transitions = counts_of_second_block(data, path)
-    if transitions > MOST_TRANSITIONS:
-        raise Refused(f"{path}: {transitions} transitions, more than {MOST_TRANSITIONS}")
-    if leaps > 0:
-        raise Refused(f"{path}: a zone file with leap seconds")
-    return data
 
 
 # ---- names from tzdata.zi
@@ -116,7 +89,10 @@ def target_of(link, links, zones):
 
 
 def zones_of_source(text, tree):
-    """Each zone of a `tzdata.zi` with its aliases. A link whose file differs from its target's is refused."""
+    """Each zone of a `tzdata.zi` with its aliases.
+
+    A link whose file differs from its target's is refused.
+    """
     names, links = links_and_zones(text)
     known = set(names)
     zones = {name: [] for name in names}
@@ -127,12 +103,6 @@ def zones_of_source(text, tree):
             raise Refused(f"{file}: other bytes than its target {target!r}")
         zones[target].append(link)
     return zones
-
-
-def version_of_source(text):
-    first = text.splitlines()[0] if text else ""
-    found = re.fullmatch(r"# version (\S+)", first)
-    return found.group(1) if found else None
 
 
 # ---- names from the files themselves
@@ -174,7 +144,10 @@ def zones_of_files(tree):
 
 
 def first_named(names, tables):
-    """The first of the names that the first table with any of them has, or else the first of all."""
+    """The first of the names that a table has, of the first table with any of them.
+
+    Without such a table it is the first of all.
+    """
     for table in tables:
         for name in names:
             if name in table:
@@ -182,59 +155,35 @@ def first_named(names, tables):
     return names[0]
 
 
-# ---- the leap table
+# ---- the files
 
 
-def expiry_date(seconds):
-    return time.strftime("%Y-%m-%d", time.gmtime(seconds))
+class Files:
+    """The bytes of each zone's file in a release, and what became of their form."""
 
+    def __init__(self, as_they_are):
+        self.as_they_are = as_they_are
+        self.contents, self.slim, self.unlike = {}, 0, []
 
-def leaps_of_list(text):
-    """Leap lines and expiry date of a `leap-seconds.list`."""
-    lines, expires = [], None
-    for line in text.splitlines():
-        words = line.split()
-        if line.startswith("#@") and len(words) > 1:
-            expires = expiry_date(int(words[1]) - NTP_TO_UNIX)
-        elif words and words[0].isdigit() and int(words[1]) > 10:
-            lines.append((int(words[0]) - NTP_TO_UNIX, int(words[1]) - 10))
-    return lines, expires
+    def add(self, zone, path):
+        data = read_bytes(path)
+        parts = read_zone_file(data, path)
+        if is_tz_string(parts.footer) and not States(data).footer_agrees():
+            advice = "`zic -b fat` makes one that agrees"
+            raise Refused(f"{path}: its TZ string disagrees with its last transition; {advice}")
+        if not self.as_they_are:
+            data = self._slim(zone, data, slim_form(data, parts))
+        self.contents[zone] = data
 
-
-def expiry_of_table(text):
-    """The expiry date of a `leapseconds` table."""
-    found = re.search(r"^#expires (\d+)", text, re.MULTILINE)
-    return expiry_date(int(found.group(1))) if found else None
-
-
-def leap_zone_file(lines):
-    """A TZif file of UTC with these leap lines, each a moment of UTC and the correction from there on."""
-    block = struct.pack(">iBB", 0, 0, 0) + b"UTC\0"
-    before = 0
-    for moment, correction in lines:
-        block += struct.pack(">qi", moment + before, correction)
-        before = correction
-
-    def header(leaps, chars):
-        return b"TZif2" + bytes(15) + struct.pack(">6I", 0, 0, leaps, 0, 1, chars)
-
-    return header(0, 1) + bytes(7) + header(len(lines), 4) + block + b"\nUTC0\n"
-
-
-def leap_table(tree):
-    """The file of the leap table and its expiry date."""
-    lists, table = tree / "leap-seconds.list", tree / "leapseconds"
-    lines, expires = leaps_of_list(lists.read_text()) if lists.is_file() else ([], None)
-    if expires is None and table.is_file():
-        expires = expiry_of_table(table.read_text())
-    if expires is None:
-        raise Refused(f"{tree}: neither leap-seconds.list nor leapseconds tells when the leap table expires")
-    for name in ("right/Etc/UTC", "right/UTC"):
-        if (tree / name).is_file():
-            return read_bytes(tree / name), expires
-    if not lines:
-        raise Refused(f"{tree}: neither right/Etc/UTC nor leap-seconds.list has leap seconds")
-    return leap_zone_file(lines), expires
+    def _slim(self, zone, data, slim):
+        """The slim form of a file, where it says what the file says."""
+        if slim == data:
+            return data
+        if first_difference(data, slim) is not None or not States(slim).footer_agrees():
+            self.unlike.append(zone)
+            return data
+        self.slim += 1
+        return slim
 
 
 # ---- the release
@@ -256,7 +205,7 @@ def check_limits(zones):
 def newest_change(tree, zones):
     """When the newest of the zone files changed, as the text of a moment."""
     seconds = max((int((tree / name).stat().st_mtime) for name in zones), default=0)
-    return time.strftime("%Y-%m-%dT%H:%M:%SZ", time.gmtime(seconds))
+    return time.strftime(MOMENT_FORM, time.gmtime(seconds))
 
 
 def check_labels(version, stamp, publisher):
@@ -266,46 +215,107 @@ def check_labels(version, stamp, publisher):
         if LABEL.fullmatch(label) is None:
             raise Refused(f"--{name} {label!r}: 1 to 64 printable ASCII characters are wanted")
     if MOMENT.fullmatch(stamp) is None or not "1800" <= stamp[:4] <= "9998":
-        raise Refused(f"--stamp {stamp!r}: YYYY-MM-DDTHH:MM:SSZ of the years 1800 to 9998 is wanted")
+        form = "YYYY-MM-DDTHH:MM:SSZ of the years 1800 to 9998"
+        raise Refused(f"--stamp {stamp!r}: {form} is wanted")
     try:
-        time.strptime(stamp, "%Y-%m-%dT%H:%M:%SZ")
+        time.strptime(stamp, MOMENT_FORM)
     except ValueError as error:
         raise Refused(f"--stamp {stamp!r}: there is no such moment") from error
 
 
-def checked_files(tree, zones):
-    """The bytes of each zone's file, in rising order of the names, all of which are judged too."""
-    files = {}
+def checked_files(tree, zones, as_they_are):
+    """The files of the zones, in rising order of the names, all of which are checked too."""
+    files = Files(as_they_are)
     for zone in sorted(zones, key=str.encode):
         for name in (zone, *zones[zone]):
             check_name(name, tree / name)
-        files[zone] = check_zone_file(tree / zone)
+        files.add(zone, tree / zone)
     return files
 
 
-def write_release(folder, tree, files, zones, labels, with_leaps):
+def make_folder(folder):
+    """Makes a folder and those above it that are missing, which all may read whatever the umask."""
+    if not folder.is_dir():
+        make_folder(folder.parent)
+        folder.mkdir()
+        folder.chmod(FOLDER_MODE)
+
+
+def write_file(path, data):
+    make_folder(path.parent)
+    path.write_bytes(data)
+    path.chmod(FILE_MODE)
+
+
+def write_release(folder, files, zones, labels, leaps):
     """Writes the files of a release, and its manifest last."""
     entries = []
-    for zone, data in files.items():
-        target = folder / zone
-        target.parent.mkdir(parents=True, exist_ok=True)
-        target.write_bytes(data)
+    for zone, data in files.contents.items():
+        write_file(folder / zone, data)
         entry = {"tzid": zone, "file": zone}
         if zones[zone]:
             entry["aliases"] = sorted(zones[zone], key=str.encode)
         entries.append(entry)
     manifest = {**labels, "zones": entries}
-    if with_leaps:
-        data, expires = leap_table(tree)
-        (folder / LEAP_FILE).write_bytes(data)
-        manifest["leapseconds"] = {"file": LEAP_FILE, "expires": expires}
+    if leaps:
+        data, expires = leaps
+        write_file(folder / LEAP_FILE, data)
+        manifest["leapseconds"] = {"file": LEAP_FILE, "expires": date_of(expires)}
     text = json.dumps(manifest, separators=(",", ":")).encode()
     if len(text) > MOST_MANIFEST_BYTES:
         raise Refused(f"manifest.json: {len(text)} bytes, more than {MOST_MANIFEST_BYTES}")
-    (folder / "manifest.json").write_bytes(text)
+    write_file(folder / "manifest.json", text)
+
+
+def write_whole(target, *release):
+    """Writes a release beside its place first, so that it appears whole or not at all."""
+    make_folder(target.parent)
+    half = Path(tempfile.mkdtemp(prefix=f".{target.name}.", dir=target.parent))
+    try:
+        write_release(half, *release)
+        half.chmod(FOLDER_MODE)
+        half.rename(target)
+    except BaseException:
+        shutil.rmtree(half, ignore_errors=True)
+        raise
+
+
+def labels_of(options, tree, source, zones):
+    """Publisher, version and stamp of the release."""
+    released = version_in(source)
+    version = options.version if options.version is not None else released
+    stamp = options.stamp or release_moment(tree, released or version) or newest_change(tree, zones)
+    check_labels(version, stamp, options.publisher)
+    return {"publisher": options.publisher, "version": version, "stamp": stamp}
+
+
+def leaps_of(options, tree):
+    """The file and the expiry of the leap table, or None where the release is to have none."""
+    leaps = None if options.no_leap_seconds else leap_table(tree)
+    if leaps:
+        warn_of_expiry(tree, leaps[1])
+    elif options.leap_seconds:
+        tables = "neither leap-seconds.list nor leapseconds"
+        raise Refused(f"{tree}: {tables} says when the leap table expires")
+    return leaps
+
+
+def summary(target, zones, files, labels, leaps, seconds):
+    """What was packed, for the operator."""
+    names = sum(1 + len(aliases) for aliases in zones.values())
+    weight = sum(map(len, files.contents.values()))
+    table = f"leap seconds until {date_of(leaps[1])}" if leaps else "no leap seconds"
+    rest = len(zones) - files.slim
+    version = f"version {labels['version']} of {labels['stamp']}"
+    yield f"{version}, {len(zones)} zones, {names} names, {table}"
+    forms = f"{files.slim} zone files in slim form, {rest} as they came"
+    yield f"{forms}; {weight} bytes, {seconds:.1f} seconds"
+    if files.unlike:
+        yield f"as they came, since the slim form would differ: {', '.join(files.unlike)}"
 
 
 def pack(options):
+    began = time.monotonic()
     tree, target = Path(options.zoneinfo), Path(options.dir)
     if not tree.is_dir():
         raise Refused(f"{tree}: no folder")
@@ -315,37 +325,42 @@ def pack(options):
     text = read_bytes(source).decode() if options.tzdata_zi or source.is_file() else None
     zones = zones_of_files(tree) if text is None else zones_of_source(text, tree)
     check_limits(zones)
-    files = checked_files(tree, zones)
-    version = options.version
-    if version is None and text:
-        version = version_of_source(text)
-    stamp = options.stamp or newest_change(tree, zones)
-    check_labels(version, stamp, options.publisher)
-    labels = {"publisher": options.publisher, "version": version, "stamp": stamp}
-    target.parent.mkdir(parents=True, exist_ok=True)
-    half = Path(tempfile.mkdtemp(prefix=f".{target.name}.", dir=target.parent))
-    try:
-        write_release(half, tree, files, zones, labels, options.leap_seconds)
-        half.chmod(0o755)
-        half.rename(target)
-    except BaseException:
-        shutil.rmtree(half, ignore_errors=True)
-        raise
-    names = sum(1 + len(aliases) for aliases in zones.values())
-    print(f"{target}: version {version}, {len(zones)} zones, {names} names")
+    files = checked_files(tree, zones, options.as_they_are)
+    labels = labels_of(options, tree, text, zones)
+    leaps = leaps_of(options, tree)
+    write_whole(target, files, zones, labels, leaps)
+    for line in summary(target, zones, files, labels, leaps, time.monotonic() - began):
+        print(f"{target}: {line}")
+
+
+def options_of(words):
+    parser = argparse.ArgumentParser(
+        description="Packs a tree of compiled zone files into a release folder.",
+        epilog="example: pack_zoneinfo.py /usr/share/zoneinfo releases/2025b",
+    )
+    add = parser.add_argument
+    add("zoneinfo", metavar="ZONEINFO", help="the tree, as /usr/share/zoneinfo")
+    add("dir", metavar="DIR", help="the folder to make, which must not exist")
+    add("--tzdata-zi", metavar="FILE", help="the source of names (default: tzdata.zi of the tree)")
+    add("--version", help="the release's version (default: that of tzdata.zi)")
+    add(
+        "--stamp",
+        metavar="MOMENT",
+        help="when it was published (default: the date of the tz release, by the news that the "
+        "package tzdata installs; without those, the newest zone file's change)",
+    )
+    add("--publisher", default="IANA", help="who published it (default: IANA)")
+    add("--as-they-are", action="store_true", help="copies the zone files as they came")
+    leaps = parser.add_mutually_exclusive_group()
+    add = leaps.add_argument
+    add("--leap-seconds", action="store_true", help="refuses a tree without a leap second table")
+    add("--no-leap-seconds", action="store_true", help="leaves out the tree's leap second table")
+    return parser.parse_args(words)
 
 
 def main():
-    parser = argparse.ArgumentParser(description="Packs a tree of compiled zone files into a release folder.")
-    parser.add_argument("zoneinfo", metavar="ZONEINFO", help="the tree, as /usr/share/zoneinfo")
-    parser.add_argument("dir", metavar="DIR", help="the folder to make, which must not be there")
-    parser.add_argument("--tzdata-zi", metavar="FILE", help="the source of names (default: tzdata.zi of the tree)")
-    parser.add_argument("--version", help="the release's version (default: that of tzdata.zi)")
-    parser.add_argument("--stamp", metavar="MOMENT", help="when it was published (default: the newest zone file's change)")
-    parser.add_argument("--publisher", default="IANA", help="who published it (default: IANA)")
-    parser.add_argument("--leap-seconds", action="store_true", help="with the leap table of the tree")
     try:
-        pack(parser.parse_args())
+        pack(options_of(sys.argv[1:]))
     except Refused as fault:
         sys.exit(f"refused: {fault}")
     except OSError as error:
