@@ -1,20 +1,24 @@
 #!/usr/bin/env python3
 """Keeps a zoneinfo tree as a time zone data distribution server (RFC 7808) has it.
 
-    fetch_zoneinfo.py URL DIR [--every SECONDS]
+    fetch_zoneinfo.py [OPTION..] URL DIR
+    fetch_zoneinfo.py [OPTION..] --domain NAME DIR
 
-URL names a server, as https://tz.example.org, whose well-known address then tells the rest, or a context path, as
-http://127.0.0.1:8008/tzdist. DIR becomes a symbolic link to a tree for TZDIR. In it each zone is a TZif file (RFC
-9636), and each alias is a link to its zone. The trees lie beside it, in DIR.trees/N/zoneinfo. Each has a state: the
-token of the server, and tag and digest of each zone.
+URL is a server, as https://tz.example.org, or its context path, as http://127.0.0.1:8008/tzdist.
+With --domain the servers are found by DNS records (discovery.py), and the next one is tried where
+one fails. DIR becomes a symbolic link to a tree for TZDIR. In it each zone is a TZif file (RFC
+9636), and each alias is a link to its zone. The trees lie beside it, in DIR.trees/N/zoneinfo.
+Each has a state: the token of the server, and tag and digest of each zone.
 
-A run asks for what changed since that token alone, and for all zones where the server refuses it. The new tree is
-written whole and reaches the disk. Then DIR is renamed over to it. The tree before it is kept, and older ones are
-removed. After any failure, half answer or bad file DIR stays what it was.
+A run requests only what changed since that token. Where the server refuses the token, it requests
+all zones. The new tree is written completely and reaches the disk. Then DIR is renamed over to
+it. The tree before it is kept, and older ones are removed. After any failure, half answer or bad
+file DIR stays what it was.
 
-The status is 0 where DIR is as the server has it, and 1 after a failure, which one line on standard error tells. With
---every the program stays, tells each failure, and tries again. It needs Python's standard library alone, and is tried
-by test_fetch_zoneinfo.py.
+The exit status is 0 where DIR is as the server has it, and 1 after a failure, for which standard
+error gets one line. With --every the program stays, reports each failure, and tries again. It
+needs only Python's standard library, and with --domain dnspython. It is tested by
+test_fetch_zoneinfo.py. tzfetch.sh does the same without Python.
 """
 
 import argparse
@@ -28,6 +32,7 @@ import random
 import re
 import shutil
 import signal
+import ssl
 import struct
 import sys
 import time
@@ -50,8 +55,23 @@ MOST_ROUNDS = 8
 SILENCE, EXCHANGE = 20, 120
 
 
+# What tzselect(8), timedatectl(1) and others read beside the zones.
+TABLES = ("iso3166.tab", "zone.tab", "zone1970.tab", "tzdata.zi")
+
+
 class Failed(Exception):
     """Why DIR stays what it was, in one line."""
+
+
+class Wishes(NamedTuple):
+    """What a run is given beside a server: authorities to trust, a folder of tables, and a domain."""
+
+    cacert: Optional[str] = None
+    tables: Optional[str] = None
+    domain: Optional[str] = None
+
+
+PLAIN = Wishes()
 
 
 # ---- TZif files
@@ -212,16 +232,26 @@ def bounded(seconds):
         signal.signal(signal.SIGALRM, before)
 
 
+def trusting(cacert):
+    """What checks certificates: by the authorities of a file, or by those of the system."""
+    try:
+        return ssl.create_default_context(cafile=cacert)
+    except OSError as error:
+        raise Failed(f"--cacert: {cacert}: {error.strerror or error}") from None
+
+
 class Server:
     """A server by a URL, and one connection to it, which is opened anew where it ended."""
 
-    def __init__(self, url):
+    def __init__(self, url, cacert=None):
         try:
             parts = urlsplit(url)
             kinds = {"http": http.client.HTTPConnection, "https": http.client.HTTPSConnection}
             if not parts.hostname:
                 raise ValueError
-            self.connection = kinds[parts.scheme](parts.hostname, parts.port, timeout=SILENCE)
+            more = {"context": trusting(cacert)} if parts.scheme == "https" else {}
+            kind = kinds[parts.scheme]
+            self.connection = kind(parts.hostname, parts.port, timeout=SILENCE, **more)
         except (ValueError, KeyError, http.client.HTTPException):
             raise Failed(f"{url!r} is no URL of a server") from None
         self.url, self.path, self.used = url, parts.path, False
@@ -313,14 +343,14 @@ def is_refused_token(body):
         return False
 
 
-def context_of(url):
+def context_of(url, cacert):
     """The URL of a server's context path: the one given, or where the well-known address leads."""
     url = url.rstrip("/")
     at = url + WELL_KNOWN
     if Server(at).path != WELL_KNOWN:
         return url
     for _ in range(MOST_REDIRECTS):
-        server = Server(at)
+        server = Server(at, cacert)
         status, fields, _ = server.ask("", MOST_LIST_BYTES)
         server.close()
         location = fields.get("Location")
@@ -458,21 +488,32 @@ class Trees:
     def path(self, number, *names):
         return os.path.join(self.folder, str(number), *names)
 
-    def held(self, number, url):
-        """The state of a tree that came from this server, of the zones whose files are what they were."""
+    def document(self, number):
+        """What the state of a tree says as JSON; nothing where there is none."""
         try:
             with open(self.path(number, "state.json"), "rb") as file:
                 document = json.load(file)
+            return document if isinstance(document, dict) else {}
+        except (OSError, ValueError, RecursionError):
+            return {}
+
+    def held(self, number, url, domain=None):
+        """The state of a tree that came from this server, of the zones whose files are what they were.
+        Of another server of the same domain the zones count, and the token does not."""
+        try:
+            document = self.document(number)
             zones = {tzid: held_zone_of(entry) for tzid, entry in document["zones"].items()}
             check_names(zones)
             state = State(document["token"], zones)
-            if document["url"] != url or not isinstance(state.token, str):
+            same = document["url"] == url
+            related = same or domain is not None and document.get("domain") == domain
+            if not related or not isinstance(state.token, str):
                 return NOTHING
         except (OSError, Failed, *MISREAD):
             return NOTHING
         whole = {tzid: zone for tzid, zone in zones.items() if self.is_whole(number, tzid, zone)}
         # changes since the token do not name what was lost here, so then all zones are asked for
-        return state if len(whole) == len(zones) else State(None, whole)
+        return state if same and len(whole) == len(zones) else State(None, whole)
 
     def is_whole(self, number, tzid, zone):
         """The zone's file has its digest, and its aliases lead to it."""
@@ -486,7 +527,11 @@ class Trees:
         except OSError:
             return False
 
-    def make(self, number, old, url, state, files):
+    def tables(self, number, zones):
+        """The tables in a tree, by name."""
+        return tables_of(self.path(number, "zoneinfo"), zones)
+
+    def make(self, number, old, state, files, origin, tables):
         """Writes a tree whole: new files as they came, the others as links to those of the old tree."""
         root = self.path(number, "zoneinfo")
         folders = {self.path(number), root}
@@ -504,18 +549,20 @@ class Trees:
                 write(os.path.join(root, tzid), files[tzid])
             else:
                 keep(self.path(old, "zoneinfo", tzid), os.path.join(root, tzid))
-        self.write_state(number, url, state)
+        for name, data in tables.items():
+            write(os.path.join(root, name), data)
+        self.write_state(number, state, origin)
         for folder in folders:
             synced(folder)
         synced(self.folder)
 
-    def write_state(self, number, url, state):
+    def write_state(self, number, state, origin):
         """Writes the state of a tree, which is there whole or as before."""
         zones = {
             tzid: {"etag": zone.etag, "aliases": list(zone.aliases), "tag": zone.tag, "sha256": zone.digest}
             for tzid, zone in state.zones.items()
         }
-        text = json.dumps({"url": url, "token": state.token, "zones": zones}, indent=1)
+        text = json.dumps({**origin, "token": state.token, "zones": zones}, indent=1)
         path = self.path(number, "state.json")
         write(path + ".new", text.encode())
         os.replace(path + ".new", path)
@@ -556,25 +603,42 @@ def keep(old, new):
 # ---- the runs
 
 
-def fetch(url, directory):
-    """Brings DIR to what the server has, and gives the line that tells so."""
+def tables_of(folder, zones):
+    """The tables in a folder, by name, but for those that have the name of a zone."""
+    names = {name.split("/")[0] for tzid, zone in zones.items() for name in (tzid, *zone.aliases)}
+    found = {}
+    for table in TABLES:
+        path = os.path.join(folder, table)
+        if table not in names and os.path.isfile(path):
+            with open(path, "rb") as file:
+                found[table] = file.read()
+    return found
+
+
+def fetch(url, directory, wishes=PLAIN, path=None):
+    """Brings DIR to what the server has, and gives the line that says so. The path is that of its
+    context; without one the URL has it, or the well-known address says it."""
     with Trees(directory) as trees:
         current = trees.current()
         trees.clean()
-        held = trees.held(current, url)
-        server = Server(context_of(url))
+        held = trees.held(current, url, wishes.domain)
+        context = context_of(url, wishes.cacert) if path is None else url + "/" + path.strip("/")
+        server = Server(context.rstrip("/"), wishes.cacert)
         catching = Catching(server, held)
         try:
             state = catching.run()
         finally:
             server.close()
-        if state == held:
-            return f"{directory}: {state.token}, nothing changed"
-        if held.token is not None and state.zones == held.zones:
-            trees.write_state(current, url, state)
+        tables = tables_of(wishes.tables, state.zones) if wishes.tables else {}
+        same = held.token is not None and state.zones == held.zones
+        if same and (not wishes.tables or tables == trees.tables(current, state.zones)):
+            if state.token == held.token:
+                return f"{directory}: {state.token}, nothing changed"
+            trees.write_state(current, state, {"url": url, "domain": wishes.domain})
             return f"{directory}: {state.token}, no zone changed"
         try:
-            trees.make(current + 1, current, url, state, catching.files)
+            origin = {"url": url, "domain": wishes.domain}
+            trees.make(current + 1, current, state, catching.files, origin, tables)
             trees.change_over(current + 1)
         finally:
             trees.clean()
@@ -582,26 +646,69 @@ def fetch(url, directory):
     return f"{directory}: {state.token}, {len(state.zones)} zones, {names} names, {catching.gets} asked for"
 
 
+def servers_of(options):
+    """The servers to try, each by its URL and its context path."""
+    if options.domain is None:
+        return [(options.url, None)]
+    # a package that is removed leaves nothing behind
+    sys.dont_write_bytecode = True
+    try:
+        from discovery import Resolver, Undiscovered, candidates
+    except ImportError:
+        raise Failed("--domain needs discovery.py beside this script") from None
+    trees = Trees(options.dir)
+    try:
+        used = trees.document(trees.current()).get("url")
+        return candidates(options.domain, Resolver(options.dns), used)
+    except Undiscovered as fault:
+        raise Failed(str(fault)) from None
+
+
 def run(options):
     """The status of one run, whose line it prints."""
     try:
-        print(fetch(options.url, options.dir), flush=True)
-        return 0
-    except Failed as fault:
+        if options.tables and not os.path.isdir(options.tables):
+            raise Failed(f"--tables: {options.tables} is no folder")
+        servers = servers_of(options)
+    except (Failed, OSError) as fault:
         print(f"failed: {fault}", file=sys.stderr, flush=True)
-    except OSError as error:
-        print(f"failed: {error}", file=sys.stderr, flush=True)
+        return 1
+    wishes = Wishes(options.cacert, options.tables, options.domain)
+    for url, path in servers:
+        try:
+            print(fetch(url, options.dir, wishes, path), flush=True)
+            return 0
+        except (Failed, OSError) as fault:
+            print(f"failed: {fault}", file=sys.stderr, flush=True)
     return 1
 
 
-def main():
-    parser = argparse.ArgumentParser(description="Keeps a zoneinfo tree as a server of RFC 7808 has it.")
-    parser.add_argument("url", metavar="URL", help="the server, as https://tz.example.org")
+EXAMPLE = "Example: fetch_zoneinfo.py --every 3600 https://tz.example.org /var/lib/zoneinfo"
+
+
+def arguments():
+    """The arguments of the command line."""
+    parser = argparse.ArgumentParser(
+        description="Keeps a zoneinfo tree as a server of RFC 7808 has it.", epilog=EXAMPLE
+    )
+    parser.add_argument("url", metavar="URL", nargs="?", help="as https://tz.example.org")
     parser.add_argument("dir", metavar="DIR", help="the link to the tree, as /var/lib/tz/zoneinfo")
+    parser.add_argument("--domain", metavar="NAME", help="find servers by this domain's DNS records")
+    parser.add_argument("--dns", metavar="HOST[:PORT]", help="the DNS server for --domain")
+    parser.add_argument("--cacert", metavar="FILE", help="the authorities that HTTPS trusts")
+    tables = parser.add_argument("--tables", metavar="FROM")
+    tables.help = f"copy {', '.join(TABLES)} from this folder into the tree"
     parser.add_argument("--every", metavar="SECONDS", type=float, help="stay, and ask again after so many seconds")
     options = parser.parse_args()
     if options.every is not None and not 1 <= options.every <= 1e8:
-        parser.error("--every: a number of seconds from 1 on is wanted")
+        parser.error("--every: a number of seconds from 1 on is needed")
+    if (options.url is None) == (options.domain is None):
+        parser.error("either a URL or --domain is needed")
+    return options
+
+
+def main():
+    options = arguments()
     os.umask(0o022)
     try:
         status = run(options)

@@ -14,6 +14,7 @@ import json
 import os
 import shutil
 import signal
+import ssl
 import struct
 import subprocess
 import sys
@@ -28,7 +29,7 @@ from urllib.parse import unquote, urlsplit
 sys.dont_write_bytecode = True
 
 import fetch_zoneinfo
-from fetch_zoneinfo import Failed, fetch
+from fetch_zoneinfo import Failed, Wishes, fetch
 from served import Served
 
 PROGRAM = None
@@ -111,13 +112,19 @@ class Handler(http.server.BaseHTTPRequestHandler):
 class Fake:
     """A server of zones over a list of releases, which answers as it should but where a lie stands for a target."""
 
-    def __init__(self, *releases):
+    def __init__(self, *releases, certificate=None):
         self.releases, self.lies, self.asked, self.stale = list(releases), {}, [], {}
         self.form, self.before_get, self.known, self.between = '"{}.t"', quiet, 1, True
         self.any_name = False
         self.server = http.server.ThreadingHTTPServer(("127.0.0.1", 0), Handler)
         self.server.fake, self.server.daemon_threads, self.server.handle_error = self, True, quiet
         self.url = f"http://127.0.0.1:{self.server.server_port}"
+        if certificate is not None:
+            context = ssl.SSLContext(ssl.PROTOCOL_TLS_SERVER)
+            context.load_cert_chain(certificate)
+            lazy = {"server_side": True, "do_handshake_on_connect": False}
+            self.server.socket = context.wrap_socket(self.server.socket, **lazy)
+            self.url = f"https://localhost:{self.server.server_port}"
         threading.Thread(target=self.server.serve_forever, args=(0.01,), daemon=True).start()
 
     def close(self):
@@ -306,7 +313,15 @@ CALLS = ["mkdir", "symlink", "replace", "rename", "link", "unlink", "rmdir", "fs
 
 
 class Room(unittest.TestCase):
-    """A folder for trees."""
+    """A folder for trees, and the client that brings them there."""
+
+    # The name of the state beside a tree.
+    STATE = "state.json"
+
+    def bring(self, url, seconds=None, **wishes):
+        """A run of the client, each of whose exchanges takes so many seconds at most."""
+        with mock.patch.object(fetch_zoneinfo, "EXCHANGE", seconds or fetch_zoneinfo.EXCHANGE):
+            return fetch(url, str(self.dir), Wishes(**wishes))
 
     def setUp(self):
         folder = tempfile.TemporaryDirectory()
@@ -341,19 +356,20 @@ class Faked(Room):
         self.fake = Fake(FIRST)
         self.addCleanup(self.fake.close)
 
-    def fetch(self):
+    def fetch(self, seconds=None):
         """The line of a run, and what it asked for."""
         self.fake.asked = []
-        line = fetch(self.fake.url, str(self.dir))
-        return line, [target.removeprefix("/at/tzdist") for target in self.fake.asked[1:]]
+        line = self.bring(self.fake.url, seconds)
+        # a client that follows redirects by itself asks for the context path, too
+        asked = [target for target in self.fake.asked[1:] if target != "/at/tzdist"]
+        return line, [target.removeprefix("/at/tzdist") for target in asked]
 
     def refused(self, part=""):
         """A run fails, and DIR stays what it was."""
         link = os.readlink(self.dir) if self.dir.is_symlink() else None
         held, state = tree_of(self.dir), self.state()
-        seconds = 1 if dripping in self.fake.lies.values() else fetch_zoneinfo.EXCHANGE
-        with mock.patch.object(fetch_zoneinfo, "EXCHANGE", seconds), self.assertRaises(Failed) as seen:
-            self.fetch()
+        with self.assertRaises(Failed) as seen:
+            self.fetch(1 if dripping in self.fake.lies.values() else None)
         self.assertIn(part, str(seen.exception))
         self.assertTrue(str(seen.exception).isprintable())
         self.assertEqual(os.readlink(self.dir) if self.dir.is_symlink() else None, link)
@@ -376,9 +392,11 @@ class Faked(Room):
         self.holds(zones)
         self.begin_anew()
 
+    def state_path(self):
+        return Path(os.path.realpath(self.dir)).parent / self.STATE
+
     def state(self):
-        path = Path(os.path.realpath(self.dir)).parent / "state.json"
-        return json.loads(path.read_text()) if path.is_file() else None
+        return json.loads(self.state_path().read_text()) if self.state_path().is_file() else None
 
     def lied(self, lies, target, part="", first=True):
         """Each lie is refused, without a tree and beside one, and then all is well again."""
@@ -423,7 +441,7 @@ class Fetching(Faked):
         self.assertEqual(sorted(os.listdir(f"{self.dir}.trees")), ["2", "3", "lock"])
 
     def test_a_context_path(self):
-        fetch(self.fake.url + "/at/tzdist/", str(self.dir))
+        self.bring(self.fake.url + "/at/tzdist/")
         self.assertEqual(self.fake.asked[0], "/at/tzdist/zones")
         self.holds(FIRST)
 
@@ -433,6 +451,27 @@ class Fetching(Faked):
         self.assertEqual(self.fetch(), (f"{self.dir}: at 2, no zone changed", ["/zones?changedsince=at 1"]))
         self.assertEqual(self.fetch(), (f"{self.dir}: at 2, nothing changed", ["/zones?changedsince=at 2"]))
         self.holds(FIRST)
+
+    def test_tables(self):
+        """The tables of a folder are copied, and a change of them makes a new tree."""
+        source = self.root / "base"
+        source.mkdir()
+        for name in ("iso3166.tab", "zone1970.tab", "leapseconds"):
+            (source / name).write_text(f"{name}\n")
+        tables = {name: f"{name}\n".encode() for name in ("iso3166.tab", "zone1970.tab")}
+        wanted = {**tree_wanted(FIRST), **tables}
+        for expected in ("3 asked for", "nothing changed"):
+            self.assertIn(expected, self.bring(self.fake.url, tables=str(source)))
+            self.assertEqual(tree_of(self.dir), wanted)
+        (source / "iso3166.tab").write_text("newer\n")
+        (source / "zone1970.tab").unlink()
+        self.assertIn("0 asked for", self.bring(self.fake.url, tables=str(source)))
+        self.assertEqual(tree_of(self.dir), {**tree_wanted(FIRST), "iso3166.tab": b"newer\n"})
+        # a zone of such a name is no table
+        (source / "tzdata.zi").write_text("a table\n")
+        self.fake.releases.append({**FIRST, "tzdata.zi": ([], UTC)})
+        self.bring(self.fake.url, tables=str(source))
+        self.assertEqual((self.dir / "tzdata.zi").read_bytes(), UTC)
 
     def test_names_that_move(self):
         steps = [
@@ -467,12 +506,13 @@ class Fetching(Faked):
         self.fetch()
         other = Fake(FIRST, SECOND)
         self.addCleanup(other.close)
-        fetch(other.url, str(self.dir))
-        self.assertEqual(other.asked[1:3], ["/at/tzdist/zones", "/at/tzdist/zones/Etc/UTC"])
+        self.bring(other.url)
+        asked = [target for target in other.asked if target != "/at/tzdist"]
+        self.assertEqual(asked[1:3], ["/at/tzdist/zones", "/at/tzdist/zones/Etc/UTC"])
         self.holds(SECOND)
 
     def test_what_was_damaged_is_mended(self):
-        state = "../state.json"
+        state = f"../{self.STATE}"
         damages = [
             ("Plain", lambda path: path.unlink(), ["/zones", "/zones/Plain"]),
             ("Plain", lambda path: path.write_bytes(OTHER[:-1]), ["/zones", "/zones/Plain"]),
@@ -491,10 +531,9 @@ class Fetching(Faked):
     def test_a_tag_is_asked_with(self):
         """A list that has another tag for the same file costs no file."""
         self.fetch()
-        held = self.state()
-        path = Path(os.path.realpath(self.dir)).parent / "state.json"
-        held["zones"]["Plain"]["etag"], held["token"] = "older", "at 9"
-        path.write_text(json.dumps(held))
+        text = self.state_path().read_text()
+        changed = text.replace(etag_of(FIRST, "Plain"), "older", 1).replace("at 1", "at 9")
+        self.state_path().write_text(changed)
         self.assertIn("1 asked for", self.fetch()[0])
         self.assertEqual(self.state()["zones"]["Plain"]["etag"], etag_of(FIRST, "Plain"))
         self.holds(FIRST)
@@ -612,7 +651,7 @@ class Fetching(Faked):
     def test_no_server(self):
         for url in ("http://127.0.0.1:1", "ftp://127.0.0.1", "nonsense", "http://", "http://[::1", "http://x:port"):
             with self.subTest(url), self.assertRaises(Failed):
-                fetch(url, str(self.dir))
+                self.bring(url)
 
     def test_a_directory_that_is_there_stays(self):
         for make in (self.dir.mkdir, self.dir.touch, lambda: self.dir.symlink_to("/etc")):
@@ -641,6 +680,68 @@ class Fetching(Faked):
                     with self.assertRaises(OSError):
                         self.fetch()
                     self.holds(SECOND)
+
+
+def certified(folder):
+    """The certificate of an authority, and a file of a certificate of localhost by it with its key."""
+    if shutil.which("openssl") is None:
+        raise unittest.SkipTest("openssl: not installed")
+    authority, key, request, extension, server = (
+        str(folder / name) for name in ("ca.pem", "key.pem", "request.pem", "names", "server.pem")
+    )
+    new = ["openssl", "req", "-newkey", "ec", "-pkeyopt", "ec_paramgen_curve:prime256v1", "-nodes"]
+    made = {"check": True, "capture_output": True}
+    own = [*new, "-x509", "-days", "2", "-subj", "/CN=Test", "-keyout", f"{authority}.key"]
+    subprocess.run([*own, "-out", authority], **made)
+    subprocess.run([*new, "-subj", "/CN=localhost", "-keyout", key, "-out", request], **made)
+    Path(extension).write_text("subjectAltName=DNS:localhost\n")
+    by = ["-CA", authority, "-CAkey", f"{authority}.key", "-CAcreateserial", "-extfile", extension]
+    subprocess.run(["openssl", "x509", "-req", "-days", "2", "-in", request, *by, "-out", server], **made)
+    with open(server, "a") as file:
+        file.write(Path(key).read_text())
+    return authority, server
+
+
+class Secure(Room):
+    """A server of HTTPS, whose certificate is by an authority that no system trusts."""
+
+    @classmethod
+    def setUpClass(cls):
+        cls.keys = tempfile.TemporaryDirectory()
+        cls.addClassCleanup(cls.keys.cleanup)
+        cls.authority, cls.certificate = certified(Path(cls.keys.name))
+
+    def setUp(self):
+        super().setUp()
+        self.fake = Fake(FIRST, certificate=self.certificate)
+        self.addCleanup(self.fake.close)
+
+    def test_certificates(self):
+        with self.assertRaises(Failed):
+            self.bring(self.fake.url)
+        self.assertEqual(self.fake.asked, [])
+        self.bring(self.fake.url, cacert=self.authority)
+        self.holds(FIRST)
+        self.fake.releases.append(SECOND)
+        self.assertIn("1 asked for", self.bring(self.fake.url, cacert=self.authority))
+        self.fake.asked = []
+        with self.assertRaises(Failed):
+            self.bring(self.fake.url.replace("localhost", "127.0.0.1"), cacert=self.authority)
+        self.assertEqual(self.fake.asked, [])
+        self.holds(SECOND)
+
+    def test_no_certificates(self):
+        for name in ("none.pem", "names"):
+            with self.assertRaises(Failed):
+                self.bring(self.fake.url, cacert=str(Path(self.keys.name, name)))
+        self.assertEqual(self.fake.asked, [])
+
+    def test_no_way_down_to_http(self):
+        plain = Fake(FIRST)
+        self.addCleanup(plain.close)
+        self.fake.lies["/.well-known/timezone"] = said(301, b"", Location=f"{plain.url}/at/tzdist")
+        with self.assertRaisesRegex(Failed, "which is not https"):
+            self.bring(self.fake.url, cacert=self.authority)
 
 
 def with_fields(send, body, fields):
@@ -758,6 +859,11 @@ class Words(Faked):
 class ServedAndFetched(Room):
     """From a tree of zone files over a release and the built program to a tree of a device."""
 
+    def command(self, url):
+        """The words that start the client, and its environment."""
+        script = str(Path(__file__).with_name("fetch_zoneinfo.py"))
+        return [sys.executable, script, url, str(self.dir)], None
+
     def setUp(self):
         if PROGRAM is None:
             self.skipTest("no program was given")
@@ -778,7 +884,8 @@ class ServedAndFetched(Room):
         (self.tree / "Test/Ruled").write_bytes(ruled)
         folder = self.home / stamp
         script = Path(__file__).with_name("pack_zoneinfo.py")
-        words = [sys.executable, str(script), str(self.tree), str(folder), "--stamp", f"{stamp}T00:00:00Z"]
+        words = [sys.executable, str(script), str(self.tree), str(folder), "--as-they-are"]
+        words += ["--stamp", f"{stamp}T00:00:00Z"]
         subprocess.run(words, check=True, capture_output=True)
         return str(folder)
 
@@ -803,20 +910,20 @@ class ServedAndFetched(Room):
         device.mkdir()
         self.dir = device / "zi"
         with Served([first], program=PROGRAM) as server:
-            script = Path(__file__).with_name("fetch_zoneinfo.py")
-            words = [sys.executable, str(script), f"http://127.0.0.1:{server.port}", str(self.dir)]
+            words, environment = self.command(f"http://127.0.0.1:{server.port}")
             begin = time.monotonic()
-            subprocess.run(words, check=True, capture_output=True)
+            subprocess.run(words, env=environment, check=True, capture_output=True)
             step = (time.monotonic() - begin) / 8
             # without its state a run asks for all zones, as the first one did
-            (Path(os.path.realpath(self.dir)).parent / "state.json").unlink()
+            (Path(os.path.realpath(self.dir)).parent / self.STATE).unlink()
             shutil.copytree(device, base, symlinks=True)
             server.say(f"install {second}")
             old = tree_of(self.dir)
             for count in range(100):
-                with subprocess.Popen(words, stdout=subprocess.DEVNULL) as child:
+                quiet = {"stdout": subprocess.DEVNULL, "stderr": subprocess.DEVNULL}
+                with subprocess.Popen(words, env=environment, start_new_session=True, **quiet) as child:
                     time.sleep(count * step)
-                    child.kill()
+                    os.killpg(child.pid, signal.SIGKILL)
                 if tree_of(self.dir) != old:
                     break
                 shutil.rmtree(device)
@@ -835,21 +942,21 @@ class ServedAndFetched(Room):
         first = self.release(STEADY, "2025-06-01")
         with Served([first], program=PROGRAM) as server:
             url = f"http://127.0.0.1:{server.port}"
-            line = fetch(url, str(self.dir))
+            line = self.bring(url)
             self.assertIn(server.token, line)
             self.as_released(first)
             self.assertEqual(self.date("Test/Alias"), "2025-07-01 13:00:00 AAA +0100")
-            self.assertIn("nothing changed", fetch(url, str(self.dir)))
+            self.assertIn("nothing changed", self.bring(url))
             second = self.release(RULED, "2025-06-02")
             installed = server.say(f"install {second}").removeprefix("installed ")
-            line = fetch(url, str(self.dir))
+            line = self.bring(url)
             self.assertTrue(line.endswith(", 1 asked for") and installed in line, line)
             self.as_released(second)
             self.assertEqual(self.date("Test/Alias"), "2025-07-01 14:00:00 BBB +0200")
             self.assertEqual(server.quit(), 0)
         # a server that was started anew has another history
         with Served([second], program=PROGRAM) as server:
-            line = fetch(f"http://127.0.0.1:{server.port}", str(self.dir))
+            line = self.bring(f"http://127.0.0.1:{server.port}")
             self.assertIn(server.token, line)
             self.as_released(second)
             self.assertEqual(server.quit(), 0)
