@@ -1,0 +1,329 @@
+#!/usr/bin/env python3
+"""Tests of start.py: what it packs, builds and serves, and what it says where that fails.
+
+    tools/test_start.py [PROGRAM]
+
+PROGRAM is a built tzdistd; without it, that of the gate. The server is the real one. Only `rt` is a
+small script, which prints what the real one prints and puts the built program where that puts it.
+"""
+
+import os
+import re
+import shutil
+import signal
+import subprocess
+import sys
+import tempfile
+import time
+from pathlib import Path
+
+from checks import LONG, holds, run_checks, same
+from served import DATA, Client, Failure, address_of, free_port
+
+TOOLS = Path(__file__).resolve().parent
+CRATES = "td_base: arrayvec\ncatalogue: td_base\ntd_top: td_base catalogue\ntzdistd: td_base td_top\n"
+RELEASE = os.path.join(DATA, "data", "a")
+
+# A loader by which the toolchain may start what it compiled.
+LOADER = "/lib64/ld-linux-x86-64.so.2"
+
+FAKE_RT = """#!/bin/sh
+echo "$@" >>"$RT_CALLS"
+case "$*" in
+  *"$RT_FAILS"*) echo "error: a goal is left"; exit 1 ;;
+esac
+case "$1" in
+  all) for it in td_base catalogue; do echo "== $it"; sleep 0.2; done; sleep 60 & wait $! ;;
+  run) mkdir -p out; cp "$RT_PROGRAM" out/tzdistd ;;
+  try) cp "$RT_PROGRAM" "$TMPDIR/program"; $RT_LOADER "$TMPDIR/program" load 1000 >/dev/null; sleep 5 ;;
+esac
+"""
+
+
+class Top:
+    """A folder like the repository's top, with the scripts and a small list of crates."""
+
+    def __init__(self, room, program):
+        self.room, self.program = Path(room), program
+        self.calls = self.room / "calls"
+        self.port = free_port()
+        self.address = address_of(self.port)
+        (self.room / "tools").mkdir()
+        for path in TOOLS.iterdir():
+            if path.is_file() and not path.name.startswith("test_"):
+                shutil.copy(path, self.room / "tools" / path.name)
+        (self.room / "crates.txt").write_text(CRATES)
+        for line in CRATES.splitlines():
+            source = self.room / "crates" / line.split(":")[0] / "src"
+            source.mkdir(parents=True)
+            (source / "lib.rt").write_text("//! A crate for a test. More of it.\n")
+        (self.room / "bin").mkdir()
+        rt = self.room / "bin" / "rt"
+        rt.write_text(FAKE_RT)
+        rt.chmod(0o755)
+
+    def start(self, *words, fails="no words", release=RELEASE, loader=""):
+        environment = {
+            **os.environ, "PATH": f"{self.room}/bin:{os.environ['PATH']}", "RT_CALLS": str(self.calls),
+            "RT_PROGRAM": str(self.program), "RT_FAILS": fails, "RT_LOADER": loader,
+        }
+        words = [sys.executable, "tools/start.py", "--address", self.address, *words]
+        words += ["--release", str(release)] if release else []
+        return Started(words, self.room, environment)
+
+    def called(self):
+        return self.calls.read_text().splitlines() if self.calls.exists() else []
+
+
+class Started:
+    """A start.py that was started, with what it printed so far. Its input stays open."""
+
+    def __init__(self, words, at, environment):
+        pipe = subprocess.PIPE
+        self.child = subprocess.Popen(words, cwd=at, env=environment, stdin=pipe, stdout=pipe, stderr=pipe, text=True)
+        self.printed = []
+
+    def until(self, pattern):
+        """Reads lines up to the first with a pattern. What is read is in `printed`."""
+        for line in self.child.stdout:
+            self.printed.append(line.rstrip("\n"))
+            if re.search(pattern, line):
+                return line.rstrip("\n")
+        raise Failure(f"the output ended without {pattern!r}: {self.printed} {self.child.stderr.read()}")
+
+    def say(self, line):
+        self.child.stdin.write(line + "\n")
+        self.child.stdin.flush()
+
+    def ended(self):
+        """The status, and all that was printed and complained about."""
+        try:
+            output, errors = self.child.communicate(timeout=LONG)
+        except subprocess.TimeoutExpired:
+            raise Failure("start.py had not ended in time") from None
+        return self.child.returncode, "\n".join([*self.printed, output]), errors
+
+    def __enter__(self):
+        return self
+
+    def __exit__(self, *_):
+        if self.child.poll() is None:
+            self.child.terminate()
+            try:
+                self.child.communicate(timeout=LONG)
+            except subprocess.TimeoutExpired:
+                self.child.kill()
+        for stream in (self.child.stdin, self.child.stdout, self.child.stderr):
+            stream.close()
+
+
+def in_top(check):
+    """A check that is given a new top folder."""
+
+    def with_room(program):
+        with tempfile.TemporaryDirectory() as room:
+            check(Top(room, program))
+
+    with_room.__name__ = check.__name__
+    return with_room
+
+
+def serves(top, tzid="Etc/UTC"):
+    with Client(top.port) as client:
+        reply = client.ask("/tzdist/zones")
+    same("the status of the list", reply.status, 200)
+    holds("the list has a zone", f'"{tzid}"'.encode() in reply.body)
+
+
+@in_top
+def serves_with_a_given_program_and_forwards_the_console(top):
+    with top.start("--program", str(top.program)) as started:
+        started.until("^ready 1-")
+        started.until("Ctrl-C ends")
+        serves(top)
+        started.say("status")
+        holds("the status is printed", started.until("^serving 1-").endswith(" 1"))
+        started.say("install nowhere")
+        started.until("^refused 8 Absent")
+        started.say("quit")
+        status, output, _ = started.ended()
+    same("the status of quit", status, 0)
+    holds("the server said bye", "bye" in output.splitlines())
+    same("no build was begun", top.called(), [])
+
+
+@in_top
+def ends_in_order_by_signals(top):
+    for number, is_open in ((signal.SIGINT, True), (signal.SIGTERM, True), (signal.SIGTERM, False)):
+        with top.start("--program", str(top.program)) as started:
+            started.until("Ctrl-C ends")
+            if not is_open:
+                started.child.stdin.close()  # the end of an input that is no terminal ends nothing
+            serves(top)
+            started.child.send_signal(number)
+            started.until("^bye$")
+            same(f"the status after signal {number}", started.child.wait(LONG), 0)
+            same("what is complained about", started.child.stderr.read(), "")
+
+
+@in_top
+def proves_where_there_is_no_program(top):
+    with top.start("--jobs", "3") as started:
+        started.until("^1 of 4 crates: td_base .A crate for a test.; 0 minutes so far, about")
+        started.until("^2 of 4 crates: catalogue ")
+        started.until("^4 of 4 crates are proved, and the program is built")
+        started.until("^ready 1-")
+        serves(top)
+        started.say("quit")
+        same("the status", started.ended()[0], 0)
+    first, second = top.called()
+    holds("crates are proved at once", re.fullmatch(r"all check --jobs \d+", first))
+    holds("the program checks the release", re.fullmatch(rf"run --jobs \d+ -- check {RELEASE}", second))
+    with top.start() as started:
+        started.until("^ready 1-")
+    same("what is built is not built again", len(top.called()), 2)
+
+
+@in_top
+def builds_again_where_a_source_is_newer(top):
+    with top.start() as started:
+        started.until("^ready 1-")
+    later = time.time() + 60
+    os.utime(top.room / "crates" / "catalogue" / "src" / "lib.rt", (later, later))
+    with top.start() as started:
+        started.until("^1 of 4 crates")
+        started.until("^ready 1-")
+    same("both steps were done again", len(top.called()), 4)
+
+
+@in_top
+def says_what_failed_in_a_proof(top):
+    for fails, words in (("all check", "a proof failed: mend it"), ("run --jobs", "was not proved and built: mend")):
+        with top.start(fails=fails) as started:
+            status, _, errors = started.ended()
+        same("the status", status, 1)
+        holds(f"what to do is said: {errors}", words in errors and "error: a goal is left" in errors)
+
+
+@in_top
+def looks_with_what_is_compiled(top):
+    with top.start("--look") as started:
+        started.until("^Compiling the program, without proofs")
+        started.until("^ready 1-")
+        started.until("is compiled with checks at run time, and is NOT proved")
+        serves(top)
+        copy = top.room / "crates" / "tzdistd" / "out" / "tzdistd-unproved"
+        same("the copy is whole", copy.read_bytes(), Path(top.program).read_bytes())
+        started.say("quit")
+        same("the status", started.ended()[0], 0)
+    same("only rt try ran", [it.split()[0] for it in top.called()], ["try"])
+    with top.start("--look") as started:
+        started.until("^ready 1-")
+    same("what is compiled is not compiled again", len(top.called()), 1)
+
+
+@in_top
+def finds_what_a_loader_runs(top):
+    if os.access(LOADER, os.X_OK):
+        with top.start("--look", loader=LOADER) as started:
+            started.until("^ready 1-")
+
+
+@in_top
+def ends_a_build_by_signals(top):
+    for number in (signal.SIGINT, signal.SIGTERM):
+        with top.start() as started:
+            started.until("^1 of 4 crates")
+            started.child.send_signal(number)
+            status, _, errors = started.ended()
+        same("the status", (status, "what is proved so far is kept" in errors), (130, True))
+        end = time.monotonic() + LONG  # a process that is killed ends when it next has a processor
+        while (left := running_in(top.room)) and time.monotonic() < end:
+            time.sleep(0.05)
+        same("what still runs", left, [])
+
+
+def running_in(room):
+    return [it for it in Path("/proc").iterdir() if it.name.isdigit() and runs_in(it, room)]
+
+
+def runs_in(process, room):
+    try:
+        return str(room) in os.readlink(process / "cwd")
+    except OSError:
+        return False
+
+
+@in_top
+def says_what_failed_in_a_compilation(top):
+    with top.start("--look", fails="try") as started:
+        status, _, errors = started.ended()
+    same("the status", status, 1)
+    holds(f"what to do is said: {errors}", "was not compiled: mend what rt reports" in errors)
+
+
+@in_top
+def packs_where_there_is_no_release(top):
+    tree, release = top.room / "zoneinfo", top.room / "release"
+    (tree / "Europe").mkdir(parents=True)
+    shutil.copy(os.path.join(DATA, "data", "ny"), tree / "Europe" / "Lisbon")
+    (tree / "tzdata.zi").write_text("# version 2025b\nZ Europe/Lisbon -5 - EST\n")
+    words = ("--program", str(top.program), "--zoneinfo", str(tree))
+    with top.start(*words, release=None) as started:
+        started.until("^Packing the zone files of ")
+        started.until("^ready 1-")
+        holds("the release is at its place", (release / "manifest.json").is_file())
+        serves(top, "Europe/Lisbon")
+    with top.start(*words, release=None) as started:
+        started.until("is there already")
+        started.until("^ready 1-")
+    with top.start("--zoneinfo", str(top.room / "absent"), release=top.room / "none") as started:
+        status, _, errors = started.ended()
+    same("the status without zone files", (status, "install tzdata" in errors), (1, True))
+
+
+@in_top
+def says_why_it_did_not_start(top):
+    with top.start("--program", str(top.room / "absent")) as started:
+        status, _, errors = started.ended()
+    same("the status without a program", (status, "give the built tzdistd" in errors), (1, True))
+    with top.start("--program", str(top.program)) as first:
+        first.until("^ready 1-")
+        with top.start("--program", str(top.program)) as second:
+            status, _, errors = second.ended()
+        holds(f"a taken address is named: {errors}", status == 1 and "status 6" in errors)
+    bad = top.room / "bad"
+    bad.mkdir()
+    (bad / "manifest.json").write_text("{}")
+    with top.start("--program", str(top.program), release=bad) as started:
+        status, _, errors = started.ended()
+    holds(f"a refusal is printed: {errors}", status == 1 and "status 2: refused" in errors)
+
+
+@in_top
+def refuses_wrong_words(top):
+    for words in (("--workers", "0"), ("--workers", "65"), ("--jobs", "0"), ("--nothing",)):
+        with top.start(*words) as started:
+            same(f"the status of {words}", started.ended()[0], 2)
+    with top.start("--help") as started:
+        status, output, _ = started.ended()
+    holds("the help has an example", status == 0 and "example: tools/start.py --look" in output)
+
+
+CHECKS = (
+    serves_with_a_given_program_and_forwards_the_console,
+    ends_in_order_by_signals,
+    proves_where_there_is_no_program,
+    builds_again_where_a_source_is_newer,
+    says_what_failed_in_a_proof,
+    looks_with_what_is_compiled,
+    finds_what_a_loader_runs,
+    ends_a_build_by_signals,
+    says_what_failed_in_a_compilation,
+    packs_where_there_is_no_release,
+    says_why_it_did_not_start,
+    refuses_wrong_words,
+)
+
+if __name__ == "__main__":
+    sys.exit(run_checks("start", CHECKS, whole=900, beside=2))
