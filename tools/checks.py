@@ -75,9 +75,20 @@ def fault_of(check, program):
     return None
 
 
+def help_text(script):
+    """What a script of checks says of its words."""
+    return (
+        f"usage: {script} [PROGRAM]\n\nTries a built tzdistd (default: {PROGRAM}).\n\n"
+        f"example: tools/{script} crates/tzdistd/out/tzdistd"
+    )
+
+
 def run_checks(name, checks, whole, beside):
     """Runs the checks, so many beside one another, and tells what failed. The status is 0 where all is
     well. After so many seconds in all it ends in any case."""
+    if sys.argv[1:2] in (["-h"], ["--help"]):
+        print(help_text(os.path.basename(sys.argv[0])))
+        return 0
     program = os.path.abspath(sys.argv[1]) if len(sys.argv) > 1 else PROGRAM
     if not os.path.exists(program):
         sys.exit(f"{program} is not built: README says how")

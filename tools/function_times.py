@@ -55,7 +55,10 @@ def lines_of(sums, most):
 
 
 def main():
-    flags = argparse.ArgumentParser(description="In which functions the time of a check went.")
+    flags = argparse.ArgumentParser(
+        description="In which functions the time of a check went.",
+        epilog="example: tools/function_times.py crates/catalogue/out/incremental --most 20",
+    )
     flags.add_argument("folder", help="what the check kept, as crates/NAME/out/incremental")
     flags.add_argument("--most", type=int, default=30, help="how many lines, 30 if left out")
     given = flags.parse_args()

@@ -160,7 +160,10 @@ def watched(top, is_over, crates, to):
 
 
 def main():
-    flags = argparse.ArgumentParser(description="What processor time rt ci takes, crate by crate.")
+    flags = argparse.ArgumentParser(
+        description="What processor time rt ci takes, crate by crate.",
+        epilog="example: tools/gate_times.py --to times.txt rt ci",
+    )
     flags.add_argument("--of", type=int, metavar="PID", help="the number of an rt ci that runs")
     flags.add_argument("--to", metavar="FILE", help="writes the table to this file as it goes")
     flags.add_argument("command", nargs=argparse.REMAINDER, help="what is run, as rt ci")

@@ -9,10 +9,8 @@ library alone. The status is 0 where all is well, and 1 where a check failed.
 """
 
 import json
-import os
 import socket
 import struct
-import subprocess
 import sys
 import tempfile
 import threading
@@ -21,8 +19,8 @@ from urllib.parse import quote
 
 sys.dont_write_bytecode = True
 
-from checks import LONG, SLACK, TZIF, USAGE, ZONES, holds, ran, release, run_checks, same, token_of
-from served import DATA, HOST, Client, Failure, Mirror, Served, address_of, free_port, slim_zone
+from checks import LONG, SLACK, TZIF, USAGE, ZONES, holds, ran, release, run_checks, same
+from served import HOST, Client, Failure, Mirror, Served, address_of, free_port, slim_zone
 
 FIRST, SECOND = "1-e2b2cb478d218163", "2-d7dd2fc2e202fff3"
 GONE = "refused 1 UpstreamFault"

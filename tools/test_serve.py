@@ -67,7 +67,7 @@ def replies(program):
 
 
 def pipelined(program):
-    """Requests in any pieces are answered one by one, up to the 1,000th."""
+    """Requests in any pieces are answered one by one; the server closes at the 1,000th at least."""
     asked = [request(ZONES), request(UTC, TZIF, method="HEAD"), request(UTC, TZIF, f'If-None-Match: "{TAG}.t"')]
     with Served(["data/a"], program=program) as server:
         for size in (1, 7, 4096):
@@ -85,13 +85,13 @@ def pipelined(program):
             os.kill(server.pid, signal.SIGSTOP)
             client.send(request(ZONES) * 1001)
             os.kill(server.pid, signal.SIGCONT)
-            for number in range(1, 1001):
+            # the 1,000th reply of one turn closes; a turn may end before that by the clock
+            for number in range(1, 1002):
                 reply = client.reply(timeout=LONG)
-                same(f"reply {number}", (reply.body, reply.closes), (LIST, number == 1000))
-            try:
-                client.seconds_to_end(LONG)
-            except ConnectionError:
-                pass
+                same(f"reply {number}", reply.body, LIST)
+                if reply.closes:
+                    same("the reply that closes", number, 1000)
+                    break
         with Client(server.port) as client:
             # with pauses between them there is no end to them
             for number in range(1, 1202):
@@ -676,6 +676,166 @@ def owed_at_the_end(program):
         raise Failure(f"{cut} of 4 readers had a part of a reply, after {took} seconds")
 
 
+def expansions(zone, count):
+    """HEAD requests for expansions over 8,000 years, of ranges that differ, so none is cached."""
+    heads = []
+    for number in range(count):
+        first = f"{1810 + number % 89}-{1 + number // 89:02}-01T00:00:00Z"
+        dates = f"start={first}&end=9999-01-01T00:00:00Z"
+        heads.append(request(f"{ZONES}/{zone}/observances?{dates}", method="HEAD"))
+    return heads
+
+
+def turns(program):
+    """A client with many costly requests has short turns, and others are served between them."""
+    count = 400
+    with Served(["data/b"], workers=1, program=program) as server:
+        with Client(server.port) as good, Client(server.port) as busy:
+            good.ask(ZONES)
+            busy.send(b"".join(expansions("America%2FNew_York", count)))
+            busy.reply(head_only=True, timeout=LONG)
+            good.ask(ZONES, timeout=LONG)
+            os.kill(server.pid, signal.SIGSTOP)
+            held = replies_held(busy)
+            os.kill(server.pid, signal.SIGCONT)
+            holds(f"{held} of {count} costly requests were answered first", held < count // 2)
+        server.child.kill()
+
+
+def replies_held(client):
+    """How many replies without a body have come so far, the first of which was read."""
+    client.socket.setblocking(False)
+    try:
+        while piece := client.socket.recv(1 << 18):
+            client.held += piece
+    except BlockingIOError:
+        pass
+    return 1 + client.held.count(b"\r\n\r\n")
+
+
+def kept_beside_new(program):
+    """A client on a kept connection is answered before many new connections that came first."""
+    count = 200
+    with Served(["data/b"], workers=1, program=program) as server:
+        with Client(server.port) as good:
+            good.ask(ZONES)
+            os.kill(server.pid, signal.SIGSTOP)
+            others = []
+            for head in expansions("America%2FNew_York", count):
+                others.append(Client(server.port, timeout=LONG))
+                others[-1].send(head)
+            good.send(request(ZONES))
+            os.kill(server.pid, signal.SIGCONT)
+            good.reply(timeout=LONG)
+            os.kill(server.pid, signal.SIGSTOP)
+            answered = sum(has_bytes(other) for other in others)
+            os.kill(server.pid, signal.SIGCONT)
+            said = f"{answered} of {count} new connections were answered first"
+            holds(said, answered < count // 2)
+            for other in others:
+                other.close()
+        server.child.kill()
+
+
+def has_bytes(client):
+    """Whether something has come that was not read."""
+    client.socket.setblocking(False)
+    try:
+        return bool(client.socket.recv(1, socket.MSG_PEEK))
+    except BlockingIOError:
+        return False
+
+
+def backlog(program):
+    """Many connections may wait to be accepted, and none is refused or has to try again."""
+    count = 1_000
+    with open("/proc/sys/net/core/somaxconn", encoding="ascii") as file:
+        count = min(count, int(file.read()) // 2)
+    with Served(["data/a"], workers=1, program=program) as server:
+        os.kill(server.pid, signal.SIGSTOP)
+        peers = [Client(server.port, timeout=LONG) for _ in range(3)]
+        for _ in range(count):
+            begin = time.monotonic()
+            try:
+                peers.append(Client(server.port, timeout=0.9))
+            except socket.timeout:
+                took = time.monotonic() - begin
+                raise Failure(f"connection {len(peers)} waited for {took} seconds") from None
+        os.kill(server.pid, signal.SIGCONT)
+        for peer in peers:
+            same("the list", peer.ask(ZONES, timeout=LONG).body, LIST)
+            peer.close()
+        same("the status", server.quit(), 0)
+
+
+def downloads_stay(program):
+    """Where descriptors run out a download that moves does not give way to silent connections."""
+    with tempfile.TemporaryDirectory() as room:
+        folder = large_release(room)
+        by = ["sh", "-c", 'ulimit -n 100; exec "$@"', "sh"]
+        with Served([folder], workers=1, program=program, by=by) as server:
+            with Client(server.port) as client:
+                listing = client.ask(ZONES, timeout=LONG).body
+            silent_peers = []
+            with small_window(server.port) as peer:
+                peer.sendall(request(ZONES) * 40 + request("/nothing", "Connection: close"))
+                stream = b""
+                for _ in range(300):
+                    stream += peer.recv(16_384)
+                    silent_peers.append(Client(server.port))
+                    if len(silent_peers) > 100:
+                        silent_peers.pop(0).close()
+                stream += all_that_comes(peer)
+            for one in silent_peers:
+                one.close()
+            same("the replies", whole_replies(stream), 41)
+            holds("a reply was cut", stream.count(listing) == 40)
+            same("the status", server.quit(), 0)
+
+
+def odd_files(program):
+    """What is no file in a release is refused at once, by `check` and by the console."""
+    with tempfile.TemporaryDirectory() as room:
+        piped = release(f"{room}/piped", "1", {"Etc/UTC": 1})
+        os.remove(f"{piped}/z0")
+        os.mkfifo(f"{piped}/z0")
+        device = release(f"{room}/device", "1", {"Etc/UTC": 1})
+        os.remove(f"{device}/manifest.json")
+        os.symlink("/dev/zero", f"{device}/manifest.json")
+        for folder, name in ((piped, "z0"), (device, "manifest.json")):
+            status, output, errors = ran(program, "check", folder)
+            same(f"check {name}", (status, output), (3, b""))
+            said = f"tzdistd: cannot read {folder}/{name}: unsupported\n"
+            same("standard error", errors, said.encode())
+        with Served(["data/a"], program=program) as server:
+            said = server.say(f"install {piped}")
+            holds(f"install was answered {said!r}", said.startswith("refused 9 ReadFault"))
+            same("status", server.say("status"), f"serving {FIRST} 1")
+            same("the status", server.quit(), 0)
+
+
+NOT_BLOCKING = """
+import os, sys
+os.set_blocking(0, False)
+os.set_blocking(1, False)
+os.execv(sys.argv[1], sys.argv[1:])
+"""
+
+
+def streams_that_do_not_block(program):
+    """Standard streams that another process has set not to block are waited for."""
+    with Served(["data/a"], program=program, by=[sys.executable, "-c", NOT_BLOCKING]) as server:
+        time.sleep(0.5)
+        # more than a pipe holds, in both directions
+        count = 20_000
+        writer = threading.Thread(target=server.write, args=(b"status\n" * count,))
+        writer.start()
+        for number in range(count):
+            same(f"status {number}", server.line(timeout=LONG), f"serving {FIRST} 1")
+        writer.join(LONG)
+        same("the status", server.quit(), 0)
+
+
 CHECKS = [
     silence,
     deaf_peers,
@@ -695,6 +855,12 @@ CHECKS = [
     ends,
     refused_starts,
     sixth_version,
+    turns,
+    kept_beside_new,
+    backlog,
+    downloads_stay,
+    odd_files,
+    streams_that_do_not_block,
 ]
 
 
