@@ -26,7 +26,7 @@ sys.dont_write_bytecode = True
 ROOT = os.path.dirname(os.path.dirname(os.path.abspath(__file__)))
 sys.path[:0] = [os.path.join(ROOT, "tools"), os.path.join(ROOT, "deploy")]
 
-from proxied import Proxy, Relay, ask, edited, needed, one_server, text_of, two_mirrors
+from proxied import UNLIMITED, Proxy, Relay, ask, edited, needed, one_server, text_of, two_mirrors
 from serve import by_wrk, children_of, parser_of, parts_of, processor, processor_seconds, requests_of
 from served import Failure, Mirror, Served
 
@@ -87,7 +87,7 @@ class Bench:
     def rates(self, server):
         print("| Request | What | Requests a second | p50, ms | p99, ms | tzdistd, processor microseconds | nginx, the same |")
         print("|---|---|---|---|---|---|---|")
-        site, asked = text_of("nginx-tzdistd.conf"), requests_of(server.port, None)[2]
+        site, asked = edited(text_of("nginx-tzdistd.conf"), UNLIMITED), requests_of(server.port, None)[2]
         asked = [one for one in asked if one.name in MEASURED]
         self.rows("server alone, no TLS", server.port, asked, "http", [server.pid])
         behind = edited(site, one_server(server.port))

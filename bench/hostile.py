@@ -3,11 +3,21 @@
 
     bench/hostile.py RELEASE_DIR [--program PATH] [--only PART,..] [--count N] [--seconds N]
 
+For example, what a good client sees beside floods, with nginx in the same run:
+
+    bench/hostile.py /srv/tzdist/2025b --only floods,costly,memory,backlog
+
 The parts, each of them rows of a table:
 
     clients      so many connections of each kind of client that misbehaves, beside a good one whose 50th and
                  99th percentile are told: garbage, half a head, a reset, a half-closed stream, a slow writer,
                  a slow reader, one that takes nothing
+    floods       a good client on a kept connection, and one that connects anew for each request,
+                 beside floods of cheap requests and crowds; the same of nginx, which serves files
+                 with the same bodies
+    costly       the same beside requests that take milliseconds each, which nginx cannot have
+    memory       600 readers of large replies who take little: memory, and a good client
+    backlog      2,000 connections at once: how long each waited until it was open
     descriptors  a server that may open 64, of which 300 connections want one, and the same once they are gone
     space        a server whose address space is limited, from what it cannot start with to ample
     upstreams    a mirror whose other server is slow, silent, endless, resets, ends, cuts or lies, in a first
@@ -23,25 +33,39 @@ is no part of the gate. It needs Linux and Python's standard library alone.
 """
 
 import collections
+import contextlib
+import itertools
+import multiprocessing
 import os
 import random
 import resource
+import select
+import shutil
+import socket
 import statistics
 import subprocess
 import sys
-import tempfile
 import threading
 import time
 
 sys.dont_write_bytecode = True
 sys.path.insert(0, os.path.join(os.path.dirname(os.path.dirname(os.path.abspath(__file__))), "tools"))
 
+import serve
 import test_mirror
 from checks import ZONES, ran, same
-from serve import deaf, descriptors, drip, garbage, half_closed, parser_of, parts_of, resetting, sip, status_of
-from served import DATA, Client, Failure, Mirror, Served, request
+from serve import Asked, Nginx, deaf, descriptors, drip, garbage, half_closed, parser_of, parts_of
+from serve import resetting, sip, small_window, status_of
+from served import DATA, HOST, Client, Failure, Mirror, Served, request
 
-PARTS = ["clients", "descriptors", "space", "upstreams"]
+PARTS = ["clients", "floods", "costly", "memory", "backlog", "descriptors", "space", "upstreams"]
+# The processors of the machine, of which a server has as many workers and nginx as many processes.
+WORKERS = os.cpu_count() or 1
+SEARCH = f"{ZONES}?pattern=*york"
+# nginx gets room for the crowd, too.
+serve.SITE = serve.SITE.replace("worker_connections 512", "worker_connections 16384")
+# For how long good clients are timed beside each flood.
+BESIDE_SECONDS = 8
 GONE = "refused 1 UpstreamFault"
 
 
@@ -157,6 +181,227 @@ def keep(port, kind, count, seconds):
     return len(peers)
 
 
+# ---- floods, beside which clients are timed
+
+
+class Times:
+    """What a good client saw: requests, milliseconds to their replies, and failures."""
+
+    def __init__(self, times, faults):
+        self.times, self.faults = sorted(time * 1e3 for time in times), faults
+
+    def row(self):
+        if not self.times:
+            return f"0 | - | - | - | {len(self.faults)}"
+        middle, late = statistics.median(self.times), self.times[len(self.times) * 99 // 100]
+        seen = (len(self.times), f"{middle:.2f}", f"{late:.2f}", f"{self.times[-1]:.1f}")
+        return " | ".join(map(str, (*seen, len(self.faults))))
+
+
+def ask_on(port, target, is_fresh, done, pipe):
+    """The process of a good client, which asks 200 times a second at most, until it is done."""
+    times, faults, client = [], [], None
+    while not done.wait(0.005):
+        begin = time.monotonic()
+        try:
+            client = client or Client(port, timeout=60)
+            reply = client.ask(target, timeout=60)
+            times.append(time.monotonic() - begin)
+            if reply.status != 200:
+                faults.append(f"status {reply.status}")
+            if is_fresh or reply.closes:
+                client.close()
+                client = None
+        except (Failure, OSError) as fault:
+            faults.append(f"{fault} after {time.monotonic() - begin:.1f} s")
+            client = None
+    pipe.send((times, faults))
+
+
+class Watched:
+    """Two good clients, each in a process of its own: on a kept connection, and connecting anew."""
+
+    def __init__(self, port, target):
+        self.done, self.pipes, self.processes = multiprocessing.Event(), [], []
+        for is_fresh in (False, True):
+            here, there = multiprocessing.Pipe()
+            self.pipes.append(here)
+            words = (port, target, is_fresh, self.done, there)
+            self.processes.append(multiprocessing.Process(target=ask_on, args=words, daemon=True))
+            self.processes[-1].start()
+
+    def end(self):
+        self.done.set()
+        seen = []
+        for pipe, process in zip(self.pipes, self.processes):
+            if not pipe.poll(90):
+                raise Failure("a good client did not end in 90 seconds")
+            seen.append(Times(*pipe.recv()))
+            process.join(10)
+        return seen
+
+
+def costly_heads(count, seed):
+    """HEAD requests for expansions over 8,000 years, of ranges that differ, so none is cached."""
+    rng = random.Random(seed)
+    zones = ["America%2FNew_York", "Europe%2FLondon", "Europe%2FBerlin", "Australia%2FSydney"]
+    for _ in range(count):
+        year, month, day = rng.randrange(1810, 1899), rng.randrange(1, 13), rng.randrange(1, 29)
+        dates = f"start={year}-{month:02}-{day:02}T00:00:00Z&end=9999-01-01T00:00:00Z"
+        yield request(f"{ZONES}/{rng.choice(zones)}/observances?{dates}", method="HEAD")
+
+
+class Sender:
+    """A connection that sends bytes as its peer takes them, and throws away what comes."""
+
+    def __init__(self, port, data):
+        self.socket = socket.create_connection((HOST, port), 20)
+        self.socket.setblocking(False)
+        self.left = memoryview(data)
+
+    def turn(self, events):
+        """Does what can be done at this moment. It ends with an error where the peer ended it."""
+        if events & select.POLLIN and not self.socket.recv(1 << 18):
+            raise ConnectionResetError
+        if events & select.POLLOUT and self.left:
+            self.left = self.left[self.socket.send(self.left[: 1 << 16]) :]
+
+    def wants(self):
+        return select.POLLIN | (select.POLLOUT if self.left else 0)
+
+
+def send_all(port, done, begun, streams, again=False):
+    """The process of a flood over as many connections as there are streams of bytes. With `again`,
+    one that the server ended begins anew."""
+    poll, senders = select.poll(), {}
+
+    def begin(data):
+        sender = Sender(port, data)
+        senders[sender.socket.fileno()] = (sender, data)
+        poll.register(sender.socket, sender.wants())
+
+    for data in streams:
+        begin(data)
+    begun.set()
+    while not done.is_set():
+        for descriptor, events in poll.poll(100):
+            sender, data = senders[descriptor]
+            try:
+                sender.turn(events)
+                poll.modify(descriptor, sender.wants())
+            except BlockingIOError:
+                pass
+            except OSError:
+                poll.unregister(descriptor)
+                sender.socket.close()
+                del senders[descriptor]
+                if again:
+                    with contextlib.suppress(OSError):
+                        begin(data)
+
+
+def open_and_ask(port, done, begun, heads, count):
+    """The process of a flood of new connections, of which so many are open. Each asks once, and is
+    closed once something came."""
+    poll, peers, turns = select.epoll(), {}, itertools.cycle(heads)
+    begun.set()
+    while not done.is_set():
+        while len(peers) < count:
+            peer = socket.socket()
+            peer.setblocking(False)
+            peer.connect_ex((HOST, port))
+            peers[peer.fileno()] = peer
+            poll.register(peer, select.EPOLLOUT)
+        for descriptor, events in poll.poll(0.1):
+            peer = peers[descriptor]
+            if events == select.EPOLLOUT:
+                with contextlib.suppress(OSError):
+                    peer.send(next(turns))
+                    poll.modify(descriptor, select.EPOLLIN)
+                    continue
+            poll.unregister(descriptor)
+            peers.pop(descriptor).close()
+
+
+def stay(port, done, begun, target, idle, slow):
+    """The process of a crowd: so many connections that rest, every second one after a request, and
+    so many slow ones."""
+    resting = [socket.create_connection((HOST, port), 20) for _ in range(idle)]
+    for peer in resting[::2]:
+        peer.sendall(request(target))
+    kinds = itertools.cycle((drip, deaf, sip))
+    peers = [next(kinds)(port) for _ in range(slow)]
+    begun.set()
+    while not done.wait(1):
+        for _, turn in peers:
+            with contextlib.suppress(OSError):
+                turn()
+
+
+@contextlib.contextmanager
+def running(act, port, *words):
+    """A flood or a crowd, by a process of its own, which has begun."""
+    done, begun = multiprocessing.Event(), multiprocessing.Event()
+    process = multiprocessing.Process(target=act, args=(port, done, begun, *words), daemon=True)
+    process.start()
+    try:
+        if not begun.wait(120):
+            raise Failure("a flood did not begin in 120 seconds")
+        yield
+    finally:
+        done.set()
+        process.join(20)
+        if process.is_alive():
+            process.kill()
+            process.join()
+
+
+@contextlib.contextmanager
+def closing_flood(port, target, count):
+    """So many connections that open, ask and close without a pause: by wrk where it is installed,
+    and else by a process of this script."""
+    wrk = shutil.which("wrk")
+    if not wrk:
+        with running(open_and_ask, port, [request(target, "Connection: close")], count):
+            yield
+        return
+    words = [wrk, "-t2", f"-c{count}", "-d120s", "--timeout", "60s", "-H", "Connection: close"]
+    nowhere = {name: subprocess.DEVNULL for name in ("stdin", "stdout", "stderr")}
+    child = subprocess.Popen([*words, f"http://{HOST}:{port}{target}"], **nowhere)
+    try:
+        yield
+    finally:
+        child.kill()
+        child.wait()
+
+
+def costly_streams(count):
+    """For so many connections 1,000 costly requests each, in one piece."""
+    return [b"".join(costly_heads(1_000, seed)) for seed in range(count)]
+
+
+FLOODS = {
+    "none": lambda port, target: contextlib.nullcontext(),
+    "256 that open, ask and close": lambda port, target: closing_flood(port, target, 256),
+    "64 that send 1,000 requests at once": lambda port, target: running(
+        send_all, port, [request(target) * 1_000] * 64, True
+    ),
+    "10,000 idle and 500 slow": lambda port, target: running(stay, port, target, 10_000, 500),
+}
+COSTLY = {
+    "256 that open, send a costly one and close": lambda port: running(
+        open_and_ask, port, list(costly_heads(20_000, 1)), 256
+    ),
+    "64 that send 1,000 costly ones at once": lambda port: running(
+        send_all, port, costly_streams(64), True
+    ),
+    "20 that send 1,000 costly ones once": lambda port: running(send_all, port, costly_streams(20)),
+}
+# What is said above the tables of floods, and the columns of a good client.
+OF_EACH = "Of each good client: requests, median, 99th percentile and longest wait, and failures.\n"
+BESIDE = "requests | 50th, ms | 99th, ms | longest, ms | failures"
+
+
 class Bench:
     def __init__(self, words):
         self.folder, self.program = os.path.abspath(words.folder), os.path.abspath(words.program)
@@ -212,6 +457,138 @@ class Bench:
             self.is_well(server, whole, name)
             print(f"| {name} | {made} | {took:.1f} | {asked} | {middle * 1000:.2f} | {late * 1000:.2f} | {memory} | {most} | {after} |", flush=True)
 
+    # -- floods
+
+    @staticmethod
+    def beside(name, server, port, pid, target, flood):
+        """A row of what the two good clients saw beside a flood."""
+        with flood:
+            good = Watched(port, target)
+            time.sleep(BESIDE_SECONDS)
+            seen = good.end()
+        memory = f"{status_of(pid, 'VmRSS') // 1024}" if pid else "-"
+        columns = (name, server, WORKERS, seen[0].row(), seen[1].row(), memory)
+        print(f"| {' | '.join(map(str, columns))} |", flush=True)
+        return seen
+
+    def floods(self):
+        print(OF_EACH)
+        print(f"| Flood | Server | Workers | kept: {BESIDE} | new: {BESIDE} | Resident, MiB |")
+        print("|---|---|---|" + "---|" * 11)
+        for name, flood in FLOODS.items():
+            with self.served(workers=WORKERS) as server:
+                act = flood(server.port, SEARCH)
+                seen = self.beside(name, "tzdistd", server.port, server.pid, SEARCH, act)
+                with Client(server.port, timeout=60) as client:
+                    asked = Asked("search", SEARCH)
+                    asked.body = client.ask(SEARCH, timeout=60).body
+                self.judge(name, seen)
+                server.quit(60)
+            if shutil.which("nginx"):
+                self.beside_nginx(name, flood, asked)
+
+    def beside_nginx(self, name, flood, asked):
+        """The same of nginx, with a file of the same body."""
+        with Nginx("nginx", [asked], WORKERS) as site:
+            target = site.asked(0, asked).target
+            self.beside(name, "nginx", site.port, None, target, flood(site.port, target))
+
+    def judge(self, name, seen):
+        for times, kind in zip(seen, ("kept", "new")):
+            if times.faults:
+                count, first = len(times.faults), times.faults[0]
+                self.fault(f"{name}: the good client ({kind}) had {count} failures: {first}")
+
+    def costly(self):
+        print(OF_EACH)
+        print(f"| Flood | Server | Workers | kept: {BESIDE} | new: {BESIDE} | Resident, MiB |")
+        print("|---|---|---|" + "---|" * 11)
+        for name, flood in COSTLY.items():
+            with self.served(workers=WORKERS) as server:
+                act = flood(server.port)
+                seen = self.beside(name, "tzdistd", server.port, server.pid, SEARCH, act)
+                self.judge(name, seen)
+                server.quit(60)
+
+    # -- memory
+
+    def memory(self):
+        print(f"| Readers | Taken first | Workers | Still open | Most MiB | new: {BESIDE} |")
+        print("|---" * 10 + "|")
+        for workers, part in ((1, 0.0), (WORKERS, 0.0), (1, 0.9)):
+            with self.served(workers=workers) as server:
+                self.sipped(server, workers, part)
+                server.quit(60)
+
+    def sipped(self, server, workers, part):
+        """600 readers of 1.5 MB each take this part of it, and then 500 bytes a second."""
+        heads = [head.replace(b"HEAD", b"GET", 1) for head in costly_heads(600, 2)]
+        peers, most, before = [], 0, descriptors(server.pid)
+        good = Watched(server.port, SEARCH)
+        for head in heads:
+            peers.append(small_window(server.port))
+            peers[-1].sendall(head)
+            self.take(peers[-1], int(part * 1_500_000))
+            most = max(most, status_of(server.pid, "VmRSS"))
+        for _ in range(5):
+            for peer in peers:
+                self.take(peer, 500)
+            most = max(most, status_of(server.pid, "VmRSS"))
+            time.sleep(1)
+        left = descriptors(server.pid) - before
+        seen = good.end()
+        for peer in peers:
+            peer.close()
+        self.judge(f"600 readers, {workers} workers", seen)
+        columns = (600, f"{part:.0%}", workers, left, f"{most / 1024:.0f}", seen[1].row())
+        print(f"| {' | '.join(map(str, columns))} |", flush=True)
+        if most > 100_000 + (workers - 1) * 70_000:
+            self.fault(f"600 readers of {workers} workers: {most} KiB were resident")
+
+    @staticmethod
+    def take(peer, count):
+        """Takes so many bytes of a reply, or what comes of it. The server may have ended it."""
+        peer.settimeout(2)
+        with contextlib.suppress(OSError):
+            while count > 0 and (piece := peer.recv(min(count, 1 << 16))):
+                count -= len(piece)
+
+    # -- backlog
+
+    def backlog(self):
+        print("| Connections at once | Server | Workers | Open | Longest, ms | Half a second |")
+        print("|---|---|---|---|---|---|")
+        with self.served(workers=WORKERS) as server:
+            late = self.opened_at_once(server.port, "tzdistd", 2_000)
+            if late:
+                self.fault(f"{late} of 2,000 connections waited for half a second")
+            server.quit(60)
+        if shutil.which("nginx"):
+            with Nginx("nginx", [Asked("nothing", "/")], WORKERS) as site:
+                self.opened_at_once(site.port, "nginx", 2_000)
+
+    @staticmethod
+    def opened_at_once(port, name, count):
+        """Opens so many connections at once, and returns how many waited for half a second."""
+        poll, peers, waits = select.epoll(), {}, []
+        begin = time.monotonic()
+        for _ in range(count):
+            peer = socket.socket()
+            peer.setblocking(False)
+            peers[peer.fileno()] = (peer, time.monotonic())
+            peer.connect_ex((HOST, port))
+            poll.register(peer, select.EPOLLOUT | select.EPOLLONESHOT)
+        while len(waits) < count and time.monotonic() < begin + 20:
+            for descriptor, _ in poll.poll(0.1):
+                waits.append(time.monotonic() - peers[descriptor][1])
+        for peer, _ in peers.values():
+            peer.close()
+        late = sum(wait >= 0.5 for wait in waits) + count - len(waits)
+        longest = f"{max(waits, default=0) * 1e3:.1f}"
+        columns = (count, name, WORKERS, len(waits), longest, late)
+        print(f"| {' | '.join(map(str, columns))} |", flush=True)
+        return late
+
     # -- descriptors
 
     def descriptors(self):
@@ -233,7 +610,6 @@ class Bench:
                 for _ in range(100):
                     with Client(server.port, timeout=60) as client:
                         later += client.ask(ZONES, timeout=60).status == 200
-                        whole = client.held
                 if later < 100:
                     self.fault(f"{later} of 100 were answered once descriptors were free")
                 self.is_well_again(server)
