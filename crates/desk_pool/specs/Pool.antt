@@ -1,6 +1,6 @@
 -- What running works beside one thing of the caller's thread promises.
 use Rattle.std.specs.Prelude.{◌≡◌, ℕ, ◌<◌, List, [], ◌∷◌, length, take, true, false, Bool, ⊤}
-use Rattle.td_base.specs.Views.{Rose}
+use Rattle.td_base.specs.Views.{Rose, one_more}
 use Rattle.desk_pool.specs.declared.pool_end.PoolEnd.{PoolEnd}
 use Rattle.desk_pool.specs.declared.pool_end.PoolEnd.TheVariants.{All, NotStarted, NoMemory}
 
@@ -32,6 +32,12 @@ abbrev pub HasRefusal : {D : Type 0} → ℕ → ℕ → PoolEnd D → Type 0
 HasRefusal before now (All dones) = ⊤
 HasRefusal before now (NotStarted dones) = Rose before now
 HasRefusal before now NoMemory = ⊤
+
+-- from the count of faults before and now: one more where a work was refused, and else as before
+abbrev pub CountsRefusal : {D : Type 0} → ℕ → ℕ → PoolEnd D → Type 0
+CountsRefusal before now (All dones) = now ≡ before
+CountsRefusal before now (NotStarted dones) = now ≡ one_more before
+CountsRefusal before now NoMemory = now ≡ before
 
 -- whether it has stopped: it has, but for want of memory, where nothing was begun
 abbrev pub IsStopped : {D : Type 0} → Bool → PoolEnd D → Type 0

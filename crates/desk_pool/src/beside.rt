@@ -3,8 +3,8 @@ ghost use Rattle.atomic_table.specs.Seated.{TableId};
 
 use std::sync::Wait;
 
-/// What the caller's thread does while works run in threads of their own, and what ends it. It
-/// owns the flag that stops those works.
+/// A foreground task: what the caller's thread does while jobs run in other threads, and how it is
+/// stopped. It owns the flag that stops those jobs.
 pub trait Beside {
     ghost flag: { Self → TableId };
 
@@ -14,14 +14,14 @@ pub trait Beside {
 
     ghost halted: { Self → Self → Type 0 };
 
-    /// Does it. It may wait for what comes from outside.
+    /// Runs the task. It may wait for input and output.
     fn run<R: Wait>(&mut self, rt: &R)
         requires { stopped self.old ≡ false }
         ensures ran { ran self.old self.new }
         ensures goes_on { stopped self.new ≡ false }
         ensures flag { flag self.new ≡ flag self.old };
 
-    /// Raises the flag. It is called before the works are joined.
+    /// Stops the task and raises the flag. It is called before the jobs are joined.
     fn stop(&mut self)
         ensures halted { halted self.old self.new }
         ensures stopped { stopped self.new ≡ true }

@@ -1,4 +1,4 @@
-//! The flag and its signs.
+//! The cancellation flag, and a worker's view of it.
 ghost use Rattle.std.specs.Prelude.{◌≡◌, true, false, IsTrue, IfOk};
 
 use crate::knows::Knows;
@@ -9,7 +9,8 @@ use std::marker::Model;
 use std::sync::Arc;
 use td_base::NoMemory;
 
-/// A flag that is raised once. Contracts see which flag it is, and whether it was raised.
+/// A cancellation flag, raised at most once. Contracts see which flag it is, and whether it was
+/// raised.
 #[derive(Drop)]
 pub struct StopFlag {
     board: Arc<Board>,
@@ -29,8 +30,8 @@ impl Model for StopFlag {
         IsSeated true (arc_value f.board).shared.table_id f.seat.table_id f.seat.me };
 }
 
-/// What shows a worker whether the flag was raised. It has no call that raises it. Contracts see
-/// which flag it is of, and whether the sign has seen that raised.
+/// A worker's view of the flag, which cannot raise it. Contracts see which flag it belongs to, and
+/// whether this sign has seen it raised.
 #[derive(Drop)]
 pub struct StopSign {
     board: Arc<Board>,
@@ -51,7 +52,7 @@ impl Model for StopSign {
 }
 
 impl StopFlag {
-    /// A flag that is not raised.
+    /// A flag that is not raised. Fails only when out of memory.
     pub fn new(alloc: Global) -> Result<StopFlag, NoMemory>
         ensures { IfOk result (λ f. f.raised ≡ false) }
     {
@@ -60,7 +61,7 @@ impl StopFlag {
         Ok(StopFlag { board, seat })
     }
 
-    /// A sign of this flag, while it is not raised.
+    /// A new sign of this flag, which must not be raised yet. Fails when too many signs exist.
     pub fn share(&mut self) -> Result<StopSign, NoMemory>
         requires { self.old.raised ≡ false }
         ensures flag { self.new ≡ self.old }
@@ -72,7 +73,7 @@ impl StopFlag {
         Ok(StopSign { board, seat })
     }
 
-    /// Raises the flag, for good.
+    /// Raises the flag. It stays raised.
     pub fn raise(&mut self)
         ensures raised { self.new.raised ≡ true }
         ensures flag { self.new.flag ≡ self.old.flag }
@@ -83,7 +84,7 @@ impl StopFlag {
 }
 
 impl StopSign {
-    /// Whether the flag was raised, by one look at it. It never waits.
+    /// Reads the flag once, without waiting.
     pub fn is_raised(&mut self) -> bool
         ensures seen { result ≡ self.new.raised }
         ensures kept { self.old.raised ≡ true → IsTrue result }

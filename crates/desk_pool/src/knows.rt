@@ -1,7 +1,7 @@
-/// What the holder of a seat at the shared word knows. No value of it is made.
+/// What contracts know of a holder of the shared word. No value of it exists at run time.
 pub struct Knows {
-    /// Whether it is the flag itself, which alone may raise it.
+    /// Whether the holder is the flag itself, which is the only one to raise it.
     pub owns: bool,
-    /// Whether the flag has raised it, or a sign has seen it raised.
+    /// Whether the flag was raised by this holder, or this sign has seen it raised.
     pub raised: bool,
 }

@@ -1,24 +1,25 @@
-//! Workers that run in threads of their own beside one thing of the caller's thread, and the flag
-//! that stops them. [`run_beside`] starts each work, runs what is [`Beside`] them, stops that and
-//! joins the works (`specs/Pool.antt`). Each work names the flag that it [`StopsBy`], which is that
-//! of what is beside the works.
+//! Worker threads with a foreground task in the caller's thread, and the cancellation flag that
+//! stops them. [`run_beside`] starts each job, runs the foreground task ([`Beside`]), stops it and
+//! joins the jobs (`specs/Pool.antt`). Each job names the flag that it [`StopsBy`], which must be
+//! the foreground task's.
 //!
-//! One owner raises a [`StopFlag`], and each worker looks at a [`StopSign`] of it without waiting.
-//! `specs/Flag.antt` has what a flag and its signs know, and the rule that the shared word keeps.
+//! One owner raises a [`StopFlag`], and each worker reads its own [`StopSign`] without waiting.
+//! `specs/Flag.antt` defines what a flag and its signs know, and the invariant of the shared word.
+//! It depends on `td_base` and `atomic_table`; `connection` and `td_top` use it.
 #![tactic(auto)]
 
-// Works in threads of their own, beside one thing of the caller's.
+// Jobs in threads, with a foreground task in the caller's thread.
 mod beside;
 mod pool;
 mod pool_end;
 mod stops_by;
 
-// The flag that stops them, and the rule of its shared word.
+// The flag that stops them, and the invariant of its shared word.
 mod flag;
 mod knows;
 mod rule;
 
-// What may cross threads.
+// Which types may cross threads.
 mod send_sync;
 
 pub use beside::Beside;

@@ -1,11 +1,11 @@
-//! Works in threads of their own, beside one thing of the caller's thread.
-ghost use Rattle.std.specs.Prelude.{◌≡◌, ◌<◌, ◌≤◌, [], map, vec_len};
+//! Jobs in threads, with a foreground task in the caller's thread.
+ghost use Rattle.std.specs.Prelude.{◌≡◌, ◌-◌, ◌<◌, ◌≤◌, [], map, vec_len};
 ghost use Rattle.std.specs.Prelude.{All, false, IfOk};
 ghost use Rattle.std.specs.Vec.{vec_capacity};
 ghost use Rattle.td_base.specs.Works.{work_of};
-ghost use Rattle.desk_pool.specs.Pool.{DoesEach, GivesResults, HasRefusal, IsStopped};
-ghost use Rattle.desk_pool.specs.Pool.{LeavesBeside, LeavesSpawner};
-ghost use Rattle.desk_pool.specs.Starting.{StartsWorks, HasRefused};
+ghost use Rattle.desk_pool.specs.Pool.{CountsRefusal, DoesEach, GivesResults, HasRefusal};
+ghost use Rattle.desk_pool.specs.Pool.{IsStopped, LeavesBeside, LeavesSpawner};
+ghost use Rattle.desk_pool.specs.Starting.{CountsStarts, StartsWorks, HasRefused};
 
 use crate::beside::Beside;
 use crate::pool_end::PoolEnd;
@@ -15,10 +15,11 @@ use std::sync::Wait;
 use std::thread::Threads;
 use td_base::{NoMemory, Running, Spawner, Work};
 
-/// Starts each work, does what is beside them in the caller's thread, stops that, and joins the
-/// works. Where a work is refused, that and the later ones are dropped, and what is beside them is
-/// stopped without having run. All memory is taken before anything is started. The works stop by
-/// the flag of what is beside them, so none of them ends early while that still runs.
+/// Starts each job in order, runs the foreground task in the caller's thread, stops it, and joins
+/// the jobs. If a job is refused, that one and the later ones are dropped, and the foreground task
+/// is stopped without running. The vectors for the jobs are allocated before any of them is
+/// started. The jobs stop only by the flag of the foreground task, so none of them ends early while
+/// it still runs. Each job that was started is joined, whatever the result.
 pub fn run_beside<W, S, M, R>(
     rt: &R,
     alloc: Global,
@@ -38,6 +39,8 @@ where
     ensures beside { LeavesBeside M.ran M.halted beside.old beside.new result }
     ensures stopped { IsStopped (M.stopped beside.new) result }
     ensures refusal { HasRefusal (S.faults spawner.old) (S.faults spawner.new) result }
+    ensures counts { CountsRefusal (S.faults spawner.old) (S.faults spawner.new) result }
+    ensures joined { S.active spawner.new ≤ S.active spawner.old }
     ensures later { S.faults spawner.old ≤ S.faults spawner.new }
     ensures spawner { LeavesSpawner spawner.old spawner.new result }
 {
@@ -58,7 +61,7 @@ where
     }
 }
 
-/// Room for what runs, and for what comes of it.
+/// Room for the running jobs, and for their results.
 #[derive(Drop)]
 struct Room<T, D> {
     running: Vec<T>,
@@ -75,16 +78,16 @@ fn room_for<T: Drop, D: Drop>(alloc: Global, works: usize) -> Result<Room<T, D>,
     Ok(Room { running, dones })
 }
 
-/// How far starting the works came.
+/// Which jobs were started.
 #[derive(Drop)]
 pub(crate) enum Started<T> {
-    /// All run.
+    /// All of them.
     All(Vec<T>),
-    /// One was refused. Those before it run.
+    /// One was refused. Those before it are running.
     Refused(Vec<T>),
 }
 
-/// Starts the works in order, up to the first that is refused.
+/// Starts the jobs in order, up to the first that is refused.
 #[tactic(auto, using(crate::proofs::PoolLemmas::are_first))]
 fn start_each<W, S, R>(
     rt: &R,
@@ -103,6 +106,8 @@ where
     ensures works { StartsWorks work_of works.items result }
     ensures refused { HasRefused (S.faults spawner.old) (S.faults spawner.new) result }
     ensures later { S.faults spawner.old ≤ S.faults spawner.new }
+    ensures counts { CountsStarts (S.faults spawner.old) (S.faults spawner.new)
+        (S.active spawner.old) (S.active spawner.new) result }
 {
     let mut running = room;
     for work in works {
@@ -114,7 +119,7 @@ where
     Started::All(running)
 }
 
-/// Joins what runs, in order.
+/// Joins the running jobs, in order.
 fn join_each<W, S, R>(
     rt: &R,
     spawner: &mut S,
@@ -130,6 +135,8 @@ where
     requires room { vec_len running ≤ vec_capacity room }
     ensures dones { DoesEach W.does (map work_of running.items) result.items }
     ensures later { S.faults spawner.old ≤ S.faults spawner.new }
+    ensures steady { S.faults spawner.new ≡ S.faults spawner.old }
+    ensures joined { S.active spawner.new ≡ S.active spawner.old - vec_len running }
 {
     let mut dones = room;
     for running in running {

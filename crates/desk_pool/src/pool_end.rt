@@ -1,10 +1,10 @@
-/// How running works beside something ended.
+/// The result of running jobs with a foreground task.
 #[derive(Debug, Drop)]
 pub enum PoolEnd<D> {
-    /// All works ran. Their results, in the order of the works.
+    /// All jobs ran: their results, in the order of the jobs.
     All(Vec<D>),
-    /// A work could not be started. The results of those before it.
+    /// A job could not be started: the results of those before it.
     NotStarted(Vec<D>),
-    /// There is no memory for it, and nothing was begun.
+    /// Out of memory; nothing was started.
     NoMemory,
 }

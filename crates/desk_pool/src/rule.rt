@@ -1,9 +1,9 @@
-//! The rule of the shared word, and the kinds of step on it.
+//! The invariant of the shared word, and the kinds of step on it.
 use crate::knows::Knows;
 use atomic_table::{Play, Split, Table, TableRule};
 use std::alloc::Global;
 
-/// The word is 1 exactly where the flag was raised, and no sign has seen more.
+/// The word is 1 exactly when the flag was raised. A sign has seen it raised only if it was.
 pub struct FlagRule;
 
 impl TableRule<(), Knows, ()> for FlagRule {
@@ -14,7 +14,7 @@ impl TableRule<(), Knows, ()> for FlagRule {
     ghost first = { λ _. owner };
 }
 
-/// The flag raises itself.
+/// The step of the flag that raises it.
 pub struct Raising;
 
 impl Play<(), Knows> for Raising {
@@ -23,7 +23,7 @@ impl Play<(), Knows> for Raising {
     ghost then = { Raises };
 }
 
-/// A sign looks.
+/// The step of a sign that reads the word.
 pub struct Looking;
 
 impl Play<(), Knows> for Looking {
@@ -32,7 +32,7 @@ impl Play<(), Knows> for Looking {
     ghost then = { LooksAtFlag };
 }
 
-/// The flag gives a sign, which has seen nothing.
+/// The step of the flag that makes a sign, which has seen nothing.
 pub struct Sharing;
 
 impl Split<Knows> for Sharing {
@@ -43,5 +43,5 @@ impl Split<Knows> for Sharing {
     ghost right = { shared_right };
 }
 
-/// One word and no slots.
+/// A table of one word, without slots.
 pub type Board = Table<(), Knows, (), FlagRule, Global>;

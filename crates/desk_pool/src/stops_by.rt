@@ -1,6 +1,6 @@
 ghost use Rattle.atomic_table.specs.Seated.{TableId};
 
-/// Work that ends early only after a stop flag was raised. Contracts see which flag it is.
+/// A job that ends early only after a stop flag was raised. Contracts see which flag it is.
 pub trait StopsBy {
     ghost flag: { Self → TableId };
 }

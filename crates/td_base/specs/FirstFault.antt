@@ -26,6 +26,6 @@ least n test = find test (range_with_len 0 n)
 
 -- a value where there is no first fault, and else that fault; it may also be 'out of memory',
 -- whatever the faults are
-abbrev pub Judges : {T F : Type 0} → F → Option F → Result T F → Type 0
-Judges no_memory first (Ok _) = first ≡ None
-Judges no_memory first (Err e) = e ≢ no_memory → first ≡ Some e
+abbrev pub IsFirstFault : {T F : Type 0} → F → Option F → Result T F → Type 0
+IsFirstFault no_memory first (Ok _) = first ≡ None
+IsFirstFault no_memory first (Err e) = e ≢ no_memory → first ≡ Some e

@@ -11,7 +11,7 @@ use Rattle.td_base.specs.declared.door.DoorAnswer.{DoorAnswer}
 use Rattle.td_base.specs.declared.memory_conn.MemoryConn.{MemoryConn}
 use Rattle.td_base.specs.declared.memory_door.DoorStep.{DoorStep}
 use Rattle.td_base.specs.declared.memory_door.DoorStep.TheVariants as step
-use Rattle.td_base.specs.declared.memory_door.Served.{Served}
+use Rattle.td_base.specs.declared.memory_door.HandedBackConn.{HandedBackConn}
 
 -- ---- the connections of a door in memory
 
@@ -63,11 +63,11 @@ accepted_at (step.Idle ∷ steps) = accepted.Idle
 pub record MemoryDoorState : Type 0 where
   pub given : List (List ℕ)
   pub script : List DoorStep
-  pub finished : List Served
+  pub finished : List HandedBackConn
   pub last : Option DoorAnswer
   pub room : ℕ
 
-abbrev pub finished_of : Served → Finished
+abbrev pub finished_of : HandedBackConn → Finished
 finished_of s = record { conn = door_conn s.conn; report = s.report }
 
 abbrev pub memory_door : MemoryDoorState → DoorView

@@ -20,10 +20,10 @@ next_answer [] = []
 next_answer (answer ∷ answers) = answer
 
 -- the exchange gave this answer, or there was no memory for it
-abbrev pub IsAnswered : List ℕ → Exchanged → Type 0
-IsAnswered answer (exchanged.Got bytes) = bytes ≡ answer
-IsAnswered answer exchanged.Failed = ⊥
-IsAnswered answer exchanged.NoMemory = ⊤
+abbrev pub IsScriptAnswer : List ℕ → Exchanged → Type 0
+IsScriptAnswer answer (exchanged.Got bytes) = bytes ≡ answer
+IsScriptAnswer answer exchanged.Failed = ⊥
+IsScriptAnswer answer exchanged.NoMemory = ⊤
 
 -- another server of which chosen exchanges fail: it tells what the one inside tells, and has its
 -- own count of faults

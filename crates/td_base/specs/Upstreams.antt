@@ -27,11 +27,11 @@ TellsMore None (Some new) more = ⊥
 TellsMore None None more = ⊤
 
 -- the exchange that an answer makes, if there is one
-abbrev pub told_by : List ℕ → ℕ → Exchanged → List Exchange
-told_by request most (exchanged.Got answer) =
+abbrev pub exchanges_told : List ℕ → ℕ → Exchanged → List Exchange
+exchanges_told request most (exchanged.Got answer) =
     record { request = request; most = most; answer = answer } ∷ []
-told_by request most exchanged.Failed = []
-told_by request most exchanged.NoMemory = []
+exchanges_told request most exchanged.Failed = []
+exchanges_told request most exchanged.NoMemory = []
 
 -- no more bytes came than were asked for
 abbrev pub ExchangeFits : ℕ → Exchanged → Type 0
@@ -49,7 +49,7 @@ is_failed_exchange exchanged.NoMemory = false
 pub record Exchanges (old new : UpstreamView) (request : List ℕ) (most : ℕ) (result : Exchanged)
     : Type 0 where
   pub fits : ExchangeFits most result
-  pub told : TellsMore old.told new.told (told_by request most result)
+  pub told : TellsMore old.told new.told (exchanges_told request most result)
   pub later : old.faults ≤ new.faults
   pub once : new.faults ≤ old.faults + 1
   pub steady : is_failed_exchange result ≡ false → new.faults ≡ old.faults

@@ -60,7 +60,7 @@ impl PartialOrd for Bytes {
     }
 }
 
-/// Byte by byte, and a prefix before what it begins.
+/// Lexicographic by bytes; a prefix comes before any longer list.
 impl Ord for Bytes {
     ghost cmp = { slice_cmp nat_cmp };
 
@@ -86,7 +86,7 @@ impl Hash for Bytes {
 }
 
 impl Bytes {
-    /// No bytes. It takes no memory, and grows by the allocator.
+    /// An empty list. It takes no memory yet; later growth uses this allocator.
     pub fn new(alloc: Global) -> Bytes
         ensures { result ≡ [] }
     {
@@ -95,7 +95,7 @@ impl Bytes {
         }
     }
 
-    /// A copy of the bytes.
+    /// A copy of the bytes. Fails only when out of memory.
     pub fn from_slice(alloc: Global, bytes: &[u8]) -> Result<Bytes, NoMemory>
         ensures { IfOk result (λ b. b ≡ bytes.now) }
     {
@@ -124,14 +124,14 @@ impl Bytes {
         self.held.is_empty()
     }
 
-    /// A copy by this allocator.
+    /// A copy that uses this allocator. Fails only when out of memory.
     pub fn clone_in(&self, alloc: Global) -> Result<Bytes, NoMemory>
         ensures { IfOk result (λ b. b ≡ self.now) }
     {
         Bytes::from_slice(alloc, self.as_slice())
     }
 
-    /// The allocator by which it grows.
+    /// The allocator that it grows by.
     pub(crate) fn allocator(&self) -> Global {
         *self.held.allocator()
     }
@@ -144,7 +144,7 @@ impl Bytes {
         held
     }
 
-    /// Appends one byte.
+    /// Appends one byte. When out of memory, nothing is appended.
     pub fn push(&mut self, byte: u8) -> Result<(), NoMemory>
         ensures ok { OnOk result (self.new ≡ self.old ++ byte ∷ []) }
         ensures err { OnErr result (self.new ≡ self.old) }
@@ -162,7 +162,7 @@ impl Bytes {
         Ok(())
     }
 
-    /// Drops the bytes from `len` on. Fewer bytes stay as they are.
+    /// Keeps the first `len` bytes. A shorter list is unchanged.
     pub fn truncate(&mut self, len: usize)
         ensures { self.new ≡ take len self.old }
     {

@@ -7,8 +7,7 @@ use crate::{Bytes, NoMemory};
 use itoa::Buffer;
 use std::str;
 
-/// Appends the number in decimal, without a leading zero. Where memory runs out nothing is
-/// appended.
+/// Appends the number in decimal, without a leading zero. When out of memory, nothing is appended.
 pub fn put_decimal(out: &mut Bytes, n: u64) -> Result<(), NoMemory>
     ensures ok { OnOk result (out.new ≡ out.old ++ decimal n) }
     ensures err { OnErr result (out.new ≡ out.old) }
@@ -17,8 +16,8 @@ pub fn put_decimal(out: &mut Bytes, n: u64) -> Result<(), NoMemory>
     out.append(buffer.format(n).as_bytes())
 }
 
-/// The number that a text writes in decimal, without a sign and without a leading zero, if there is
-/// one that fits.
+/// Reads a decimal number without a sign and without a leading zero. `None` for any other text, and
+/// for a number that does not fit 64 bits.
 pub fn read_decimal(text: &[u8]) -> Option<u64>
     ensures some { IfSome result (λ n. text.now ≡ decimal n) }
     ensures none { IsNone result → (n : ℕ) → n < 2 ^ 64 → text.now ≢ decimal n }
@@ -37,7 +36,7 @@ pub fn read_decimal(text: &[u8]) -> Option<u64>
     }
 }
 
-/// Appends two lower-case hex digits for each byte, the high half first. Where memory runs out
+/// Appends two lower-case hex digits for each byte, the high half first. When out of memory,
 /// nothing is appended.
 pub fn put_hex(out: &mut Bytes, bytes: &[u8]) -> Result<(), NoMemory>
     ensures ok { OnOk result (out.new ≡ out.old ++ encode_lower bytes.now) }
@@ -52,8 +51,7 @@ pub fn put_hex(out: &mut Bytes, bytes: &[u8]) -> Result<(), NoMemory>
 }
 
 #[tactic(auto, unfolding(hex::specs::Hex::encode_with))]
-/// Appends the hex digits byte by byte. Where memory runs out the digits of the bytes before it
-/// stay.
+/// Appends the hex digits byte by byte. When out of memory, the digits of earlier bytes stay.
 fn append_hex(out: &mut Bytes, bytes: &[u8]) -> Result<(), NoMemory>
     ensures ok { OnOk result (out.new ≡ out.old ++ encode_lower bytes.now) }
     ensures kept { take (length out.old) out.new ≡ out.old }
@@ -66,8 +64,8 @@ fn append_hex(out: &mut Bytes, bytes: &[u8]) -> Result<(), NoMemory>
     Ok(())
 }
 
-/// Appends the number of bytes, in four bytes with the high one first, and the bytes. Where memory
-/// runs out nothing is appended.
+/// Appends the number of bytes as a big-endian 32-bit number, then the bytes. When out of memory,
+/// nothing is appended.
 pub fn put_sized(out: &mut Bytes, bytes: &[u8]) -> Result<(), NoMemory>
     requires { length bytes.now < 2 ^ 32 }
     ensures ok { OnOk result (out.new ≡ out.old ++ sized bytes.now) }

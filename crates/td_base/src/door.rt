@@ -3,41 +3,42 @@ ghost use Rattle.td_base.specs.Doors.{Accepts, Finishes, HasOut};
 
 use crate::{Conn, Report};
 
-/// What one call for the next connection of a [`Door`] gave.
+/// The result of one call of [`Door::accept`].
 #[derive(Drop)]
 pub enum Accepted<C> {
     /// The next connection.
     Given(C),
-    /// No connection waits at this moment.
+    /// No connection is waiting now; another call may give one.
     Idle,
-    /// No connection is still to come.
+    /// No connection will come any more.
     Ended,
     /// The door failed.
     Failed,
 }
 
-/// Which answer a door gave.
+/// Which result a door gave, without the connection.
 #[derive(Clone, Copy, Debug, PartialEq, Eq)]
 pub enum DoorAnswer {
     /// A connection.
     Given,
-    /// No connection waited.
+    /// No connection was waiting.
     Idle,
-    /// No connection was still to come.
+    /// No connection would come any more.
     Ended,
     /// The door failed.
     Failed,
 }
 
-/// Where connections come from, one after the other. A door in memory tells their inputs, and keeps
-/// those that are handed back; the door of a real network tells nothing but its last answer.
+/// A listener that hands out connections one after the other. Contracts see the inputs of a door in
+/// memory, and the connections handed back to it. Of the door of a real network they see only its
+/// last answer.
 pub trait Door {
     type Conn: Conn;
 
     ghost seen: { Self → DoorView };
 
-    /// The next connection, of which nothing was read or written yet. It may wait for a while for
-    /// one to come.
+    /// The next connection, before any read or write on it. It may block for a while to wait for
+    /// one.
     fn accept(&mut self) -> Accepted<Self::Conn>
         ensures accepts { Accepts Self.Conn.seen (seen self.old) (seen self.new) result };
 

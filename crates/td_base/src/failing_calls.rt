@@ -5,8 +5,8 @@ ghost use Rattle.td_base.specs.Views.{one_more};
 use crate::Items;
 use std::marker::Model;
 
-/// The calls on an object of which chosen ones are to fail: which these are, counted from 1, and
-/// how many calls were made and failed so far. Both counts stand still at their last value.
+/// Which calls on an object must fail, counted from 1, and how many calls were made and failed so
+/// far. Both counts stop at their largest value.
 #[derive(Drop)]
 pub struct FailingCalls {
     failing: Items<u64>,
@@ -23,7 +23,7 @@ impl Model for FailingCalls {
 }
 
 impl FailingCalls {
-    /// No call yet, of which those with these numbers are to fail.
+    /// No call was made yet; the calls with these numbers must fail.
     pub fn new(failing: Items<u64>) -> FailingCalls
         ensures { result ≡ record { failing = failing; calls = 0; faults = 0 } }
     {
@@ -34,7 +34,7 @@ impl FailingCalls {
         }
     }
 
-    /// Counts a call, and says whether it is to fail.
+    /// Counts a call, and returns whether it must fail.
     pub fn begin(&mut self) -> bool
         ensures chosen { result ≡ is_chosen self.old }
         ensures counted { self.new ≡ counted self.old false }

@@ -9,9 +9,8 @@ use crate::{FileRead, Items, ReadStep, Sink, Source, Store, WriteStep};
 use std::alloc::Global;
 use std::marker::Model;
 
-/// An object of the outside of which chosen calls fail without reaching it. Calls count from 1. Its
-/// count of faults is the number of its answers that say that it failed, the inner object's own
-/// among them.
+/// A wrapper that makes chosen calls fail, without calling the inner object. Calls count from 1.
+/// The count of faults includes the failures of the inner object.
 #[derive(Drop)]
 pub struct Faulty<S> {
     pub(crate) inner: S,
@@ -27,7 +26,7 @@ impl<S> Model for Faulty<S> {
 }
 
 impl<S> Faulty<S> {
-    /// The object, of which the calls with these numbers are to fail.
+    /// Wraps the object; the calls with these numbers fail.
     pub fn new(inner: S, failing: Items<u64>) -> Faulty<S>
         ensures { result ≡ record {
           inner = inner;

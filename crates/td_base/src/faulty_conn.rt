@@ -6,9 +6,9 @@ use crate::failing_calls::FailingCalls;
 use crate::{Conn, Items, ReadStep, WriteStep};
 use std::marker::Model;
 
-/// A connection of which chosen reads and chosen writes fail without reaching it. Reads and writes
-/// count apart, each from 1. Its counts of faults are those of its answers that say that it failed,
-/// the inner connection's own among them.
+/// A connection that makes chosen reads and writes fail, without calling the inner one. Reads and
+/// writes are counted separately, each from 1. The counts of faults include the failures of the
+/// inner connection.
 #[derive(Drop)]
 pub struct FaultyConn<C> {
     inner: C,
@@ -25,7 +25,7 @@ impl<C> Model for FaultyConn<C> {
 }
 
 impl<C> FaultyConn<C> {
-    /// The connection, of which the reads and the writes with these numbers are to fail.
+    /// Wraps the connection; the reads and the writes with these numbers fail.
     pub fn new(inner: C, reads: Items<u64>, writes: Items<u64>) -> FaultyConn<C>
         ensures { result ≡ record {
           inner = inner;

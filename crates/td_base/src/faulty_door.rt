@@ -7,9 +7,8 @@ use crate::failing_calls::FailingCalls;
 use crate::{Accepted, Door, DoorAnswer, Items, Report};
 use std::marker::Model;
 
-/// A door of which chosen calls of `accept` fail without reaching it. Calls count from 1. Its count
-/// of faults is the number of its answers that say that it failed, those of the door inside among
-/// them.
+/// A door that makes chosen calls of `accept` fail, without calling the inner one. Calls count from
+/// 1. The count of faults includes the failures of the inner door.
 #[derive(Drop)]
 pub struct FaultyDoor<D> {
     inner: D,
@@ -26,7 +25,7 @@ impl<D> Model for FaultyDoor<D> {
 }
 
 impl<D> FaultyDoor<D> {
-    /// The door, of which the calls of `accept` with these numbers are to fail.
+    /// Wraps the door; the calls of `accept` with these numbers fail.
     pub fn new(inner: D, failing: Items<u64>) -> FaultyDoor<D>
         ensures { result ≡ record {
           inner = inner;

@@ -7,7 +7,7 @@ ghost use Rattle.td_base.specs.Upstreams.{Reaches};
 use crate::{Faulty, Made, Network};
 use std::alloc::Global;
 
-/// A network of which chosen calls of the two kinds fail, counted together.
+/// A network that makes chosen calls fail. Calls of both kinds are counted together.
 impl<N: Network> Network for Faulty<N> {
     type Door = N::Door;
 

@@ -1,12 +1,15 @@
-ghost use Rattle.std.specs.Prelude.{◌≡◌, ◌≤◌, true, false};
+ghost use Rattle.std.specs.Prelude.{◌≡◌, ◌-◌, ◌≤◌, true, false};
 ghost use Rattle.td_base.specs.Views.{Rose};
 ghost use Rattle.td_base.specs.Memory.{counted, is_chosen, is_refused_begin};
 ghost use Rattle.td_base.specs.Views.{one_more};
+ghost use Rattle.td_base.specs.Works.{CountsBegin};
 
 use crate::{Begin, Faulty, Spawner};
 
 impl<S: Spawner> Spawner for Faulty<S> {
     ghost faults = { λ s. s.calls.faults };
+
+    ghost active = { λ s. S.active s.inner };
 
     fn begin(&mut self) -> Begin
         ensures later { self.old.calls.faults ≤ self.new.calls.faults }
@@ -17,6 +20,8 @@ impl<S: Spawner> Spawner for Faulty<S> {
             → (result ≡ Begin.Refused) × (self.new.inner ≡ self.old.inner) }
         ensures other { is_chosen self.old.calls ≡ false → result ≡ Begin.Refused
             → Rose (S.faults self.old.inner) (S.faults self.new.inner) }
+        ensures counts { CountsBegin result self.old.calls.faults self.new.calls.faults
+            (S.active self.old.inner) (S.active self.new.inner) }
     {
         if self.calls.begin() {
             self.calls.count_fault();
@@ -32,9 +37,17 @@ impl<S: Spawner> Spawner for Faulty<S> {
     fn refuse(&mut self)
         ensures later { self.old.calls.faults ≤ self.new.calls.faults }
         ensures rose { Rose self.old.calls.faults self.new.calls.faults }
-        ensures counted { self.new.calls.faults ≡ one_more self.old.calls.faults }
+        ensures once { self.new.calls.faults ≡ one_more self.old.calls.faults }
+        ensures ends { S.active self.new.inner ≡ S.active self.old.inner - 1 }
     {
         self.inner.refuse();
         self.calls.count_fault();
+    }
+
+    fn count_join(&mut self)
+        ensures steady { self.new.calls ≡ self.old.calls }
+        ensures ends { S.active self.new.inner ≡ S.active self.old.inner - 1 }
+    {
+        self.inner.count_join();
     }
 }

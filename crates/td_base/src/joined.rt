@@ -2,9 +2,9 @@ ghost use Rattle.std.specs.Prelude.{◌≡◌, None};
 
 use crate::{Conn, ReadStep, Sink, Source, WriteStep};
 
-/// A connection of a source and a sink that are lent to it. It tells of the bytes left and taken
-/// what these tell, and nothing of the bytes that its reads gave. Failed reads are the source's,
-/// and failed writes are the sink's.
+/// A connection made of a borrowed source and a borrowed sink. Contracts see the bytes left in the
+/// source and the bytes the sink took, but not the bytes already read. Failed reads are the
+/// source's, and failed writes are the sink's.
 #[derive(Drop)]
 pub struct Joined<'a, C: Source, K: Sink> {
     pub source: &'a mut C,

@@ -1,4 +1,5 @@
-//! Laws of the definitions of this crate, each the contract of a function that does nothing.
+//! Theorems about the definitions of this crate, each the contract of a function with an empty
+//! body.
 ghost use Rattle.std.specs.Prelude.{◌≡◌, ℕ, List, Option, Result, IfSome, IsTrue, take};
 ghost use Rattle.td_base.specs.Views.{SourceFailed, SinkFailed, StoreFailed, LaterSource};
 ghost use Rattle.td_base.specs.Views.{LaterSink, LaterStore, LaterConn, SourceView, SinkView};
@@ -12,7 +13,7 @@ ghost use Rattle.td_base.specs.declared.outside.WriteStep.{WriteStep};
 ghost use Rattle.td_base.specs.declared.source_fault.SourceFault.{SourceFault};
 ghost use Rattle.td_base.specs.declared.transfer.Written.{Written};
 
-/// What is read of a source up to a limit is the prefix of all that it tells, so long.
+/// What is read of a source up to a limit is the prefix of that length of all its content.
 pub fn reads_a_prefix()
     ensures { (most : ℕ) (old new : Option (List ℕ)) (bytes : List ℕ) → IsWhole most old new bytes
         → IfSome old (λ whole. bytes ≡ take most whole) }
@@ -24,8 +25,8 @@ pub fn names_are_plain()
     ensures label { (text : List ℕ) → IsTrue (is_label text) → IsPlain text }
 {}
 
-/// No call, one call, and one run of calls after another are what any calls may do to a source. A
-/// read that failed in a part of the calls failed in all of them.
+/// The relation between a source before and after some calls holds for no call and for one call,
+/// and is transitive. A read that failed in a part of the calls failed in all of them.
 pub fn sources_go_on()
     ensures refl { (a : SourceView) → LaterSource a a }
     ensures trans { (a b c : SourceView) → LaterSource a b → LaterSource b c → LaterSource a c }
@@ -39,7 +40,7 @@ pub fn sources_go_on()
         → ReadsTo most a b r → LaterSource a b }
 {}
 
-/// The same of a sink and its writes.
+/// The same for a sink and its writes.
 pub fn sinks_go_on()
     ensures refl { (a : SinkView) → LaterSink a a }
     ensures trans { (a b c : SinkView) → LaterSink a b → LaterSink b c → LaterSink a c }
@@ -51,7 +52,7 @@ pub fn sinks_go_on()
         → WritesAll a b text r → LaterSink a b }
 {}
 
-/// The same of a store.
+/// The same for a store.
 pub fn stores_go_on()
     ensures refl { (a : StoreView) → LaterStore a a }
     ensures trans { (a b c : StoreView) → LaterStore a b → LaterStore b c → LaterStore a c }
@@ -63,7 +64,7 @@ pub fn stores_go_on()
         → Looks a b path most r → LaterStore a b }
 {}
 
-/// The same of a connection, which is a later source and a later sink in one.
+/// The same for a connection, which has the relation of a source and that of a sink.
 pub fn conns_go_on()
     ensures refl { (a : ConnView) → LaterConn a a }
     ensures trans { (a b c : ConnView) → LaterConn a b → LaterConn b c → LaterConn a c }

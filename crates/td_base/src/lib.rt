@@ -1,11 +1,12 @@
-//! What every crate of the service stands on: owned bytes, lists and short texts that contracts see
-//! as lists; the traits of the outside, with one view and one relation a call (`specs/Views.antt`,
-//! `specs/Outside.antt`), and their versions in memory; and the digits, lengths and names that
-//! several formats share. [`read_to_end`] and [`write_whole`] are its main calls
-//! (`specs/Transfer.antt`).
+//! The base of all other crates except `change_index`: owned bytes, lists and short texts that
+//! contracts see as lists. It also has the traits of the outside, with one view and one relation
+//! per call (`specs/Views.antt`, `specs/Outside.antt`), and their versions in memory. Digits,
+//! lengths and names that several formats share are here as well. [`read_to_end`] and
+//! [`write_whole`] are the main calls (`specs/Transfer.antt`). It depends on no crate of the
+//! workspace.
 #![tactic(auto)]
 
-// Owned lists and short texts, and what stands for lists.
+// Owned lists and short texts, and the trait of values that represent lists.
 mod byte_list;
 mod item_list;
 mod no_memory;
@@ -16,7 +17,7 @@ mod value;
 mod digits;
 mod name_forms;
 
-// Texts of a head's fields.
+// Texts of header fields.
 pub mod texts;
 
 // Streams, files and connections, and whole transfers over them.
@@ -26,7 +27,7 @@ mod report;
 mod source_fault;
 mod transfer;
 
-// Doors, other servers, networks, and works in threads.
+// Doors, other servers, networks, and jobs in threads.
 mod door;
 mod network;
 mod running;
@@ -36,7 +37,7 @@ mod turn;
 mod upstream;
 mod work;
 
-// The outside in memory.
+// In-memory versions of the outside.
 mod memory_conn;
 mod memory_door;
 mod memory_network;
@@ -47,7 +48,7 @@ mod memory_store;
 mod memory_upstream;
 mod piece_sizes;
 
-// The outside with calls that fail as chosen.
+// Wrappers of the outside with calls that fail as chosen.
 mod failing_calls;
 mod faulty;
 mod faulty_conn;
@@ -56,7 +57,7 @@ mod faulty_network;
 mod faulty_spawner;
 mod faulty_upstream;
 
-// Laws, and what may cross threads.
+// Theorems, and which types may cross threads.
 pub mod laws;
 mod send_sync;
 
@@ -69,7 +70,7 @@ pub use faulty_door::FaultyDoor;
 pub use item_list::Items;
 pub use joined::Joined;
 pub use memory_conn::MemoryConn;
-pub use memory_door::{DoorStep, MemoryDoor, Served};
+pub use memory_door::{DoorStep, HandedBackConn, MemoryDoor};
 pub use memory_network::{MemoryNetwork, Opened};
 pub use memory_sink::MemorySink;
 pub use memory_source::MemorySource;
@@ -94,5 +95,5 @@ pub use upstream::{Exchange, Exchanged, Upstream};
 pub use value::Value;
 pub use work::Work;
 
-/// The token of a place in a history: its number in decimal, a dash and hex digits.
+/// The token of a place in a history: the place in decimal, a dash and hex digits.
 pub type Token = ShortText<32>;

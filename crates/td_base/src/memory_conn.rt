@@ -7,8 +7,8 @@ ghost use Rattle.td_base.specs.Views.{one_more};
 use crate::{Conn, MemorySink, MemorySource, ReadStep, Sink, Source, WriteStep};
 
 /// A connection in memory: a script that is read, and room for what is written. It keeps the whole
-/// script and tells which of its bytes its reads have given. No read fails, and a write fails only
-/// where no room is left.
+/// script, and contracts see which of its bytes were read. No read fails, and a write fails only
+/// when no room is left.
 #[derive(Drop)]
 pub struct MemoryConn {
     pub source: MemorySource,
@@ -16,7 +16,7 @@ pub struct MemoryConn {
 }
 
 impl MemoryConn {
-    /// The connection of the two.
+    /// Joins the two into a connection.
     pub fn new(source: MemorySource, sink: MemorySink) -> MemoryConn
         ensures { result ≡ record { source = source; sink = sink } }
     {
@@ -32,7 +32,7 @@ impl Conn for MemoryConn {
         ensures read { ConnReads (memory_conn self.old) (memory_conn self.new) result room.new }
         ensures sink { self.new.sink ≡ self.old.sink }
 
-        // It ends where no byte is left, and else gives a piece of the next size.
+        // It ends when no byte is left; otherwise it gives a piece of the next size.
         ensures end { self.old.source.left ≡ []
             → (result ≡ ReadStep.End) × (self.new.source ≡ self.old.source) }
         ensures piece { self.old.source.left ≢ []
@@ -49,7 +49,7 @@ impl Conn for MemoryConn {
         ensures write { ConnWrites (memory_conn self.old) (memory_conn self.new) result piece.now }
         ensures source { self.new.source ≡ self.old.source }
 
-        // It fails at nothing else than used-up room, and else takes a piece of the next size.
+        // It fails only when the room is used up; otherwise it takes a piece of the next size.
         ensures full { self.old.sink.room ≡ 0
             → (result ≡ WriteStep.Failed)
             × (self.new.sink ≡ record self.old.sink {

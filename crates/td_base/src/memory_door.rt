@@ -9,7 +9,7 @@ use std::alloc::Global;
 use std::collections::VecDeque;
 use std::marker::Model;
 
-/// What a [`MemoryDoor`] answers at one call.
+/// What a [`MemoryDoor`] answers to one call.
 #[derive(Drop)]
 pub enum DoorStep {
     /// This connection.
@@ -20,19 +20,20 @@ pub enum DoorStep {
 
 /// A connection that was handed back to a [`MemoryDoor`], with its report.
 #[derive(Drop)]
-pub struct Served {
+pub struct HandedBackConn {
     pub conn: FaultyConn<MemoryConn>,
     pub report: Report,
 }
 
-/// A door in memory: a script of connections and of moments at which none waits, and room for those
-/// that are handed back, which was taken at its making. It tells all and never fails.
+/// A door in memory: a script of connections and of moments at which none waits. The room for those
+/// that are handed back is allocated when the door is made. Contracts see all of it, and it never
+/// fails.
 #[derive(Drop)]
 pub struct MemoryDoor {
     script: VecDeque<DoorStep>,
     inputs: Vec<Bytes>,
     given: usize,
-    finished: Vec<Served>,
+    finished: Vec<HandedBackConn>,
     room: usize,
     last: Option<DoorAnswer>,
 }
@@ -57,7 +58,7 @@ impl Model for MemoryDoor {
 }
 
 impl MemoryDoor {
-    /// A door with an empty script, and room for so many connections.
+    /// A door with an empty script, and room for this many returned connections.
     pub fn new(alloc: Global, connections: usize) -> Result<MemoryDoor, NoMemory>
         ensures { IfOk result (λ d. d ≡ record {
           given = [];
@@ -109,20 +110,20 @@ impl MemoryDoor {
     }
 
     /// The connections that were handed back, in their order.
-    pub fn finished(&self) -> &[Served]
+    pub fn finished(&self) -> &[HandedBackConn]
         ensures { result.now ≡ self.now.finished }
     {
         self.finished.as_slice()
     }
 
-    /// How many connections are still to come.
+    /// How many connections the script still has.
     pub fn coming(&self) -> usize
         ensures { result ≡ length (inputs_of self.now.script) }
     {
         self.inputs.len() - self.given
     }
 
-    /// For how many more connections there is room.
+    /// For how many more returned connections there is room.
     pub fn room(&self) -> usize
         ensures { result ≡ self.now.room }
     {
@@ -138,7 +139,7 @@ impl Door for MemoryDoor {
     fn accept(&mut self) -> Accepted<FaultyConn<MemoryConn>>
         ensures accepts { Accepts door_conn (memory_door self.old) (memory_door self.new) result }
 
-        // It answers what its script says, and where no step is left that no connection is.
+        // It answers what its script says; after the end of the script, that no connection is left.
         ensures answer { result ≡ accepted_at self.old.script }
         ensures after { self.new ≡ after_accept self.old }
     {
@@ -167,6 +168,6 @@ impl Door for MemoryDoor {
           finished = self.old.finished ++ record { conn = conn; report = report } ∷ [];
         } }
     {
-        self.finished.push_reserved(Served { conn, report });
+        self.finished.push_reserved(HandedBackConn { conn, report });
     }
 }

@@ -13,16 +13,16 @@ use std::collections::VecDeque;
 use std::marker::Model;
 use std::mem::replace;
 
-/// An address at which a [`MemoryNetwork`] opened so many doors.
+/// An address at which a [`MemoryNetwork`] opened doors, and how many.
 #[derive(Drop)]
 pub struct Opened {
     pub address: Bytes,
     pub doors: u32,
 }
 
-/// A network in memory: doors and other servers that tell their content, which it gives in their
-/// order, whatever the address. It tells what it has, what it gave where, and how often it was
-/// called, and fails only where it has too few.
+/// A network in memory. It gives its doors and other servers in their order, whatever the address.
+/// Contracts see what it has, what it gave at which address, and how often it was called. It fails
+/// only when it has too few.
 #[derive(Drop)]
 pub struct MemoryNetwork<D: Door, U: Upstream> {
     doors: Vec<D>,
@@ -93,14 +93,14 @@ impl<D: Door, U: Upstream> MemoryNetwork<D, U> {
         self.reached.as_slice()
     }
 
-    /// How many doors it still has.
+    /// How many doors it still has to give.
     pub fn len(&self) -> usize
         ensures { result ≡ length self.now.doors }
     {
         self.doors.len()
     }
 
-    /// The first doors, of which there must be so many.
+    /// Takes the first `number` doors, which must exist.
     fn give(&mut self, alloc: Global, address: &[u8], number: u32) -> Result<Vec<D>, NoMemory>
         requires { number ≤ length self.old.doors }
         ensures tells { IfOk result (λ doors. OpenTells D.seen (network_content self.old)
@@ -122,7 +122,7 @@ impl<D: Door, U: Upstream> MemoryNetwork<D, U> {
         Ok(given)
     }
 
-    /// The first upstream, of which there must be one.
+    /// Takes the first upstream, which must exist.
     fn reach(&mut self, alloc: Global, address: &[u8]) -> Result<U, NoMemory>
         requires { 0 < self.old.upstreams }
         ensures gives { IfOk result (λ upstream. TellsNone (U.seen upstream)) }
@@ -145,7 +145,7 @@ impl<D: Door, U: Upstream> MemoryNetwork<D, U> {
 }
 
 impl<D: Door + Drop, U: Upstream> MemoryNetwork<D, U> {
-    /// Adds a door that tells its content and was not asked yet, after those that it has.
+    /// Adds a door after those that it has. The door must have visible content and no calls so far.
     pub fn push(&mut self, door: D) -> Result<(), NoMemory>
         requires new { IsNewDoor (D.seen door) }
         requires told { IsSome (D.seen door).content }
@@ -160,8 +160,8 @@ impl<D: Door + Drop, U: Upstream> MemoryNetwork<D, U> {
 }
 
 impl<D: Door, U: Upstream + Drop> MemoryNetwork<D, U> {
-    /// Adds an upstream that tells its exchanges and was asked nothing yet, after those that it
-    /// has.
+    /// Adds an upstream after those that it has. It must have visible exchanges and no calls so
+    /// far.
     pub fn push_upstream(&mut self, upstream: U) -> Result<(), NoMemory>
         requires { TellsNone (U.seen upstream) }
         ensures ok { OnOk result (self.new ≡ record self.old {
@@ -185,7 +185,7 @@ impl<D: Door, U: Upstream> Network for MemoryNetwork<D, U> {
         ensures opens { Opens D.seen (memory_network self.old) (memory_network self.new)
             address.now number result }
 
-        // It fails at nothing else than too few doors.
+        // It fails only when it has too few doors.
         ensures fewer { length self.old.doors < number
             → (result ≡ Made.Failed)
             × (self.new ≡ record self.old {
@@ -210,7 +210,7 @@ impl<D: Door, U: Upstream> Network for MemoryNetwork<D, U> {
         ensures reaches { Reaches U.seen (memory_network self.old) (memory_network self.new)
             address.now result }
 
-        // It fails at nothing else than having none.
+        // It fails only when it has no upstream.
         ensures none { self.old.upstreams ≡ 0
             → (result ≡ Made.Failed)
             × (self.new ≡ record self.old {

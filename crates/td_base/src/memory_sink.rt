@@ -8,8 +8,8 @@ use crate::{Items, NoMemory, Sink, WriteStep};
 use std::alloc::Global;
 use std::marker::Model;
 
-/// A sink in room that was taken at its making. It tells what it took and the room left, and fails
-/// only where no room is left. Its count of faults is the number of its failed writes.
+/// A sink in room that is allocated when it is made. Contracts see what it took and the room left.
+/// A write fails only when no room is left, and the count of faults counts these.
 #[derive(Drop)]
 pub struct MemorySink {
     held: Vec<u8>,
@@ -35,7 +35,7 @@ impl Model for MemorySink {
 }
 
 impl MemorySink {
-    /// A sink that has taken nothing, with room for so many bytes.
+    /// An empty sink, with room for `room` bytes.
     pub fn new(alloc: Global, room: usize) -> Result<MemorySink, NoMemory>
         ensures { IfOk result (λ s.
             s ≡ record { taken = []; room = room; faults = 0; sizes = [] }) }
@@ -43,7 +43,7 @@ impl MemorySink {
         MemorySink::in_pieces(alloc, room, Items::new(alloc))
     }
 
-    /// The same, with the size of the piece that each write takes where there is room for it.
+    /// The same, with the size of the piece that each write takes while there is room for it.
     pub fn in_pieces(
         alloc: Global,
         room: usize,
@@ -83,7 +83,7 @@ impl Sink for MemorySink {
         requires { 0 < length piece.now }
         ensures write { Writes (sink_view self.old) (sink_view self.new) result piece.now }
 
-        // It fails at nothing else than used-up room, and else takes a piece of the next size.
+        // It fails only when the room is used up; otherwise it takes a piece of the next size.
         ensures full { self.old.room ≡ 0
             → (result ≡ WriteStep.Failed)
             × (self.new ≡ record self.old { faults = one_more self.old.faults }) }

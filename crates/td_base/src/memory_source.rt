@@ -7,7 +7,7 @@ use crate::piece_sizes::PieceSizes;
 use crate::{Bytes, Items, ReadStep, Source};
 use std::marker::Model;
 
-/// A source over bytes in memory. It tells what is left and never fails.
+/// A source over bytes in memory. Contracts see what is left, and it never fails.
 #[derive(Drop)]
 pub struct MemorySource {
     bytes: Bytes,
@@ -43,7 +43,7 @@ impl MemorySource {
         }
     }
 
-    /// The same, with the size of the piece that each read gives where there is room for it.
+    /// The same, with the size of the piece that each read gives while there is room for it.
     pub fn in_pieces(bytes: Bytes, sizes: Items<usize>) -> MemorySource
         ensures { result ≡ record { given = []; left = bytes; sizes = sizes } }
     {
@@ -78,7 +78,7 @@ impl Source for MemorySource {
         ensures read { Reads (source_view self.old) (source_view self.new) result room.new }
         ensures given { GivenTells (Some self.old.given) (Some self.new.given) result room.new }
 
-        // It ends where no byte is left, and else gives a piece of the next size.
+        // It ends when no byte is left; otherwise it gives a piece of the next size.
         ensures end { self.old.left ≡ [] → (result ≡ ReadStep.End) × (self.new ≡ self.old) }
         ensures piece { self.old.left ≢ []
             → result ≡ ReadStep.Got
@@ -96,7 +96,7 @@ impl Source for MemorySource {
     }
 }
 
-/// Copies so many bytes, from beginning to beginning.
+/// Copies the first `size` bytes to the beginning of `room`.
 fn copy_prefix(from: &[u8], room: &mut [u8], size: usize)
     requires from { size ≤ length from.now }
     requires room { size ≤ length room.old }

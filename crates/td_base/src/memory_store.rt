@@ -9,7 +9,7 @@ use std::alloc::Global;
 use std::collections::BTreeMap;
 use std::marker::Model;
 
-/// A store in memory. It tells its files, which are what contracts see of it, and never fails.
+/// A store in memory. Contracts see its files, and it never fails.
 #[derive(Drop)]
 pub struct MemoryStore {
     files: BTreeMap<Vec<u8>, Bytes>,
@@ -26,7 +26,7 @@ impl Model for MemoryStore {
 }
 
 impl MemoryStore {
-    /// A store without paths.
+    /// An empty store.
     pub fn new(alloc: Global) -> MemoryStore
         ensures { result ≡ [] }
     {
@@ -35,7 +35,7 @@ impl MemoryStore {
         }
     }
 
-    /// Adds a path, or replaces the bytes of one that is there.
+    /// Adds a path, or replaces the bytes of an existing one.
     pub fn put(&mut self, path: Bytes, bytes: Bytes) -> Result<(), NoMemory>
         ensures ok { OnOk result ((asked : List ℕ) → file_at self.new asked
             ≡ (if bytes_eq path asked then Some bytes else file_at self.old asked)) }
@@ -67,7 +67,7 @@ impl Store for MemoryStore {
     }
 }
 
-/// The first `most` bytes, as a read file.
+/// The first `most` bytes, as the result of a read.
 fn read_prefix(alloc: Global, bytes: &[u8], most: u64) -> FileRead
     ensures { IsPrefixRead bytes.now most result }
 {

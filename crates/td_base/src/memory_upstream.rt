@@ -1,5 +1,5 @@
 ghost use Rattle.std.specs.Prelude.{◌≡◌, ◌≢◌, [], ◌∷◌, ◌++◌, drop, take, IfOk, OnOk, OnErr};
-ghost use Rattle.td_base.specs.MemoryUpstreams.{IsAnswered, memory_upstream, next_answer};
+ghost use Rattle.td_base.specs.MemoryUpstreams.{IsScriptAnswer, memory_upstream, next_answer};
 ghost use Rattle.td_base.specs.Upstreams.{Exchanges};
 
 use crate::{Bytes, Exchange, Exchanged, NoMemory, Upstream};
@@ -7,8 +7,8 @@ use std::alloc::Global;
 use std::collections::VecDeque;
 use std::marker::Model;
 
-/// Another server in memory: a script of its answers, whatever it is asked. Once the script is over
-/// it answers with no byte. It tells its exchanges and never fails.
+/// Another server in memory: a script of its answers, whatever the requests. After the end of the
+/// script it answers with no byte. Contracts see its exchanges, and it never fails.
 #[derive(Drop)]
 pub struct MemoryUpstream {
     answers: VecDeque<Bytes>,
@@ -52,7 +52,7 @@ impl MemoryUpstream {
         self.told.as_slice()
     }
 
-    /// The answer that comes next, of no byte where the script is over.
+    /// The next answer; empty after the end of the script.
     fn next(&self) -> &[u8]
         ensures { result.now ≡ next_answer self.now.answers }
     {
@@ -62,7 +62,8 @@ impl MemoryUpstream {
         }
     }
 
-    /// The first bytes of the next answer, which is taken off the script; the exchange is kept.
+    /// The first `most` bytes of the next answer, which is removed from the script. The exchange is
+    /// kept.
     fn answer(&mut self, alloc: Global, request: &[u8], most: u64) -> Result<Bytes, NoMemory>
         ensures given { IfOk result (λ answer. answer ≡ take most (next_answer self.old.answers)) }
         ensures told { IfOk result (λ answer. self.new ≡ record {
@@ -95,8 +96,8 @@ impl Upstream for MemoryUpstream {
         ensures exchanges { Exchanges (memory_upstream self.old) (memory_upstream self.new)
             request.now most result }
 
-        // It answers what its script says, so far as it is wanted.
-        ensures answer { IsAnswered (take most (next_answer self.old.answers)) result }
+        // It answers what its script says, cut to `most` bytes.
+        ensures answer { IsScriptAnswer (take most (next_answer self.old.answers)) result }
         ensures script { result ≢ Exchanged.NoMemory
             → self.new.answers ≡ drop 1 self.old.answers }
         ensures kept { result ≡ Exchanged.NoMemory → self.new ≡ self.old }

@@ -4,20 +4,20 @@ ghost use Rattle.std.specs.List.{list_all, list_any};
 ghost use Rattle.td_base.specs.Names as names;
 ghost use Rattle.td_base.specs.Names.{segments, IsSegmentCut};
 
-/// The most bytes of an identifier.
+/// The most bytes of a time zone identifier.
 pub const MOST_IDENTIFIER_BYTES: usize = 64;
 
-/// The most bytes of the name of a file.
+/// The most bytes of a file name.
 pub const MOST_FILE_NAME_BYTES: usize = 128;
 
 /// The most bytes of a label.
 pub const MOST_LABEL_BYTES: usize = 64;
 
-/// The most bytes of the path of a file or folder where words or lines name one.
+/// The most bytes of the path of a file or folder in command-line arguments or console lines.
 pub const MOST_PATH_BYTES: usize = 1_024;
 
-/// Whether a text may be the identifier of a time zone, or an alias of one: 1 to 64 letters, digits
-/// and `_+-./`, without a slash at an end and without two in a row.
+/// Whether a text may be the identifier or an alias of a time zone. That is 1 to 64 letters, digits
+/// and `_+-./`, without a slash at either end and without two in a row.
 #[tactic(auto, unfolding(crate::specs::Names::is_path))]
 pub fn is_identifier(text: &[u8]) -> bool
     ensures { result ≡ names.is_identifier text.now }
@@ -25,8 +25,8 @@ pub fn is_identifier(text: &[u8]) -> bool
     text.len() <= MOST_IDENTIFIER_BYTES && has_segments(text)
 }
 
-/// Whether a text may be the name of a file of a release: as an identifier with at most 128 bytes,
-/// but with no segment `.` or `..`.
+/// Whether a text may be the name of a file of a release. It has the form of an identifier, but at
+/// most 128 bytes and no segment `.` or `..`.
 #[tactic(auto, unfolding(crate::specs::Names::is_file_name, crate::specs::Names::is_path))]
 pub fn is_file_name(text: &[u8]) -> bool
     ensures { result ≡ names.is_file_name text.now }
@@ -53,14 +53,14 @@ pub fn is_path_word(word: &[u8]) -> bool
     }
 }
 
-/// Whether each byte is a printable ASCII byte.
+/// Whether all bytes are printable ASCII.
 fn is_printable(text: &[u8]) -> bool
     ensures { result ≡ list_all names.is_printable text.now }
 {
     text.iter().all(|byte| *byte >= b' ' && *byte <= b'~')
 }
 
-/// Whether each segment of the text is one that names may have.
+/// Whether each segment of the text is valid in a name.
 fn has_segments(text: &[u8]) -> bool
     ensures { result ≡ list_all names.is_segment (segments text.now) }
 {
@@ -75,7 +75,7 @@ fn has_segments(text: &[u8]) -> bool
     true
 }
 
-/// Whether a segment of the text stands for a folder itself or for the one above it.
+/// Whether a segment of the text is `.` or `..`.
 fn has_dots(text: &[u8]) -> bool
     ensures { result ≡ list_any names.is_dots (segments text.now) }
 {
@@ -90,7 +90,7 @@ fn has_dots(text: &[u8]) -> bool
     false
 }
 
-/// Whether a segment has a byte, and none that names may not have.
+/// Whether a segment is not empty and has only bytes that names may have.
 fn is_segment(segment: &[u8]) -> bool
     ensures { result ≡ names.is_segment segment.now }
 {
@@ -111,7 +111,7 @@ fn is_name_byte(byte: u8) -> bool
     byte.is_ascii_alphanumeric() || matches!(byte, b'_' | b'+' | b'-' | b'.')
 }
 
-/// The text before the first slash, and the text after it, if there is one.
+/// The text before the first slash, and the text after it if a slash exists.
 fn cut_segment(text: &[u8]) -> (&[u8], Option<&[u8]>)
     ensures cut { IsSegmentCut text.now result.0.now (option_copied result.1) }
     ensures shorter { IfSome result.1 (λ rest. length rest.now < length text.now) }

@@ -5,10 +5,10 @@ ghost use Rattle.td_base.specs.Views.{SourceView, SinkView, StoreView, ConnView}
 use crate::Bytes;
 use std::alloc::Global;
 
-/// What one read of a [`Source`] gave.
+/// The result of one read of a [`Source`].
 #[derive(Clone, Copy, Debug, PartialEq, Eq)]
 pub enum ReadStep {
-    /// So many bytes stand at the beginning of the room, at least one.
+    /// This many bytes, at least one, are at the beginning of the buffer.
     Got(usize),
     /// No byte is left.
     End,
@@ -16,30 +16,30 @@ pub enum ReadStep {
     Failed,
 }
 
-/// What one write to a [`Sink`] did.
+/// The result of one write to a [`Sink`].
 #[derive(Clone, Copy, Debug, PartialEq, Eq)]
 pub enum WriteStep {
-    /// So many bytes of the piece's beginning were taken, at least one.
+    /// This many bytes, at least one, were taken from the beginning of the piece.
     Took(usize),
     /// The sink failed.
     Failed,
 }
 
-/// What a [`Store`] gave for a path.
+/// The result of reading a path of a [`Store`].
 #[derive(Drop, PartialEq, Eq)]
 pub enum FileRead {
-    /// The file's first bytes, up to as many as were asked for.
+    /// The file's first bytes, at most as many as requested.
     Found(Bytes),
-    /// There is no such file.
+    /// The file does not exist.
     Absent,
     /// The store failed.
     Failed,
-    /// There is no memory for the bytes.
+    /// Out of memory.
     NoMemory,
 }
 
-/// Bytes that are read to their end. One that knows its bytes tells those left; the standard input
-/// tells nothing.
+/// Bytes that are read to their end. Contracts see the bytes left of a source in memory, and
+/// nothing of the standard input.
 pub trait Source {
     ghost seen: { Self → SourceView };
 
@@ -49,7 +49,8 @@ pub trait Source {
         ensures read { Reads (seen self.old) (seen self.new) result room.new };
 }
 
-/// What takes bytes. One that keeps them tells those taken; the standard output tells nothing.
+/// Takes bytes. Contracts see the bytes that a sink in memory took, and nothing of the standard
+/// output.
 pub trait Sink {
     ghost seen: { Self → SinkView };
 
@@ -59,8 +60,8 @@ pub trait Sink {
         ensures write { Writes (seen self.old) (seen self.new) result piece.now };
 }
 
-/// Files by path, which no call changes. A store in memory tells them; a real file system tells
-/// nothing.
+/// Files by path, which no call changes. Contracts see the files of a store in memory, and nothing
+/// of a real file system.
 pub trait Store {
     ghost seen: { Self → StoreView };
 
@@ -69,8 +70,8 @@ pub trait Store {
         ensures look { Looks (seen self.old) (seen self.new) path.now most result };
 }
 
-/// A source and a sink in one value, as a network connection is: what is read of it has nothing to
-/// do with what is written to it, and failed reads and failed writes are counted apart.
+/// A source and a sink in one value, such as a network connection. What is read and what is written
+/// are independent, and failed reads and failed writes are counted separately.
 pub trait Conn {
     ghost seen: { Self → ConnView };
 

@@ -5,8 +5,8 @@ use crate::Items;
 use std::alloc::Global;
 use std::marker::Model;
 
-/// The sizes of the pieces in which an object in memory gives or takes bytes, one for each call. A
-/// size of 0 counts as 1. Where none is left, a call moves as much as there is room for.
+/// The sizes in bytes of the pieces that an object in memory gives or takes, one per call. A size
+/// of 0 counts as 1. When no size is left, a call moves as much as there is room for.
 #[derive(Drop)]
 pub struct PieceSizes {
     sizes: Items<usize>,
@@ -24,7 +24,7 @@ impl Model for PieceSizes {
 }
 
 impl PieceSizes {
-    /// No sizes, which takes no memory.
+    /// No sizes. It takes no memory.
     pub fn none(alloc: Global) -> PieceSizes
         ensures { result ≡ [] }
     {
@@ -38,7 +38,7 @@ impl PieceSizes {
         PieceSizes { sizes, at: 0 }
     }
 
-    /// How much the next call moves, which could move so much.
+    /// How many bytes the next call moves, at most `most`.
     pub fn next(&mut self, most: usize) -> usize
         requires { 0 < most }
         ensures size { result ≡ piece_size self.old most }

@@ -4,14 +4,14 @@ use crate::Bytes;
 use arrayvec::ArrayVec;
 use std::marker::Model;
 
-/// The most places of one report, which is the most answers that one connection gets.
+/// The most places of one report, and so the most answers on one connection.
 pub const MOST_PLACES: usize = 1000;
 
 /// Why a connection ended.
 #[derive(Clone, Copy, Debug, PartialEq, Eq)]
 pub enum End {
-    /// Every request was answered up to the end of the input, or up to one after which nothing is
-    /// read.
+    /// Every request was answered, up to the end of the input or up to the request that closes the
+    /// connection.
     Closed,
     /// A read failed.
     ReadFault,
@@ -21,9 +21,9 @@ pub enum End {
     NoMemory,
 }
 
-/// The places in a history at which the requests of a connection were answered, in their order.
-/// Places count from 1. There are at most 1,000, in fixed room that never takes memory. Contracts
-/// see the list of the numbers.
+/// The places in a history from which the requests of a connection were answered, in order. Places
+/// count from 1. There are at most 1,000, in fixed room without allocation. Contracts see the list
+/// of the numbers.
 #[derive(Drop, PartialEq, Eq)]
 pub struct Places {
     held: ArrayVec<u32, MOST_PLACES>,
@@ -49,7 +49,7 @@ impl Places {
         }
     }
 
-    /// Appends a place, for which there must be room.
+    /// Appends a place. There must be room for it.
     pub fn push(&mut self, place: u32)
         requires { length self.old < MOST_PLACES }
         ensures { self.new ≡ self.old ++ place ∷ [] }
@@ -66,8 +66,8 @@ impl Places {
     }
 }
 
-/// How a connection ended, where its requests were answered, and how many of the answers were
-/// computed for it, since none was kept.
+/// How a connection ended, which places its requests were answered from, and how many answers
+/// missed the cache and were computed.
 #[derive(Drop, PartialEq, Eq)]
 pub struct Report {
     pub end: End,
@@ -75,7 +75,7 @@ pub struct Report {
     pub computed: u64,
 }
 
-/// What a server is: one that publishes its own releases, or one that follows another server at
+/// The role of a server: a primary with its own releases, or a mirror that follows the server at
 /// this address.
 #[derive(Drop, PartialEq, Eq)]
 pub enum Role {
@@ -83,8 +83,8 @@ pub enum Role {
     Secondary(Bytes),
 }
 
-/// What one server asks another for: the list of zones, after a token where there is one, or the
-/// zone of an identifier.
+/// A request of one server to another: the list of zones, changed since a token if one is given, or
+/// the zone of an identifier.
 #[derive(Drop, PartialEq, Eq)]
 pub enum Ask {
     List(Option<Bytes>),

@@ -1,10 +1,10 @@
-//! The types of this crate may be sent to other threads and shared with them, generic ones where
-//! their parts may.
+//! The types of this crate are `Send` and `Sync`; generic ones are when their parts are.
 use crate::{
     Accepted, Ask, Begin, Bytes, Door, DoorAnswer, DoorStep, End, Exchange, Exchanged, Faulty,
-    FaultyConn, FaultyDoor, FileRead, Items, Made, MemoryConn, MemoryDoor, MemoryNetwork,
-    MemorySink, MemorySource, MemorySpawner, MemoryStore, MemoryUpstream, NoMemory, Opened, Places,
-    ReadStep, Report, Role, Served, ShortText, SourceFault, Token, Upstream, WriteStep, Written,
+    FaultyConn, FaultyDoor, FileRead, HandedBackConn, Items, Made, MemoryConn, MemoryDoor,
+    MemoryNetwork, MemorySink, MemorySource, MemorySpawner, MemoryStore, MemoryUpstream, NoMemory,
+    Opened, Places, ReadStep, Report, Role, ShortText, SourceFault, Token, Upstream, WriteStep,
+    Written,
 };
 
 fn is_shared<T: Send + Sync>() {}
@@ -29,7 +29,7 @@ fn types_are_shared() {
     is_shared::<MemoryConn>();
     is_shared::<DoorAnswer>();
     is_shared::<DoorStep>();
-    is_shared::<Served>();
+    is_shared::<HandedBackConn>();
     is_shared::<MemoryDoor>();
     is_shared::<Opened>();
     is_shared::<MemorySpawner>();

@@ -3,8 +3,7 @@ ghost use Rattle.std.specs.Prelude.{◌≡◌, ◌+◌, ◌≤◌, [], ◌++◌,
 use arrayvec::ArrayVec;
 use std::marker::Model;
 
-/// At most `N` bytes in fixed room, which never takes memory. Contracts see it as the list of its
-/// bytes.
+/// At most `N` bytes in fixed room, without allocation. Contracts see it as the list of its bytes.
 #[derive(Debug, Drop, PartialEq, Eq)]
 pub struct ShortText<const N: usize> {
     held: ArrayVec<u8, N>,
@@ -38,7 +37,7 @@ impl<const N: usize> ShortText<N> {
         self.held.as_slice()
     }
 
-    /// Appends the bytes, for which there must be room.
+    /// Appends the bytes. There must be room for them.
     pub fn append(&mut self, bytes: &[u8])
         requires { length self.old + length bytes.now ≤ N }
         ensures { self.new ≡ self.old ++ bytes.now }
@@ -46,7 +45,7 @@ impl<const N: usize> ShortText<N> {
         let _ = self.held.try_extend_from_slice(bytes);
     }
 
-    /// Another text of the same bytes.
+    /// A copy.
     pub fn copy(&self) -> Self
         ensures { result ≡ self.now }
     {

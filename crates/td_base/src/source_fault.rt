@@ -4,7 +4,7 @@ use thiserror::Error;
 /// Why a source was not read to its end.
 #[derive(Clone, Copy, Debug, PartialEq, Eq, Error)]
 pub enum SourceFault {
-    /// There is no memory for the bytes.
+    /// Out of memory.
     #[error("out of memory")]
     NoMemory,
     /// The source failed.

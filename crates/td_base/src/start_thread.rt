@@ -9,10 +9,9 @@ use std::sync::atomic::{AtomicBool, Ordering};
 use std::sync::{Arc, Wait};
 use std::thread::{Builder, Threads};
 
-/// Starts a thread that does the work, or hands the work back where the system makes none or there
-/// is no memory for the word by which the closure learns of that. The closure comes back from the
-/// system, and gives the work that it holds only if it is called, so the word says what it is to
-/// do.
+/// Starts a thread that does the job. The job is handed back when the system makes no thread or
+/// when out of memory. After a refusal the system returns the closure, which gives back its job
+/// only if it is called. A shared flag therefore says whether the call runs the job or returns it.
 pub fn start_thread<W: Work + Send + Drop + 'static, R: Threads + Wait + Copy + Send + 'static>(
     rt: &R,
     alloc: Global,
@@ -25,7 +24,7 @@ where
     start_by(Builder::new(), rt, alloc, work)
 }
 
-/// The same, with what the builder says of the thread.
+/// The same, with the settings of this thread builder.
 pub fn start_by<W: Work + Send + Drop + 'static, R: Threads + Wait + Copy + Send + 'static>(
     builder: Builder,
     rt: &R,
@@ -52,7 +51,7 @@ where
             refused.store(true, Ordering::SeqCst);
             match (closure.value)() {
                 Turn::Back(work) => Err(work),
-                // This does not come, since the word was set above, but no clause says so.
+                // Unreachable, since the flag was set above, but no clause says so.
                 Turn::Ran(_) => {
                     for _ in rt.forever() {}
                     unreachable!()

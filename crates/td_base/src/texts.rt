@@ -1,12 +1,12 @@
-//! Texts of a head's fields, which several crates read: cut at separators, without the blanks at
-//! their ends, and compared without case. Nothing here takes memory.
+//! Texts of header fields, which several crates read: cut at separators, trimmed, and compared
+//! without case. Nothing here allocates.
 ghost use Rattle.std.specs.Prelude.{◌≡◌, ◌∷◌, ◌<◌, length, take, drop, reverse, option_copied};
 ghost use Rattle.std.specs.Prelude.{IfSome};
 ghost use Rattle.std.specs.Str.{str_eq_ignore_ascii_case};
 ghost use Rattle.td_base.specs.TargetForm.{begins_any_case};
 ghost use Rattle.td_base.specs.Texts as texts;
 
-/// The bytes before the first separator, and those after it, if there is one.
+/// The bytes before the first separator, and those after it if a separator exists.
 #[tactic(auto, unfolding(crate::specs::Texts::pieces))]
 pub fn cut(text: &[u8], separator: u8) -> (&[u8], Option<&[u8]>)
     ensures cut { texts.pieces separator text.now
@@ -59,28 +59,28 @@ fn trim_end(text: &[u8]) -> &[u8]
     left
 }
 
-/// The text without so many bytes at its start.
+/// The text without its first `count` bytes.
 pub fn skip(text: &[u8], count: usize) -> &[u8]
     ensures { result.now ≡ drop count text.now }
 {
     text.get(count..).unwrap_or(&[])
 }
 
-/// The first bytes of the text, so many if there are.
+/// The first `count` bytes of the text, or all of a shorter one.
 pub fn start(text: &[u8], count: usize) -> &[u8]
     ensures { result.now ≡ take count text.now }
 {
     &text[..count.min(text.len())]
 }
 
-/// Whether two texts are the same without case.
+/// Whether two texts are equal, ignoring ASCII case.
 pub fn is_same(text: &[u8], other: &[u8]) -> bool
     ensures { result ≡ str_eq_ignore_ascii_case text.now other.now }
 {
     text.eq_ignore_ascii_case(other)
 }
 
-/// Whether the text begins with these bytes, whatever the case of their letters.
+/// Whether the text begins with these bytes, ignoring ASCII case.
 pub fn begins(text: &[u8], prefix: &[u8]) -> bool
     ensures { result ≡ begins_any_case prefix.now text.now }
 {

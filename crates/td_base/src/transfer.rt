@@ -3,15 +3,15 @@ ghost use Rattle.td_base.specs.Transfer.{ReadsTo, WritesAll, Sends};
 use crate::{Bytes, Conn, ReadStep, Sink, Source, SourceFault, WriteStep};
 use std::alloc::Global;
 
-/// How many bytes are asked of a source at a time.
+/// How many bytes one read requests.
 const ROOM: usize = 4096;
 
-/// How a whole piece was written.
+/// Whether a whole piece was written.
 #[derive(Clone, Copy, Debug, PartialEq, Eq)]
 pub enum Written {
     /// Every byte was taken.
     Whole,
-    /// The sink failed after it had taken a part, which may be empty.
+    /// The sink failed after it had taken a prefix, which may be empty.
     Cut,
 }
 
@@ -36,7 +36,7 @@ pub fn read_to_end<C: Source>(
     Ok(held)
 }
 
-/// Writes all the bytes. Where the sink fails, it has taken a prefix of them.
+/// Writes all the bytes. If the sink fails, it has taken a prefix of them.
 pub fn write_whole<K: Sink>(sink: &mut K, bytes: &[u8]) -> Written
     ensures { WritesAll (K.seen sink.old) (K.seen sink.new) bytes.now result }
 {
@@ -50,7 +50,8 @@ pub fn write_whole<K: Sink>(sink: &mut K, bytes: &[u8]) -> Written
     Written::Whole
 }
 
-/// Writes all the bytes to a connection. Where a write fails, it has taken a prefix of them.
+/// Writes all the bytes to a connection. If a write fails, the connection has taken a prefix of
+/// them.
 pub fn send_whole<C: Conn>(conn: &mut C, bytes: &[u8]) -> Written
     ensures { Sends (C.seen conn.old) (C.seen conn.new) bytes.now result }
 {

@@ -7,14 +7,14 @@ use std::sync::atomic::{AtomicBool, Ordering};
 use std::sync::{Arc, Wait};
 use std::thread::Promise;
 
-/// What the closure of a thread gives: the result of its work, or the work itself.
+/// What the closure of a thread returns: the result of its job, or the job itself.
 #[derive(Drop)]
 pub enum Turn<W, D> {
     Ran(D),
     Back(W),
 }
 
-/// That a closure gives what this work promises, or the work itself.
+/// The promise of such a closure: a result as the job promises, or the job itself.
 #[derive(Drop)]
 pub struct KeepsWork<W> {
     pub work: Snapshot<W>,
@@ -24,7 +24,7 @@ impl<W: Work> Promise<Turn<W, W::Done>> for KeepsWork<W> {
     ghost kept_by = { λ p turn. KeepsTurn W.does p.work.value turn };
 }
 
-/// Does the work, unless the word says that no thread was made for it.
+/// Does the job, unless the flag says that no thread was made for it.
 pub fn run_or_return<W: Work, R: Wait + Drop>(
     rt: R,
     work: W,

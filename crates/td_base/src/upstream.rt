@@ -3,19 +3,19 @@ ghost use Rattle.td_base.specs.Upstreams.{Exchanges, UpstreamView};
 use crate::Bytes;
 use std::alloc::Global;
 
-/// What one exchange with an [`Upstream`] gave.
+/// The result of one exchange with an [`Upstream`].
 #[derive(Drop, PartialEq, Eq)]
 pub enum Exchanged {
-    /// The answer's bytes, up to as many as were wanted.
+    /// The answer's bytes, at most as many as requested.
     Got(Bytes),
     /// The exchange failed.
     Failed,
-    /// There is no memory for the answer.
+    /// Out of memory.
     NoMemory,
 }
 
-/// An exchange that gave an answer: the request's bytes, how many bytes of the answer were wanted
-/// at the most, and those that came.
+/// An exchange that gave an answer: the request's bytes, the most bytes of the answer that were
+/// requested, and those received.
 #[derive(Drop, PartialEq, Eq)]
 pub struct Exchange {
     pub request: Bytes,
@@ -23,13 +23,12 @@ pub struct Exchange {
     pub answer: Bytes,
 }
 
-/// Another server, which is asked one thing after the other. One in memory tells its exchanges; a
-/// real one tells nothing.
+/// Another server, to which requests are sent one after the other. Contracts see the exchanges of a
+/// server in memory, and nothing of a real one.
 pub trait Upstream {
     ghost seen: { Self → UpstreamView };
 
-    /// Sends a request, and takes what the other server answers up to the end of its answer, or to
-    /// `most` bytes of it.
+    /// Sends a request, and receives the answer up to its end or to `most` bytes of it.
     fn exchange(&mut self, alloc: Global, request: &[u8], most: u64) -> Exchanged
         ensures exchanges { Exchanges (seen self.old) (seen self.new) request.now most result };
 }

@@ -1,9 +1,9 @@
 ghost use Rattle.std.specs.Prelude.{◌≡◌, ℕ, List, length};
 
-/// A value that stands for lists of elements. It says how long they are, and tells the last element
-/// of them.
+/// A value that represents lists of elements. Contracts see the length of the lists and their last
+/// element.
 pub trait Value: Drop {
-    /// What the lists consist of. No value of it is made.
+    /// The type of the elements. No value of it exists at run time.
     type Element;
 
     ghost last: { Self → Self.Element };
@@ -12,7 +12,7 @@ pub trait Value: Drop {
 
     ghost places: { Self → ℕ };
 
-    /// How long the lists are.
+    /// The length of the lists.
     fn count(&self) -> u32
         ensures { result ≡ places self.now };
 

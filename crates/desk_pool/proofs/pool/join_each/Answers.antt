@@ -1,4 +1,5 @@
-use Rattle.std.proofs.Common.{rules}
+use Rattle.std.proofs.Common.{rules, arith, [], ◌∷◌}
+use Rattle.std.proofs.lemmas.List.{length-append}
 use Rattle.desk_pool.proofs.PoolLemmas.{joins_more, takes_more}
 use Rattle.td_base.specs.Works.{work_of}
 use Rattle.desk_pool.proofs.pool.join_each.Goals as goal
@@ -11,5 +12,7 @@ loop-running-preserved g c =
       dones = rw c.push_reserved.ensures.items (joins_more work_of g.W.Work.does before.yielded before.dones.items
           c.in-Some.running c.join.result before.invariant.dones c.join.ensures.does);
       room = search rules;
+      steady = search rules;
+      joined = omega (arith, before.invariant.joined, c.join.ensures.joined, length-append before.yielded (c.in-Some.running ∷ []));
       later = search rules;
     }

@@ -7,5 +7,7 @@ abbrev pub invariant-loop-work : goal.invariant-loop-work
 invariant-loop-work g l = record {
   whole : map work_of l.running.items ++ l.work-iterator.rest.items ≡ l.fn.works.items;
   room : length l.running.items + length l.work-iterator.rest.items ≤ vec_capacity l.running;
+  steady : g.S.Spawner.faults l.spawner ≡ g.S.Spawner.faults l.fn.spawner;
+  started : g.S.Spawner.active l.spawner ≤ g.S.Spawner.active l.fn.spawner + length l.running.items;
   later : g.S.Spawner.faults l.fn.spawner ≤ g.S.Spawner.faults l.spawner;
 }
