@@ -15,7 +15,7 @@ use Rattle.tzif_reader.specs.Layout.{AreRising}
 use Rattle.posix_footer.specs.declared.rule_types.Footer.{Footer}
 use Rattle.posix_footer.specs.Lawful.{IsLawful}
 use Rattle.posix_footer.specs.StateAt.{state_of}
-use Rattle.zone_meaning.proofs.Repeating.{state_again}
+use Rattle.posix_footer.proofs.lemmas.Repeating.{state_again}
 use Rattle.zone_meaning.specs.Difference.{lists_state, AreAlike, Decides, IsFirstDifference, zone_difference}
 use Rattle.zone_meaning.specs.Kept.{HasTypes, IsReadFrom}
 use Rattle.zone_meaning.specs.State.{begun, after, footer_meant, state_at, zone_state}

@@ -5,6 +5,5 @@ pub mod Differing
 pub mod lemmas
 pub mod RangeMeaning
 pub mod Refusals
-pub mod Repeating
 pub mod Walking
 pub mod ZoneNames

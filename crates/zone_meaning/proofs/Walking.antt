@@ -17,7 +17,7 @@ use Rattle.zone_meaning.specs.Kept.{HasTypes}
 use Rattle.zone_meaning.specs.State.{begun, after, state_at}
 use Rattle.zone_meaning.specs.Turns.{IsKnown}
 use Rattle.zone_meaning.specs.Walks.{HaveBegun, IsTurn, IsNextTurn}
-use Rattle.zone_meaning.specs.declared.walk.Turn.{Turn}
+use Rattle.zone_meaning.specs.declared.walk.StateTurn.{StateTurn}
 use Rattle.zone_meaning.proofs.Counting.{begun_are}
 
 -- while some transition has not begun
@@ -116,9 +116,9 @@ onset_turn z footer t n (Some m) types h all is =
     }
 
 -- what the footer gives then is the zone's state
-pub onset_known : (z : ZoneFile) (footer : Footer) (t : ℤ) (n : ℕ) (next : Option Turn) → HasTypes z → HaveBegun z.moments t n → length z.moments ≤ n
-    → IsNext footer.dst footer.std.offset t (option_map (λ (turn : Turn). turn.at) next)
-    → IfSome next (λ (turn : Turn). turn.state ≡ Some (state_of footer turn.at.seconds)) → IfSome next (IsKnown z (Some footer))
+pub onset_known : (z : ZoneFile) (footer : Footer) (t : ℤ) (n : ℕ) (next : Option StateTurn) → HasTypes z → HaveBegun z.moments t n → length z.moments ≤ n
+    → IsNext footer.dst footer.std.offset t (option_map (λ (turn : StateTurn). turn.at) next)
+    → IfSome next (λ (turn : StateTurn). turn.state ≡ Some (state_of footer turn.at.seconds)) → IfSome next (IsKnown z (Some footer))
 onset_known z footer t n None types h all is known = tt
 onset_known z footer t n (Some turn) types h all is known =
     let later = next_later footer.dst footer.std.offset t turn.at is in

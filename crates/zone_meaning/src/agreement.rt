@@ -1,4 +1,4 @@
-//! Whether the footer of a zone goes on from where its transitions end.
+//! Whether the footer of a zone continues the state at its last transition.
 ghost use Rattle.std.specs.Prelude.{◌≡◌, ◌-◌, ◌<ℤ◌, length, Some};
 ghost use Rattle.std.specs.List.{slice_get};
 ghost use Rattle.std.specs.Option.{IfSome};
@@ -18,8 +18,8 @@ use td_civil::{HI, LO, Moment};
 use tzif_reader::ZoneFile;
 
 /// Whether the footer gives, at the last transition, the state that this transition begins (RFC
-/// 9636, section 3.3). A zone without a footer or without transitions passes, as does one whose
-/// last transition has no meaning.
+/// 9636, section 3.3). True as well for a zone without a footer or without transitions, and for one
+/// whose last transition is before 1800.
 #[tactic(auto, unfolding(crate::specs::Agreement::footer_agrees))]
 pub fn footer_agrees(zone: &Zone) -> bool
     ensures { result ≡ spec.footer_agrees (cut.lists_of zone.now) }
@@ -30,7 +30,7 @@ pub fn footer_agrees(zone: &Zone) -> bool
     }
 }
 
-/// The same of the lists of a file and its footer.
+/// The same for the lists of a file and its footer.
 fn last_goes_on(lists: &ZoneFile, footer: &Footer) -> bool
     requires types { HasTypes lists.now }
     requires lawful { IsLawful footer.now }
@@ -46,8 +46,8 @@ fn last_goes_on(lists: &ZoneFile, footer: &Footer) -> bool
     goes_on(lists, footer, moments[moments.len() - 1])
 }
 
-/// Whether a footer gives at a moment the state that the last transition begins, where the moment
-/// has a meaning.
+/// Whether a footer gives, at the moment of the last transition, the state that this one begins.
+/// True where that moment is before 1800.
 #[tactic(auto, unfolding(crate::specs::Agreement::goes_on))]
 fn goes_on(lists: &ZoneFile, footer: &Footer, last: Moment) -> bool
     requires types { HasTypes lists.now }
@@ -58,7 +58,7 @@ fn goes_on(lists: &ZoneFile, footer: &Footer, last: Moment) -> bool
     last.seconds < LO || is_last_state(lists, footer, last)
 }
 
-/// Whether a footer gives at a moment the state that the last transition begins.
+/// Whether a footer gives, at a moment, the state that the last transition begins.
 fn is_last_state(lists: &ZoneFile, footer: &Footer, last: Moment) -> bool
     requires types { HasTypes lists.now }
     requires lawful { IsLawful footer.now }

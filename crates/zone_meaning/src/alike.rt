@@ -1,4 +1,4 @@
-//! Up to when two zones are alike, by the transitions that both files have.
+//! The moment up to which two zones agree, by the transitions that their files share.
 ghost use Rattle.std.specs.Prelude.{◌<◌, length, IsTrue};
 ghost use Rattle.td_civil.specs.declared.moment_type.TheConstants.{LO};
 ghost use Rattle.zone_meaning.specs.Alike.{AreAlikeUpTo, IsAlikeAt};
@@ -11,15 +11,15 @@ use crate::lookup::type_after;
 use td_civil::{LO, Moment};
 use tzif_reader::ZoneFile;
 
-/// A moment before which two zones are alike: the last transition up to which both files have the
-/// same, or 1800 where already the first is another. No footer is looked at.
+/// A moment before which two zones agree: the last transition of the common beginning of both
+/// files. It is the start of 1800 if the first transitions differ. No footer is looked at.
 pub(crate) fn alike_until(one: &Zone, two: &Zone) -> Moment
     ensures { AreAlike (zone_state one.now) (zone_state two.now) LO result.seconds }
 {
     alike_until_lists(&one.lists, &two.lists)
 }
 
-/// The same of the lists of two files.
+/// The same for the lists of two files.
 fn alike_until_lists(one: &ZoneFile, two: &ZoneFile) -> Moment
     requires types { HasTypes one.now }
     requires other_types { HasTypes two.now }
@@ -32,7 +32,7 @@ fn alike_until_lists(one: &ZoneFile, two: &ZoneFile) -> Moment
     one.moments.as_slice()[count - 1]
 }
 
-/// How many transitions, from the first one on, two files have alike.
+/// How many transitions, counted from the first, two files have in common.
 fn alike_transitions(one: &ZoneFile, two: &ZoneFile) -> usize
     requires types { HasTypes one.now }
     requires other_types { HasTypes two.now }
@@ -47,8 +47,8 @@ fn alike_transitions(one: &ZoneFile, two: &ZoneFile) -> usize
     count
 }
 
-/// Whether two files have a transition of this place at the same moment, and the same state before
-/// it.
+/// Whether two files have their transition of this index at the same moment, and the same state
+/// before it.
 fn is_alike_at(one: &ZoneFile, two: &ZoneFile, place: usize) -> bool
     requires types { HasTypes one.now }
     requires other_types { HasTypes two.now }

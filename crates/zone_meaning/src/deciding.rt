@@ -1,4 +1,4 @@
-//! By when two zones differ, if they ever do.
+//! The moment by which two zones differ, if they ever do.
 ghost use Rattle.std.specs.Prelude.{◌≡◌, ◌⊎◌, ◌-◌, length, IsTrue, ◌+ℤ◌, ◌≤ℤ◌, ◌<ℤ◌, pos};
 ghost use Rattle.std.specs.List.{slice_get};
 ghost use Rattle.std.specs.Option.{IfSome};
@@ -14,7 +14,7 @@ use crate::Zone;
 use td_civil::{HI, LO, Moment};
 use tzif_reader::ZoneFile;
 
-/// After how many seconds the calendar repeats: 400 years, which are 146,097 days and whole weeks.
+/// The period of the calendar in seconds: 400 years, which are 146,097 days and whole weeks.
 const CYCLE: i64 = 12_622_780_800;
 
 /// A moment before which two zones differ, if they ever do.
@@ -25,9 +25,9 @@ pub(crate) fn decided_by(one: &Zone, two: &Zone) -> Moment
     decided_by_lists(&one.lists, &two.lists)
 }
 
-/// The same of the lists of two files. After the last transition of both the footers decide: those
-/// of one text for ever alike, and others as they do within the years after which the calendar
-/// repeats.
+/// The same for the lists of two files. After the last transition of both, the footers decide. With
+/// equal footer texts the zones agree for ever. With different ones, any difference shows within
+/// one period of the calendar.
 fn decided_by_lists(one: &ZoneFile, two: &ZoneFile) -> Moment
     requires types { HasTypes one.now }
     requires lawful { IfSome (footer_meant one.now.footer) IsLawful }
@@ -48,7 +48,7 @@ fn decided_by_lists(one: &ZoneFile, two: &ZoneFile) -> Moment
     }
 }
 
-/// Whether the footers of two files are one text.
+/// Whether the footers of two files have the same text.
 fn has_same_footer(one: &ZoneFile, two: &ZoneFile) -> bool
     ensures { IsTrue result → one.now.footer ≡ two.now.footer }
 {
@@ -66,7 +66,7 @@ fn second_after(last: Moment) -> Moment
     }
 }
 
-/// The end of the years after which the calendar repeats, or of the moments that have a meaning.
+/// One period of the calendar later, or the end of the supported moments if that is earlier.
 fn cycle_after(last: Moment) -> Moment
     requires { HasMeaning last.seconds }
     ensures range { IsRange LO result.seconds }
@@ -80,7 +80,7 @@ fn cycle_after(last: Moment) -> Moment
     }
 }
 
-/// A moment by which each transition of both files has come.
+/// A moment by which every transition of both files has passed.
 fn last_of_both(one: &ZoneFile, two: &ZoneFile) -> Moment
     requires types { HasTypes one.now }
     requires ends { IfSome (slice_get one.now.moments (length one.now.moments - 1))
@@ -95,7 +95,8 @@ fn last_of_both(one: &ZoneFile, two: &ZoneFile) -> Moment
     later(last_turn(one), last_turn(two))
 }
 
-/// A moment by which each transition has come: the last one, or 1800 where none comes after it.
+/// A moment by which every transition has passed: the last one, or the start of 1800 if that is
+/// later.
 fn last_turn(lists: &ZoneFile) -> Moment
     requires types { HasTypes lists.now }
     requires ends { IfSome (slice_get lists.now.moments (length lists.now.moments - 1))

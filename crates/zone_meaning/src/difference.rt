@@ -11,11 +11,12 @@ use crate::observing::Changes;
 use crate::{Zone, file};
 use td_civil::{HI, LO, Moment, Observance};
 
-/// The first moment from 1800 on, before 9999, at which the states of two zones differ, if there is
-/// one. It takes no memory. The changes of both are walked over side by side, from the last
-/// transition up to which both files have the same, up to that moment; where there is none, those
-/// up to the last transition of both, and where their footers are not one text, those of the next
-/// 400 years.
+/// The first moment at which the states of two zones differ, from 1800 to before 9999, if one
+/// exists. It allocates nothing.
+///
+/// The changes of both zones are merged, starting where the common transitions of the files end.
+/// The walk ends at the last transition of both, or 400 years later if the footers have different
+/// texts.
 pub fn first_difference(one: &Zone, two: &Zone) -> Option<Moment>
     ensures first { result ≡ zone_difference one.now two.now }
     ensures least { IsFirstDifference (zone_state one.now) (zone_state two.now) LO HI result }
@@ -26,14 +27,14 @@ pub fn first_difference(one: &Zone, two: &Zone) -> Option<Moment>
     difference_before(one, two, decided_by(one, two))
 }
 
-/// Whether two zones have one file.
+/// Whether two zones have the same file.
 fn is_one_file(one: &Zone, two: &Zone) -> bool
     ensures { IsTrue result ↔ (one.now ≡ two.now) }
 {
     file(one) == file(two)
 }
 
-/// The first moment before an end at which two zones differ, if there is one.
+/// The first moment before an end at which two zones differ, if one exists.
 fn difference_before(one: &Zone, two: &Zone, end: Moment) -> Option<Moment>
     requires { IsRange LO end.seconds }
     ensures { IsFirstDifference (zone_state one.now) (zone_state two.now) LO end.seconds result }
@@ -41,7 +42,7 @@ fn difference_before(one: &Zone, two: &Zone, end: Moment) -> Option<Moment>
     difference_between(one, two, start_before(one, two, end), end)
 }
 
-/// A moment before an end up to which two zones are alike.
+/// A moment before an end up to which two zones agree.
 fn start_before(one: &Zone, two: &Zone, end: Moment) -> Moment
     requires { IsRange LO end.seconds }
     ensures range { IsRange result.seconds end.seconds }
@@ -55,8 +56,8 @@ fn start_before(one: &Zone, two: &Zone, end: Moment) -> Moment
     }
 }
 
-/// The first moment of a range at which two zones differ, if there is one: that at which the first
-/// observance begins that only one of them has.
+/// The first moment of a range at which two zones differ, if one exists. It is the onset of the
+/// first observance that only one of them has.
 fn difference_between(one: &Zone, two: &Zone, from: Moment, end: Moment) -> Option<Moment>
     requires { IsRange from.seconds end.seconds }
     ensures { IsFirstDifference (zone_state one.now) (zone_state two.now) from.seconds
@@ -77,7 +78,7 @@ fn difference_between(one: &Zone, two: &Zone, from: Moment, end: Moment) -> Opti
     onset_of(of_two.next())
 }
 
-/// When an observance begins, if there is one.
+/// When an observance begins, if one is given.
 fn onset_of(change: Option<Observance>) -> Option<Moment>
     ensures { result ≡ onset_if_any change }
 {
@@ -87,7 +88,7 @@ fn onset_of(change: Option<Observance>) -> Option<Moment>
     }
 }
 
-/// Whether two observances are one.
+/// Whether two observances are equal.
 fn is_same(one: &Observance, two: &Observance) -> bool
     ensures { IsTrue result ↔ (one.now ≡ two.now) }
 {

@@ -1,5 +1,5 @@
-//! Laws of states and of the observances of a range, each the contract of a function that does
-//! nothing.
+//! Laws of states and of the observances of a range. Each is the contract of a function with an
+//! empty body.
 ghost use Rattle.std.specs.Prelude.{◌≡◌, ◌≤ℤ◌, ◌<ℤ◌, List, ℕ, ℤ, true, None};
 ghost use Rattle.std.specs.List.{Contains};
 ghost use Rattle.td_civil.specs.declared.local_time.Local.{Local};
@@ -10,8 +10,8 @@ ghost use Rattle.zone_meaning.specs.Observed.{observed};
 ghost use Rattle.zone_meaning.specs.RangeLaws.{AreObserved, IsLastBy, state_told};
 ghost use Rattle.zone_meaning.specs.State.{zone_state};
 
-/// The observances of a range are the state at its beginning and, in rising order, each change of
-/// the state after it and before the end, and no other list is.
+/// The observances of a range are the state at its beginning and then, in rising order, each change
+/// of the state before the end. No other list is.
 pub fn observances_are_the_changes()
     ensures are { (state : ℤ → Local) (a b : ℤ) → a <ℤ b
         → AreObserved state a b (observed state a b) }
@@ -19,8 +19,8 @@ pub fn observances_are_the_changes()
         → AreObserved state a b list → list ≡ observed state a b }
 {}
 
-/// The last observance that is not after a moment of the range tells the state at that moment, and
-/// there is one.
+/// The last observance that is not after a moment of the range gives the state at that moment. One
+/// always exists.
 pub fn last_observance_tells_the_state()
     ensures some { (state : ℤ → Local) (a b t : ℤ) → a ≤ℤ t → t <ℤ b
         → (o : Observance) × IsLastBy (observed state a b) t o }
@@ -28,8 +28,8 @@ pub fn last_observance_tells_the_state()
         → IsLastBy (observed state a b) t o → state_told o ≡ state t }
 {}
 
-/// Where the names of a zone's types and footer can be printed, so can those of its states and of
-/// its observances.
+/// If the names of a zone's types and footer can be printed, so can those of its states and of its
+/// observances.
 pub fn names_are_printable()
     ensures states { (file : List ℕ) (t : ℤ) → zone_fault file ≡ None
         → has_printable_names file ≡ true → is_printable_name (zone_state file t).name ≡ true }

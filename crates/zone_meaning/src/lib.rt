@@ -1,20 +1,24 @@
 //! Zones: a zone file (RFC 9636) together with what it means, the state of local time at each
 //! moment.
 //!
-//! [`zone_of`] makes the zone of a file, or gives `zone_fault` of `specs/Faults.antt`. [`at`] gives
-//! the state at a moment, which is `zone_state` of `specs/State.antt`, and [`observances`] the
-//! changes of it in a range, which are those of `specs/Observed.antt`. [`first_difference`] gives the
-//! first moment at which two zones differ, which is `zone_difference` of `specs/Difference.antt`.
+//! [`zone_of`] makes the zone of a file, or reports `zone_fault` of `specs/Faults.antt`. [`at`]
+//! gives the state at a moment, which is `zone_state` of `specs/State.antt`. [`observances`] gives
+//! the changes of the state in a range (`specs/Observed.antt`). [`first_difference`] gives the
+//! first moment at which two zones differ, `zone_difference` of `specs/Difference.antt`.
+//!
+//! Files are read by `tzif_reader` and footers by `posix_footer`. Releases are checked
+//! (`release_check`, `admission`), installed and served (`vtimezone`, `actions`) by means of this
+//! crate.
 #![tactic(auto)]
 
-// A zone, read from its file, and why bytes are none.
+// A zone, read from its file, and why bytes are not a zone.
 mod reading;
 mod release_data;
 mod zone_fault;
 mod zone_type;
 
-// Its state at a moment, whether its footer goes on from its transitions, and whether its names can
-// be printed.
+// Its state at a moment, whether its footer continues its transitions, and whether its names can be
+// printed.
 mod agreement;
 mod lookup;
 mod zone_names;

@@ -15,7 +15,8 @@ use posix_footer::Footer;
 use td_civil::{Local, Moment};
 use tzif_reader::ZoneFile;
 
-/// The state of local time at a moment (RFC 9636, section 3.2 and 3.3). It takes no memory.
+/// The state of local time at a moment: offset, daylight saving flag and name (RFC 9636, sections
+/// 3.2 and 3.3). It allocates nothing.
 #[tactic(auto, using(crate::proofs::lemmas::Types::kept_types, crate::proofs::lemmas::Types::kept_state, crate::proofs::lemmas::RuleLemmas::zone_follows))]
 pub fn at(zone: &Zone, t: Moment) -> Local
     requires { HasMeaning t.seconds }
@@ -37,7 +38,7 @@ pub(crate) fn state_at(lists: &ZoneFile, footer: &Option<Footer>, t: Moment) -> 
     state_when(lists, footer, begun(lists, t), t)
 }
 
-/// The same, where it is known how many transitions have come.
+/// The same, given how many transitions are not after the moment.
 pub(crate) fn state_when(
     lists: &ZoneFile,
     footer: &Option<Footer>,
@@ -68,7 +69,7 @@ pub(crate) fn begun(lists: &ZoneFile, t: Moment) -> usize
     moments.partition_point(|moment| moment.seconds <= t.seconds)
 }
 
-/// The state that the types give after so many transitions.
+/// The state that the types give after this number of transitions.
 pub(crate) fn state_after(lists: &ZoneFile, begun: usize) -> Local
     requires types { HasTypes lists.now }
     requires bound { begun ≤ length lists.now.moments }
@@ -77,7 +78,7 @@ pub(crate) fn state_after(lists: &ZoneFile, begun: usize) -> Local
     type_after(lists, begun).copy()
 }
 
-/// The type that holds after so many transitions.
+/// The type in force after this number of transitions.
 pub(crate) fn type_after(lists: &ZoneFile, begun: usize) -> &Local
     requires types { HasTypes lists.now }
     requires bound { begun ≤ length lists.now.moments }

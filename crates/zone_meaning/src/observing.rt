@@ -12,9 +12,9 @@ use std::marker::Model;
 use td_base::{Items, NoMemory};
 use td_civil::{Moment, Observance};
 
-/// The observances of a range, handed out one at a time in rising order. Contracts see it as the
-/// list of those that are left. Each step takes as long as the next change is transitions or onsets
-/// away, and no memory.
+/// The observances of a range, returned one at a time in rising order. Contracts see it as the list
+/// of those that are left. A step takes time for the transitions and onsets up to the next change,
+/// and allocates nothing.
 #[derive(Drop)]
 pub struct Changes<'a> {
     first: Option<Observance>,
@@ -35,9 +35,9 @@ impl<'a> Model for Changes<'a> {
 }
 
 impl<'a> Changes<'a> {
-    /// The observances from a moment to before another: how local time stands at the first, and
-    /// each change after it. It takes no memory, and looks at no transition that has come by the
-    /// first moment but the last.
+    /// The observances from a moment to before another: the state at the first, and each change
+    /// after it. It allocates nothing. Of the transitions up to the first moment it looks only at
+    /// the last.
     pub fn new(zone: &'a Zone, a: Moment, b: Moment) -> Self
         requires { IsRange a.seconds b.seconds }
         ensures { result ≡ observed (zone_state zone.now) a.seconds b.seconds }
@@ -65,7 +65,7 @@ impl<'a> Changes<'a> {
         }
     }
 
-    /// The next observance, until none is left.
+    /// The next observance, or None when none is left.
     pub fn next(&mut self) -> Option<Observance>
         ensures next { HandsOut self.old result self.new }
         ensures none { result ≡ None → self.new ≡ [] }
@@ -77,9 +77,9 @@ impl<'a> Changes<'a> {
     }
 }
 
-/// The observances from a moment to before another, in rising order: how local time stands at the
-/// first, with both offsets equal, and each moment after it at which offset, flag or name change
-/// (RFC 7808, section 5.4).
+/// The observances from a moment to before another, in rising order (RFC 7808, section 5.4). The
+/// first is the state at the start, with both offsets equal. Each further one is a moment at which
+/// offset, flag or name change.
 pub fn observances(
     alloc: Global,
     zone: &Zone,

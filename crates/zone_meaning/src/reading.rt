@@ -1,4 +1,4 @@
-//! A zone is read from its file.
+//! Reads a zone from its file.
 ghost use Rattle.std.specs.Prelude.{◌≡◌, ◌≢◌, None, Some, Err, IfOk, IfErr, OnOk};
 ghost use Rattle.posix_footer.specs.Lawful.{IsLawful};
 ghost use Rattle.std.specs.Option.{IfSome};
@@ -14,14 +14,14 @@ use std::alloc::Global;
 use td_base::Bytes;
 use tzif_reader::ZoneFile;
 
-/// The zone of a file. Tzif comes where the bytes are no zone file, and Footer where they are one
-/// whose footer is neither empty nor a TZ string (RFC 9636, section 3.3).
+/// The zone of a file. `Tzif` is returned where the bytes are not a zone file. `Footer` is returned
+/// where they are one, but its footer is neither empty nor a TZ string (RFC 9636, section 3.3).
 #[tactic(auto, using(crate::proofs::Refusals::file_refused_as))]
 pub fn zone_of(alloc: Global, file: Bytes) -> Result<Zone, ZoneFault>
     ensures found { IfOk result (λ z. z ≡ file) }
     ensures no_fault { OnOk result (zone_fault file ≡ None) }
     ensures fault { IfErr result (λ e. e ≢ ZoneFault.NoMemory → zone_fault file ≡ Some e) }
-    // That the bytes are no zone file is told before any memory is taken.
+    // That the bytes are not a zone file is reported before any memory is allocated.
     ensures judged { (e : TzifFault) → first_fault file ≡ Some e → result ≡ Err (in_file e) }
 {
     let lists = tzif_reader::read(alloc, file.as_slice())?;
@@ -29,7 +29,7 @@ pub fn zone_of(alloc: Global, file: Bytes) -> Result<Zone, ZoneFault>
     Ok(zone)
 }
 
-/// The zone of a file whose lists have been read already. It takes no memory.
+/// The zone of a file whose lists have been read already. It allocates nothing.
 #[tactic(auto, using(crate::proofs::Refusals::zone_clear, crate::proofs::Refusals::footer_refused))]
 pub fn zone_from_lists(file: Bytes, lists: ZoneFile) -> Result<Zone, FooterFault>
     requires no_fault { first_fault file ≡ None }
@@ -46,7 +46,7 @@ pub fn zone_from_lists(file: Bytes, lists: ZoneFile) -> Result<Zone, FooterFault
     })
 }
 
-/// The footer that a text spells, if there is a text.
+/// The footer that a text encodes; None for an empty text.
 fn footer_in(text: &Bytes) -> Result<Option<Footer>, FooterFault>
     ensures found { IfOk result (λ f. f ≡ footer_meant text.now) }
     ensures lawful { IfOk result (λ f. IfSome f IsLawful) }

@@ -1,4 +1,4 @@
-//! Zones are data of releases.
+//! Zones as data of releases.
 use crate::Zone;
 use catalogue::ZoneData;
 

@@ -1,4 +1,4 @@
-//! The steps of a walk.
+//! The steps of a walk over the changes of a zone.
 ghost use Rattle.std.specs.Prelude.{◌≡◌, ◌≤◌, ◌+◌, min, length, [], None};
 ghost use Rattle.std.specs.Option.{IfSome, option_map};
 ghost use Rattle.zone_meaning.specs.State.{state_at};
@@ -7,10 +7,10 @@ ghost use Rattle.zone_meaning.specs.Walks.{IsNextStop};
 ghost use Rattle.zone_meaning.specs.WalkLeft.{left, HandsOut, IsFurther, IsSoundWalk, StopsAt};
 
 use crate::lookup::state_when;
-use crate::walk::{Turn, Walk, next_turn};
+use crate::walk::{StateTurn, Walk, next_turn};
 use td_civil::{Local, Observance};
 
-/// The count after the next transition, if there is one.
+/// The count after the next transition, if there are more transitions.
 fn one_more(begun: usize, len: usize) -> usize
     requires { begun ≤ len }
     ensures { result ≡ min (begun + 1) len }
@@ -19,7 +19,7 @@ fn one_more(begun: usize, len: usize) -> usize
 }
 
 impl<'a> Walk<'a> {
-    /// The next change, if one comes before the end.
+    /// The next change before the end, if any.
     pub(crate) fn next(&mut self) -> Option<Observance>
         requires { IsSoundWalk self.old }
         ensures sound { IsSoundWalk self.new }
@@ -35,7 +35,7 @@ impl<'a> Walk<'a> {
     }
 
     /// The next moment before the end at which the state may change.
-    fn next_stop(&self) -> Option<Turn>
+    fn next_stop(&self) -> Option<StateTurn>
         requires { IsSoundWalk self.now }
         ensures stop { IsNextStop self.now.lists.now self.now.footer.now self.now.at.seconds
             self.now.end.seconds self.now.begun (option_map (λ turn. turn.at) result) }
@@ -47,9 +47,9 @@ impl<'a> Walk<'a> {
         }
     }
 
-    /// Goes on to a moment up to which the state stays, and gives the change if the state changes
-    /// there.
-    fn go_on(&mut self, stop: Turn) -> Option<Observance>
+    /// Advances to a moment up to which the state stays the same, and returns the change if the
+    /// state changes there.
+    fn go_on(&mut self, stop: StateTurn) -> Option<Observance>
         requires sound { IsSoundWalk self.old }
         requires stop { StopsAt self.old stop.at.seconds }
         requires known { IsKnown self.old.lists.now self.old.footer.now stop }
@@ -74,8 +74,8 @@ impl<'a> Walk<'a> {
         if same { None } else { Some(change) }
     }
 
-    /// The state from a moment on by which so many transitions have come.
-    fn state_from(&self, stop: Turn, begun: usize) -> Local
+    /// The state from a moment on, by which this number of transitions have passed.
+    fn state_from(&self, stop: StateTurn, begun: usize) -> Local
         requires sound { IsSoundWalk self.now }
         requires stop { StopsAt self.now stop.at.seconds }
         requires known { IsKnown self.now.lists.now self.now.footer.now stop }

@@ -1,5 +1,5 @@
 //! A walk over the changes of a zone's state: from one moment at which it may change to the next.
-//! Those are the transitions that are still to come, and then the onsets of the footer.
+//! Those moments are the remaining transitions, and then the onsets of the footer.
 ghost use Rattle.std.specs.Prelude.{◌≡◌, Some};
 ghost use Rattle.std.specs.Option.{IfSome, option_map};
 ghost use Rattle.td_civil.specs.Bounds.{HasMeaning};
@@ -14,34 +14,35 @@ use posix_footer::{Footer, next_change};
 use td_civil::{Local, Moment};
 use tzif_reader::ZoneFile;
 
-/// How far a walk has come.
+/// The position of a walk.
 #[derive(Drop)]
 pub(crate) struct Walk<'a> {
     pub(crate) lists: &'a ZoneFile,
     pub(crate) footer: &'a Option<Footer>,
-    /// No change at the end or after it is handed out.
+    /// The walk returns only changes before this moment.
     pub(crate) end: Moment,
-    /// The moment that was reached, how many transitions have come by then, and the state then.
+    /// The moment that was reached, the number of transitions up to it, and the state there.
     pub(crate) at: Moment,
     pub(crate) begun: usize,
     pub(crate) state: Local,
 }
 
-/// A moment at which the state may change, and the state from it on where that is known with it, as
-/// it is of an onset.
+/// A moment at which the state may change. The state from it on is given if it is known, as it is
+/// for an onset of the footer.
 #[derive(Drop)]
-pub(crate) struct Turn {
+pub(crate) struct StateTurn {
     pub(crate) at: Moment,
     pub(crate) state: Option<Local>,
 }
 
-/// The next moment at which the state may change, after one by which so many transitions have come.
+/// The next moment at which the state may change, after one by which this number of transitions
+/// have passed.
 pub(crate) fn next_turn(
     lists: &ZoneFile,
     footer: &Option<Footer>,
     begun: usize,
     t: Moment,
-) -> Option<Turn>
+) -> Option<StateTurn>
     requires types { HasTypes lists.now }
     requires lawful { IfSome footer.now IsLawful }
     requires meaning { HasMeaning t.seconds }
@@ -52,7 +53,7 @@ pub(crate) fn next_turn(
 {
     let moments = lists.moments.as_slice();
     if begun < moments.len() {
-        return Some(Turn {
+        return Some(StateTurn {
             at: moments[begun],
             state: None,
         });
@@ -63,8 +64,8 @@ pub(crate) fn next_turn(
     }
 }
 
-/// The next onset of a footer, with the state then.
-fn next_turn_of(footer: &Footer, t: Moment) -> Option<Turn>
+/// The next onset of a footer, with the state from it on.
+fn next_turn_of(footer: &Footer, t: Moment) -> Option<StateTurn>
     requires lawful { IsLawful footer.now }
     requires meaning { HasMeaning t.seconds }
     ensures next { IsNext footer.now.dst footer.now.std.offset t.seconds
@@ -73,7 +74,7 @@ fn next_turn_of(footer: &Footer, t: Moment) -> Option<Turn>
         ≡ Some (state_of footer.now turn.at.seconds)) }
 {
     match next_change(footer, t) {
-        Some(change) => Some(Turn {
+        Some(change) => Some(StateTurn {
             at: change.at,
             state: Some(change.state),
         }),

@@ -7,13 +7,13 @@ use std::fmt;
 use td_base::NoMemory;
 use tzif_reader::TzifFault;
 
-/// Why a list of bytes is no zone. It prints as the fault inside it does.
+/// Why bytes are not a zone. It prints as the fault inside it does.
 #[derive(Clone, Copy, Debug, PartialEq, Eq)]
 pub enum ZoneFault {
     NoMemory,
-    /// It is no zone file.
+    /// The bytes are not a zone file.
     Tzif(TzifFault),
-    /// It is a zone file, and its footer is a text that is no TZ string.
+    /// The bytes are a zone file, but its footer is a text that is not a TZ string.
     Footer(FooterFault),
 }
 

@@ -51,14 +51,14 @@ fn is_printable(name: &Name) -> bool
     !name.is_empty() && are_name_bytes(name)
 }
 
-/// Whether a name may have each of the bytes.
+/// Whether each of the bytes is allowed in a name.
 fn are_name_bytes(bytes: &[u8]) -> bool
     ensures { result ≡ list_all is_designation_byte bytes.now }
 {
     bytes.iter().all(|byte| is_name_byte(*byte))
 }
 
-/// Whether a name may have the byte.
+/// Whether the byte is allowed in a name.
 fn is_name_byte(byte: u8) -> bool
     ensures { result ≡ is_designation_byte byte }
 {

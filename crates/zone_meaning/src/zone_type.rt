@@ -41,14 +41,14 @@ pub fn file(zone: &Zone) -> &[u8]
     zone.file.as_slice()
 }
 
-/// How many leap lines the zone's file has.
+/// How many leap-second records the zone's file has.
 pub fn leap_count(zone: &Zone) -> usize
     ensures { result ≡ length (cut.lists_of zone.now).leaps }
 {
     zone.lists.leaps.len()
 }
 
-/// The lists of the zone's file, which has no fault.
+/// The lists that were read from the zone's file.
 pub fn lists(zone: &Zone) -> &ZoneFile
     ensures no_fault { zone_fault zone.now ≡ None }
     ensures lists { result.now ≡ cut.lists_of zone.now }
@@ -57,7 +57,7 @@ pub fn lists(zone: &Zone) -> &ZoneFile
     &zone.lists
 }
 
-/// The rule that the TZ string of the zone's file spells, or None where it is empty.
+/// The rule that the TZ string of the zone's file encodes, or None where it is empty.
 pub fn footer(zone: &Zone) -> &Option<Footer>
     ensures no_fault { zone_fault zone.now ≡ None }
     ensures footer { result.now ≡ footer_meant (cut.lists_of zone.now).footer }

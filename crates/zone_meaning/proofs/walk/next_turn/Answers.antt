@@ -6,7 +6,7 @@ use Rattle.td_civil.specs.declared.moment_type.Moment.{Moment}
 use Rattle.posix_footer.specs.declared.rule_types.Footer.{Footer}
 use Rattle.zone_meaning.specs.Turns.{IsKnown}
 use Rattle.zone_meaning.specs.Walks.{IsNextTurn}
-use Rattle.zone_meaning.specs.declared.walk.Turn.{Turn}
+use Rattle.zone_meaning.specs.declared.walk.StateTurn.{StateTurn}
 use Rattle.zone_meaning.proofs.Walking.{transition_turn, no_turn, onset_turn, onset_known}
 use Rattle.zone_meaning.proofs.walk.next_turn.Goals as goal
 
@@ -23,7 +23,7 @@ pub returns-in-Some-clause-turn : goal.returns-in-Some-clause-turn
 returns-in-Some-clause-turn c =
     let moments : c.as_slice-moments.result.now ≡ c.args.lists.now.moments = c.as_slice-moments.ensures in
     let all : length c.args.lists.now.moments ≤ c.args.begun = omega (arith, ap (length {A = Moment}) moments) in
-    let next = option_map (λ (x : Turn). x.at) c.next_turn_of.result in
+    let next = option_map (λ (x : StateTurn). x.at) c.next_turn_of.result in
     let P : Option Footer → Type 0 = λ footer. IsNextTurn c.args.lists.now footer c.args.t.seconds c.args.begun next in
     subst P (sym c.in-Some.is) (onset_turn c.args.lists.now c.in-Some.footer c.args.t.seconds c.args.begun next c.requires.types
     c.requires.begun all c.next_turn_of.ensures.next)
