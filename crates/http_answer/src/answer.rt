@@ -1,18 +1,18 @@
 use td_base::Bytes;
 
-/// What a request is answered.
+/// The answer to a request, before it is written as HTTP.
 #[derive(Drop)]
 pub struct Answer {
     /// The status code: 200, 301, 304, 400, 404 or 406.
     pub status: u16,
-    /// What the body is. With 304 it is not written.
+    /// The media type of the body. It is not written with 304.
     pub kind: Option<Kind>,
-    /// The entity tag, with its quotes (RFC 9110, section 8.8.3). An answer that has one depends
-    /// on Accept.
+    /// The entity tag, with its quotes (RFC 9110, section 8.8.3). An answer with a tag varies by
+    /// Accept.
     pub tag: Option<Bytes>,
-    /// Whether the resource is found at the context path of the service.
+    /// Whether to send a Location field with the context path of the service.
     pub moved: bool,
-    /// The content. With 304 it is not written.
+    /// The content. It is not written with 304.
     pub body: Bytes,
 }
 

@@ -1,8 +1,8 @@
 ghost use Rattle.std.specs.Prelude.{◌≡◌};
 ghost use Rattle.http_answer.specs.Replies.{IsFixedStatus, fixed};
 
-/// The closing reply to a head that is not served: 400, 405 or 431, or where there is no memory:
-/// 503.
+/// The reply to a head that is not served, after which the connection closes: status 400, 405 or
+/// 431, or 503 when out of memory.
 pub fn fixed(status: u16) -> &'static [u8]
     requires { IsFixedStatus status }
     ensures { result.now ≡ fixed status }

@@ -1,23 +1,24 @@
-//! Replies of HTTP/1.1 (RFC 9112, section 4; RFC 9110): a status line, the fields that apply, and
-//! a body.
+//! Writer of HTTP/1.1 replies (RFC 9112, section 4; RFC 9110): a status line, the fields that
+//! apply, and a body.
 //!
-//! [`write`] appends the reply that an [`Answer`] gets, [`make_reply`] gives it in a buffer of its
-//! own, and [`fixed`] is one that closes the connection. They are defined in specs/Replies.antt, as
-//! `reply` and `fixed`.
+//! [`write`] appends the reply of an [`Answer`], [`make_reply`] puts it into a separate buffer, and
+//! [`fixed`] is a reply that closes the connection. `reply` and `fixed` of `specs/Replies.antt`
+//! define them. It depends on `td_base`, `http` and `itoa`; `actions`, `connection` and
+//! `answer_cache` use it.
 #![tactic(auto)]
 
-// What is answered.
+// Answers.
 mod answer;
 mod status;
 
-// How it is written.
+// Writing them.
 mod closing;
 mod lines;
 mod making;
 mod putting;
 mod writing;
 
-// What may cross threads.
+// Which types may cross threads.
 mod send_sync;
 
 pub use answer::{Answer, Kind};

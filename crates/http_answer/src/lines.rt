@@ -4,7 +4,7 @@ ghost use Rattle.http_answer.specs.Replies.{close_lines, body_sent, location_lin
 
 use crate::{Answer, Kind};
 
-/// The line of the body's type.
+/// The Content-Type line.
 #[tactic(auto, unfolding(crate::specs::Replies::type_lines))]
 pub fn type_line(kind: Option<Kind>) -> &'static [u8]
     ensures { result.now ≡ parts_text (type_lines kind) }
@@ -19,7 +19,7 @@ pub fn type_line(kind: Option<Kind>) -> &'static [u8]
     }
 }
 
-/// The line that tells where the service is found.
+/// The Location line, if the answer has one.
 #[tactic(auto, unfolding(crate::specs::Replies::location_lines))]
 pub fn location_line(moved: bool) -> &'static [u8]
     ensures { result.now ≡ parts_text (location_lines moved) }
@@ -27,7 +27,7 @@ pub fn location_line(moved: bool) -> &'static [u8]
     if moved { b"Location: /tzdist\r\n" } else { b"" }
 }
 
-/// The line that tells that the connection closes.
+/// The Connection line of a reply that closes.
 #[tactic(auto, unfolding(crate::specs::Replies::close_lines))]
 pub fn close_line(close: bool) -> &'static [u8]
     ensures { result.now ≡ parts_text (close_lines close) }
@@ -35,7 +35,7 @@ pub fn close_line(close: bool) -> &'static [u8]
     if close { b"Connection: close\r\n" } else { b"" }
 }
 
-/// The body, where it is written.
+/// The body as written: empty with 304 and for HEAD.
 pub fn content(answer: &Answer, head_only: bool) -> &[u8]
     ensures { result.now ≡ body_sent answer.now head_only }
 {

@@ -7,11 +7,11 @@ use crate::writing::write;
 use std::alloc::Global;
 use td_base::{Bytes, NoMemory};
 
-/// How many bytes a head has at most, with a tag as the server makes them.
+/// The most bytes of a head whose tag has the server's form.
 const USUAL_HEAD: usize = 512;
 
-/// The reply in a buffer of its own. Memory for it is taken once, where the head is no longer than
-/// usual. `head_only` and `close` are those of [`write`].
+/// The reply in a separate buffer. It is allocated once if the head has at most the usual length.
+/// `head_only` and `close` are as in [`write`].
 pub fn make_reply(
     alloc: Global,
     answer: &Answer,

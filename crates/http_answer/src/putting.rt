@@ -17,7 +17,7 @@ pub fn put(out: &mut Bytes, text: &[u8]) -> Result<(), NoMemory>
     out.append(text)
 }
 
-/// Appends the line of a field.
+/// Appends a field line.
 #[tactic(auto, using(crate::proofs::Keeping::keeps_both))]
 fn put_line(out: &mut Bytes, name: &[u8], value: &[u8]) -> Result<(), NoMemory>
     ensures ok { OnOk result (out.new ≡ out.old ++ field_line name.now value.now) }
@@ -43,7 +43,7 @@ pub fn put_status(out: &mut Bytes, status: u16) -> Result<(), NoMemory>
     Ok(())
 }
 
-/// Appends the line of the body's type.
+/// Appends the Content-Type line.
 #[tactic(auto, using(crate::proofs::Keeping::keeps_both, crate::proofs::Keeping::keeps_itself))]
 pub fn put_type(out: &mut Bytes, answer: &Answer) -> Result<(), NoMemory>
     ensures ok { OnOk result (out.new ≡ out.old
@@ -72,7 +72,7 @@ pub fn put_tag(out: &mut Bytes, tag: &Option<Bytes>) -> Result<(), NoMemory>
     }
 }
 
-/// Appends the line of the body's length.
+/// Appends the Content-Length line.
 #[tactic(auto, using(crate::proofs::Keeping::keeps_both, crate::proofs::Keeping::keeps_itself))]
 pub fn put_length(out: &mut Bytes, answer: &Answer) -> Result<(), NoMemory>
     ensures ok { OnOk result (out.new ≡ out.old

@@ -1,4 +1,4 @@
-//! The plain data types cross threads and are shared by them.
+//! The plain data types are `Send` and `Sync`.
 use crate::{Answer, Kind};
 
 fn is_shared<T: Send + Sync>() {}

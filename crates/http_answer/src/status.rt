@@ -3,7 +3,7 @@ ghost use Rattle.http_answer.specs.Replies.{IsAnswerStatus, phrase};
 
 use http::StatusCode;
 
-/// The status of an answer.
+/// The status of an answer, as the `http` type.
 pub fn status_of(status: u16) -> StatusCode
     requires { IsAnswerStatus status }
     ensures { result ≡ status }
@@ -18,7 +18,7 @@ pub fn status_of(status: u16) -> StatusCode
     }
 }
 
-/// The phrase of a status.
+/// The reason phrase of a status.
 #[tactic(auto, unfolding(crate::specs::Replies::phrase))]
 pub fn phrase_of(status: StatusCode) -> &'static [u8]
     ensures { result.now ≡ phrase status }

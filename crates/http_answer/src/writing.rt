@@ -7,8 +7,8 @@ use crate::lines::{close_line, content, location_line};
 use crate::putting::{put, put_length, put_status, put_tag, put_type};
 use td_base::{Bytes, NoMemory};
 
-/// Appends the reply. `head_only` leaves its body out, and with `close` it tells that the
-/// connection closes.
+/// Appends the reply. `head_only` leaves the body out, and `close` adds `Connection: close`. When
+/// out of memory, nothing is appended.
 pub fn write(out: &mut Bytes, answer: &Answer, head_only: bool, close: bool) -> Result<(), NoMemory>
     requires { IsAnswerStatus answer.now.status }
     ensures ok { OnOk result (out.new ≡ out.old ++ reply answer.now head_only close) }
@@ -24,7 +24,7 @@ pub fn write(out: &mut Bytes, answer: &Answer, head_only: bool, close: bool) -> 
     }
 }
 
-/// Appends the reply, or a prefix of it.
+/// Appends the reply, or a prefix of it when out of memory.
 #[tactic(auto, using(crate::proofs::Keeping::keeps_both))]
 fn put_reply(out: &mut Bytes, answer: &Answer, head_only: bool, close: bool) -> Result<(), NoMemory>
     requires { IsAnswerStatus answer.now.status }
@@ -38,7 +38,7 @@ fn put_reply(out: &mut Bytes, answer: &Answer, head_only: bool, close: bool) -> 
     Ok(())
 }
 
-/// Appends the fields, each where it applies.
+/// Appends the fields that apply.
 #[tactic(auto, using(crate::proofs::Keeping::keeps_both))]
 fn put_fields(out: &mut Bytes, answer: &Answer, close: bool) -> Result<(), NoMemory>
     ensures ok { OnOk result (out.new ≡ out.old ++ parts_text (fields answer.now close)) }

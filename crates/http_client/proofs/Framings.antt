@@ -4,7 +4,7 @@ use Rattle.std.proofs.Common.{◌≢◌, cond, codes}
 use Rattle.std.proofs.lemmas.Bool.{eq-eqb, ne_eqb}
 use Rattle.http_client.specs.Fields.{first_of}
 use Rattle.td_base.specs.Texts.{field_values}
-use Rattle.http_client.specs.Replies.{Unread, ToTheEnd, framing, sized, sized_by}
+use Rattle.http_client.specs.Replies.{Unread, ToTheEnd, framing, framed_by_size, sized_by}
 
 abbrev codings : List (List ℕ × List ℕ) → List (List ℕ)
 codings pairs = field_values (codes "transfer-encoding") pairs
@@ -29,16 +29,16 @@ no_value : (vs : List (List ℕ)) → None ≡ first_of vs → sized_by vs ≡ T
 no_value [] e = refl
 no_value (v ∷ vs) e = absurd (cc)
 
-one_value : (vs : List (List ℕ)) (v : List ℕ) (n : ℕ) → n ≡ length vs → n ≤ 1 → Some v ≡ first_of vs → sized_by vs ≡ sized v
+one_value : (vs : List (List ℕ)) (v : List ℕ) (n : ℕ) → n ≡ length vs → n ≤ 1 → Some v ≡ first_of vs → sized_by vs ≡ framed_by_size v
 one_value [] v n is m e = absurd (cc)
-one_value (w ∷ []) v n is m e = let same : v ≡ w = cc in ap sized (sym same)
+one_value (w ∷ []) v n is m e = let same : v ≡ w = cc in ap framed_by_size (sym same)
 one_value (w ∷ x ∷ vs) v n is m e = absurd (omega (arith, is, m))
 
 pub sized_twice : (pairs : List (List ℕ × List ℕ)) (m n : ℕ) → m ≡ length (codings pairs) → m ≡ 0 → n ≡ length (lengths pairs) → 1 < n → framing pairs ≡ Unread
 sized_twice pairs m n is none are many = uncoded pairs m is none ∙ many_values (lengths pairs) n are many
 
 pub sized_once : (pairs : List (List ℕ × List ℕ)) (m n : ℕ) (v : List ℕ) → m ≡ length (codings pairs) → m ≡ 0 → n ≡ length (lengths pairs) → n ≤ 1
-    → Some v ≡ first_of (lengths pairs) → framing pairs ≡ sized v
+    → Some v ≡ first_of (lengths pairs) → framing pairs ≡ framed_by_size v
 sized_once pairs m n v is none are few first = uncoded pairs m is none ∙ one_value (lengths pairs) v n are few first
 
 pub not_sized : (pairs : List (List ℕ × List ℕ)) (m : ℕ) → m ≡ length (codings pairs) → m ≡ 0 → None ≡ first_of (lengths pairs) → framing pairs ≡ ToTheEnd

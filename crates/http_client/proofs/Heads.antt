@@ -20,37 +20,37 @@ use Rattle.td_base.specs.declared.report.Ask.{Ask}
 use Rattle.td_base.specs.declared.report.Ask.TheVariants as ask
 use Rattle.http_client.specs.CalendarRequests.{calendar_accepted, calendar_request_text}
 use Rattle.http_client.specs.Requests.{accepted, escaped, is_unreserved, request_line, request_text, target_of, text_with}
-use Rattle.http_client.specs.SentHeads.{IsSentCalendarHead, IsSentHead, IsSentHeadOf, is_visible, is_visible_text}
+use Rattle.http_client.specs.SentHeads.{IsSentCalendarHead, IsSentHead, IsSentHeadOf, is_visible_byte, is_visible_text}
 use Rattle.http_client.specs.declared.requesting.TheConstants.{ESCAPED}
 use Rattle.http_client.proofs.Escapes.{escapes, text_escaped}
 
 -- ---- visible bytes
 
 abbrev IsVisible : ℕ → Type 0
-IsVisible b = is_visible b ≡ true
+IsVisible b = is_visible_byte b ≡ true
 
-no_blank : (b : ℕ) → is_visible b ≡ true → is_ows b ≡ false
+no_blank : (b : ℕ) → is_visible_byte b ≡ true → is_ows b ≡ false
 no_blank b v = grind (arith, nat_tests)
 
-of_value : (b : ℕ) → is_visible b ≡ true → is_value_byte b ≡ true
+of_value : (b : ℕ) → is_visible_byte b ≡ true → is_value_byte b ≡ true
 of_value b v = grind (arith, nat_tests)
 
-of_target : (b : ℕ) → is_visible b ≡ true → is_uri_byte b ≡ true
+of_target : (b : ℕ) → is_visible_byte b ≡ true → is_uri_byte b ≡ true
 of_target b v = grind (arith, nat_tests)
 
-of_ascii : (b : ℕ) → is_visible b ≡ true → b < 128
+of_ascii : (b : ℕ) → is_visible_byte b ≡ true → b < 128
 of_ascii b v = grind (arith, nat_tests)
 
-unreserved_visible : (b : ℕ) → is_unreserved b ≡ true → is_visible b ≡ true
+unreserved_visible : (b : ℕ) → is_unreserved b ≡ true → is_visible_byte b ≡ true
 unreserved_visible b u = grind (arith, nat_tests)
 
-escape_visible : (b : ℕ) → IsEscapeByte b → is_visible b ≡ true
+escape_visible : (b : ℕ) → IsEscapeByte b → is_visible_byte b ≡ true
 escape_visible b e = grind (arith, nat_tests)
 
-kept_visible : (b : ℕ) → should_percent_encode ESCAPED b ≡ false → is_visible b ≡ true
+kept_visible : (b : ℕ) → should_percent_encode ESCAPED b ≡ false → is_visible_byte b ≡ true
 kept_visible b kept = by_test (is_unreserved b) refl
   where
-    by_test : (t : Bool) → is_unreserved b ≡ t → is_visible b ≡ true
+    by_test : (t : Bool) → is_unreserved b ≡ t → is_visible_byte b ≡ true
     by_test true u = unreserved_visible b u
     by_test false u = absurd (true≢false (sym (escapes b ∙ ap not u) ∙ kept))
 
@@ -62,13 +62,13 @@ first false t e = e
 
 skips_none : (v : List ℕ) → is_visible_text v ≡ true → skip_ows v ≡ v
 skips_none [] h = refl
-skips_none (b ∷ bs) h = ap (λ t. cond t (skip_ows bs) (b ∷ bs)) (no_blank b (first (is_visible b) (is_visible_text bs) h))
+skips_none (b ∷ bs) h = ap (λ t. cond t (skip_ows bs) (b ∷ bs)) (no_blank b (first (is_visible_byte b) (is_visible_text bs) h))
 
 turned : (v : List ℕ) → is_visible_text v ≡ true → is_visible_text (reverse v) ≡ true
 turned [] h = refl
 turned (b ∷ bs) h =
-    ap is_visible_text (reverse-append (b ∷ []) bs) ∙ list_all-append is_visible (reverse bs) (b ∷ [])
-    ∙ both (is_visible b) (is_visible_text bs) (is_visible_text (reverse bs)) h (turned bs)
+    ap is_visible_text (reverse-append (b ∷ []) bs) ∙ list_all-append is_visible_byte (reverse bs) (b ∷ [])
+    ∙ both (is_visible_byte b) (is_visible_text bs) (is_visible_text (reverse bs)) h (turned bs)
   where
     both : (s t r : Bool) → (s && t) ≡ true → (t ≡ true → r ≡ true) → (r && (s && true)) ≡ true
     both true t r e f = rw (f e) refl
@@ -114,7 +114,7 @@ is_written media host a = printed (target_of a) host media
 value_passes : (v : List ℕ) → is_visible_text v ≡ true → All (λ b. is_value_byte b ≡ true) (32 ∷ v)
 value_passes v h =
     All-cons (λ b. is_value_byte b ≡ true) 32 v refl
-    (All-weaker IsVisible (λ b. is_value_byte b ≡ true) of_value v (AllPass-from_list_all is_visible v h))
+    (All-weaker IsVisible (λ b. is_value_byte b ≡ true) of_value v (AllPass-from_list_all is_visible_byte v h))
 
 named : (name value : List ℕ) → 0 < length name → list_all is_token_byte name ≡ true → is_visible_text value ≡ true → IsField (field_with name value)
 named name value some token h =
@@ -150,11 +150,11 @@ escaped_visible : (text : List ℕ) → All IsVisible (escaped text)
 escaped_visible text = subst (All IsVisible) (text_escaped text) (All-percent_encode IsVisible ESCAPED text kept_visible escape_visible)
 
 path_visible : (path text : List ℕ) → is_visible_text path ≡ true → All IsVisible (path ++ escaped text)
-path_visible path text h = All-append IsVisible path (escaped text) (AllPass-from_list_all is_visible path h) (escaped_visible text)
+path_visible path text h = All-append IsVisible path (escaped text) (AllPass-from_list_all is_visible_byte path h) (escaped_visible text)
 
 target_visible : (a : Ask) → (0 < length (target_of a)) × All IsVisible (target_of a)
 unfolding target_of
-target_visible (ask.List None) = (omega arith, AllPass-from_list_all is_visible (codes "/tzdist/zones") refl)
+target_visible (ask.List None) = (omega arith, AllPass-from_list_all is_visible_byte (codes "/tzdist/zones") refl)
 target_visible (ask.List (Some token)) = (omega arith, path_visible (codes "/tzdist/zones?changedsince=") token refl)
 target_visible (ask.Get name) = (omega arith, path_visible (codes "/tzdist/zones/") name refl)
 

@@ -20,16 +20,16 @@ pub data Framing : Type 0 where
   Sized : ℕ → Framing
 
 -- one or more digits
-abbrev pub is_number : List ℕ → Bool
-is_number value = not (length value == 0) && list_all is_ascii_digit value
+abbrev pub is_digit_text : List ℕ → Bool
+is_digit_text value = not (length value == 0) && list_all is_ascii_digit value
 
-abbrev pub sized : List ℕ → Framing
-sized value = if is_number value then Sized (digits_value 10 value) else Unread
+abbrev pub framed_by_size : List ℕ → Framing
+framed_by_size value = if is_digit_text value then Sized (digits_value 10 value) else Unread
 
 -- by the values of Content-Length, of which there is one at the most
 abbrev pub sized_by : List (List ℕ) → Framing
 sized_by [] = ToTheEnd
-sized_by (value ∷ []) = sized value
+sized_by (value ∷ []) = framed_by_size value
 sized_by (value ∷ other ∷ values) = Unread
 
 -- and no Transfer-Encoding is read
@@ -57,14 +57,14 @@ reply_of h body =
     (record { status = status_code h; body = body })
 
 -- the bytes are a head with few fields, and then the rest
-abbrev pub HasHead : List ℕ → ResponseHead → List ℕ → Type 0
-HasHead bytes h rest = ReadsResponse bytes h rest × (length h.fields ≤ MOST_FIELDS)
+abbrev pub HasReplyHead : List ℕ → ResponseHead → List ℕ → Type 0
+HasReplyHead bytes h rest = ReadsResponse bytes h rest × (length h.fields ≤ MOST_FIELDS)
 
-abbrev pub HasNoHead : List ℕ → Type 0
-HasNoHead bytes = (h : ResponseHead) (rest : List ℕ) → ¬ (HasHead bytes h rest)
+abbrev pub HasNoReplyHead : List ℕ → Type 0
+HasNoReplyHead bytes = (h : ResponseHead) (rest : List ℕ) → ¬ (HasReplyHead bytes h rest)
 
 -- what the bytes are: none from the start, where no head is there, or what a head and the rest are
 pub data IsReading (bytes : List ℕ) (result : Result Reply BadReply) : Type 0 where
-  headless : HasNoHead bytes → result ≡ Err (bad.BadReply 0) → IsReading bytes result
-  headed : (h : ResponseHead) (rest : List ℕ) → HasHead bytes h rest → result ≡ reply_of h rest
+  headless : HasNoReplyHead bytes → result ≡ Err (bad.BadReply 0) → IsReading bytes result
+  headed : (h : ResponseHead) (rest : List ℕ) → HasReplyHead bytes h rest → result ≡ reply_of h rest
       → IsReading bytes result

@@ -8,11 +8,11 @@ use Rattle.http_client.specs.CalendarRequests.{calendar_accepted, calendar_reque
 use Rattle.http_client.specs.Requests.{accepted, request_text, target_of}
 
 -- visible bytes of ASCII, as those of a host and a port are
-abbrev pub is_visible : ℕ → Bool
-is_visible b = nat_le 33 b && nat_le b 126
+abbrev pub is_visible_byte : ℕ → Bool
+is_visible_byte b = nat_le 33 b && nat_le b 126
 
 abbrev pub is_visible_text : List ℕ → Bool
-is_visible_text text = list_all is_visible text
+is_visible_text text = list_all is_visible_byte text
 
 -- the fields, by name and value
 abbrev pub fields_sent : List ℕ → List ℕ → List (List ℕ × List ℕ)

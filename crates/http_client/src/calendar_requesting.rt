@@ -5,8 +5,8 @@ use crate::requesting::{put_enclosed, put_request_line};
 use std::alloc::Global;
 use td_base::{Ask, Bytes, NoMemory};
 
-/// Appends the request for what is asked, as `request` does, where a zone is asked for as a
-/// calendar (RFC 7808, section 5.3). Where memory runs out nothing is appended.
+/// Appends the request like [`request`](crate::request), but requests a zone as `text/calendar`
+/// (RFC 7808, section 5.3). When out of memory, nothing is appended.
 pub fn request_calendar(
     alloc: Global,
     out: &mut Bytes,
@@ -21,7 +21,7 @@ pub fn request_calendar(
     out.append(text.as_slice())
 }
 
-/// The request.
+/// The bytes of the request.
 fn calendar_request_text(alloc: Global, ask: &Ask, host: &[u8]) -> Result<Bytes, NoMemory>
     ensures { IfOk result (λ text. text ≡ requests.calendar_request_text host.now ask.now) }
 {
@@ -33,7 +33,7 @@ fn calendar_request_text(alloc: Global, ask: &Ask, host: &[u8]) -> Result<Bytes,
     Ok(out)
 }
 
-/// The media type of what is asked for.
+/// The media type of the Accept field.
 #[tactic(auto, unfolding(crate::specs::CalendarRequests::calendar_accepted))]
 fn calendar_accepted(ask: &Ask) -> &'static [u8]
     ensures { result.now ≡ requests.calendar_accepted ask.now }

@@ -7,7 +7,7 @@ ghost use Rattle.td_base.specs.Texts.{field_values};
 use httparse::spans::HeaderSpan;
 use td_base::texts::is_same;
 
-/// Whether the field has this name, whatever the case of its letters.
+/// Whether the field has this name, ignoring case.
 fn is_named(buf: &[u8], field: HeaderSpan, name: &[u8]) -> bool
     requires { IsHeaderWithin (length buf.now) field }
     ensures { result ≡ str_eq_ignore_ascii_case (header_bytes buf.now field).0 name.now }
@@ -29,7 +29,7 @@ pub fn count_named(buf: &[u8], fields: &[HeaderSpan], name: &[u8]) -> usize
     count
 }
 
-/// The value of the first field with this name, if there is one.
+/// The value of the first field with this name.
 pub fn first_named<'a>(buf: &'a [u8], fields: &[HeaderSpan], name: &[u8]) -> Option<&'a [u8]>
     requires { All (IsHeaderWithin (length buf.now)) fields.now }
     ensures { option_copied result

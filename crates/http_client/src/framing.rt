@@ -9,8 +9,8 @@ use crate::fields::{count_named, first_named};
 use httparse::spans::HeaderSpan;
 use std::str;
 
-/// From where on a head with these fields and a body is no reply, if it is none. `head` and `body`
-/// are their lengths.
+/// Checks the fields that frame the body. `head` and `body` are their lengths in bytes. A fault is
+/// the byte position from which the reply is invalid: 0 or the length of the head.
 pub fn fault_place(buf: &[u8], fields: &[HeaderSpan], head: usize, body: usize) -> Option<usize>
     requires { All (IsHeaderWithin (length buf.now)) fields.now }
     ensures { result ≡ replies.fault_place
@@ -30,9 +30,9 @@ pub fn fault_place(buf: &[u8], fields: &[HeaderSpan], head: usize, body: usize) 
     }
 }
 
-/// The same by the one value of Content-Length.
+/// The same check for a single Content-Length value.
 fn length_fault(value: &[u8], head: usize, body: usize) -> Option<usize>
-    ensures { result ≡ replies.fault_place (replies.sized value.now) head body }
+    ensures { result ≡ replies.fault_place (replies.framed_by_size value.now) head body }
 {
     if !is_number(value) {
         return Some(0);
@@ -46,7 +46,7 @@ fn length_fault(value: &[u8], head: usize, body: usize) -> Option<usize>
 
 /// Whether the value is one or more digits.
 fn is_number(value: &[u8]) -> bool
-    ensures { result ≡ replies.is_number value.now }
+    ensures { result ≡ replies.is_digit_text value.now }
 {
     !value.is_empty() && has_only_digits(value)
 }
@@ -57,9 +57,9 @@ fn has_only_digits(value: &[u8]) -> bool
     value.iter().all(|byte| byte.is_ascii_digit())
 }
 
-/// Whether the digits write this number. Those of a number that is too large do not.
+/// Whether the digits write this number. They do not if their number is too large.
 fn is_length(digits: &[u8], len: usize) -> bool
-    requires { IsTrue (replies.is_number digits.now) }
+    requires { IsTrue (replies.is_digit_text digits.now) }
     ensures { result ≡ (digits_value 10 digits.now == len) }
 {
     let Ok(text) = str::from_utf8(digits) else {

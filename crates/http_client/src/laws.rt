@@ -1,4 +1,4 @@
-//! Laws, each the contract of a function that does nothing.
+//! Theorems, each the contract of a function with an empty body.
 ghost use Rattle.std.specs.Prelude.{◌≡◌, ℕ, List, Result, IsTrue};
 ghost use Rattle.httparse.specs.Grammar.{RequestHead};
 ghost use Rattle.td_base.specs.declared.report.Ask.{Ask};
@@ -7,19 +7,19 @@ ghost use Rattle.http_client.specs.SentHeads.{IsSentCalendarHead, IsSentHead, is
 ghost use Rattle.http_client.specs.declared.reply.BadReply.{BadReply};
 ghost use Rattle.http_client.specs.declared.reply.Reply.{Reply};
 
-/// Bytes are one thing alone.
+/// A list of bytes has only one reading.
 pub fn one_reading()
     ensures { (bytes : List ℕ) (r s : Result Reply BadReply)
         → IsReading bytes r → IsReading bytes s → r ≡ s }
 {}
 
-/// A request at a host of visible bytes is a head, and nothing follows it.
+/// A request with a host of visible bytes is a request head, and nothing follows it.
 pub fn requests_are_heads()
     ensures { (host : List ℕ) (a : Ask) → IsTrue (is_visible_text host)
         → (h : RequestHead) × IsSentHead host a h }
 {}
 
-/// The same of a request of a mirror that keeps calendars.
+/// The same for a request of a mirror that keeps calendars.
 pub fn calendar_requests_are_heads()
     ensures { (host : List ℕ) (a : Ask) → IsTrue (is_visible_text host)
         → (h : RequestHead) × IsSentCalendarHead host a h }

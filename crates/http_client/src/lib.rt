@@ -1,24 +1,25 @@
-//! What is asked of another server of time zones, as bytes of HTTP/1.0, and what its answer's bytes
-//! are (RFC 7808, sections 5.2 and 5.3; RFC 9112).
+//! The client side of the service (RFC 7808, sections 5.2 and 5.3; RFC 9112). It writes requests to
+//! another time zone server as bytes of HTTP/1.0, and reads the replies.
 //!
-//! [`request`] appends `request_text` of `specs/Requests.antt`, and [`request_calendar`] the same for
-//! calendars, which is in `specs/CalendarRequests.antt`. [`read`] gives what `IsReading` of
-//! `specs/Replies.antt` says of the bytes, and [`one_reading`] is the law that this is one thing
-//! alone. No byte is exchanged here.
+//! [`request`] appends `request_text` of `specs/Requests.antt`, and [`request_calendar`] the same
+//! for calendars (`specs/CalendarRequests.antt`). [`read`] gives the reply in the bytes, as
+//! `IsReading` of `specs/Replies.antt` defines it. [`one_reading`] is the theorem that there is
+//! only one. Nothing is sent or received here. It depends on `td_base`, `httparse` and
+//! `percent_encoding`; `mirror` and `calendar_mirror` use it.
 #![tactic(auto)]
 
-// Requests, written.
+// Writing requests.
 mod calendar_requesting;
 mod requesting;
 
-// Replies, read.
+// Reading replies.
 mod fields;
 mod framing;
 mod limits;
 mod reading;
 mod reply;
 
-// Laws, and what may cross threads.
+// Theorems, and which types may cross threads.
 mod laws;
 mod send_sync;
 

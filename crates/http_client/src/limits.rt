@@ -1,2 +1,2 @@
-/// How many fields the head of a reply may have.
+/// The most fields in the head of a reply.
 pub const MOST_FIELDS: usize = 64;

@@ -14,8 +14,8 @@ use std::alloc::Global;
 use td_base::Bytes;
 use td_base::texts::skip;
 
-/// The reply that the bytes are, all of them, where they are one (RFC 9112, section 6.3). A body by
-/// Transfer-Encoding is not read.
+/// Reads the bytes as one whole reply (RFC 9112, section 6.3). A reply with Transfer-Encoding is
+/// refused.
 pub fn read(alloc: Global, bytes: &[u8]) -> Result<Reply, BadReply>
     ensures found { IfOk result (λ reply. IsReading bytes.now (Ok reply)) }
     ensures fault { IfErr result (λ e. e ≢ bad.NoMemory → IsReading bytes.now (Err e)) }
@@ -30,7 +30,7 @@ pub fn read(alloc: Global, bytes: &[u8]) -> Result<Reply, BadReply>
     }
 }
 
-/// The same, where the head was parsed.
+/// The same, after the head was parsed.
 fn read_spans(
     alloc: Global,
     bytes: &[u8],

@@ -2,20 +2,21 @@ use std::error::Error;
 use std::fmt;
 use td_base::{Bytes, NoMemory};
 
-/// What a server answered.
+/// The reply of a server.
 #[derive(Drop)]
 pub struct Reply {
     /// The status code.
     pub status: u16,
+    /// All bytes after the head.
     pub body: Bytes,
 }
 
-/// Why bytes are no reply.
+/// Why bytes are not a reply.
 #[derive(Clone, Copy, Debug, PartialEq, Eq)]
 pub enum BadReply {
-    /// There is no memory for the reply.
+    /// Out of memory.
     NoMemory,
-    /// They are none from this place on: 0 for the head, and its length for the body.
+    /// The byte position from which they are invalid: 0 for the head, and its length for the body.
     BadReply(usize),
 }
 

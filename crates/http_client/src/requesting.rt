@@ -5,7 +5,8 @@ use percent_encoding::{AsciiSet, NON_ALPHANUMERIC, ascii_set, percent_encode};
 use std::alloc::Global;
 use td_base::{Ask, Bytes, NoMemory};
 
-/// The bytes that are escaped in a target: all that are not unreserved (RFC 3986, section 2.3).
+/// The bytes that are percent-encoded in a target: all that are not unreserved (RFC 3986, section
+/// 2.3).
 pub const ESCAPED: AsciiSet = ascii_set!(
     NON_ALPHANUMERIC
         .remove(b'-')
@@ -14,8 +15,8 @@ pub const ESCAPED: AsciiSet = ascii_set!(
         .remove(b'~')
 );
 
-/// Appends the request for what is asked, with this Host (RFC 9112, section 3.2). Where memory runs
-/// out nothing is appended.
+/// Appends the request, with this Host (RFC 9112, section 3.2). When out of memory, nothing is
+/// appended.
 pub fn request(alloc: Global, out: &mut Bytes, ask: &Ask, host: &[u8]) -> Result<(), NoMemory>
     ensures ok { OnOk result (out.new ≡ out.old ++ requests.request_text host.now ask.now) }
     ensures err { OnErr result (out.new ≡ out.old) }
@@ -24,7 +25,7 @@ pub fn request(alloc: Global, out: &mut Bytes, ask: &Ask, host: &[u8]) -> Result
     out.append(text.as_slice())
 }
 
-/// The request.
+/// The bytes of the request.
 fn request_text(alloc: Global, ask: &Ask, host: &[u8]) -> Result<Bytes, NoMemory>
     ensures { IfOk result (λ text. text ≡ requests.request_text host.now ask.now) }
 {
@@ -36,6 +37,7 @@ fn request_text(alloc: Global, ask: &Ask, host: &[u8]) -> Result<Bytes, NoMemory
     Ok(out)
 }
 
+/// Appends the request line, with its CRLF.
 pub fn put_request_line(out: &mut Bytes, ask: &Ask) -> Result<(), NoMemory>
     ensures { OnOk result (out.new ≡ out.old ++ requests.request_line ask.now) }
 {
@@ -45,7 +47,7 @@ pub fn put_request_line(out: &mut Bytes, ask: &Ask) -> Result<(), NoMemory>
     Ok(())
 }
 
-/// Appends the text with something before it and something after it.
+/// Appends the text between `front` and `end`.
 pub fn put_enclosed(out: &mut Bytes, front: &[u8], text: &[u8], end: &[u8]) -> Result<(), NoMemory>
     ensures { OnOk result (out.new ≡ out.old ++ requests.enclosed front.now text.now end.now) }
 {
@@ -55,7 +57,7 @@ pub fn put_enclosed(out: &mut Bytes, front: &[u8], text: &[u8], end: &[u8]) -> R
     Ok(())
 }
 
-/// The media type of what is asked for.
+/// The media type of the Accept field.
 #[tactic(auto, unfolding(crate::specs::Requests::accepted))]
 fn accepted(ask: &Ask) -> &'static [u8]
     ensures { result.now ≡ requests.accepted ask.now }
@@ -84,7 +86,7 @@ fn put_list_target(out: &mut Bytes, token: &Option<Bytes>) -> Result<(), NoMemor
     }
 }
 
-/// Appends a path, and a text as it stands in targets.
+/// Appends a path and the percent-encoded text.
 fn put_named(out: &mut Bytes, path: &[u8], text: &[u8]) -> Result<(), NoMemory>
     ensures { OnOk result (out.new ≡ out.old ++ (path.now ++ requests.escaped text.now)) }
 {

@@ -8,7 +8,7 @@ use Rattle.http_request.specs.Ends.{feeds, fits, window, is_full}
 use Rattle.http_request.specs.Judging.{refusal_of, asked_by}
 use Rattle.http_request.specs.Steps.{HeadOf, Whole, Malformed, TooLarge, NotYet, Taken, Refused, Waiting, verdict, IsStep, IsTaken}
 use Rattle.http_request.specs.Scans.{IsScanned, head_end}
-use Rattle.http_request.specs.Readings.{ReadsHead, FindsStep, IsServed}
+use Rattle.http_request.specs.Readings.{ReadsHead, FindsStep, IsServedMethod}
 use Rattle.http_request.specs.declared.scan.Scan.{Scan}
 use Rattle.http_request.specs.declared.limits.TheConstants.{MOST_HEAD_BYTES, MOST_FEEDS}
 use Rattle.http_request.specs.declared.step.Step.{Step}
@@ -78,7 +78,7 @@ ends_within bytes n count (step.Refused status) e c f (inr x) =
 ends_within bytes n count (step.Waiting scan) e c f x = absurd x
 
 pub ends_taken : (bytes : List ℕ) (n count : ℕ) → head_end bytes ≡ Some n → count ≡ feeds (take n bytes)
-    → (nat_le n MOST_HEAD_BYTES && nat_le count MOST_FEEDS) ≡ true → IsServed (take n bytes) → IsTaken bytes
+    → (nat_le n MOST_HEAD_BYTES && nat_le count MOST_FEEDS) ≡ true → IsServedMethod (take n bytes) → IsTaken bytes
 ends_taken bytes n count e c f x =
     (asked_by x.0, length (print_request x.0), judged bytes n x.0 None (within_is bytes n count e c f) x.1 x.2)
 

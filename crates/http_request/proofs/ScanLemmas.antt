@@ -6,7 +6,7 @@ use Rattle.std.proofs.lemmas.List.{take_more, drop_more, take_all, append-nil}
 use Rattle.http_request.specs.Ends.{is_blank_line, feeds}
 use Rattle.http_request.specs.Scans.{IsScanned, ends_with, past, line_kind, line_past, is_other, Searches, end_from, head_end}
 use Rattle.http_request.specs.declared.scan.Scan.{Scan}
-use Rattle.http_request.specs.declared.scan.Line.TheVariants as line
+use Rattle.http_request.specs.declared.scan.ScannedLine.TheVariants as line
 use Rattle.http_request.specs.declared.scan.Search.TheVariants as search
 use Rattle.http_request.proofs.EndLemmas.{end_last, end_line, end_within, end_none, feeds-append}
 

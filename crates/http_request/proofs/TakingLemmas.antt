@@ -11,7 +11,7 @@ use Rattle.http_request.specs.Ends.{feeds}
 use Rattle.td_base.specs.Texts.{field_values}
 use Rattle.http_request.specs.Judging.{refusal, refusal_of, asked_by, pairs_of, is_served, is_well_formed, has_hosts, is_host, is_zero}
 use Rattle.http_request.specs.Steps.{Found, Whole, Malformed, TooLarge, NotYet, Finds, Taken, Refused, Waiting, outcome, verdict, IsStep, IsTaken, Steps}
-use Rattle.http_request.specs.Taking.{HasForm, HasStatus, IsRefusal, LeavesFewer, LeavesRoom}
+use Rattle.http_request.specs.Taking.{HasForm, HasStatus, IsRefusalStatus, LeavesFewer, LeavesRoom}
 use Rattle.http_request.specs.declared.head.Head.{Head}
 use Rattle.http_request.specs.declared.head.Next.{Next}
 use Rattle.http_request.specs.declared.head.Next.TheVariants as next
@@ -103,23 +103,23 @@ step_room old new (Ok next.More) s = subst (λ l. (length l < MOST_HEAD_BYTES) �
 step_room old new (Ok (next.Bad status)) s = tt
 step_room old new (Err e) s = tt
 
-refusal_is : (method target : List ℕ) (minor : ℕ) (pairs : List (List ℕ × List ℕ)) (s : ℕ) → refusal method target minor pairs ≡ Some s → IsRefusal s
+refusal_is : (method target : List ℕ) (minor : ℕ) (pairs : List (List ℕ × List ℕ)) (s : ℕ) → refusal method target minor pairs ≡ Some s → IsRefusalStatus s
 unfolding refusal
 refusal_is method target minor pairs s e = by_tests (is_served method) (is_well_formed minor target pairs) e
   where
-    by_tests : (m w : Bool) → cond {A = Option ℕ} (not m) (Some 405) (cond {A = Option ℕ} (not w) (Some 400) None) ≡ Some s → IsRefusal s
+    by_tests : (m w : Bool) → cond {A = Option ℕ} (not m) (Some 405) (cond {A = Option ℕ} (not w) (Some 400) None) ≡ Some s → IsRefusalStatus s
     by_tests true true x = absurd (none-some s x)
     by_tests true false x = inl (sym (same_Some 400 s x))
     by_tests false w x = inr (inl (sym (same_Some 405 s x)))
 
-pub refused_status : (bytes : List ℕ) (s : ℕ) → IsStep bytes (Refused s) → IsRefusal s
+pub refused_status : (bytes : List ℕ) (s : ℕ) → IsStep bytes (Refused s) → IsRefusalStatus s
 refused_status bytes s x = by_found x.found x.is
   where
-    by_refusal : (h : RequestHead) (r : Option ℕ) → refusal_of h ≡ r → Refused s ≡ verdict h r → IsRefusal s
-    by_refusal h (Some t) d e = subst IsRefusal (sym (same_status s t e)) (refusal_is h.method h.target h.minor (pairs_of h) t d)
+    by_refusal : (h : RequestHead) (r : Option ℕ) → refusal_of h ≡ r → Refused s ≡ verdict h r → IsRefusalStatus s
+    by_refusal h (Some t) d e = subst IsRefusalStatus (sym (same_status s t e)) (refusal_is h.method h.target h.minor (pairs_of h) t d)
     by_refusal h None d e = absurd (refused≢taken s (asked_by h) (length (print_request h)) e)
 
-    by_found : (f : Found) → Refused s ≡ outcome f → IsRefusal s
+    by_found : (f : Found) → Refused s ≡ outcome f → IsRefusalStatus s
     by_found NotYet e = absurd (refused≢waiting s e)
     by_found Malformed e = inl (same_status s 400 e)
     by_found TooLarge e = inr (inr (same_status s 431 e))

@@ -19,8 +19,8 @@ ReadsHead text (step.Refused status) =
 ReadsHead text (step.Waiting scan) = ⊥
 
 -- a window begins with a head that is served
-abbrev pub IsServed : List ℕ → Type 0
-IsServed text = (h : RequestHead) × HeadOf text h × (refusal_of h ≡ None)
+abbrev pub IsServedMethod : List ℕ → Type 0
+IsServedMethod text = (h : RequestHead) × HeadOf text h × (refusal_of h ≡ None)
 
 -- the step at the beginning of the bytes, with the search where it waits
 abbrev pub FindsStep : List ℕ → Step → Type 0

@@ -1,8 +1,8 @@
 -- How far a list was searched for the end of its first head.
 use Rattle.std.specs.Prelude.{Option, None, ◌≡◌, ℕ, ◌≤◌, List, [], ◌∷◌, ◌++◌, length, take, Bool}
 use Rattle.std.specs.Prelude.{true, false, not, ◌&&◌, ◌||◌, ◌+◌, if◌then◌else◌, ◌==◌, Some}
-use Rattle.http_request.specs.declared.scan.Line.{Line}
-use Rattle.http_request.specs.declared.scan.Line.TheVariants as line
+use Rattle.http_request.specs.declared.scan.ScannedLine.{ScannedLine}
+use Rattle.http_request.specs.declared.scan.ScannedLine.TheVariants as line
 use Rattle.http_request.specs.declared.scan.Scan.{Scan}
 use Rattle.http_request.specs.declared.scan.Search.{Search}
 use Rattle.http_request.specs.declared.scan.Search.TheVariants as search
@@ -22,17 +22,17 @@ abbrev pub head_end : List ℕ → Option ℕ
 head_end bytes = end_from false [] 0 bytes
 
 -- what the search keeps of a line
-abbrev pub line_kind : List ℕ → Line
+abbrev pub line_kind : List ℕ → ScannedLine
 line_kind [] = line.Nothing
 line_kind (b ∷ []) = if b == 13 then line.Return else line.Other
 line_kind (b ∷ c ∷ bs) = line.Other
 
-abbrev pub is_other : Line → Bool
+abbrev pub is_other : ScannedLine → Bool
 is_other line.Nothing = false
 is_other line.Return = false
 is_other line.Other = true
 
-abbrev pub line_past : Line → ℕ → Line
+abbrev pub line_past : ScannedLine → ℕ → ScannedLine
 line_past line.Nothing b = if b == 13 then line.Return else line.Other
 line_past line.Return b = line.Other
 line_past line.Other b = line.Other

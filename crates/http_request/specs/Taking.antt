@@ -32,10 +32,10 @@ HasForm next.More = ⊤
 HasForm (next.Bad status) = ⊤
 
 -- the status of a refusal: malformed, of another method, or too large
-abbrev pub IsRefusal : ℕ → Type 0
-IsRefusal status = (status ≡ 400) ⊎ (status ≡ 405) ⊎ (status ≡ 431)
+abbrev pub IsRefusalStatus : ℕ → Type 0
+IsRefusalStatus status = (status ≡ 400) ⊎ (status ≡ 405) ⊎ (status ≡ 431)
 
 abbrev pub HasStatus : Next → Type 0
-HasStatus (next.Bad status) = IsRefusal status
+HasStatus (next.Bad status) = IsRefusalStatus status
 HasStatus (next.Request head) = ⊤
 HasStatus next.More = ⊤

@@ -13,7 +13,7 @@ use std::alloc::Global;
 use td_base::texts::{cut, is_same, trim};
 use td_base::{Bytes, NoMemory};
 
-/// Whether the field has this name, whatever the case of its letters.
+/// Whether the field has this name, ignoring case.
 fn is_named(buf: &[u8], field: HeaderSpan, name: &[u8]) -> bool
     requires { IsHeaderWithin (length buf.now) field }
     ensures { result ≡ str_eq_ignore_ascii_case (header_bytes buf.now field).0 name.now }
@@ -42,7 +42,7 @@ fn is_zeros(value: &[u8]) -> bool
     !value.is_empty() && has_only_zeros(value)
 }
 
-/// Whether each byte is a zero.
+/// Whether all bytes are zeros.
 fn has_only_zeros(value: &[u8]) -> bool
     ensures { result ≡ list_all (λ b. b == 48) value.now }
 {
@@ -63,21 +63,21 @@ pub fn all_zero(buf: &[u8], fields: &[HeaderSpan], name: &[u8]) -> bool
     true
 }
 
-/// Whether a byte may stand in a host or a port.
+/// Whether a byte may occur in a host or a port.
 fn is_host_byte(byte: u8) -> bool
     ensures { result ≡ is_host_byte byte }
 {
     byte.is_ascii_alphanumeric() || b"-._~!$&'()*+,;=%:[]".contains(&byte)
 }
 
-/// Whether a value has bytes of hosts and ports alone.
+/// Whether a value has only bytes of hosts and ports.
 fn is_host(value: &[u8]) -> bool
     ensures { result ≡ is_host value.now }
 {
     value.iter().all(|byte| is_host_byte(*byte))
 }
 
-/// Whether each value under this name is one of a Host field.
+/// Whether each value under this name is valid in a Host field.
 pub fn all_hosts(buf: &[u8], fields: &[HeaderSpan], name: &[u8]) -> bool
     requires { All (IsHeaderWithin (length buf.now)) fields.now }
     ensures { result ≡ list_all is_host
@@ -91,7 +91,7 @@ pub fn all_hosts(buf: &[u8], fields: &[HeaderSpan], name: &[u8]) -> bool
     true
 }
 
-/// The values under this name, joined.
+/// The values under this name, joined by a comma and a space.
 #[tactic(auto, using(crate::proofs::JoinLemmas::joined_start))]
 pub fn joined(
     alloc: Global,
@@ -112,7 +112,7 @@ pub fn joined(
     Ok(all)
 }
 
-/// The text with one more value at its end.
+/// The joined text with one more value at its end.
 fn with_value(alloc: Global, all: Option<Bytes>, value: &[u8]) -> Result<Bytes, NoMemory>
     ensures { IfOk result (λ text. text ≡ joined_value all value.now) }
 {
@@ -126,7 +126,7 @@ fn with_value(alloc: Global, all: Option<Bytes>, value: &[u8]) -> Result<Bytes, 
     }
 }
 
-/// Whether the comma list has this member, whatever the case of its letters.
+/// Whether the comma-separated list has this member, ignoring case.
 fn is_listed(list: &[u8], member: &[u8]) -> bool
     ensures { result ≡ has_member member.now list.now }
 {

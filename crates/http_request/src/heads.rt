@@ -8,7 +8,7 @@ ghost use Rattle.http_request.specs.Taking.{HasForm, HasStatus, LeavesFewer, Lea
 ghost use Rattle.http_request.specs.Taking.{LeavesSearched};
 
 use crate::Next;
-use crate::held::Held;
+use crate::held::HeldBytes;
 use crate::looking::look;
 use crate::scan::Scan;
 use crate::step::Step;
@@ -16,12 +16,12 @@ use std::alloc::Global;
 use std::marker::Model;
 use td_base::NoMemory;
 
-/// The bytes of a connection that are not taken yet, and the heads at their beginning. Contracts
-/// see these bytes, how many of them were searched for the end of the first head, and how many
-/// bytes the buffer has.
+/// The bytes of a connection that are not taken yet, and a reader of the heads at their beginning.
+/// Contracts see these bytes, how many of them were searched for the end of the first head, and the
+/// size of the buffer.
 #[derive(Drop)]
 pub struct Heads {
-    held: Held,
+    held: HeldBytes,
     scan: Scan,
 }
 
@@ -37,25 +37,26 @@ impl Model for Heads {
 }
 
 impl Heads {
-    /// No bytes. It takes no memory, and grows by the allocator.
+    /// An empty buffer. It takes no memory yet; later growth uses this allocator.
     pub fn new(alloc: Global) -> Heads
         ensures { result ≡ only_seen [] 0 }
     {
         Heads {
-            held: Held::new(alloc),
+            held: HeldBytes::new(alloc),
             scan: Scan::start(),
         }
     }
 
-    /// How many bytes are held, those that were taken and not let go among them. `feed` lets go of
-    /// them.
+    /// How many bytes the buffer holds, with those already taken. The next `feed` frees the taken
+    /// bytes.
     pub fn held(&self) -> usize
         ensures { result ≡ self.now.size }
     {
         self.held.size()
     }
 
-    /// Appends a piece to what is held, which is moved where bytes were taken since the last piece.
+    /// Appends a piece. If bytes were taken since the last piece, they are dropped first and the
+    /// rest is moved.
     pub fn feed(&mut self, piece: &[u8]) -> Result<(), NoMemory>
         ensures ok { OnOk result
             (self.new ≡ only_seen (self.old.rest ++ piece.now) self.old.seen) }
@@ -67,8 +68,8 @@ impl Heads {
         Ok(())
     }
 
-    /// What stands at the beginning of what is held. A request takes its bytes. A refusal is
-    /// answered for good, and it and `More` need no memory.
+    /// Reads the head at the beginning of the held bytes, and takes the bytes of a request. A
+    /// refusal is returned again by every later call. A refusal and `More` need no memory.
     pub fn next(&mut self, alloc: Global) -> Result<Next, NoMemory>
         ensures steps { IfOk result (λ next. Steps self.old.rest next self.new.rest) }
         ensures err { OnErr result (self.new ≡ self.old) }
@@ -78,11 +79,11 @@ impl Heads {
         ensures size { self.new.size ≡ self.old.size }
         ensures searched { IfOk result (LeavesSearched self.new) }
 
-        // Over all the bytes that were fed, with the heads given so far.
+        // The result in terms of all the bytes fed, with the heads given so far.
         ensures cutting { IfOk result (λ next. (all : List ℕ) (given : List Head)
             → Gives all given self.old.rest → Continues all given next self.new.rest) }
 
-        // What a caller that reads and asks in turn needs of each answer.
+        // What a caller needs that feeds and reads in turn.
         ensures form { IfOk result HasForm }
         ensures status { IfOk result HasStatus }
         ensures fewer { IfOk result (LeavesFewer self.old.rest self.new.rest) }

@@ -20,7 +20,7 @@ fn is_target(target: &[u8]) -> bool
     begins(target, b"/") || begins(target, b"http://") || begins(target, b"https://")
 }
 
-/// Whether the head may be served.
+/// Whether the head is valid and may be served.
 fn is_sound(buf: &[u8], target: &[u8], minor: u8, fields: &[HeaderSpan]) -> bool
     requires { All (IsHeaderWithin (length buf.now)) fields.now }
     ensures { result
@@ -34,7 +34,7 @@ fn is_sound(buf: &[u8], target: &[u8], minor: u8, fields: &[HeaderSpan]) -> bool
         && is_target(target)
 }
 
-/// Whether the connection is to be closed.
+/// Whether the connection closes after the reply.
 fn is_last(buf: &[u8], minor: u8, fields: &[HeaderSpan]) -> bool
     requires { All (IsHeaderWithin (length buf.now)) fields.now }
     ensures { result ≡ closes minor (map (header_bytes buf.now) fields.now) }
@@ -42,7 +42,7 @@ fn is_last(buf: &[u8], minor: u8, fields: &[HeaderSpan]) -> bool
     minor == 0 || closes_any(buf, fields)
 }
 
-/// The status with which the head is refused, if it is.
+/// The status of a refusal. `None` if the head is not refused.
 #[tactic(auto, unfolding(crate::specs::Judging::refusal))]
 pub fn refusal(
     buf: &[u8],
@@ -71,7 +71,7 @@ fn is_served(method: &[u8]) -> bool
     method == Method::GET.as_str().as_bytes() || method == Method::HEAD.as_str().as_bytes()
 }
 
-/// What the head asks for.
+/// The parts of the head that decide the reply.
 pub fn asked(
     alloc: Global,
     buf: &[u8],

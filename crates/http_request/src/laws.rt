@@ -1,4 +1,4 @@
-//! Laws of the definitions, each the contract of a function that does nothing.
+//! Theorems about the definitions, each the contract of a function with an empty body.
 ghost use Rattle.std.specs.Prelude.{◌≡◌, ◌<◌, ◌≤◌, ◌++◌, ◌∷◌, [], ℕ, List, drop, length};
 ghost use Rattle.std.specs.Prelude.{◌||◌, nat_le, None, Some, if◌then◌else◌, true, false};
 ghost use Rattle.http_request.specs.Asks.{Asks, Bad, Ending, Gives, IsPrefixOf, Rest};
@@ -9,7 +9,7 @@ ghost use Rattle.http_request.specs.declared.head.Head.{Head};
 ghost use Rattle.http_request.specs.declared.limits.TheConstants.{MOST_HEAD_BYTES, MOST_FEEDS};
 ghost use Rattle.http_request.specs.declared.scan.Scan.{Scan};
 
-/// The heads of a prefix are a prefix of the heads of the whole, and a refusal of the prefix is
+/// The heads of a prefix are a prefix of the heads of the whole. A refusal of the prefix is also
 /// that of the whole.
 pub fn prefixes()
     ensures { (bytes next : List ℕ) (heads : List Head) (end : Ending)
@@ -18,20 +18,19 @@ pub fn prefixes()
         → IsPrefixOf heads end all all_end }
 {}
 
-/// One step alone stands at the beginning of a list.
+/// Only one step is possible at the beginning of a list.
 pub fn one_step()
     ensures { (bytes : List ℕ) (one other : Outcome)
         → IsStep bytes one → IsStep bytes other → one ≡ other }
 {}
 
-/// A refusal stays, whatever follows.
+/// A refusal stays, whatever bytes follow.
 pub fn refusal_stays()
     ensures { (bytes next : List ℕ) (status : ℕ)
         → IsStep bytes (Refused status) → IsStep (bytes ++ next) (Refused status) }
 {}
 
-/// A head has bytes and stands within the list, and where nothing stands yet there is room for a
-/// head.
+/// A head is not empty and lies within the list. If no head is complete yet, there is room for one.
 pub fn is_bounded()
     ensures taken { (bytes : List ℕ) (head : Head) (len : ℕ)
         → IsStep bytes (Taken head len) → (0 < len) × (len ≤ length bytes) }
@@ -39,8 +38,8 @@ pub fn is_bounded()
         → IsStep bytes Waiting → (length bytes < MOST_HEAD_BYTES) × (feeds bytes < MOST_FEEDS) }
 {}
 
-/// What was given stays given when a piece is fed. A head that is taken is the next, and a
-/// refusal and a wait end them.
+/// The heads given so far stay the same when a piece is fed. A head that is taken is the next of
+/// them. If a refusal or an incomplete head follows, these are all the heads.
 pub fn gives()
     ensures feed { (bytes piece : List ℕ) (heads : List Head) (held : List ℕ)
         → Gives bytes heads held → Gives (bytes ++ piece) heads (held ++ piece) }
@@ -53,8 +52,8 @@ pub fn gives()
         → Gives bytes heads held → IsStep held Waiting → Asks bytes heads (Rest held) }
 {}
 
-/// How far a list was searched stays, whatever follows. An end that is found has bytes before it,
-/// and is a window where it is within the limits. Where none is found there is no window.
+/// The state of a search stays valid, whatever bytes follow. An end that is found has bytes before
+/// it. It gives a window if it is within the limits. Without an end there is no window.
 pub fn searches()
     ensures stays { (bytes next : List ℕ) (scan : Scan)
         → IsScanned bytes scan → IsScanned (bytes ++ next) scan }

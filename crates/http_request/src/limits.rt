@@ -1,9 +1,9 @@
-/// How many bytes a head may have, the empty lines in front of it among them.
+/// The most bytes of a head, with the empty lines in front of it.
 pub const MOST_HEAD_BYTES: usize = 16_384;
 
-/// How many line feeds a head may have: those of the request line, of 64 fields and of the empty
-/// line. Empty lines in front of it count too.
+/// The most line feeds of a head: those of the request line, of 64 fields and of the empty line.
+/// Empty lines in front of it count too.
 pub const MOST_FEEDS: usize = 66;
 
-/// How many fields a head may have. Line feeds leave room for 64 of them.
+/// The most fields that are parsed in a head. The limit of line feeds leaves room for 64.
 pub const MOST_FIELDS: usize = 66;

@@ -13,7 +13,7 @@ use http::StatusCode;
 use std::alloc::Global;
 use td_base::NoMemory;
 
-/// Looks at the beginning of the bytes, which were searched that far.
+/// Makes one step at the beginning of the bytes, which were already searched up to `scan`.
 pub fn look(alloc: Global, bytes: &[u8], scan: Scan) -> Result<Step, NoMemory>
     requires { IsScanned bytes.now scan }
     ensures finds { IfOk result (FindsStep bytes.now) }
@@ -25,21 +25,21 @@ pub fn look(alloc: Global, bytes: &[u8], scan: Scan) -> Result<Step, NoMemory>
     }
 }
 
-/// Whether so many bytes with so many line feeds leave no room for a head.
+/// Whether `len` bytes with `feeds` line feeds leave no room for a head.
 pub fn is_full(len: usize, feeds: usize) -> bool
     ensures { result ≡ (nat_le MOST_HEAD_BYTES len || nat_le MOST_FEEDS feeds) }
 {
     len >= MOST_HEAD_BYTES || feeds >= MOST_FEEDS
 }
 
-/// Whether a head of so many bytes with so many line feeds is within the limits.
+/// Whether a head of `len` bytes with `feeds` line feeds is within the limits.
 pub fn is_within(len: usize, feeds: usize) -> bool
     ensures { result ≡ (nat_le len MOST_HEAD_BYTES && nat_le feeds MOST_FEEDS) }
 {
     len <= MOST_HEAD_BYTES && feeds <= MOST_FEEDS
 }
 
-/// Whether there is room for a head, where none ends in the bytes.
+/// The step if no head ends in the bytes: wait while there is room, otherwise refuse with 431.
 fn wait(bytes: &[u8], scan: Scan) -> Step
     requires { Searches bytes.now (search.Open scan) }
     ensures { FindsStep bytes.now result }

@@ -1,6 +1,6 @@
 ghost use Rattle.std.specs.Prelude.{◌≤◌, length, IfOk, OnErr};
 ghost use Rattle.httparse.specs.Spans.{IsRequestWithin, IsRequestOf};
-ghost use Rattle.http_request.specs.Readings.{ReadsHead, IsServed};
+ghost use Rattle.http_request.specs.Readings.{ReadsHead, IsServedMethod};
 ghost use Rattle.http_request.specs.declared.limits.TheConstants.{MOST_FIELDS};
 
 use crate::judging::{asked, refusal};
@@ -12,10 +12,10 @@ use httparse::spans::{EMPTY_HEADER_SPAN, HeaderSpan, RequestSpans, parse_request
 use std::alloc::Global;
 use td_base::NoMemory;
 
-/// Reads a window, in which a head ends. So nothing is waited for.
+/// Reads a window, which ends with the end of a head. So the result is never to wait.
 pub fn read(alloc: Global, window: &[u8]) -> Result<Step, NoMemory>
     ensures reads { IfOk result (ReadsHead window.now) }
-    ensures err { OnErr result (IsServed window.now) }
+    ensures err { OnErr result (IsServedMethod window.now) }
 {
     let mut room = [EMPTY_HEADER_SPAN; MOST_FIELDS];
     match parse_request(window, &mut room) {
@@ -25,7 +25,7 @@ pub fn read(alloc: Global, window: &[u8]) -> Result<Step, NoMemory>
     }
 }
 
-/// Judges the head that was parsed.
+/// Checks the parsed head.
 fn read_spans(
     alloc: Global,
     window: &[u8],
@@ -36,7 +36,7 @@ fn read_spans(
     requires within { IsRequestWithin window.now room.now spans }
     requires head { IsRequestOf window.now room.now spans }
     ensures reads { IfOk result (ReadsHead window.now) }
-    ensures err { OnErr result (IsServed window.now) }
+    ensures err { OnErr result (IsServedMethod window.now) }
 {
     let method = spans.method.of(window);
     let target = spans.path.of(window);

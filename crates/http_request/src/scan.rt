@@ -1,9 +1,9 @@
 ghost use Rattle.std.specs.Prelude.{◌≡◌, ◌≤◌, ◌<◌, ◌+◌, ◌^◌, ℕ, List};
 ghost use Rattle.http_request.specs.Scans.{IsScanned, Searches, ends_with, past, line_past};
 
-/// What has come of a line.
+/// The content so far of the current line.
 #[derive(Clone, Copy, PartialEq, Eq)]
-pub enum Line {
+pub enum ScannedLine {
     /// Nothing.
     Nothing,
     /// A carriage return.
@@ -12,19 +12,19 @@ pub enum Line {
     Other,
 }
 
-impl Line {
-    /// The line with one more byte, which is no line feed.
-    fn past(self, byte: u8) -> Line
+impl ScannedLine {
+    /// The line after one more byte, which is not a line feed.
+    fn past(self, byte: u8) -> ScannedLine
         ensures { result ≡ line_past self byte }
     {
         match self {
-            Line::Nothing if byte == b'\r' => Line::Return,
-            _ => Line::Other,
+            ScannedLine::Nothing if byte == b'\r' => ScannedLine::Return,
+            _ => ScannedLine::Other,
         }
     }
 }
 
-/// How far a list was searched for the end of its first head.
+/// The state of a search for the end of the first head.
 #[derive(Clone, Copy)]
 pub struct Scan {
     /// How many bytes were searched.
@@ -33,21 +33,21 @@ pub struct Scan {
     pub feeds: usize,
     /// Whether a line that is not empty is among them.
     pub begun: bool,
-    /// What they have of the line at their end.
-    pub line: Line,
+    /// The content of the last, unfinished line.
+    pub line: ScannedLine,
 }
 
-/// Where a search ended.
+/// The result of a search.
 #[derive(Clone, Copy)]
 pub enum Search {
-    /// The head ends after so many bytes, with so many line feeds.
+    /// The head ends after this many bytes, with this many line feeds.
     End(usize, usize),
     /// It does not end in these bytes.
     Open(Scan),
 }
 
 impl Scan {
-    /// Nothing was searched.
+    /// The state before the first byte.
     pub fn start() -> Scan
         ensures scanned { (bytes : List ℕ) → IsScanned bytes result }
         ensures none { result.seen ≡ 0 }
@@ -56,18 +56,18 @@ impl Scan {
             seen: 0,
             feeds: 0,
             begun: false,
-            line: Line::Nothing,
+            line: ScannedLine::Nothing,
         }
     }
 
-    /// Whether the head ends with this byte.
+    /// Whether this byte ends the head.
     fn is_ended_by(self, byte: u8) -> bool
         ensures { result ≡ ends_with self byte }
     {
-        byte == b'\n' && self.begun && !matches!(self.line, Line::Other)
+        byte == b'\n' && self.begun && !matches!(self.line, ScannedLine::Other)
     }
 
-    /// Past a byte that does not end the head.
+    /// The state after a byte that does not end the head.
     fn past(self, byte: u8) -> Scan
         requires room { self.seen + 1 < 2 ^ 64 }
         requires counted { self.feeds ≤ self.seen }
@@ -77,8 +77,8 @@ impl Scan {
             Scan {
                 seen: self.seen + 1,
                 feeds: self.feeds + 1,
-                begun: self.begun || matches!(self.line, Line::Other),
-                line: Line::Nothing,
+                begun: self.begun || matches!(self.line, ScannedLine::Other),
+                line: ScannedLine::Nothing,
             }
         } else {
             Scan {
@@ -91,7 +91,7 @@ impl Scan {
     }
 }
 
-/// Searches on for the end of the first head.
+/// Continues the search for the end of the first head.
 pub fn find_end(bytes: &[u8], from: Scan) -> Search
     requires { IsScanned bytes.now from }
     ensures { Searches bytes.now result }

@@ -1,13 +1,13 @@
 use crate::Head;
 use crate::scan::Scan;
 
-/// What stands at the beginning of the held bytes.
+/// One step at the beginning of the held bytes.
 #[derive(Drop)]
 pub enum Step {
-    /// A head that is served, with its length.
+    /// A head that is served, with its length in bytes.
     Taken(Head, usize),
-    /// The status of a refusal.
+    /// The status of a refusal: 400, 405 or 431.
     Refused(u16),
-    /// Nothing yet, and how far the bytes were searched.
+    /// The head is not complete yet; the state of the search.
     Waiting(Scan),
 }

@@ -1,38 +1,37 @@
 use td_base::Bytes;
 
-/// A parameter of a query, by how often its name stands there.
+/// A parameter of a query: absent, given once, or repeated.
 #[derive(Drop)]
 pub enum Param {
     Absent,
-    /// The decoded value, which is UTF-8.
+    /// The decoded value, in UTF-8.
     Once(Bytes),
     Repeated,
 }
 
-/// The action of RFC 7808, section 5, that a target asks for.
+/// The action of RFC 7808, section 5, of a request target.
 #[derive(Drop)]
 pub enum Asked {
     Capabilities,
-    /// With `changedsince`.
+    /// The list of zones, with the parameter `changedsince`.
     List(Param),
-    /// With `pattern`, which is not absent.
+    /// A search, with the parameter `pattern`, which is not absent.
     Find(Param),
-    /// The name is not empty.
+    /// The data of a zone, whose name is not empty.
     Get {
         tzid: Bytes,
         start: Param,
         end: Param,
     },
-    /// The name is not empty.
+    /// The observances of a zone, whose name is not empty.
     Expand {
         tzid: Bytes,
         start: Param,
         end: Param,
     },
     LeapSeconds,
-    /// The well-known place of the service (RFC 7808, section 4.2.1.3), from which clients are sent
-    /// on.
+    /// The well-known URI of the service (RFC 7808, section 4.2.1.3), which redirects clients.
     WellKnown,
-    /// No action.
+    /// Not an action.
     Unknown,
 }

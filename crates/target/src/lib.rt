@@ -1,17 +1,18 @@
-//! What a request target asks for (RFC 7808, section 5): one of the actions with its parameters, or
-//! nothing that is served. [`read`] gives exactly what `asks` of `specs/Actions.antt` says.
-//! [`asks_by_name`] is the law that each zone can be asked for.
+//! Reader of request targets (RFC 7808, section 5): one of the actions with its parameters, or none
+//! of them. [`read`] computes `asks` of `specs/Actions.antt`. [`asks_by_name`] is the theorem that
+//! each zone has a target. It depends on `td_base`, `percent_encoding` and `form_urlencoded`;
+//! `actions` and `connection` use it.
 #![tactic(auto)]
 
-// What a target asks for.
+// The actions and their parameters.
 mod asked_types;
 
-// A target, read: its segments, its query, and the table of both.
+// Reading a target: its segments, its query, and the table of actions.
 mod parameters;
 mod reading;
 mod segments;
 
-// Laws, and what may cross threads.
+// Theorems, and which types may cross threads.
 mod laws;
 mod send_sync;
 

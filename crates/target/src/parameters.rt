@@ -7,7 +7,7 @@ use form_urlencoded::{decode, raw_pairs};
 use std::alloc::Global;
 use td_base::{Bytes, NoMemory};
 
-/// The parameter of this name.
+/// The parameter with this name.
 #[tactic(auto, unfolding(crate::specs::Parameters::parameter, crate::specs::Parameters::parameter_values))]
 pub fn parameter(alloc: Global, query: &[u8], wanted: &[u8]) -> Result<Param, NoMemory>
     ensures { IfOk result (λ found. found ≡ parameters.parameter wanted.now query.now) }
@@ -21,7 +21,7 @@ pub fn parameter(alloc: Global, query: &[u8], wanted: &[u8]) -> Result<Param, No
     Ok(found)
 }
 
-/// Whether an encoded name stands for this one.
+/// Whether an encoded name decodes to this one.
 #[tactic(auto, unfolding(crate::specs::Parameters::decoded_text))]
 fn is_named(alloc: Global, name: &[u8], wanted: &[u8]) -> Result<bool, NoMemory>
     ensures { IfOk result (λ is. is ≡ bytes_eq (parameters.decoded_text name.now) wanted.now) }
@@ -30,7 +30,7 @@ fn is_named(alloc: Global, name: &[u8], wanted: &[u8]) -> Result<bool, NoMemory>
     Ok(text.as_bytes() == wanted)
 }
 
-/// The parameter with one more value.
+/// The parameter after one more value.
 #[tactic(auto, unfolding(crate::specs::Parameters::decoded_text))]
 fn with_value(alloc: Global, found: Param, value: &[u8]) -> Result<Param, NoMemory>
     ensures { IfOk result

@@ -1,4 +1,4 @@
-//! The table of what segments ask for.
+//! The table of actions by the segments of a path.
 ghost use Rattle.std.specs.Prelude.{◌≡◌, IfOk};
 ghost use Rattle.target.specs.Actions as actions;
 
@@ -8,12 +8,11 @@ use crate::{Asked, Param};
 use std::alloc::Global;
 use td_base::{Bytes, NoMemory};
 
-/// What a request target asks for, in origin form or absolute form (RFC 9112, section 3.2). A
-/// target in another form asks for nothing.
+/// The action of a request target, in origin form or absolute form (RFC 9112, section 3.2). A
+/// target in any other form is `Unknown`.
 ///
-/// A path is cut at its slashes, and each segment percent-decoded by itself; a query is read as a
-/// form is, so `+` stands for a space there and for itself in a path. Names are compared with their
-/// case.
+/// A path is cut at its slashes, and each segment is percent-decoded separately. A query is decoded
+/// as a form, so `+` is a space there, but a plus sign in a path. Names are case-sensitive.
 #[tactic(auto, unfolding(crate::specs::Actions::asks))]
 pub fn read(alloc: Global, target: &[u8]) -> Result<Asked, NoMemory>
     ensures { IfOk result (λ asked. asked ≡ actions.asks target.now) }
@@ -25,7 +24,7 @@ pub fn read(alloc: Global, target: &[u8]) -> Result<Asked, NoMemory>
     }
 }
 
-/// What the segments ask for.
+/// The action of the segments.
 #[tactic(auto, unfolding(crate::specs::Actions::asked_action))]
 fn ask(alloc: Global, segments: &[Bytes], query: &[u8]) -> Result<Asked, NoMemory>
     ensures { IfOk result (λ asked. asked ≡ actions.asked_action segments.now query.now) }
@@ -38,7 +37,7 @@ fn ask(alloc: Global, segments: &[Bytes], query: &[u8]) -> Result<Asked, NoMemor
     }
 }
 
-/// What two segments ask for.
+/// The action of two segments.
 #[tactic(auto, unfolding(crate::specs::Actions::document))]
 fn ask_document(alloc: Global, root: &[u8], name: &[u8], query: &[u8]) -> Result<Asked, NoMemory>
     ensures { IfOk result (λ asked. asked ≡ actions.document root.now name.now query.now) }
@@ -61,7 +60,7 @@ fn ask_document(alloc: Global, root: &[u8], name: &[u8], query: &[u8]) -> Result
     Ok(Asked::Unknown)
 }
 
-/// A search for zones, or the list of them.
+/// Find if the query has a pattern, otherwise List.
 fn find_or_list(alloc: Global, query: &[u8]) -> Result<Asked, NoMemory>
     ensures { IfOk result (λ asked. asked ≡ actions.zones query.now) }
 {
@@ -71,7 +70,7 @@ fn find_or_list(alloc: Global, query: &[u8]) -> Result<Asked, NoMemory>
     }
 }
 
-/// The data of a zone.
+/// Get, with the parameters `start` and `end`.
 fn ask_zone(
     alloc: Global,
     root: &Bytes,
@@ -91,7 +90,7 @@ fn ask_zone(
     })
 }
 
-/// The observances of a zone.
+/// Expand, with the parameters `start` and `end`.
 fn ask_observances(
     alloc: Global,
     root: &Bytes,
@@ -115,7 +114,7 @@ fn ask_observances(
     })
 }
 
-/// Whether the segments are those of a zone, which has a name.
+/// Whether the segments are `tzdist`, `zones` and a name that is not empty.
 fn is_zone(root: &[u8], zones: &[u8], tzid: &[u8]) -> bool
     ensures { result ≡ actions.is_zone root.now zones.now tzid.now }
 {

@@ -8,7 +8,7 @@ use std::alloc::Global;
 use td_base::texts::{begins, skip};
 use td_base::{Bytes, Items, NoMemory};
 
-/// Path and query of a target.
+/// The path and the query of a target.
 #[tactic(auto, unfolding(crate::specs::Paths::path_and_query))]
 pub fn path_and_query(target: &[u8]) -> &[u8]
     ensures { result.now ≡ paths.path_and_query target.now }
@@ -34,7 +34,7 @@ pub fn cut_query(text: &[u8]) -> (&[u8], &[u8])
     (&text[..at], skip(&text[at..], 1))
 }
 
-/// The place of the first question mark, or the end.
+/// The position of the first question mark, or the length.
 fn question_mark(text: &[u8]) -> usize
     ensures place { result ≡ position_or_len paths.is_question_mark text.now }
     ensures inside { result ≤ length text.now }
@@ -44,7 +44,7 @@ fn question_mark(text: &[u8]) -> usize
         .unwrap_or(text.len())
 }
 
-/// The decoded segments of a path, if all are UTF-8.
+/// The decoded segments of a path. `None` if one is not UTF-8.
 pub fn decode_path(alloc: Global, path: &[u8]) -> Result<Option<Items<Bytes>>, NoMemory>
     ensures { IfOk result
         (λ segments. segments ≡ paths.decode_segments (paths.raw_segments path.now)) }
@@ -59,7 +59,7 @@ pub fn decode_path(alloc: Global, path: &[u8]) -> Result<Option<Items<Bytes>>, N
     Ok(Some(segments))
 }
 
-/// What a segment stands for, if that is UTF-8.
+/// The decoded segment. `None` if it is not UTF-8.
 fn decode_segment(alloc: Global, raw: &[u8]) -> Result<Option<Bytes>, NoMemory>
     ensures { IfOk result (λ segment. segment ≡ paths.decode_segment raw.now) }
 {
@@ -70,7 +70,7 @@ fn decode_segment(alloc: Global, raw: &[u8]) -> Result<Option<Bytes>, NoMemory>
     }
 }
 
-/// What follows the authority that the text begins with.
+/// The text after the authority that it begins with.
 fn after_authority(text: &[u8]) -> &[u8]
     ensures { result.now ≡ paths.after_authority text.now }
 {
@@ -78,7 +78,7 @@ fn after_authority(text: &[u8]) -> &[u8]
     &text[at..]
 }
 
-/// Where the authority ends that the text begins with.
+/// The position at which the authority at the beginning ends.
 fn end_of_authority(text: &[u8]) -> usize
     ensures place { result ≡ position_or_len paths.ends_authority text.now }
     ensures inside { result ≤ length text.now }
