@@ -1,4 +1,4 @@
-//! Laws of tables of leap seconds, each the contract of a function that does nothing.
+//! Laws of tables of leap seconds. Each is the contract of a function with an empty body.
 ghost use Rattle.std.specs.Prelude.{◌≡◌, ◌*ℤ◌, List, ℕ, pos, None, IsTrue};
 ghost use Rattle.std.specs.List.{AllByRecursion};
 ghost use Rattle.td_base.specs.Names.{IsPlain};
@@ -9,7 +9,7 @@ ghost use Rattle.leap_table.specs.Steps.{step_pairs};
 ghost use Rattle.tzif_reader.specs.LeapSteps.{leap_fault, leap_steps};
 ghost use Rattle.tzif_reader.specs.declared.zone_file.LeapLine.{LeapLine as Line};
 
-/// The day of each step of a table begins at a moment that has a meaning.
+/// The day of each step of a table begins at a supported moment, from 1800 to before 9999.
 #[tactic(auto, using(crate::proofs::Dated::dated_steps))]
 pub fn steps_are_dated()
     ensures { (lines : List Line) (steps : List Step) → leap_fault lines ≡ None

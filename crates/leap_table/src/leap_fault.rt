@@ -4,17 +4,19 @@ use std::error::Error;
 use std::fmt;
 use td_base::NoMemory;
 
-/// Why the leap lines of a file are no table of leap seconds: the first line that does not fit,
-/// counted from 0, of which a wrong step comes first. It prints as its number, its name and its
-/// value.
+/// Why the leap-second records of a file are not a table of leap seconds. It holds the number of
+/// the first record that does not fit, counted from 0. Of two faults of one record, `Step` comes
+/// first. It prints as its number, its name and its value.
 #[derive(Clone, Copy, Debug, PartialEq, Eq)]
 pub enum LeapFault {
     NoMemory,
-    /// The line is not later than the one before (the first: than the beginning of 1972), is at or
-    /// after 9999-01-01T00:00:00Z, or its correction is not one second more. The last of several
-    /// lines may repeat the correction before it, and tells then how long the table holds.
+    /// The record is not later than the one before (for the first: than the beginning of 1972), or
+    /// is at or after 9999-01-01T00:00:00Z. Or its correction is not one second more.
+    ///
+    /// The last of several records may repeat the correction before it. It then states when the
+    /// table expires.
     Step(usize),
-    /// The line's correction does not begin with a day of UTC.
+    /// The record's correction does not begin at the start of a day in UTC.
     Midnight(usize),
 }
 

@@ -1,4 +1,4 @@
-//! Single leap lines, each beside the one before it.
+//! Single leap-second records, each compared with the one before it.
 ghost use Rattle.std.specs.Prelude.{◌≡◌, ◌<◌, ◌≤◌, [], ◌∷◌, ◌+ℤ◌, ◌-ℤ◌, ◌≤ℤ◌, ◌<ℤ◌, int_rem, pos};
 ghost use Rattle.std.specs.Prelude.{false, true, length, IfOk, IfErr, OnOk, option_to_list};
 ghost use Rattle.std.specs.Int.{int_div_euclid};
@@ -13,7 +13,7 @@ use catalogue::LeapStep;
 use td_civil::HI;
 use tzif_reader::LeapLine;
 
-/// The line before one: before the first the beginning of 1972 and no correction.
+/// The record before one. Before the first this is the beginning of 1972, without correction.
 fn line_before(lines: &[LeapLine], number: usize) -> LeapLine
     requires { number < length lines.now }
     ensures { result ≡ spec.line_before lines.now number }
@@ -27,7 +27,7 @@ fn line_before(lines: &[LeapLine], number: usize) -> LeapLine
     lines[number - 1]
 }
 
-/// The line of this number.
+/// The record of this number, counted from 0.
 fn line_at(lines: &[LeapLine], number: usize) -> LeapLine
     requires { number < length lines.now }
     ensures { result ≡ spec.line_at lines.now number }
@@ -35,7 +35,7 @@ fn line_at(lines: &[LeapLine], number: usize) -> LeapLine
     lines[number]
 }
 
-/// Whether a line tells how long the table holds.
+/// Whether a record states when the table expires.
 #[tactic(auto, unfolding(tzif_reader::specs::LeapSteps::is_expiry))]
 fn is_expiry(lines: &[LeapLine], number: usize) -> bool
     requires { number < length lines.now }
@@ -45,8 +45,7 @@ fn is_expiry(lines: &[LeapLine], number: usize) -> bool
     number > 0 && number + 1 == lines.len() && lines[number].correction == before.correction
 }
 
-/// Whether a line is later than the one before, and before the end of the moments that have a
-/// meaning.
+/// Whether a record is later than the one before, and before 9999.
 #[tactic(auto, unfolding(tzif_reader::specs::LeapSteps::is_in_time))]
 fn is_in_time(lines: &[LeapLine], number: usize) -> bool
     requires { number < length lines.now }
@@ -56,7 +55,7 @@ fn is_in_time(lines: &[LeapLine], number: usize) -> bool
     line_before(lines, number).at < line.at && line.at < HI
 }
 
-/// Whether the correction of a line is one second more than that of the one before.
+/// Whether the correction of a record is one second more than that of the one before.
 #[tactic(auto, unfolding(tzif_reader::specs::LeapSteps::is_one_on))]
 fn is_one_on(lines: &[LeapLine], number: usize) -> bool
     requires inside { number < length lines.now }
@@ -68,7 +67,7 @@ fn is_one_on(lines: &[LeapLine], number: usize) -> bool
     lines[number].correction == next
 }
 
-/// Whether a line goes one second on from the one before, or tells how long the table holds.
+/// Whether a record adds one second to the one before, or states when the table expires.
 #[tactic(auto, unfolding(tzif_reader::specs::LeapSteps::is_step))]
 fn is_step(lines: &[LeapLine], number: usize) -> bool
     requires inside { number < length lines.now }
@@ -79,7 +78,7 @@ fn is_step(lines: &[LeapLine], number: usize) -> bool
     is_in_time(lines, number) && (is_expiry(lines, number) || is_one_on(lines, number))
 }
 
-/// The second of UTC at which the correction of a line begins, after the line before.
+/// The second, in UTC, at which the correction of a record begins, given the record before.
 fn second_after(line: LeapLine, before: LeapLine) -> i64
     requires line { (pos 0 ≤ℤ line.at) × (line.at <ℤ HI) }
     requires before { (pos 0 ≤ℤ before.correction) × (before.correction ≤ℤ pos MOST_BYTES) }
@@ -88,14 +87,14 @@ fn second_after(line: LeapLine, before: LeapLine) -> i64
     line.at - before.correction as i64
 }
 
-/// Whether a second begins a day of UTC.
+/// Whether a second begins a day in UTC.
 fn begins_day(second: i64) -> bool
     ensures { result ≡ int_eq (int_rem second (pos 86400)) (pos 0) }
 {
     second % 86_400 == 0
 }
 
-/// The step of a correction that begins at a second of UTC.
+/// The step of a correction, in seconds, that begins at a second of UTC.
 fn step_from(second: i64, correction: i32) -> LeapStep
     requires { correction ≤ℤ pos MOST_BYTES }
     ensures { step_pairs (result ∷ [])
@@ -107,7 +106,7 @@ fn step_from(second: i64, correction: i32) -> LeapStep
     }
 }
 
-/// The step of a line, or none where it tells how long the table holds.
+/// The step of a record, or None where it states when the table expires.
 #[tactic(auto, unfolding(tzif_reader::specs::LeapSteps::is_no_line, tzif_reader::specs::LeapSteps::is_midnight))]
 pub fn step_at(lines: &[LeapLine], number: usize) -> Result<Option<LeapStep>, LeapFault>
     requires inside { number < length lines.now }

@@ -1,7 +1,7 @@
-//! The table of a file's leap lines.
+//! The table of a file's leap-second records.
 ghost use Rattle.std.specs.Prelude.{◌≡◌, ◌≢◌, ◌<◌, ◌≤◌, ◌++◌, false, true, length, IfOk, IfErr};
 ghost use Rattle.std.specs.Prelude.{OnOk};
-ghost use Rattle.td_base.specs.FirstFault.{Judges};
+ghost use Rattle.td_base.specs.FirstFault.{IsFirstFault};
 ghost use Rattle.leap_table.specs.Faults.{table_cause, table_fault};
 ghost use Rattle.leap_table.specs.Steps.{HasRisen, step_pairs};
 ghost use Rattle.tzif_reader.specs.LeapSteps.{cause_of, is_no_line, leap_steps, line_before};
@@ -15,8 +15,8 @@ use std::alloc::Global;
 use td_base::{Bytes, Items};
 use tzif_reader::{LeapLine, ZoneFile};
 
-/// The table of leap seconds of a zone file, with the bytes of that file and the date from which
-/// the table is out of date. A file that was read has no more leap lines than bytes may be in it
+/// The table of leap seconds of a zone file. It holds the bytes of that file and the date from
+/// which the table is out of date. A file that was read has a bounded number of records
 /// (`leap_lines_fit` of `tzif_reader`).
 pub fn from_file(
     alloc: Global,
@@ -28,7 +28,7 @@ pub fn from_file(
     ensures file { IfOk result (λ table. table.file ≡ bytes.now) }
     ensures expires { IfOk result (λ table. table.expires ≡ expires.now) }
     ensures steps { IfOk result (λ table. step_pairs table.steps ≡ leap_steps file.now.leaps) }
-    ensures fault { Judges LeapFault.NoMemory (table_fault file.now.leaps) result }
+    ensures fault { IsFirstFault LeapFault.NoMemory (table_fault file.now.leaps) result }
 {
     let steps = steps_of(alloc, file.leaps.as_slice())?;
     Ok(Leaps {
@@ -38,11 +38,12 @@ pub fn from_file(
     })
 }
 
-/// The steps of lines: 1972-01-01, when the difference was 10 seconds, and then those of the lines.
+/// The steps of the table: 1972-01-01, when the difference was 10 seconds, and then those of the
+/// records.
 fn steps_of(alloc: Global, lines: &[LeapLine]) -> Result<Items<LeapStep>, LeapFault>
     requires few { length lines.now ≤ MOST_BYTES }
     ensures steps { IfOk result (λ steps. step_pairs steps ≡ leap_steps lines.now) }
-    ensures fault { Judges LeapFault.NoMemory (table_fault lines.now) result }
+    ensures fault { IsFirstFault LeapFault.NoMemory (table_fault lines.now) result }
 {
     let mut steps = Items::new(alloc);
     steps.push(LeapStep {
@@ -55,7 +56,7 @@ fn steps_of(alloc: Global, lines: &[LeapLine]) -> Result<Items<LeapStep>, LeapFa
     Ok(steps)
 }
 
-/// Appends the step of a line, unless the line tells how long the table holds.
+/// Appends the step of a record, unless the record states when the table expires.
 fn add_step(steps: &mut Items<LeapStep>, lines: &[LeapLine], number: usize) -> Result<(), LeapFault>
     requires inside { number < length lines.now }
     requires few { length lines.now ≤ MOST_BYTES }

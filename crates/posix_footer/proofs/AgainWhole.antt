@@ -8,7 +8,7 @@ use Rattle.posix_footer.specs.declared.rule_types.Date.{Date}
 use Rattle.posix_footer.specs.declared.rule_types.DstRule.{DstRule}
 use Rattle.posix_footer.specs.declared.rule_types.Footer.{Footer}
 use Rattle.posix_footer.specs.Items.{begins, begins_as, after_byte}
-use Rattle.posix_footer.specs.Grammar.{time_after, date_at, standard_at, daylight_at, dates_after, rule_at, rule_in, footer_at, footer_in}
+use Rattle.posix_footer.specs.Grammar.{time_after, date_at, standard_at, daylight_at, dates_after, rule_read_at, rule_in, footer_at, footer_in}
 use Rattle.posix_footer.specs.Spelling.{IsName, IsOffset, IsStandard, IsDaylight, IsDay, IsSignedNumber, IsTime, IsTwo, IsDate, IsRule, IsRuleIfAny}
 use Rattle.posix_footer.specs.Spelling.{SpellsFooter}
 use Rattle.posix_footer.proofs.Again.{first_of_run, IsEnd, name_again, offset_again, offset_no_letter, daylight_offset_again, day_again, time_again}
@@ -97,8 +97,8 @@ last_date size text date is =
     ap (λ t. date_at size t) (sym (append-nil text)) ∙ date_again size text date [] is (record { end = record { digit = refl; colon = refl }; slash = refl })
 
 rule_text : (size : ℕ) (start_text end_text : List ℕ) (rule : DstRule) → IsDate start_text rule.start → IsDate end_text rule.end →
-    rule_at size rule.dst (start_text ++ (44 ∷ end_text)) ≡ Ok rule
-unfolding rule_at after_byte
+    rule_read_at size rule.dst (start_text ++ (44 ∷ end_text)) ≡ Ok rule
+unfolding rule_read_at after_byte
 rule_text size start_text end_text rule start end =
     rw (
       date_again size start_text rule.start (44 ∷ end_text) start (record { end = comma_end end_text; slash = refl }),

@@ -11,7 +11,7 @@ use Rattle.posix_footer.specs.declared.footer_fault.FooterFault.{FooterFault}
 use Rattle.posix_footer.specs.declared.footer_fault.FooterFault.TheVariants as fault
 use Rattle.posix_footer.specs.Items.{begins, after_byte, name_at, offset_at, daylight_offset_at, day_at}
 use Rattle.td_base.specs.FirstFault.{◌>>=◌}
-use Rattle.posix_footer.specs.Grammar.{place, time_after, date_at, standard_at, daylight_at, dates_after, rule_at, rule_in, footer_at, footer_in}
+use Rattle.posix_footer.specs.Grammar.{place, time_after, date_at, standard_at, daylight_at, dates_after, rule_read_at, rule_in, footer_at, footer_in}
 use Rattle.posix_footer.specs.Spelling.{IsName, IsOffset, IsStandard, IsDaylight, IsDay, IsSignedNumber, IsTime, IsTwo, IsDate, IsRuleIfAny, SpellsFooter}
 use Rattle.posix_footer.proofs.Runs.{Reads}
 use Rattle.posix_footer.proofs.Found.{chosen, first_is, after_byte_found, joined, name_found, offset_found, IsDaylightOffset, daylight_offset_found, day_found}
@@ -143,8 +143,8 @@ rule_from dst text second start end x e s comma f last = elim (chosen (length en
   | inr c ↦ absurd (cc (c.1))
 ]
 
-rule_found : (size : ℕ) (dst : Local) (text : List ℕ) (x : DstRule) → rule_at size dst text ≡ Ok x → Dates text dst x
-unfolding rule_at
+rule_found : (size : ℕ) (dst : Local) (text : List ℕ) (x : DstRule) → rule_read_at size dst text ≡ Ok x → Dates text dst x
+unfolding rule_read_at
 rule_found size dst text x h =
     let start = between (date_at size text) _ x h in
     let comma = between (ok_or (after_byte 44 start.value.1) (fault.Date (place size start.value.1))) _ x start.then_is in
@@ -184,7 +184,7 @@ unfolding rule_in
 rule_in_found size std text x h =
     let dst = between (daylight_at size std.offset text) _ x h in
     let dates = between (dates_after size dst.value.1) _ x dst.then_is in
-    let rule = between (rule_at size dst.value.0 dates.value) _ x dates.then_is in
+    let rule = between (rule_read_at size dst.value.0 dates.value) _ x dates.then_is in
     rule_in_from std text dates.value dst.value rule.value x (daylight_found _ _ _ _ dst.first_is)
     (dates_found _ _ _ dates.first_is) (rule_found _ _ _ _ rule.first_is) rule.then_is
 

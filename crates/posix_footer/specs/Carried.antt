@@ -46,8 +46,8 @@ is_early date =
     && int_le (pos 2) (moved_first date (pos 2001))
 
 -- or all from March on, and then up to 29 December
-unfoldable pub is_late : Date → Bool
-is_late date =
+unfoldable pub is_late_date : Date → Bool
+is_late_date date =
     let first = pos (first_place date.day (pos 2001)) in
     keeps_late first (pos (first_place date.day (pos 2004))) (more_places date.day)
     && keeps_late (moved_first date (pos 2001)) (moved_first date (pos 2004))
@@ -60,17 +60,17 @@ is_by_number (day.YearDay n) = true
 is_by_number other = false
 
 unfoldable pub is_steady : Date → Bool
-is_steady date = not (is_by_number date.day) && (is_early date || is_late date)
+is_steady date = not (is_by_number date.day) && (is_early date || is_late_date date)
 
 -- the second row begins three days after the first ends, or later
-abbrev pub is_sooner : Date → Date → ℤ → Bool
-is_sooner a b y = int_le (moved_last a y +ℤ pos 3) (moved_first b y)
+abbrev pub is_sooner_date : Date → Date → ℤ → Bool
+is_sooner_date a b y = int_le (moved_last a y +ℤ pos 3) (moved_first b y)
 
-unfoldable pub comes_before : Date → Date → Bool
-comes_before a b = is_sooner a b (pos 2001) && is_sooner a b (pos 2004)
+unfoldable pub date_comes_before : Date → Date → Bool
+date_comes_before a b = is_sooner_date a b (pos 2001) && is_sooner_date a b (pos 2004)
 
 unfoldable pub are_apart : Date → Date → Bool
-are_apart a b = comes_before a b || comes_before b a
+are_apart a b = date_comes_before a b || date_comes_before b a
 
 unfoldable pub is_carried_rule : DstRule → Bool
 is_carried_rule rule = is_steady rule.start && is_steady rule.end && are_apart rule.start rule.end

@@ -52,8 +52,8 @@ dates_after size rest =
     else ok_or (after_byte 44 rest) (fault.Rest (place size rest))
 
 -- two dates with `,` between them, and nothing after them
-unfoldable pub rule_at : ℕ → Local → List ℕ → Result DstRule FooterFault
-rule_at size dst rest = do
+unfoldable pub rule_read_at : ℕ → Local → List ℕ → Result DstRule FooterFault
+rule_read_at size dst rest = do
   start ← date_at size rest
   second ← ok_or (after_byte 44 start.1) (fault.Date (place size start.1))
   end ← date_at size second
@@ -65,7 +65,7 @@ unfoldable pub rule_in : ℕ → Local → List ℕ → Result Footer FooterFaul
 rule_in size std rest = do
   dst ← daylight_at size std.offset rest
   dates ← dates_after size dst.1
-  rule ← rule_at size dst.0 dates
+  rule ← rule_read_at size dst.0 dates
   Ok (record { std = std; dst = Some rule })
 
 unfoldable pub footer_at : ℕ → List ℕ → Result Footer FooterFault

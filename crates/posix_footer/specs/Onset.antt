@@ -52,7 +52,7 @@ more_places (day.Week month week weekday) = 6
 more_places other = 0
 
 -- where a form's day stands among those that it can name
-pub record IsNamed (form : DayForm) (year : ℤ) : Type 0 where
+pub record IsDayNamed (form : DayForm) (year : ℤ) : Type 0 where
   pub after : ℕ
   pub among : after ≤ more_places form
   pub number :

@@ -3,12 +3,12 @@ use Rattle.std.specs.Prelude.{◌≡◌, ℕ, Bool, List, Option, None, Some, Re
 use Rattle.std.specs.Char.{is_ascii_alphabetic, is_ascii_digit}
 use Rattle.posix_footer.specs.Items.{is_designation_byte, begins_offset}
 use Rattle.posix_footer.specs.declared.footer_fault.FooterFault.{FooterFault}
-use Rattle.posix_footer.specs.declared.parser.Kind.{Kind}
-use Rattle.posix_footer.specs.declared.parser.Kind.TheVariants.{Letter, Digit, Quotable}
-use Rattle.posix_footer.specs.declared.parser.Kind.TheVariants.{OffsetStart}
+use Rattle.posix_footer.specs.declared.parser.ByteKind.{ByteKind}
+use Rattle.posix_footer.specs.declared.parser.ByteKind.TheVariants.{Letter, Digit, Quotable}
+use Rattle.posix_footer.specs.declared.parser.ByteKind.TheVariants.{OffsetStart}
 
 -- the bytes of a kind
-abbrev pub test_of : Kind → ℕ → Bool
+abbrev pub test_of : ByteKind → ℕ → Bool
 test_of Letter = is_ascii_alphabetic
 test_of Digit = is_ascii_digit
 test_of Quotable = is_designation_byte

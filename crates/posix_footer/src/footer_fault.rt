@@ -1,23 +1,23 @@
 use std::error::Error;
 use std::fmt;
 
-/// Why a text is no TZ string: its first fault from the left. A fault carries the place, in bytes
-/// from the beginning, at which the item that is faulty or missing begins (POSIX, section 8.3; RFC
-/// 9636, section 3.3.2).
+/// Why a text is not a TZ string: its first fault from the left. A fault carries a place in bytes
+/// from the beginning, at which the faulty or missing item begins (POSIX, section 8.3; RFC 9636,
+/// section 3.3.2).
 #[derive(Clone, Copy, Debug, PartialEq, Eq)]
 pub enum FooterFault {
     /// Neither 3 to 32 letters, nor 3 to 32 letters, digits, `+` and `-` between `<` and `>`.
     Name(usize),
-    /// No offset of less than 24 hours, or none is written and an hour ahead of standard time is no
-    /// such offset.
+    /// The item is not an offset of less than 24 hours. It is also the fault of a missing daylight
+    /// offset when the default, an hour ahead of standard time, is out of range.
     Offset(usize),
     /// The text ends after the state in daylight saving time.
     NoRule,
     /// Neither `Jn` nor `n` nor `Mm.w.d` within its ranges, or no `,` before the second date.
     Date(usize),
-    /// No time of less than 168 hours to either side, after `/`.
+    /// After `/`, no time of less than 168 hours to either side of midnight.
     Time(usize),
-    /// Something stands where the text should end, or the `,` before the dates.
+    /// The text continues after its end, or the `,` before the dates is missing.
     Rest(usize),
 }
 

@@ -1,5 +1,5 @@
-//! The items of a TZ string: names, offsets, times and days. An answer of None leaves the reader
-//! anywhere.
+//! The items of a TZ string: names, offsets, times and days. After `None` the reader's position is
+//! unspecified.
 ghost use Rattle.std.specs.Prelude.{◌≡◌, ◌+◌, ◌-◌, ◌*◌, ◌<◌, ◌≤◌, length, drop, if◌then◌else◌};
 ghost use Rattle.std.specs.Prelude.{IfSome};
 ghost use Rattle.jiff_core.specs.Calendar.{IsWithin};
@@ -10,11 +10,11 @@ ghost use Rattle.posix_footer.specs.Items.{time_at, week_at, julian_at, year_day
 ghost use Rattle.posix_footer.specs.Takes.{Takes, TakesAs};
 ghost use Rattle.posix_footer.specs.Lawful.{IsLawfulDay, IsLawfulOffset};
 
-use crate::parser::{Kind, Parser};
+use crate::parser::{ByteKind, Parser};
 use crate::rule_types::DayForm;
 use td_civil::Name;
 
-/// The number that at most three digits write.
+/// The value of at most three digits.
 fn value_of(digits: &[u8]) -> u16
     requires { length digits.now ≤ 3 }
     ensures { result ≡ number_of_digits digits.now }
@@ -27,7 +27,7 @@ fn value_of(digits: &[u8]) -> u16
 }
 
 impl<'a> Parser<'a> {
-    /// What stands before the `>` of a quoted name.
+    /// The text up to the `>` of a quoted name.
     #[tactic(auto, unfolding(crate::specs::Items::quoted_at))]
     fn quoted(&mut self) -> Option<&'a [u8]>
         ensures size { self.new.size ≡ self.old.size }
@@ -35,7 +35,7 @@ impl<'a> Parser<'a> {
         ensures value { TakesAs (λ name. name.now) result self.new.left.now
             (quoted_at self.old.left.now) }
     {
-        let name = self.run(Kind::Quotable, 3, 32)?;
+        let name = self.run(ByteKind::Quotable, 3, 32)?;
         self.skip(b'>')?;
         Some(name)
     }
@@ -50,7 +50,7 @@ impl<'a> Parser<'a> {
         if self.eat(b'<') {
             self.quoted()
         } else {
-            self.run(Kind::Letter, 3, 32)
+            self.run(ByteKind::Letter, 3, 32)
         }
     }
 
@@ -74,7 +74,7 @@ impl<'a> Parser<'a> {
         ensures value { Takes result self.new.left.now
             (number_at fewest most low high self.old.left.now) }
     {
-        let digits = self.run(Kind::Digit, fewest, most)?;
+        let digits = self.run(ByteKind::Digit, fewest, most)?;
         let number = value_of(digits);
         if low <= number && number <= high {
             Some(number)
@@ -83,7 +83,7 @@ impl<'a> Parser<'a> {
         }
     }
 
-    /// The minutes or seconds after `:`, and 0 where none stands.
+    /// The minutes or seconds after `:`, or 0 if there is no `:`.
     #[tactic(auto, unfolding(crate::specs::Items::part_at))]
     fn part(&mut self) -> Option<u16>
         ensures size { self.new.size ≡ self.old.size }
@@ -97,8 +97,7 @@ impl<'a> Parser<'a> {
         }
     }
 
-    /// Hours of so many digits, and perhaps minutes, and perhaps seconds: how many seconds they
-    /// are.
+    /// Hours of a limited number of digits, with optional minutes and seconds: the sum in seconds.
     #[tactic(auto, unfolding(crate::specs::Items::clock_at))]
     fn clock(&mut self, digits: usize, greatest: u16) -> Option<u32>
         requires { digits ≤ 3 }
@@ -113,7 +112,7 @@ impl<'a> Parser<'a> {
         Some(3600 * u32::from(hours) + 60 * u32::from(minutes) + u32::from(seconds))
     }
 
-    /// Takes a sign, if one stands here, and says whether it is `-`.
+    /// Skips a sign, if the text begins with one, and returns whether it is `-`.
     fn sign(&mut self) -> bool
         ensures size { self.new.size ≡ self.old.size }
         ensures answer { result ≡ begins 45 self.old.left.now }
@@ -129,7 +128,7 @@ impl<'a> Parser<'a> {
         negative
     }
 
-    /// Seconds with a sign before them, or without.
+    /// A number of seconds with an optional sign.
     #[tactic(auto, unfolding(crate::specs::Items::signed_at))]
     fn signed(&mut self, digits: usize, greatest: u16) -> Option<i32>
         requires digits { digits ≤ 3 }
@@ -159,7 +158,7 @@ impl<'a> Parser<'a> {
         }
     }
 
-    /// The offset in daylight saving time: an hour ahead of standard time where none is written.
+    /// The offset of daylight saving time. If none is written it is an hour ahead of standard time.
     #[tactic(auto, unfolding(crate::specs::Items::daylight_offset_at, crate::specs::Items::ahead_at))]
     pub(crate) fn daylight_offset(&mut self, std: i32) -> Option<i32>
         requires { IsLawfulOffset std }
@@ -167,7 +166,7 @@ impl<'a> Parser<'a> {
         ensures range { IfSome result IsLawfulOffset }
         ensures value { Takes result self.new.left.now (daylight_offset_at std self.old.left.now) }
     {
-        if self.begins_as(Kind::OffsetStart) {
+        if self.begins_as(ByteKind::OffsetStart) {
             self.offset()
         } else if std + 3600 < 86_400 {
             Some(std + 3600)
@@ -176,7 +175,7 @@ impl<'a> Parser<'a> {
         }
     }
 
-    /// A time from midnight, in seconds.
+    /// A time of day, in seconds from midnight; it may be negative or over 24 hours.
     #[tactic(auto, unfolding(crate::specs::Items::time_at))]
     pub(crate) fn time(&mut self) -> Option<i32>
         ensures size { self.new.size ≡ self.old.size }

@@ -1,4 +1,4 @@
-//! Laws of TZ strings and their onsets, each the contract of a function that does nothing.
+//! Theorems about TZ strings and their onsets, each the contract of a function with an empty body.
 ghost use Rattle.std.specs.Prelude.{◌≡◌, ◌≤◌, ◌<◌, ◌+◌, ◌*◌, ◌≤ℤ◌, ◌<ℤ◌, ◌+ℤ◌, ℕ, List, ℤ, pos};
 ghost use Rattle.std.specs.Prelude.{min, Ok, Option};
 ghost use Rattle.jiff_core.specs.Calendar.{IsYear, days_from_civil, days_in_month};
@@ -11,24 +11,24 @@ ghost use Rattle.posix_footer.specs.declared.rule_types.Footer.{Footer};
 ghost use Rattle.posix_footer.specs.Grammar.{footer_in};
 ghost use Rattle.posix_footer.specs.Lawful.{IsLawful, IsLawfulDay, IsLawfulRule};
 ghost use Rattle.posix_footer.specs.NextOnset.{ComesAfter, IsNext, IsQuietIfAny};
-ghost use Rattle.posix_footer.specs.Onset.{month_day, onset_of, weekday_from_sunday, IsNamed};
+ghost use Rattle.posix_footer.specs.Onset.{month_day, onset_of, weekday_from_sunday, IsDayNamed};
 ghost use Rattle.posix_footer.specs.StateAt.{state_of};
 ghost use Rattle.td_civil.specs.declared.moment_type.Moment.{Moment};
 
-/// The footer that a text spells keeps its ranges.
+/// The footer of a text is within the ranges of its fields.
 pub fn footer_is_lawful()
     ensures { (text : List ℕ) (footer : Footer) → footer_in text ≡ Ok footer → IsLawful footer }
 {}
 
-/// The onsets of an edge come later in a later year.
+/// The onset of an edge is later in a later year.
 pub fn onsets_rise()
     ensures { (rule : DstRule) (std year later : ℤ) (edge : Edge) → IsLawfulRule std rule
         → IsYear year → IsYear later → year <ℤ later
         → onset_of rule std year edge <ℤ onset_of rule std later edge }
 {}
 
-/// The onsets of a year that is two or more before a moment's have come by then, and those of one
-/// that is two or more after it have not.
+/// The onsets of a year two or more before a moment's year are not after the moment. Those of a
+/// year two or more after it are after the moment.
 pub fn far_years_are_quiet()
     ensures before { (rule : DstRule) (std year other t : ℤ) (edge : Edge) → IsLawfulRule std rule
         → IsYear year → IsYear other → IsInYear year t → (other +ℤ pos 2) ≤ℤ year
@@ -49,12 +49,12 @@ pub fn day_of_week_form()
         → min (7 * week) (days_in_month year month) < month_day year month week weekday + 7 }
 {}
 
-/// The day of a form stands among those that it can name.
+/// The day of a form is one of the days that the form can name.
 pub fn day_is_named()
-    ensures { (form : DayForm) (year : ℤ) → IsLawfulDay form → IsNamed form year }
+    ensures { (form : DayForm) (year : ℤ) → IsLawfulDay form → IsDayNamed form year }
 {}
 
-/// The state that a footer gives stays while no onset comes, and so it does until the next one.
+/// The state that a footer gives stays the same until the next onset.
 pub fn state_stays()
     ensures quiet { (footer : Footer) (t u : ℤ) → t ≤ℤ u
         → IsQuietIfAny footer.dst footer.std.offset t u → state_of footer t ≡ state_of footer u }
@@ -63,8 +63,7 @@ pub fn state_stays()
         → state_of footer t ≡ state_of footer u }
 {}
 
-/// The calendar repeats in 400 years, and so do the onsets of a rule and the state that a footer
-/// gives.
+/// The calendar repeats every 400 years, and so do the onsets of a rule and the state of a footer.
 pub fn states_repeat()
     ensures onsets { (rule : DstRule) (std : ℤ) (edge : Edge) (year : ℕ)
         → onset_of rule std (pos (year + 400)) edge

@@ -1,13 +1,14 @@
-//! POSIX TZ strings, with the rule hours from -167 to 167 that version 3 of TZif allows (RFC 9636,
-//! section 3.3.2), and the state of local time that they give.
+//! POSIX TZ strings, and the state of local time that they give. Rule hours may be from -167 to
+//! 167, as version 3 of TZif allows (RFC 9636, section 3.3.2).
 //!
-//! [`read`] gives the rule that a text spells, as `SpellsFooter` of `specs/Spelling.antt` says, or
-//! the first fault of the text. [`at`] gives the state of a rule at a moment, which is `state_of`
-//! of `specs/StateAt.antt`, [`next_onset`] the next moment at which it may change, and
-//! [`next_change`] that moment with the state from then on.
+//! [`read`] gives the rule of a text, as `SpellsFooter` of `specs/Spelling.antt` defines it, or the
+//! first fault of the text. [`at`] gives the state of a rule at a moment (`state_of` of
+//! `specs/StateAt.antt`). [`next_onset`] gives the next moment at which the state may change, and
+//! [`next_change`] that moment with the state from then on. It depends on `td_base`, `td_civil` and
+//! `jiff`; the crates that expand and serve zones use it.
 #![tactic(auto)]
 
-// The rule of a TZ string, and why a text is none.
+// The rule of a TZ string, and the error of a bad one.
 mod footer_fault;
 mod rule_types;
 
@@ -21,7 +22,7 @@ mod next_edge;
 mod onsets;
 mod state_at;
 
-// Laws, and what may cross threads.
+// Theorems, and which types may cross threads.
 mod laws;
 mod send_sync;
 

@@ -20,9 +20,9 @@ pub struct Change {
     pub state: Local,
 }
 
-/// The first onset after a moment, of either edge and of the years up to 9999, if there is one: the
-/// state that the footer gives stays until then. It need not change then, since daylight saving
-/// time may begin while it holds.
+/// The first onset after a moment, of either edge and of the years up to 9999. The state that the
+/// footer gives stays the same until then. It need not change then, since a start may fall into
+/// daylight saving time.
 pub fn next_onset(footer: &Footer, t: Moment) -> Option<Moment>
     requires lawful { IsLawful footer.now }
     requires meaning { HasMeaning t.seconds }
@@ -34,7 +34,7 @@ pub fn next_onset(footer: &Footer, t: Moment) -> Option<Moment>
     }
 }
 
-/// The same onset with the state that follows it, which is the state then, and is known here by the
+/// The same onset with the state from then on. That is the state at the onset, derived from its
 /// edge.
 pub fn next_change(footer: &Footer, t: Moment) -> Option<Change>
     requires lawful { IsLawful footer.now }
@@ -69,7 +69,8 @@ fn change_by_rule(std: &Local, rule: &DstRule, t: Moment) -> Option<Change>
     }
 }
 
-/// The state from an onset on, by the next start: daylight saving time where that is the onset.
+/// The state from an onset on: daylight saving time if the next start is not after it, otherwise
+/// standard time.
 fn state_from(std: &Local, rule: &DstRule, start: Option<Moment>, at: Moment) -> Local
     ensures { result ≡ (if spec.has_started start at.seconds then rule.now.dst else std.now) }
 {
@@ -79,8 +80,8 @@ fn state_from(std: &Local, rule: &DstRule, start: Option<Moment>, at: Moment) ->
     }
 }
 
-/// How many years ahead from the year before a moment's the onsets begin that may come after the
-/// moment: those of the year before come in the year's first eight days at the latest.
+/// The first year whose onset may be after the moment, counted from the year before the moment's.
+/// Onsets of the year before fall in the first eight days of the moment's year at the latest.
 fn first_ahead(year: i32, t: Moment) -> u8
     requires year_in { IsBetween (pos 1800) (pos 9998) year }
     requires meaning { HasMeaning t.seconds }
@@ -95,7 +96,7 @@ fn first_ahead(year: i32, t: Moment) -> u8
     }
 }
 
-/// The earlier of two moments, where there are two, and else that which there is.
+/// The earlier of two moments; if only one is given, that one.
 fn earlier(one: Option<Moment>, two: Option<Moment>) -> Option<Moment>
     ensures { result ≡ spec.earlier one two }
 {
@@ -106,9 +107,9 @@ fn earlier(one: Option<Moment>, two: Option<Moment>) -> Option<Moment>
     }
 }
 
-/// The first onset of an edge after a moment of the year. The onset of two years before the
-/// moment's is never after it, and that of two years after it always is. Of the three years
-/// between, those are looked at that come so far ahead or farther.
+/// The first onset of an edge after a moment of the year. The onset of two years before is never
+/// after the moment, and that of two years after always is. Of the three years between, those from
+/// `first` on are tried, counted from the year before.
 fn next_of_edge(
     rule: &DstRule,
     std: i32,

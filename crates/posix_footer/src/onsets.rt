@@ -12,10 +12,10 @@ use jiff::civil::{self, Weekday};
 use td_civil::{Moment, new_year_day};
 
 /// The moment at which daylight saving time begins or ends in a year from 1798 to 9999 (POSIX,
-/// section 8.3). It begins when clocks of standard time show the start's day and time, and ends
-/// when those of daylight saving time show the end's. `std` is the offset of standard time, in
-/// seconds east of UTC. A day and time at the edge of the year may fall in the year before or after
-/// it in UTC.
+/// section 8.3). It begins when clocks of standard time show the start's day and time. It ends when
+/// clocks of daylight saving time show the end's day and time. `std` is the offset of standard
+/// time, in seconds east of UTC. A day and time at the edge of the year may fall in the year before
+/// or after it in UTC.
 pub fn onset(rule: &DstRule, std: i32, year: i32, edge: Edge) -> Moment
     requires lawful { IsLawfulRule std rule.now }
     requires year_in { IsBetween (pos 1798) (pos 9999) year }
@@ -27,7 +27,7 @@ pub fn onset(rule: &DstRule, std: i32, year: i32, edge: Edge) -> Moment
     }
 }
 
-/// The moment of a date's day and time in a year, by clocks that are so many seconds east of UTC.
+/// The moment of a date's day and time in a year, on clocks `offset` seconds east of UTC.
 fn moment_on(date: Date, offset: i32, year: i32) -> Moment
     requires date { IsLawfulDate date }
     requires offset { IsLawfulOffset offset }
@@ -58,7 +58,7 @@ fn day_number(form: DayForm, year: i16) -> i64
     }
 }
 
-/// How many days after 1 January the nth day comes, where 29 February is not counted.
+/// The number of days from 1 January to the nth day, where 29 February is not counted.
 fn days_before(year: i16, n: u16) -> u16
     requires year_in { IsBetween (pos 1798) (pos 9999) year }
     requires n_in { IsLawfulDay (DayForm.Julian n) }
@@ -69,7 +69,7 @@ fn days_before(year: i16, n: u16) -> u16
     if has_leap_day && n >= 60 { n } else { n - 1 }
 }
 
-/// The day number of the wth such weekday of a month, or of the last for 5.
+/// The day number, from 1970-01-01, of the wth such weekday of a month, or of the last for 5.
 fn week_day(year: i16, month: u8, week: u8, weekday: u8) -> i64
     requires day_in { IsLawfulDay (DayForm.Week month week weekday) }
     requires year_in { IsBetween (pos 1798) (pos 9999) year }
@@ -93,7 +93,7 @@ fn date_of_week(year: i16, month: u8, week: u8, weekday: u8) -> civil::Date
     }
 }
 
-/// The place of a week's day among those of the month, from the end where it is the last.
+/// The index of a week's day in the month for `jiff`: -1 for the last.
 fn place_in_month(week: u8) -> i8
     requires { week ≤ 5 }
     ensures before { week < 5 → result ≡ pos week }
@@ -102,7 +102,7 @@ fn place_in_month(week: u8) -> i8
     if week == 5 { -1 } else { week as i8 }
 }
 
-/// The weekday of a number, where Sunday is 0.
+/// The weekday of a number, with Sunday as 0.
 fn weekday_of(number: u8) -> Weekday
     requires { number ≤ 6 }
     ensures { sunday_zero result ≡ number }

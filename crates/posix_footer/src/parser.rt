@@ -1,34 +1,34 @@
-//! What is left of a text, from whose beginning items are taken.
+//! The rest of a text, from whose beginning items are taken.
 ghost use Rattle.std.specs.Prelude.{◌≡◌, ◌≤◌, ◌-◌, ◌==◌, length, drop, if◌then◌else◌, IfSome};
 ghost use Rattle.std.specs.List.{prefix_len};
 ghost use Rattle.posix_footer.specs.Items.{begins, begins_as, after_byte, run_at};
 ghost use Rattle.posix_footer.specs.Grammar.{place};
 ghost use Rattle.posix_footer.specs.Takes.{Skips, TakesAs, test_of};
 
-/// The kinds of bytes of which runs are made.
+/// The kinds of bytes that form runs.
 #[derive(Clone, Copy)]
-pub(crate) enum Kind {
+pub(crate) enum ByteKind {
     Letter,
     Digit,
     Quotable,
-    /// What an offset begins with: a digit or a sign.
+    /// The first byte of an offset: a digit or a sign.
     OffsetStart,
 }
 
-impl Kind {
+impl ByteKind {
     fn holds(self, byte: u8) -> bool
         ensures { result ≡ test_of self byte }
     {
         match self {
-            Kind::Letter => byte.is_ascii_alphabetic(),
-            Kind::Digit => byte.is_ascii_digit(),
-            Kind::Quotable => byte.is_ascii_alphanumeric() || byte == b'+' || byte == b'-',
-            Kind::OffsetStart => byte == b'+' || byte == b'-' || byte.is_ascii_digit(),
+            ByteKind::Letter => byte.is_ascii_alphabetic(),
+            ByteKind::Digit => byte.is_ascii_digit(),
+            ByteKind::Quotable => byte.is_ascii_alphanumeric() || byte == b'+' || byte == b'-',
+            ByteKind::OffsetStart => byte == b'+' || byte == b'-' || byte.is_ascii_digit(),
         }
     }
 }
 
-/// A text of `size` bytes, read up to what is left.
+/// A text of `size` bytes, with the part not read yet.
 #[derive(Drop)]
 pub(crate) struct Parser<'a> {
     size: usize,
@@ -47,7 +47,7 @@ impl<'a> Parser<'a> {
         }
     }
 
-    /// Where what is left begins.
+    /// The place in bytes at which the rest begins.
     pub(crate) fn place(&self) -> usize
         ensures { result ≡ place self.now.size self.now.left.now }
     {
@@ -60,7 +60,7 @@ impl<'a> Parser<'a> {
         self.left.is_empty()
     }
 
-    /// Takes the byte, if what is left begins with it.
+    /// Skips the byte, if the rest begins with it, and returns whether it does.
     pub(crate) fn eat(&mut self, byte: u8) -> bool
         ensures answer { result ≡ begins byte self.old.left.now }
         ensures size { self.new.size ≡ self.old.size }
@@ -76,7 +76,7 @@ impl<'a> Parser<'a> {
         }
     }
 
-    /// Takes the byte, with which what is left must begin.
+    /// Skips the byte. The rest must begin with it.
     #[tactic(auto, unfolding(crate::specs::Items::after_byte))]
     pub(crate) fn skip(&mut self, byte: u8) -> Option<()>
         ensures size { self.new.size ≡ self.old.size }
@@ -85,8 +85,8 @@ impl<'a> Parser<'a> {
         if self.eat(byte) { Some(()) } else { None }
     }
 
-    /// Whether what is left begins with a byte of a kind.
-    pub(crate) fn begins_as(&self, kind: Kind) -> bool
+    /// Whether the rest begins with a byte of a kind.
+    pub(crate) fn begins_as(&self, kind: ByteKind) -> bool
         ensures { result ≡ begins_as (test_of kind) self.now.left.now }
     {
         match self.left {
@@ -95,9 +95,9 @@ impl<'a> Parser<'a> {
         }
     }
 
-    /// Takes all the bytes of a kind, if there are from `fewest` to `most` of them.
+    /// Takes all the bytes of a kind, if their number is from `fewest` to `most`.
     #[tactic(auto, unfolding(crate::specs::Items::run_at))]
-    pub(crate) fn run(&mut self, kind: Kind, fewest: usize, most: usize) -> Option<&'a [u8]>
+    pub(crate) fn run(&mut self, kind: ByteKind, fewest: usize, most: usize) -> Option<&'a [u8]>
         ensures size { self.new.size ≡ self.old.size }
         ensures length { IfSome result (λ run. length run.now ≤ most) }
         ensures value { TakesAs (λ run. run.now) result self.new.left.now
@@ -114,7 +114,7 @@ impl<'a> Parser<'a> {
 }
 
 /// How many bytes of a kind the text begins with.
-fn count_of(kind: Kind, text: &[u8]) -> usize
+fn count_of(kind: ByteKind, text: &[u8]) -> usize
     ensures value { result ≡ prefix_len (test_of kind) text.now }
     ensures inside { result ≤ length text.now }
 {

@@ -1,6 +1,7 @@
 //! A whole TZ string, read from the left (POSIX, section 8.3; RFC 9636, section 3.3.2).
 ghost use Rattle.std.specs.Prelude.{◌≡◌, true, false, IfOk};
-ghost use Rattle.posix_footer.specs.Grammar.{footer_in, footer_at, rule_in, rule_at, dates_after};
+ghost use Rattle.posix_footer.specs.Grammar.{footer_in, footer_at, rule_in, rule_read_at};
+ghost use Rattle.posix_footer.specs.Grammar.{dates_after};
 ghost use Rattle.posix_footer.specs.Grammar.{daylight_at, standard_at, date_at, time_after};
 ghost use Rattle.posix_footer.specs.Lawful.{IsLawful, IsLawfulDate, IsLawfulOffset};
 ghost use Rattle.posix_footer.specs.Spelling.{SpellsFooter};
@@ -13,14 +14,13 @@ use crate::parser::Parser;
 use crate::rule_types::{Date, DstRule, Footer};
 use td_civil::Local;
 
-/// The footer that the whole text spells, or the text's first fault from the left. It takes no
-/// memory.
+/// Reads a whole TZ string, or returns the text's first fault from the left. It does not allocate.
 pub fn read(text: &[u8]) -> Result<Footer, FooterFault>
     // The footer, or the fault and its place.
     ensures exact { result ≡ footer_in text.now }
-    // What is read is spelled so.
+    // The text is a spelling of the result.
     ensures found { IfOk result (SpellsFooter text.now) }
-    // What is spelled so is read, and as nothing else.
+    // Any text of a footer is read as that footer, and as no other.
     ensures only { (footer : Footer) → SpellsFooter text.now footer → result ≡ Ok footer }
     ensures lawful { IfOk result IsLawful }
 {
@@ -41,7 +41,7 @@ impl<'a> Parser<'a> {
         }
     }
 
-    /// The rule after a standard state, and both together.
+    /// The rule after the standard state, and both together.
     #[tactic(auto, unfolding(crate::specs::Grammar::rule_in))]
     fn with_rule(&mut self, std: Local) -> Result<Footer, FooterFault>
         requires standard { std.dst ≡ false }
@@ -111,13 +111,13 @@ impl<'a> Parser<'a> {
         self.skip(b',').ok_or(rest)
     }
 
-    /// Both dates, after which the text ends.
-    #[tactic(auto, unfolding(crate::specs::Grammar::rule_at))]
+    /// Both dates; the text must end after them.
+    #[tactic(auto, unfolding(crate::specs::Grammar::rule_read_at))]
     fn rule(&mut self, dst: Local) -> Result<DstRule, FooterFault>
         ensures daylight { IfOk result (λ rule. rule.dst ≡ dst) }
         ensures start { IfOk result (λ rule. IsLawfulDate rule.start) }
         ensures end { IfOk result (λ rule. IsLawfulDate rule.end) }
-        ensures exact { result ≡ rule_at self.old.size dst self.old.left.now }
+        ensures exact { result ≡ rule_read_at self.old.size dst self.old.left.now }
     {
         let start = self.date()?;
         let missing = FooterFault::Date(self.place());
@@ -143,7 +143,7 @@ impl<'a> Parser<'a> {
         Ok(Date { day, time })
     }
 
-    /// The time after `/`, or two o'clock.
+    /// The time after `/`, in seconds from midnight, or 02:00 if there is no `/`.
     #[tactic(auto, unfolding(crate::specs::Grammar::time_after))]
     fn time_of_day(&mut self) -> Result<i32, FooterFault>
         ensures size { self.new.size ≡ self.old.size }

@@ -5,11 +5,11 @@ use td_civil::Local;
 pub struct Footer {
     /// The state in standard time.
     pub std: Local,
-    /// Daylight saving time, where the string has it.
+    /// Daylight saving time, if the string has it.
     pub dst: Option<DstRule>,
 }
 
-/// When daylight saving time holds, each year.
+/// When daylight saving time holds in each year.
 #[derive(Drop, PartialEq, Eq)]
 pub struct DstRule {
     /// The state in daylight saving time.

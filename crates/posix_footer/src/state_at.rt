@@ -9,9 +9,9 @@ use crate::onsets::onset;
 use crate::{DstRule, Edge, Footer};
 use td_civil::{Local, Moment, new_year_day, year_of};
 
-/// The state of local time that a footer gives at a moment: that which follows the last onset not
-/// after it, whatever the year of that onset. Where a start and an end fall on one moment, the
-/// start counts. Without a rule standard time always holds.
+/// The state of local time that a footer gives at a moment. It is the state after the last onset
+/// that is not after the moment, whatever the year of that onset. If a start and an end fall on one
+/// moment, the start counts. Without a rule standard time always holds.
 pub fn at(footer: &Footer, t: Moment) -> Local
     requires lawful { IsLawful footer.now }
     requires meaning { HasMeaning t.seconds }
@@ -24,7 +24,7 @@ pub fn at(footer: &Footer, t: Moment) -> Local
     }
 }
 
-/// The state at a moment where there is a rule.
+/// The state at a moment, for a footer with a rule.
 fn state_by_rule(std: &Local, rule: &DstRule, t: Moment) -> Local
     requires lawful { IsLawfulRule std.now.offset rule.now }
     requires meaning { HasMeaning t.seconds }
@@ -53,8 +53,9 @@ fn is_daylight(rule: &DstRule, std: i32, t: Moment) -> bool
     ended <= started
 }
 
-/// How many years back from the year after a moment's the onsets begin that may have come by the
-/// moment: those of the year after come in its last nine days at the earliest.
+/// The first year whose onset may be at or before the moment, counted back from the year after the
+/// moment's. Onsets of the year after fall in the last nine days of the moment's year at the
+/// earliest.
 fn first_back(year: i32, t: Moment) -> u8
     requires year_in { IsBetween (pos 1800) (pos 9998) year }
     requires meaning { HasMeaning t.seconds }
@@ -70,9 +71,9 @@ fn first_back(year: i32, t: Moment) -> u8
 }
 
 /// The latest onset of an edge that is not after a moment of the year. The time and the offset move
-/// an onset by less than eight days, and a day form names at most the first day after its year. So
-/// the onset of two years before the moment's is never after it, and that of two years after it
-/// always is. Of the three years between, those are looked at that come so far back or farther.
+/// an onset by less than eight days. A day form names at most the first day after its year. So the
+/// onset of two years before is never after the moment, and that of two years after always is. Of
+/// the three years between, those from `first` on are tried, counted back from the year after.
 fn latest(rule: &DstRule, std: i32, year: i32, first: u8, edge: Edge, t: Moment) -> i64
     requires lawful { IsLawfulRule std rule.now }
     requires year_in { IsBetween (pos 1800) (pos 9998) year }
@@ -92,7 +93,8 @@ fn latest(rule: &DstRule, std: i32, year: i32, first: u8, edge: Edge, t: Moment)
     onset(rule, std, year - 2, edge).seconds
 }
 
-/// The second at which a day of a year begins in UTC, where days are counted from 0.
+/// The second, from 1970-01-01T00:00:00Z, at which a day of a year begins in UTC. Days count from
+/// 0.
 pub(crate) fn second_of_day(year: i32, day: u16) -> i64
     requires year_in { IsBetween (pos 1800) (pos 9998) year }
     ensures { result ≡ (days_from_civil year 1 1 +ℤ pos day) *ℤ pos 86400 }

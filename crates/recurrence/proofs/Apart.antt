@@ -4,7 +4,7 @@ use Rattle.std.proofs.lemmas.Bool.{and_from, or_left, or_right}
 use Rattle.jiff_core.specs.Calendar.{IsYear}
 use Rattle.jiff_core.proofs.SignedLemmas.{signed_arith}
 use Rattle.posix_footer.specs.declared.rule_types.Date.{Date}
-use Rattle.posix_footer.specs.Carried.{moved_by, moved_first, moved_last, is_steady, is_sooner, comes_before, are_apart}
+use Rattle.posix_footer.specs.Carried.{moved_by, moved_first, moved_last, is_steady, is_sooner_date, date_comes_before, are_apart}
 use Rattle.posix_footer.specs.Onset.{more_places}
 use Rattle.posix_footer.specs.Lawful.{IsLawfulDate}
 use Rattle.recurrence.specs.RuleOfDate.{row_place}
@@ -41,10 +41,10 @@ near_date a h e =
     (omega (arith, signed_arith, by_a_day, p.is, q.is), omega (arith, signed_arith, by_a_day, p.is, q.is))
 
 in_both : (a b : Date) → (moved_last a (pos 2001) +ℤ pos 3) ≤ℤ moved_first b (pos 2001)
-    → (moved_last a (pos 2004) +ℤ pos 3) ≤ℤ moved_first b (pos 2004) → comes_before a b ≡ true
-unfolding comes_before
+    → (moved_last a (pos 2004) +ℤ pos 3) ≤ℤ moved_first b (pos 2004) → date_comes_before a b ≡ true
+unfolding date_comes_before
 in_both a b common leap =
-    and_from (is_sooner a b (pos 2001)) (is_sooner a b (pos 2004))
+    and_from (is_sooner_date a b (pos 2001)) (is_sooner_date a b (pos 2004))
     (most_true (moved_last a (pos 2001) +ℤ pos 3) (moved_first b (pos 2001)) common)
     (most_true (moved_last a (pos 2004) +ℤ pos 3) (moved_first b (pos 2004)) leap)
 
@@ -52,12 +52,12 @@ in_both a b common leap =
 one_order : (a b : Date) → IsLawfulDate a → IsLawfulDate b → is_steady a ≡ true → is_steady b ≡ true
     → AreApart a b (pos 2001) → AreApart a b (pos 2004) → are_apart a b ≡ true
 unfolding are_apart
-one_order a b ha hb ea eb (inl common) (inl leap) = or_left (comes_before a b) (comes_before b a) (in_both a b common leap)
+one_order a b ha hb ea eb (inl common) (inl leap) = or_left (date_comes_before a b) (date_comes_before b a) (in_both a b common leap)
 one_order a b ha hb ea eb (inl common) (inr leap) =
     absurd (omega (arith, signed_arith, common, leap, near_date a ha ea, near_date b hb eb))
 one_order a b ha hb ea eb (inr common) (inl leap) =
     absurd (omega (arith, signed_arith, common, leap, near_date a ha ea, near_date b hb eb))
-one_order a b ha hb ea eb (inr common) (inr leap) = or_right (comes_before a b) (comes_before b a) (in_both b a common leap)
+one_order a b ha hb ea eb (inr common) (inr leap) = or_right (date_comes_before a b) (date_comes_before b a) (in_both b a common leap)
 
 pub apart_in_each_year : (a b : Date) → IsLawfulDate a → IsLawfulDate b → is_steady a ≡ true → is_steady b ≡ true
     → (are_apart a b ≡ true) ↔ ((y : ℤ) → IsYear y → AreApart a b y)

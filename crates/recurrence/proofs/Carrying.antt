@@ -11,7 +11,7 @@ use Rattle.posix_footer.specs.declared.rule_types.DayForm.{DayForm}
 use Rattle.posix_footer.specs.declared.rule_types.DayForm.TheVariants as day
 use Rattle.posix_footer.specs.declared.rule_types.Date.{Date}
 use Rattle.posix_footer.specs.Lawful.{IsLawfulDay}
-use Rattle.posix_footer.specs.Onset.{day_number, IsNamed}
+use Rattle.posix_footer.specs.Onset.{day_number, IsDayNamed}
 use Rattle.recurrence.specs.declared.rule_types.Form.{Form}
 use Rattle.recurrence.specs.Falls.{Falls, IsOfYear, IsWeekday}
 use Rattle.recurrence.specs.Valid.{IsValidForm}
@@ -80,7 +80,7 @@ pub record IsRuleDay (f : Form) (y number : ℤ) : Type 0 where
   pub within : IsOfYear y number
   pub falls : Falls f number
 
-pub moved_number : (d : DayForm) (k y : ℤ) → (moved : IsMoved d k y) → (name : IsNamed d y)
+pub moved_number : (d : DayForm) (k y : ℤ) → (moved : IsMoved d k y) → (name : IsDayNamed d y)
     → (day_number d y +ℤ k) ≡ days_from_civil y 1 1 +ℤ pos (moved.place + name.after)
 moved_number d k y moved name = omega (arith, signed_arith, moved.is, name.number)
 

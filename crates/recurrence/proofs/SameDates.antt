@@ -9,7 +9,7 @@ use Rattle.jiff_core.proofs.CalendarLemmas.{days_of_months_table, day_of_year_bo
 use Rattle.posix_footer.specs.declared.rule_types.DayForm.{DayForm}
 use Rattle.posix_footer.specs.declared.rule_types.Date.{Date}
 use Rattle.posix_footer.specs.Lawful.{IsLawfulDay, IsLawfulDate}
-use Rattle.posix_footer.specs.Carried.{moved_by, moved_first, moved_last, keeps_early, keeps_late, is_early, is_late, is_steady, is_by_number}
+use Rattle.posix_footer.specs.Carried.{moved_by, moved_first, moved_last, keeps_early, keeps_late, is_early, is_late_date, is_steady, is_by_number}
 use Rattle.posix_footer.specs.Onset.{first_place, more_places}
 use Rattle.recurrence.specs.RuleOfDate.{row_place, common_date}
 use Rattle.recurrence.specs.SameDates.{possible_day, IsOneDate, IsInside, HasSameDates}
@@ -176,9 +176,9 @@ keeps_late_true c l n e low high =
     three_from (int_eq l (c +ℤ pos 1)) (int_le (pos 59) c) (int_le (c +ℤ pos n) (pos 364)) (equal_true l (c +ℤ pos 1) e) (most_true (pos 59) c low)
     (most_true (c +ℤ pos n) (pos 364) high)
 
-steady_true : (d : Date) → is_by_number d.day ≡ false → (is_early d || is_late d) ≡ true → is_steady d ≡ true
+steady_true : (d : Date) → is_by_number d.day ≡ false → (is_early d || is_late_date d) ≡ true → is_steady d ≡ true
 unfolding is_steady
-steady_true d plain side = and_from (not (is_by_number d.day)) (is_early d || is_late d) (ap not plain) side
+steady_true d plain side = and_from (not (is_by_number d.day)) (is_early d || is_late_date d) (ap not plain) side
 
 early_true : (d : Date) → keeps_early (pos (first_place d.day (pos 2001))) (pos (first_place d.day (pos 2004))) (more_places d.day) ≡ true
     → keeps_early (moved_first d (pos 2001)) (moved_first d (pos 2004)) (more_places d.day) ≡ true → pos 2 ≤ℤ moved_first d (pos 2001) → is_early d ≡ true
@@ -186,8 +186,8 @@ unfolding is_early
 early_true d a b h = three_from _ _ _ a b (most_true (pos 2) (moved_first d (pos 2001)) h)
 
 late_true : (d : Date) → keeps_late (pos (first_place d.day (pos 2001))) (pos (first_place d.day (pos 2004))) (more_places d.day) ≡ true
-    → keeps_late (moved_first d (pos 2001)) (moved_first d (pos 2004)) (more_places d.day) ≡ true → moved_last d (pos 2001) ≤ℤ pos 362 → is_late d ≡ true
-unfolding is_late
+    → keeps_late (moved_first d (pos 2001)) (moved_first d (pos 2004)) (more_places d.day) ≡ true → moved_last d (pos 2001) ≤ℤ pos 362 → is_late_date d ≡ true
+unfolding is_late_date
 late_true d a b h = three_from _ _ _ a b (most_true (moved_last d (pos 2001)) (pos 362) h)
 
 steady_from : (d : Date) → HasSameDates d → is_steady d ≡ true
@@ -217,7 +217,7 @@ steady_from d same =
           let b = early_side _ _ before_last (omega (arith, signed_arith, equal)) in
           let m = early_side _ _ after_first (omega (arith, signed_arith, equal)) in
           let l = early_side _ _ after_last (omega (arith, signed_arith, equal)) in
-          steady_true d same.not_by_number (or_left (is_early d) (is_late d) (early_true d
+          steady_true d same.not_by_number (or_left (is_early d) (is_late_date d) (early_true d
           (keeps_early_true (pos f) (pos g) n (omega (arith, signed_arith, equal)) (omega (arith, signed_arith)) (omega (arith, signed_arith, b.1)))
           (keeps_early_true (moved_first d (pos 2001)) (moved_first d (pos 2004)) n (omega (arith, signed_arith, equal)) (omega (arith, signed_arith, m.0))
           (omega (arith, signed_arith, l.1)))
@@ -227,7 +227,7 @@ steady_from d same =
           let b = late_side _ _ before_last (omega (arith, signed_arith, next)) in
           let m = late_side _ _ after_first (omega (arith, signed_arith, next)) in
           let l = late_side _ _ after_last (omega (arith, signed_arith, next)) in
-          steady_true d same.not_by_number (or_right (is_early d) (is_late d) (late_true d
+          steady_true d same.not_by_number (or_right (is_early d) (is_late_date d) (late_true d
           (keeps_late_true (pos f) (pos g) n (omega (arith, signed_arith, next)) (omega (arith, signed_arith, late.1)) (omega (arith, signed_arith, b.1)))
           (keeps_late_true (moved_first d (pos 2001)) (moved_first d (pos 2004)) n (omega (arith, signed_arith, next)) (omega (arith, signed_arith, m.0))
           (omega (arith, signed_arith, l.1)))

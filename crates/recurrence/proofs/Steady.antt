@@ -5,7 +5,7 @@ use Rattle.std.proofs.lemmas.Bool.{and_parts}
 use Rattle.std.proofs.lemmas.Int.{ints}
 use Rattle.jiff_core.proofs.SignedLemmas.{signed_arith}
 use Rattle.posix_footer.specs.declared.rule_types.Date.{Date}
-use Rattle.posix_footer.specs.Carried.{moved_by, is_early, is_late, is_steady, is_by_number, keeps_early, keeps_late, moved_first, moved_last}
+use Rattle.posix_footer.specs.Carried.{moved_by, is_early, is_late_date, is_steady, is_by_number, keeps_early, keeps_late, moved_first, moved_last}
 use Rattle.posix_footer.specs.Onset.{first_place, more_places}
 
 -- the row lies before 29 February, moved or not
@@ -68,8 +68,8 @@ early_is date e =
       moved_last = moved.2;
     }
 
-late_is : (date : Date) → is_late date ≡ true → IsLate date
-unfolding is_late
+late_is : (date : Date) → is_late_date date ≡ true → IsLate date
+unfolding is_late_date
 late_is date e =
     let c = pos (first_place date.day (pos 2001)) in
     let l = pos (first_place date.day (pos 2004)) in
@@ -97,10 +97,10 @@ either_is date false b f g e = inr (g e)
 pub steady_is : (date : Date) → is_steady date ≡ true → IsSteady date
 unfolding is_steady
 steady_is date e =
-    let parts = and_parts (not (is_by_number date.day)) (is_early date || is_late date) e in
+    let parts = and_parts (not (is_by_number date.day)) (is_early date || is_late_date date) e in
     record {
       not_by_number = not_is (is_by_number date.day) parts.0;
-      side = either_is date (is_early date) (is_late date) (early_is date) (late_is date) parts.1;
+      side = either_is date (is_early date) (is_late_date date) (early_is date) (late_is date) parts.1;
     }
 
 pub steady_within : (date : Date) → is_steady date ≡ true → (pos 2 ≤ℤ moved_first date (pos 2001)) × (moved_last date (pos 2001) ≤ℤ pos 362)

@@ -18,16 +18,16 @@ unfoldable pub week_from : List ℤ → Option ℤ
 week_from [] = None
 week_from (z ∷ zs) = if length zs == 6 && are_in_a_row z zs then Some z else None
 
-abbrev pub month_days_form : ℕ → ℕ → Option ℤ → Option Form
-month_days_form month weekday (Some (pos first)) = Some (form.MonthDays month first weekday)
-month_days_form month weekday first = None
+abbrev pub form_on_month_days : ℕ → ℕ → Option ℤ → Option Form
+form_on_month_days month weekday (Some (pos first)) = Some (form.MonthDays month first weekday)
+form_on_month_days month weekday first = None
 
 -- the form of months, days of the month and days of the year, with one weekday
 abbrev pub form_on : Option (List ℤ) → Option (List ℤ) → Option (List ℤ) → Option ℤ → ℕ
     → Option Form
 form_on (Some (pos month ∷ [])) None None (Some nth) weekday = Some (form.NthDay month nth weekday)
 form_on (Some (pos month ∷ [])) (Some days) None None weekday =
-    month_days_form month weekday (week_from days)
+    form_on_month_days month weekday (week_from days)
 form_on None None (Some days) None weekday =
     option_map (λ first. form.YearDays first weekday) (week_from days)
 form_on months month_days year_days nth weekday = None

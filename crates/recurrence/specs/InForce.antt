@@ -30,12 +30,12 @@ abbrev pub IsListed : Part → ℤ → Type 0
 IsListed p m = Contains (p.start ∷ p.dates) (record { seconds = m })
 
 -- without a rule these are its onsets
-abbrev pub IsOnsetBy : Option Rule → Part → ℤ → Type 0
-IsOnsetBy None p m = IsListed p m
-IsOnsetBy (Some rule) p m = IsRuleOnset rule p m
+abbrev pub IsOnsetUnder : Option Rule → Part → ℤ → Type 0
+IsOnsetUnder None p m = IsListed p m
+IsOnsetUnder (Some rule) p m = IsRuleOnset rule p m
 
 abbrev pub IsOnset : Part → ℤ → Type 0
-IsOnset p m = IsOnsetBy p.rule p m
+IsOnset p m = IsOnsetUnder p.rule p m
 
 -- of all parts, this one has the greatest onset that is not after t, and no other one has that
 -- onset

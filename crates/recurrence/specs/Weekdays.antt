@@ -13,8 +13,8 @@ weekday_name weekday =
     else if weekday == 2 then codes "TU" else if weekday == 3 then codes "WE"
     else if weekday == 4 then codes "TH" else if weekday == 5 then codes "FR" else codes "SA"
 
-unfoldable pub weekday_in : List ℕ → Option ℕ
-weekday_in text =
+unfoldable pub weekday_of_text : List ℕ → Option ℕ
+weekday_of_text text =
     if bytes_eq text (codes "SU") then Some 0 else if bytes_eq text (codes "MO") then Some 1
     else if bytes_eq text (codes "TU") then Some 2 else if bytes_eq text (codes "WE") then Some 3
     else if bytes_eq text (codes "TH") then Some 4 else if bytes_eq text (codes "FR") then Some 5
@@ -29,8 +29,8 @@ is_number places most text =
     && nat_le 1 (unsigned_abs (signed_digits_value 10 text))
     && nat_le (unsigned_abs (signed_digits_value 10 text)) most
 
-unfoldable pub number_in : ℕ → ℕ → List ℕ → Option ℤ
-number_in places most text =
+unfoldable pub number_of_text : ℕ → ℕ → List ℕ → Option ℤ
+number_of_text places most text =
     if is_number places most text then Some (signed_digits_value 10 text) else None
 
 -- each such weekday, or the nth one
@@ -43,10 +43,10 @@ day_of (Some nth) (Some weekday) = Some (record { nth = nth; weekday = weekday }
 day_of nth weekday = None
 
 -- the number before a weekday, if there is one
-abbrev pub nth_in : List ℕ → Option (Option ℤ)
-nth_in [] = Some None
-nth_in (b ∷ bs) = option_map Some (number_in 2 53 (b ∷ bs))
+abbrev pub nth_of_text : List ℕ → Option (Option ℤ)
+nth_of_text [] = Some None
+nth_of_text (b ∷ bs) = option_map Some (number_of_text 2 53 (b ∷ bs))
 
-unfoldable pub day_in : List ℕ → Option Day
-day_in text =
-    day_of (nth_in (take (length text - 2) text)) (weekday_in (drop (length text - 2) text))
+unfoldable pub day_of_text : List ℕ → Option Day
+day_of_text text =
+    day_of (nth_of_text (take (length text - 2) text)) (weekday_of_text (drop (length text - 2) text))

@@ -6,7 +6,7 @@ ghost use Rattle.posix_footer.specs.Lawful.{IsLawfulOffset, IsLawfulRule};
 
 use posix_footer::{Date, DayForm, DstRule};
 
-/// Whether daylight saving time goes from 1 January to 31 December.
+/// Whether the rule makes daylight saving time last from 1 January to 31 December.
 #[tactic(auto, unfolding(posix_footer::specs::Carried::is_all_year))]
 pub(crate) fn is_all_year(std: i32, rule: &DstRule) -> bool
     requires { IsLawfulRule std rule.now }
@@ -29,7 +29,8 @@ fn ends_year(date: Date, time: i32) -> bool
     is_year_end(date.day) && is_same(date.time, time)
 }
 
-/// The time of 31 December at which the next year begins by the clocks of standard time.
+/// The time of 31 December, in seconds from midnight, at which the next year begins by the clocks
+/// of standard time.
 fn end_of_year(std: i32, dst: i32) -> i32
     requires std { IsLawfulOffset std }
     requires dst { IsLawfulOffset dst }

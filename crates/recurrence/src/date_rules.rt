@@ -11,11 +11,11 @@ use crate::{Form, Rule};
 use jiff_core::civil::Date as PlainDate;
 use posix_footer::{Date, DayForm};
 
-/// 1 January 2001, with which a year without 29 February begins, in days after the first day of
-/// `jiff_core`'s dates, 1 January of the year -9999.
+/// 1 January 2001, which begins a year without 29 February. It is counted in days after 1 January
+/// of the year -9999, the first date of `jiff_core`.
 const FIRST_OF_2001: u32 = 4_382_910;
 
-/// The last place in such a year, from 0, that comes before March.
+/// The last day before March in such a year, counted from 0.
 const LAST_OF_FEBRUARY: u16 = 58;
 
 /// The rule of a date.
@@ -31,7 +31,7 @@ pub(crate) fn rule_of(date: Date) -> Rule
     }
 }
 
-/// The form of a day that is moved by some days to a place of a common year.
+/// The form of a day that is moved by some days, given the resulting day of a common year.
 fn form_of(form: DayForm, days: i32, place: u16) -> Form
     requires form { IsLawfulDay form }
     requires days { IsBetween (neg_ℤ (pos 7)) (pos 6) days }
@@ -65,7 +65,7 @@ fn form_of(form: DayForm, days: i32, place: u16) -> Form
     }
 }
 
-/// The place of the first day of a date in a common year, after its time has moved it.
+/// The first day of a date in a common year, counted from 0, after its time has moved it.
 fn place_of(date: Date) -> u16
     requires lawful { IsLawfulDate date }
     requires steady { carried.is_steady date ≡ true }
@@ -75,7 +75,7 @@ fn place_of(date: Date) -> u16
     moved_first(date, 2001) as u16
 }
 
-/// The weekday so many days after one.
+/// The weekday this number of days after a weekday.
 fn turned(weekday: u8, days: i32) -> u8
     requires weekday { weekday ≤ 6 }
     requires days { IsBetween (neg_ℤ (pos 7)) (pos 6) days }
@@ -91,7 +91,7 @@ fn nth_of(week: u8) -> i8
     if week == 5 { -1 } else { week as i8 }
 }
 
-/// The form of a weekday among seven days from a place of a common year on.
+/// The form of a weekday among the seven days that begin at a day of a common year.
 fn row_form(place: u16, weekday: u8) -> Form
     requires { place + 6 < 365 }
     ensures { result ≡ rules.row_form place weekday }
@@ -116,7 +116,7 @@ fn row_form(place: u16, weekday: u8) -> Form
     }
 }
 
-/// The date at a place of a common year.
+/// The date of a day of a common year, counted from 0.
 fn common_date(place: u16) -> PlainDate
     requires { place < 365 }
     ensures month { result.month ≡ (rules.common_date place).month }

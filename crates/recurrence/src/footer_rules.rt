@@ -13,7 +13,7 @@ use crate::{Carried, RuleBeyond};
 use posix_footer::{Date, DstRule, Footer};
 use td_civil::Local;
 
-/// What a footer says of each year, if yearly rules can say it. It takes no memory.
+/// What a footer says of each year, if yearly rules can say it. It allocates nothing.
 #[tactic(auto, using(crate::proofs::Said::carry_said, crate::proofs::Said::carry_beyond))]
 pub fn carry(footer: &Footer) -> Result<Carried, RuleBeyond>
     requires { IsLawful footer.now }
@@ -64,21 +64,21 @@ fn are_apart(a: Date, b: Date) -> bool
     comes_before(a, b) || comes_before(b, a)
 }
 
-#[tactic(auto, unfolding(posix_footer::specs::Carried::comes_before))]
+#[tactic(auto, unfolding(posix_footer::specs::Carried::date_comes_before))]
 fn comes_before(a: Date, b: Date) -> bool
     requires a { IsLawfulDate a }
     requires b { IsLawfulDate b }
-    ensures { result ≡ carried.comes_before a b }
+    ensures { result ≡ carried.date_comes_before a b }
 {
     is_before(a, b, 2001) && is_before(a, b, 2004)
 }
 
-/// Whether the days of the second date come three days after those of the first, or more.
+/// Whether the days of the second date come at least three days after those of the first.
 fn is_before(a: Date, b: Date, year: u16) -> bool
     requires a { IsLawfulDate a }
     requires b { IsLawfulDate b }
     requires year { (1800 ≤ year) × (year ≤ 9999) }
-    ensures { result ≡ carried.is_sooner a b (pos year) }
+    ensures { result ≡ carried.is_sooner_date a b (pos year) }
 {
     moved_last(a, year) + 3 <= moved_first(b, year)
 }

@@ -1,4 +1,5 @@
-//! Laws of carried footers and their rules, each the contract of a function that does nothing.
+//! Laws of footers that rules can say, and of their rules. Each is the contract of a function with
+//! an empty body.
 ghost use Rattle.std.specs.Prelude.{◌≡◌, ◌⊎◌, ◌↔◌, ℤ, true, Some};
 ghost use Rattle.jiff_core.specs.Calendar.{IsYear};
 ghost use Rattle.td_civil.specs.Bounds.{HasMeaning};
@@ -19,28 +20,28 @@ ghost use Rattle.recurrence.specs.SameDates.{HasSameDates, AreApart};
 ghost use Rattle.recurrence.specs.Valid.{IsValidForm};
 ghost use Rattle.recurrence.specs.declared.rule_types.Form.{Form};
 
-/// A form falls on one day of a year at most.
+/// A form falls on at most one day of a year.
 pub fn falls_once()
     ensures { (form : Form) (y a b : ℤ) → IsYear y → IsValidForm form
         → IsOfYear y a → IsOfYear y b → Falls form a → Falls form b → a ≡ b }
 {}
 
-/// The test of a date says that its days have one month and day in every year, before its time
-/// moves them and after it, and that they are moved to days from 3 January to 29 December.
+/// What the test of a date means. Its days have one month and day in every year, before and after
+/// its time moves them. They are moved to days from 3 January to 29 December.
 pub fn steady_dates_are()
     ensures { (d : Date) → IsLawfulDate d → (is_steady d ≡ true) ↔ HasSameDates d }
 {}
 
-/// The test of two dates says that in every year the days of one end and those of the other begin
-/// three days later or more.
+/// What the test of two dates means. In every year, the days of one begin at least three days after
+/// the days of the other end.
 pub fn apart_in_each_year()
     ensures { (a b : Date) → IsLawfulDate a → IsLawfulDate b
         → is_steady a ≡ true → is_steady b ≡ true
         → (are_apart a b ≡ true) ↔ ((y : ℤ) → IsYear y → AreApart a b y) }
 {}
 
-/// The rules of the dates of a footer's rule that is carried fall, in each year, on one day, and on
-/// that day at the moment of the change.
+/// The rules of a footer's dates fall on one day of each year, and on that day at the moment of the
+/// footer's change.
 pub fn keeps_onsets()
     ensures { (rule : DstRule) (std : ℤ) → IsLawfulRule std rule → is_carried_rule rule ≡ true
         → AreRulesOf std rule (rule_of rule.start) (rule_of rule.end) }
@@ -52,13 +53,13 @@ pub fn onset_in_year()
         → is_carried_rule rule ≡ true → IsInYear y (onset_of rule std y at) }
 {}
 
-/// The changes of a year come in one order in every year.
+/// The two changes of a year come in the same order in every year.
 pub fn onsets_ordered()
     ensures { (rule : DstRule) (std : ℤ) → IsLawfulRule std rule → is_carried_rule rule ≡ true
         → AreInOrder rule std edge.Start edge.End ⊎ AreInOrder rule std edge.End edge.Start }
 {}
 
-/// Where daylight saving time goes from 1 January to 31 December, it always holds.
+/// If daylight saving time lasts from 1 January to 31 December, it is always in force.
 pub fn all_year_daylight()
     ensures { (std : Local) (rule : DstRule) (t : ℤ) → IsLawfulRule std.offset rule
         → is_all_year std.offset rule ≡ true → HasMeaning t

@@ -1,19 +1,23 @@
-//! Yearly rules of calendars (RFC 5545, section 3.3.10), and the footers of zone files carried to
+//! Yearly rules of calendars (RFC 5545, section 3.3.10), and footers of zone files translated to
 //! them.
 //!
-//! `carry` gives what a footer says of each year, wherever yearly rules can say it
-//! (`specs/Carried.antt` of `posix_footer`); by `specs/Occurs.antt` its rules fall on the footer's
-//! changes in every year. A rule that is `valid` falls on one day of each year, and `occurrence` is
-//! that day. `Range` and `Part` are those of a VTIMEZONE.
+//! `carry` gives what a footer says of each year, if yearly rules can say it (`specs/Carried.antt`
+//! of `posix_footer`). By `specs/Occurs.antt`, its rules fall on the footer's changes in every
+//! year. A `valid` rule falls on one day of each year, and `occurrence` is that day. `Range` and
+//! `Part` are the range and the components of a VTIMEZONE.
+//!
+//! Footers come from `posix_footer`, dates from `jiff`. The writers and readers of calendars use
+//! this crate (`vtimezone`, `jcal`, `vtimezone_reader`), and `release_check` does for footers that
+//! no rules can say.
 #![tactic(auto)]
 
-// Rules, the parts of calendars, and footers that no rules say.
+// Rules, the parts of calendars, and the fault of footers that no rules can say.
 mod moment_list;
 mod part_types;
 mod rule_fault;
 mod rule_types;
 
-// Footers, carried to rules.
+// Footers, translated to rules.
 mod all_year;
 mod date_rules;
 mod footer_rules;

@@ -21,7 +21,7 @@ impl Model for Moments {
 }
 
 impl Moments {
-    /// No moments. It takes no memory, and grows by the allocator.
+    /// No moments. It allocates nothing; later growth uses the allocator.
     pub fn new(alloc: Global) -> Moments
         ensures { result ≡ [] }
     {

@@ -15,8 +15,8 @@ pub enum Form {
     NthDay { month: u8, nth: i8, weekday: u8 },
     /// The weekday among the seven days of the month that begin with the first.
     MonthDays { month: u8, first: u8, weekday: u8 },
-    /// The weekday among the seven days of the year that begin with the first, which counts from 1
-    /// at the year's start, or from -1 at its end, on the way back.
+    /// The weekday among the seven days of the year that begin with `first`. It counts from 1 at
+    /// the start of the year, or backwards from -1 at its end.
     YearDays { first: i16, weekday: u8 },
     /// One date.
     FixedDate { month: u8, day: u8 },
@@ -25,9 +25,9 @@ pub enum Form {
 /// What a footer says of each year.
 #[derive(Debug, Drop, PartialEq, Eq)]
 pub enum Carried {
-    /// One state always holds.
+    /// One state is always in force.
     Constant(Local),
-    /// Two states take turns.
+    /// Two states alternate.
     Pair {
         std: Local,
         dst: Local,

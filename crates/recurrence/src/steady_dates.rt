@@ -40,10 +40,10 @@ fn is_early(date: Date) -> bool
         && 2 <= moved
 }
 
-#[tactic(auto, unfolding(posix_footer::specs::Carried::is_late))]
+#[tactic(auto, unfolding(posix_footer::specs::Carried::is_late_date))]
 fn is_late(date: Date) -> bool
     requires { IsLawfulDate date }
-    ensures { result ≡ carried.is_late date }
+    ensures { result ≡ carried.is_late_date date }
 {
     let further = more_places(date.day);
     let common = first_place(date.day, 2001);
@@ -55,8 +55,8 @@ fn is_late(date: Date) -> bool
         && last <= 362
 }
 
-/// Whether a row of days has the same dates in every year, from its first place in a common and in
-/// a leap year.
+/// Whether a row of days has the same dates in every year, given its first day in a common and in a
+/// leap year.
 #[tactic(auto, unfolding(posix_footer::specs::Carried::keeps_early))]
 fn keeps_early(common: i32, leap: i32, further: u16) -> bool
     requires common { IsBetween (neg_ℤ (pos 7)) (pos 372) common }
@@ -75,7 +75,7 @@ fn keeps_late(common: i32, leap: i32, further: u16) -> bool
     leap == common + 1 && common >= 59 && common + i32::from(further) <= 364
 }
 
-/// The place of the first day of a date in a year, after its time has moved it.
+/// The first day of a date in a year, counted from 0, after its time has moved it.
 pub(crate) fn moved_first(date: Date, year: u16) -> i32
     requires date { IsLawfulDate date }
     requires year { (1800 ≤ year) × (year ≤ 9999) }
@@ -94,7 +94,7 @@ pub(crate) fn moved_last(date: Date, year: u16) -> i32
     moved_first(date, year) + i32::from(more_places(date.day))
 }
 
-/// The days by which a time moves its date.
+/// The number of days by which a time moves its date.
 pub(crate) fn moved_by(time: i32) -> i32
     requires { IsWithin 604799 time }
     ensures value { result ≡ carried.moved_by time }
@@ -103,7 +103,7 @@ pub(crate) fn moved_by(time: i32) -> i32
     time.div_euclid(86_400)
 }
 
-/// The place of the first day that a form can name in a year, where 1 January is 0.
+/// The first day that a form can name in a year, where 1 January is 0.
 fn first_place(form: DayForm, year: u16) -> u16
     requires form { IsLawfulDay form }
     requires year { (1800 ≤ year) × (year ≤ 9999) }
@@ -123,7 +123,7 @@ fn first_place(form: DayForm, year: u16) -> u16
     }
 }
 
-/// The place of the day after the first weeks of a month, or after the month.
+/// The day after the given number of weeks of a month, or after the month.
 fn weeks_end(year: u16, month: u8, week: u8) -> u16
     requires day { IsLawfulDay (DayForm.Week month week 0) }
     requires year { (1800 ≤ year) × (year ≤ 9999) }
@@ -137,7 +137,7 @@ fn weeks_end(year: u16, month: u8, week: u8) -> u16
     begin + length.min(7 * week as u16)
 }
 
-/// How many days follow it.
+/// How many days follow the first one that a form can name.
 fn more_places(form: DayForm) -> u16
     ensures value { result ≡ onset.more_places form }
     ensures bound { result ≤ 6 }

@@ -5,9 +5,9 @@ ghost use Rattle.recurrence.specs.Valid.{IsMonth, IsOrdinal, IsFirstDay, IsValid
 
 use crate::{Form, Rule};
 
-/// Whether the rule falls on one day of each year, and on a second that each day has: the month is
-/// 1 to 12, the weekday 0 to 6, the second below 86400, and each year has the days that the rule
-/// names. It takes no memory.
+/// Whether the rule falls on one day of each year, and on a second that each day has. The month is
+/// 1 to 12, the weekday 0 to 6, and the second below 86400. Each year has the days that the rule
+/// names. It allocates nothing.
 pub fn valid(rule: &Rule) -> bool
     ensures { IsTrue result ↔ IsValid rule.now }
 {
@@ -51,7 +51,7 @@ fn is_first_day(first: i16) -> bool
     first >= 1 && first <= 359 || first >= -365 && first <= -7
 }
 
-/// Whether the month has, in each year, the day and so many days after it.
+/// Whether the month has, in each year, the day and this number of days after it.
 fn is_day(day: u8, month: u8, more: u8) -> bool
     ensures { IsTrue result ↔ ((1 ≤ day) × (day + more ≤ days_in_month (pos 2001) month)) }
 {

@@ -10,12 +10,12 @@ use crate::{Form, Rule};
 use jiff::civil;
 use td_civil::new_year_day;
 
-/// How many days before 1970-01-01 a Sunday fell that comes before all dates of `jiff`. The first
-/// of them is 1 January of the year -9999.
+/// The number of days from a Sunday before all dates of `jiff` to 1970-01-01. The first of those
+/// dates is 1 January of the year -9999.
 const EARLY_SUNDAY: i64 = 4_371_588;
 
-/// The day number of the rule's one day in the year, counted from 1970-01-01, and the second of
-/// that day by the clocks in force before it. It takes no memory.
+/// The rule's one day in the year, in days from 1970-01-01, and the second of that day by the
+/// clocks in force before it. It allocates nothing.
 pub fn occurrence(rule: &Rule, year: i32) -> (i64, u32)
     requires valid { IsValid rule.now }
     requires year_in { IsBetween (pos 1800) (pos 9999) year }
@@ -25,7 +25,7 @@ pub fn occurrence(rule: &Rule, year: i32) -> (i64, u32)
     (day_in_year(rule.form, year as i16), rule.second)
 }
 
-/// The day number of the one day of the year on which a form falls.
+/// The day of the year on which a form falls, in days from 1970-01-01.
 fn day_in_year(form: Form, year: i16) -> i64
     requires valid { IsValidForm form }
     requires year_in { IsBetween (pos 1800) (pos 9999) year }
@@ -52,8 +52,8 @@ fn day_in_year(form: Form, year: i16) -> i64
     }
 }
 
-/// The first day from a day on that falls on the weekday. The day is no further from 1970-01-01
-/// than the early Sunday.
+/// The first day, from a day on, that falls on the weekday. The day must not be further from
+/// 1970-01-01 than `EARLY_SUNDAY` days.
 fn first_on(day: i64, weekday: u8) -> i64
     requires day { IsWithin 4_371_588 day }
     requires weekday { weekday ≤ 6 }
@@ -63,7 +63,7 @@ fn first_on(day: i64, weekday: u8) -> i64
     day + i64::from((u32::from(weekday) + 7 - since % 7) % 7)
 }
 
-/// The day number of the first of a month.
+/// The first day of a month, in days from 1970-01-01.
 fn first_of_month(year: i16, month: u8) -> i64
     requires year_in { IsBetween (pos 1800) (pos 9999) year }
     requires month { IsMonth month }

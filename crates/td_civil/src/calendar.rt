@@ -8,7 +8,7 @@ use crate::day_numbers::{date_after, day_number};
 use crate::fields::Fields;
 use jiff::civil;
 
-/// The year in UTC.
+/// The year in UTC. The moment must lie within the bounds [`LO`](crate::LO) and [`HI`](crate::HI).
 pub fn year_of(m: Moment) -> i32
     requires { IsWithinBounds m.seconds }
     ensures within { IsInYear result m.seconds }
@@ -17,8 +17,8 @@ pub fn year_of(m: Moment) -> i32
     Fields::at(m.seconds).year as i32
 }
 
-/// The day number of a date of the years 1798 to 9999, counted from 1970-01-01, if there is such a
-/// date.
+/// The day number of a date of the years 1798 to 9999, counted from 1970-01-01. `None` for any
+/// other year and for a date that does not exist.
 pub fn day_of(year: i32, month: u8, day: u8) -> Option<i64>
     ensures found { IsSome result ↔ HasDay year month day }
     ensures value { IfSome result (λ n. n ≡ days_from_civil year month day) }
@@ -42,7 +42,9 @@ pub fn new_year_day(year: i16) -> i64
 #[derive(Clone, Copy, PartialEq, Eq)]
 pub struct CivilDate {
     pub year: i32,
+    /// Counted from 1.
     pub month: u8,
+    /// The day of the month, counted from 1.
     pub day: u8,
 }
 

@@ -6,7 +6,7 @@ ghost use Rattle.td_civil.specs.Reading as reading;
 use jiff::civil;
 use jiff_core::civil::Date;
 
-/// The date so many days after 0000-01-01.
+/// The date `days` days after 0000-01-01.
 pub(crate) fn date_after(days: u32) -> Date
     requires { days < 3_652_425 }
     ensures year { result.year ≡ pos (date_of days).year }
@@ -16,8 +16,8 @@ pub(crate) fn date_after(days: u32) -> Date
     Date::from_days_since_min(days + 3_652_059)
 }
 
-/// The day number of a date of the years 0 to 9999, counted from 1970-01-01, if there is such a
-/// date.
+/// The day number of a date of the years 0 to 9999, counted from 1970-01-01. `None` if the date
+/// does not exist.
 pub(crate) fn day_number(year: u32, month: u32, day: u32) -> Option<i64>
     ensures value { result
         ≡ (if reading.is_date year month day

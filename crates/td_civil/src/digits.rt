@@ -1,7 +1,7 @@
 ghost use Rattle.std.specs.Prelude.{◌≡◌, ◌+◌, ◌-◌, ◌%◌, ◌<◌, length};
 ghost use Rattle.td_civil.specs.Reading as reading;
 
-/// YYYY-MM-DD.
+/// Writes `YYYY-MM-DD`.
 pub(crate) fn date_spelling(year: u32, month: u32, day: u32) -> [u8; 10]
     ensures { result ≡ reading.date_spelling year month day }
 {
@@ -19,7 +19,7 @@ pub(crate) fn date_spelling(year: u32, month: u32, day: u32) -> [u8; 10]
     ]
 }
 
-/// The number that the two digits from there on write.
+/// The number of the two digits at `at`.
 pub(crate) fn two_at(text: &[u8], at: usize) -> u32
     requires { at + 1 < length text.now }
     ensures value { result ≡ reading.two_at text.now at }
@@ -28,7 +28,7 @@ pub(crate) fn two_at(text: &[u8], at: usize) -> u32
     10 * digit_value(text[at]) + digit_value(text[at + 1])
 }
 
-/// The number that the four digits from there on write.
+/// The number of the four digits at `at`.
 pub(crate) fn four_at(text: &[u8], at: usize) -> u32
     requires { at + 3 < length text.now }
     ensures { result ≡ reading.four_at text.now at }
@@ -36,7 +36,7 @@ pub(crate) fn four_at(text: &[u8], at: usize) -> u32
     100 * two_at(text, at) + two_at(text, at + 2)
 }
 
-// What a digit writes.
+// The value of a digit.
 fn digit_value(byte: u8) -> u32
     ensures value { result ≡ byte - 48 }
     ensures bound { result < 256 }

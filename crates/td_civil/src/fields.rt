@@ -39,7 +39,7 @@ impl Model for Fields {
 }
 
 impl Fields {
-    /// What stands at the places of YYYY-MM-DDTHH:MM:SSZ.
+    /// The fields at their places in `YYYY-MM-DDTHH:MM:SSZ`.
     pub(crate) fn in_text(text: &[u8]) -> Fields
         requires { length text.now ≡ 20 }
         ensures { result ≡ reading.stamp_in text.now }
@@ -54,7 +54,7 @@ impl Fields {
         }
     }
 
-    /// What UTC shows so many seconds after 1970-01-01T00:00:00Z, in the years 0 to 9999.
+    /// The fields of UTC at a number of seconds from 1970-01-01T00:00:00Z, in the years 0 to 9999.
     pub(crate) fn at(seconds: i64) -> Fields
         requires { HasText seconds }
         ensures { result ≡ stamp_of seconds }
@@ -62,7 +62,7 @@ impl Fields {
         Fields::after((seconds + YEAR_ZERO) as u64)
     }
 
-    /// The same, so many seconds after the beginning of the year 0.
+    /// The same, for a number of seconds from the beginning of the year 0.
     fn after(seconds: u64) -> Fields
         requires { seconds < 315_569_520_000 }
         ensures { result ≡ stamp_after seconds }
@@ -78,7 +78,7 @@ impl Fields {
         }
     }
 
-    /// YYYY-MM-DDTHH:MM:SSZ.
+    /// Writes `YYYY-MM-DDTHH:MM:SSZ`.
     pub(crate) fn spelling(&self) -> [u8; 20]
         ensures { result ≡ spelling self.now }
     {
@@ -107,7 +107,7 @@ impl Fields {
         ]
     }
 
-    /// YYYYMMDDTHHMMSS.
+    /// Writes `YYYYMMDDTHHMMSS`.
     pub(crate) fn basic_spelling(&self) -> [u8; 15]
         ensures { result ≡ basic_spelling self.now }
     {
@@ -130,7 +130,7 @@ impl Fields {
         ]
     }
 
-    /// The seconds from 1970-01-01T00:00:00Z, if there is such a date and such a time of day.
+    /// The seconds from 1970-01-01T00:00:00Z. `None` if the date or the time of day does not exist.
     pub(crate) fn seconds(&self) -> Option<i64>
         ensures value { result ≡ reading.moment_if self.now }
         ensures bound { IfSome result (IsWithin 400_000_000_000) }

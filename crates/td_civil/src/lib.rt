@@ -1,6 +1,7 @@
-//! Moments, their texts, and the state of local time: what the service knows of calendar and clock.
-//! [`moment_of`] reads the text of a moment, and [`utc_text`] writes it: it is the one that
-//! `Spells` of `specs/Stamp.antt` ties to the moment.
+//! Moments in UTC, their texts, dates, and the state of local time (offset, daylight flag, name).
+//! [`moment_of`] reads the text of a moment, and [`utc_text`] writes it. `Spells` of
+//! `specs/Stamp.antt` is the relation of a text and its moment. It depends on `td_base` and `jiff`;
+//! all crates that handle zone data use it.
 #![tactic(auto)]
 
 // Moments and the calendar.
@@ -11,14 +12,14 @@ mod moment_type;
 // States of local time.
 mod local_time;
 
-// The texts of moments and dates, and why a text is none.
+// The texts of moments and dates, and the error of a bad text.
 mod date_text;
 mod digits;
 mod fields;
 mod moment_fault;
 mod moment_text;
 
-// Laws, and what may cross threads.
+// Theorems, and which types may cross threads.
 mod laws;
 mod send_sync;
 

@@ -4,7 +4,7 @@ ghost use Rattle.td_civil.specs.SameLocal.{same_local};
 use crate::Moment;
 use td_base::ShortText;
 
-/// The name of a state of local time, as `EST`: at most 32 bytes.
+/// The abbreviation of a state of local time, such as `EST`: at most 32 bytes.
 pub type Name = ShortText<32>;
 
 /// A state of local time.
@@ -18,7 +18,7 @@ pub struct Local {
 }
 
 impl Local {
-    /// The same state.
+    /// A copy.
     pub fn copy(&self) -> Local
         ensures { result ≡ self.now }
     {
@@ -44,7 +44,7 @@ pub struct Observance {
     pub onset: Moment,
     /// The offset before the onset, in seconds east of UTC.
     pub from: i32,
-    /// The offset from the onset on.
+    /// The offset from the onset on, in seconds east of UTC.
     pub to: i32,
     /// Whether daylight saving time holds from the onset on.
     pub dst: bool,

@@ -9,7 +9,8 @@ ghost use Rattle.td_civil.specs.Answer.{moment_read};
 use crate::fields::Fields;
 use crate::{BadMoment, Moment};
 
-/// The moment that a text `YYYY-MM-DDTHH:MM:SSZ` spells, in the years 0000 to 9999.
+/// Reads a text `YYYY-MM-DDTHH:MM:SSZ` in UTC, of the years 0000 to 9999. Any other text is
+/// [`BadMoment`].
 pub fn moment_of(text: &[u8]) -> Result<Moment, BadMoment>
     ensures found { IfOk result (λ m. Spells text.now m.seconds) }
     ensures fault { OnErr result ((m : ℤ) → ¬ Spells text.now m) }
@@ -21,7 +22,7 @@ pub fn moment_of(text: &[u8]) -> Result<Moment, BadMoment>
     }
 }
 
-/// The text `YYYY-MM-DDTHH:MM:SSZ` of a moment (RFC 3339, section 5.6).
+/// Writes the moment in UTC as `YYYY-MM-DDTHH:MM:SSZ` (RFC 3339, section 5.6).
 pub fn utc_text(m: Moment) -> [u8; 20]
     requires { IsWithinBounds m.seconds }
     ensures spells { Spells result m.seconds }
@@ -30,8 +31,8 @@ pub fn utc_text(m: Moment) -> [u8; 20]
     Fields::at(m.seconds).spelling()
 }
 
-/// The local time `YYYYMMDDTHHMMSS` of a moment (RFC 5545, section 3.3.5), as clocks show it that
-/// are so many seconds east of UTC, less than a day.
+/// The local time of a moment as `YYYYMMDDTHHMMSS` (RFC 5545, section 3.3.5). `offset` is in
+/// seconds east of UTC, less than a day to either side.
 pub fn local_stamp(m: Moment, offset: i32) -> [u8; 15]
     requires moment { IsWithinBounds m.seconds }
     requires offset { IsWithin 86_399 offset }

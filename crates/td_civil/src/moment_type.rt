@@ -7,14 +7,14 @@ pub struct Moment {
     pub seconds: i64,
 }
 
-/// The first moment that has a meaning here, 1800-01-01T00:00:00Z.
+/// The first moment that the service handles, 1800-01-01T00:00:00Z.
 pub const LO: i64 = -5_364_662_400;
 
-/// The end of the moments that have a meaning here, 9999-01-01T00:00:00Z.
+/// The end of the moments that the service handles, 9999-01-01T00:00:00Z; it is not one of them.
 pub const HI: i64 = 253_370_764_800;
 
 impl Moment {
-    /// Whether it has a meaning here.
+    /// Whether it lies from [`LO`] on and before [`HI`].
     pub fn has_meaning(self) -> bool
         ensures test { result ≡ has_meaning self.seconds }
         ensures meant { IsTrue result ↔ HasMeaning self.seconds }

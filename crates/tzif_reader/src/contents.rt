@@ -19,10 +19,10 @@ use td_civil::HI;
 /// The most bytes of a name.
 const LONGEST_NAME: usize = 32;
 
-/// The most seconds that an offset may be east or west of UTC.
+/// The largest offset east or west of UTC, in seconds.
 const GREATEST_OFFSET: i32 = 86_399;
 
-/// The name of type `i`, where a NUL ends it.
+/// The name of type `i`, up to its NUL byte.
 #[tactic(auto, unfolding(crate::specs::Cut::designation_at))]
 pub fn name_of<'a>(designations: &'a [u8], types: &[u8], i: usize) -> Option<&'a [u8]>
     requires { 6 * i + 6 ≤ length types.now }
@@ -50,7 +50,7 @@ fn is_unnamed(designations: &[u8], types: &[u8], i: usize) -> bool
     }
 }
 
-/// Whether a flag is neither 0 nor 1. One that is not there is 0.
+/// Whether a flag is neither 0 nor 1. A missing flag counts as 0.
 fn is_strange(flags: &[u8], i: usize) -> bool
     ensures { result ≡ nat_lt 1 (slice_index flags.now i) }
 {
@@ -143,7 +143,7 @@ fn is_late(times: &[u8], timecnt: usize) -> bool
     timecnt > 0 && long_at(times, 8 * (timecnt - 1)) >= HI
 }
 
-/// Looks for the first fault of the fields, one kind after another.
+/// Finds the first fault of the fields, one kind of fault after another.
 #[tactic(auto, using(td_base::proofs::lemmas::FaultLemmas::sooner, td_base::proofs::lemmas::FaultLemmas::later, td_base::proofs::lemmas::FaultLemmas::neither), unfolding(crate::specs::Faults::contents_fault))]
 pub fn check(counts: &Counts, block: &Block) -> Result<(), TzifFault>
     requires { AreSized counts.now (parts_view block.now) }

@@ -5,7 +5,7 @@ ghost use Rattle.tzif_reader.specs.Faults.{counts_fault, stands_for_all};
 use crate::TzifFault;
 use crate::zone_file::MOST_TRANSITIONS;
 
-/// The six counts of a header, by their names in RFC 9636, section 3.1.
+/// The six counts of a header, named as in RFC 9636, section 3.1.
 #[derive(Clone, Copy)]
 pub struct Counts {
     pub isutcnt: u32,
@@ -17,7 +17,7 @@ pub struct Counts {
 }
 
 impl Counts {
-    /// The bytes of a block whose times have 4 bytes.
+    /// The length in bytes of a block with 4-byte times.
     pub fn first_block_len(&self) -> u64
         ensures { result ≡ first_block_size self.now }
     {
@@ -30,7 +30,7 @@ impl Counts {
             + u64::from(self.isutcnt)
     }
 
-    /// The bytes of a block whose times have 8 bytes.
+    /// The length in bytes of a block with 8-byte times.
     pub fn second_block_len(&self) -> u64
         ensures { result ≡ second_block_size self.now }
     {
@@ -61,7 +61,7 @@ impl Counts {
         Ok(())
     }
 
-    /// Whether there are so many types, or none of what is counted.
+    /// Whether the count is 0 or the number of types.
     fn stands_for_all(&self, count: u32) -> bool
         ensures { result ≡ stands_for_all count self.now.typecnt }
     {

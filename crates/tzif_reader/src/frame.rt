@@ -8,7 +8,7 @@ use crate::counts::Counts;
 use crate::header::{HEADER_LEN, header_at, room};
 use crate::zone_file::MOST_BYTES;
 
-/// Where the second block and the footer of a file stand, and the counts of that block.
+/// The byte offsets of the second block and of the footer of a file, and the counts of that block.
 #[derive(Clone, Copy)]
 pub struct Frame {
     pub counts: Counts,
@@ -16,7 +16,7 @@ pub struct Frame {
     pub footer_at: usize,
 }
 
-/// Goes over the headers and the blocks. Of the first block it looks at nothing but its length.
+/// Checks the headers and the blocks' lengths. The content of the first block is skipped.
 #[tactic(auto, using(td_base::proofs::lemmas::FaultLemmas::sooner, td_base::proofs::lemmas::FaultLemmas::later, td_base::proofs::lemmas::FaultLemmas::neither), unfolding(crate::specs::Faults::frame_fault, crate::specs::Cut::counts_of, crate::specs::Cut::block_place))]
 pub fn frame_of(bytes: &[u8]) -> Result<Frame, TzifFault>
     ensures no_fault { IfOk result (λ f. frame_fault bytes.now ≡ None) }

@@ -6,17 +6,17 @@ use crate::TzifFault;
 use crate::counts::Counts;
 use crate::numbers::{piece, unsigned_at};
 
-/// The bytes of a header (RFC 9636, section 3.1).
+/// The length of a header in bytes (RFC 9636, section 3.1).
 pub const HEADER_LEN: usize = 44;
 
-/// What a header tells.
+/// The content of a header.
 #[derive(Clone, Copy)]
 pub struct Header {
     pub version: u8,
     pub counts: Counts,
 }
 
-/// The place after so many bytes, where the file has them.
+/// The byte offset `size` bytes after `place`, or [`TzifFault::Short`] if the file ends before it.
 pub fn room(bytes: &[u8], place: usize, size: u64) -> Result<usize, TzifFault>
     requires { place ≤ length bytes.now }
     ensures found { IfOk result (λ end. (end ≡ place + size) × (end ≤ length bytes.now)
@@ -43,7 +43,7 @@ fn counts_in(header: &[u8]) -> Counts
     }
 }
 
-/// The header at a place. Its version is not judged.
+/// Reads the header at a byte offset. Its version is not checked here.
 #[tactic(auto, unfolding(crate::specs::Faults::header_fault))]
 pub fn header_at(bytes: &[u8], place: usize) -> Result<Header, TzifFault>
     requires { place ≤ length bytes.now }

@@ -1,7 +1,7 @@
-//! Plans of the files of known zones, for the tests of crates above this one.
+//! Plans of the files of known zones, for the tests of crates that use this one.
 use crate::Plan;
 
-/// Etc/UTC: no transition.
+/// Etc/UTC, without transitions.
 pub const UTC: Plan<'static> = Plan {
     times: &[],
     numbers: &[],
@@ -13,8 +13,7 @@ pub const UTC: Plan<'static> = Plan {
     footer: b"UTC0",
 };
 
-/// America/New_York from the rule of 2007 on: one transition, to daylight saving time on
-/// 2007-03-11.
+/// America/New_York by the rule of 2007: one transition, to daylight saving time on 2007-03-11.
 pub const NEW_YORK: Plan<'static> = Plan {
     times: &[1_173_596_400],
     numbers: &[1],
@@ -26,8 +25,7 @@ pub const NEW_YORK: Plan<'static> = Plan {
     footer: b"EST5EDT,M3.2.0,M11.1.0",
 };
 
-/// Africa/Cairo by the rule of 2023: no transition, and an end of daylight saving time at 24
-/// o'clock.
+/// Africa/Cairo by the rule of 2023: no transition, and daylight saving time ends at 24:00.
 pub const CAIRO: Plan<'static> = Plan {
     times: &[],
     numbers: &[],

@@ -1,10 +1,10 @@
-//! Zone files in the TZif format (RFC 9636), versions 2 to 4, read from their bytes. The main call
-//! is [`read`]: what it gives is laid out in the bytes as `Layout.antt` says, and what it refuses
-//! has the first fault of `Faults.antt`. [`slim`] writes the file of a plan, which reads back as
-//! that plan.
+//! Reader of zone files in the TZif format (RFC 9636), versions 2 to 4. The main call is [`read`]:
+//! `Layout.antt` relates its result to the bytes, and `Faults.antt` defines the first fault of a
+//! refused file. [`slim`] writes the file of a plan, which reads back as that plan. It depends on
+//! `td_base` and `td_civil`; the crates that judge, serve and generate releases use it.
 #![tactic(auto)]
 
-// A zone file, and why bytes are none.
+// A zone file, and the error of a bad one.
 mod reading;
 mod tzif_fault;
 mod zone;
@@ -19,7 +19,7 @@ mod header;
 // What its fields may hold.
 mod contents;
 
-// Numbers and texts in bytes.
+// Numbers and texts in the bytes.
 mod numbers;
 mod text;
 
@@ -27,7 +27,7 @@ mod text;
 pub mod known_plans;
 mod slim_file;
 
-// Laws, and what may cross threads.
+// Theorems, and which types may cross threads.
 mod laws;
 mod send_sync;
 

@@ -1,7 +1,7 @@
 ghost use Rattle.std.specs.Prelude.{◌≡◌, ◌+◌, ◌≤◌, length};
 ghost use Rattle.tzif_reader.specs.Cut.{piece, unsigned_at, short_at, long_at};
 
-/// So many bytes from a place on.
+/// The `size` bytes from a byte offset on.
 pub fn piece(bytes: &[u8], place: usize, size: usize) -> &[u8]
     requires { place + size ≤ length bytes.now }
     ensures value { result.now ≡ piece place size bytes.now }
@@ -12,7 +12,7 @@ pub fn piece(bytes: &[u8], place: usize, size: usize) -> &[u8]
     prefix
 }
 
-/// The unsigned number of 4 bytes at a place.
+/// The unsigned big-endian 32-bit number at a byte offset.
 #[tactic(auto, unfolding(crate::specs::Cut::unsigned_at))]
 pub fn unsigned_at(bytes: &[u8], place: usize) -> u32
     requires { place + 4 ≤ length bytes.now }
@@ -22,7 +22,7 @@ pub fn unsigned_at(bytes: &[u8], place: usize) -> u32
     u32::from_be_bytes([number[0], number[1], number[2], number[3]])
 }
 
-/// The signed number of 4 bytes at a place.
+/// The signed big-endian 32-bit number at a byte offset.
 #[tactic(auto, unfolding(crate::specs::Cut::short_at))]
 pub fn short_at(bytes: &[u8], place: usize) -> i32
     requires { place + 4 ≤ length bytes.now }
@@ -32,7 +32,7 @@ pub fn short_at(bytes: &[u8], place: usize) -> i32
     i32::from_be_bytes([number[0], number[1], number[2], number[3]])
 }
 
-/// The signed number of 8 bytes at a place.
+/// The signed big-endian 64-bit number at a byte offset.
 #[tactic(auto, unfolding(crate::specs::Cut::long_at))]
 pub fn long_at(bytes: &[u8], place: usize) -> i64
     requires { place + 8 ≤ length bytes.now }

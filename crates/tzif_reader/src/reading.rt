@@ -13,7 +13,7 @@ use crate::zone::zone_from;
 use crate::{TzifFault, ZoneFile};
 use std::alloc::Global;
 
-/// The text of the footer, with which the file ends.
+/// The text of the footer. The file must end with the footer.
 #[tactic(auto, unfolding(crate::specs::Faults::footer_fault, crate::specs::Cut::footer_of))]
 fn footer_at(bytes: &[u8], place: usize) -> Result<&[u8], TzifFault>
     requires place { place ≡ footer_place bytes.now }
@@ -35,7 +35,7 @@ fn footer_at(bytes: &[u8], place: usize) -> Result<&[u8], TzifFault>
     }
 }
 
-/// The zone that the definitions cut out of the bytes, or their first fault.
+/// The zone in the bytes, as the definitions cut it, or their first fault.
 #[tactic(auto, using(td_base::proofs::lemmas::FaultLemmas::sooner, td_base::proofs::lemmas::FaultLemmas::later, td_base::proofs::lemmas::FaultLemmas::neither), unfolding(crate::specs::Faults::first_fault, crate::specs::Cut::parts_of))]
 fn zone_or_fault(alloc: Global, bytes: &[u8]) -> Result<ZoneFile, TzifFault>
     ensures exact { IfOk result (λ z. z ≡ lists_of bytes.now) }
@@ -52,19 +52,20 @@ fn zone_or_fault(alloc: Global, bytes: &[u8]) -> Result<ZoneFile, TzifFault>
     Ok(zone)
 }
 
-/// Reads a whole zone file of at most [`MOST_BYTES`](crate::MOST_BYTES) bytes (RFC 9636, section
-/// 3). It wants a version from 2 to 4; of the first block, whose times have 4 bytes, it looks at
-/// the size alone. An error is [`TzifFault::NoMemory`] or the first fault: of the size, of the
-/// headers and the room for the blocks as they come, of the second block, kind after kind in the
-/// order of `TzifFault`'s numbers with `TooLate` as the last, and of the footer.
+/// Reads a whole zone file of at most [`MOST_BYTES`](crate::MOST_BYTES) bytes, of version 2 to 4
+/// (RFC 9636, section 3). Of the first block, whose times have 4 bytes, only the length is checked.
+/// An error is [`TzifFault::NoMemory`] or the first fault. The size is checked first, then the
+/// headers and the room for the blocks in file order. The second block follows, one kind of fault
+/// after another in the order of `TzifFault`'s numbers, with `TooLate` last. The footer is checked
+/// at the end.
 #[tactic(auto, using(crate::proofs::lemmas::Whole::is_found))]
 pub fn read(alloc: Global, bytes: &[u8]) -> Result<ZoneFile, TzifFault>
-    // What is read is laid out so.
+    // The bytes have the layout of the result.
     ensures found { IfOk result (λ z. IsZoneFile bytes.now z) }
     ensures exact { IfOk result (λ z. z ≡ lists_of bytes.now) }
     ensures no_fault { OnOk result (first_fault bytes.now ≡ None) }
     ensures fault { IfErr result (λ e. e ≢ NoMemory → first_fault bytes.now ≡ Some e) }
-    // A fault is told before any memory is taken.
+    // A fault is reported before any memory is allocated.
     ensures judged { (e : TzifFault) → first_fault bytes.now ≡ Some e → result ≡ Err e }
 {
     zone_or_fault(alloc, bytes)

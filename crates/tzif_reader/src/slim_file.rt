@@ -1,4 +1,4 @@
-//! Slim files (RFC 9636, section 3): version 2, with next to nothing in the first block.
+//! Slim files (RFC 9636, section 3): version 2, with a minimal first block.
 ghost use Rattle.std.specs.Prelude.{◌≡◌, ◌++◌, ◌-◌, ◌^◌, ◌<◌, min, IfOk, OnOk};
 ghost use Rattle.std.specs.List.{flat_map};
 ghost use Rattle.tzif_reader.specs.Slim.{plan_lists, unsigned_bytes, short_bytes, long_bytes};
@@ -10,26 +10,26 @@ use crate::counts::Counts;
 use std::alloc::Global;
 use td_base::{Bytes, NoMemory};
 
-/// What the second block of a file and its footer are to hold (RFC 9636, sections 3.2 and 3.3).
-/// Nothing is asked of it: a plan may be one of a file that no reader takes.
+/// The content of the second block of a file and of its footer (RFC 9636, sections 3.2 and 3.3). It
+/// is not checked: a plan may describe a file that a reader refuses.
 #[derive(Clone, Copy)]
 pub struct Plan<'a> {
     /// The transition times, in seconds since 1970-01-01T00:00:00Z.
     pub times: &'a [i64],
-    /// The number of a type for each time.
+    /// The index of the local time type from each transition on.
     pub numbers: &'a [u8],
-    /// The offset of each type in seconds east of UTC, its flag for daylight saving time, and where
-    /// its name begins in the designations.
+    /// For each type: the offset in seconds east of UTC, the daylight saving flag, and the offset
+    /// of its name in the designations.
     pub types: &'a [(i32, u8, u8)],
     /// The names, each with a NUL after it.
     pub designations: &'a [u8],
-    /// The second at which each leap line begins to hold, and its correction in seconds.
+    /// For each leap line: the second from which it holds, and its correction in seconds.
     pub leaps: &'a [(i64, i32)],
     /// The standard/wall indicators.
     pub standard: &'a [u8],
     /// The UT/local indicators.
     pub ut: &'a [u8],
-    /// A TZ string, or nothing.
+    /// A POSIX TZ string, or nothing.
     pub footer: &'a [u8],
 }
 
@@ -144,7 +144,7 @@ fn put_first_block(file: &mut Bytes) -> Result<(), NoMemory>
     file.append(&[0; 7])
 }
 
-/// A number of items as a header has it: at most the greatest number of 4 bytes.
+/// A number of items as a header holds it, at most 2^32 - 1.
 fn count_of(len: usize) -> u32
     ensures { result ≡ min len (2 ^ 32 - 1) }
 {
@@ -192,8 +192,8 @@ fn put_footer(file: &mut Bytes, footer: &[u8]) -> Result<(), NoMemory>
     Ok(())
 }
 
-/// A file of version 2 for a plan, with a first block of one type and one designation (RFC 9636,
-/// section 3). Of a list with 2^32 items or more the count in the header is 2^32 - 1.
+/// Writes a file of version 2 for a plan, with a first block of one type and one designation (RFC
+/// 9636, section 3). The count of a list with 2^32 items or more is written as 2^32 - 1.
 #[tactic(auto, unfolding(crate::specs::Slim::slim_of))]
 pub fn slim(alloc: Global, plan: &Plan) -> Result<Bytes, NoMemory>
     ensures exact { IfOk result (λ file. file ≡ slim_of (plan_lists plan.now)) }

@@ -5,23 +5,23 @@ use std::error::Error;
 use std::fmt;
 use td_base::NoMemory;
 
-/// Why a list of bytes is not a zone file: its first fault, of which the least index is told.
-/// Places and lengths are counted in bytes from the beginning of the file. It prints as its number,
-/// its name and its value.
+/// Why a list of bytes is not a zone file: its first fault, with the least index. Places and
+/// lengths are in bytes from the beginning of the file; indexes count from 0. It prints as its
+/// number, its name and its value.
 #[derive(Clone, Copy, Debug, PartialEq, Eq)]
 pub enum TzifFault {
     NoMemory,
     /// A header does not begin with `TZif`.
     Magic,
-    /// The version is not `2`, `3` or `4`, or the headers differ in it.
+    /// The version is not `2`, `3` or `4`, or the two headers differ in it.
     Version,
-    /// The file ends before the header or the block does that begins at this place.
+    /// The file ends before the end of the header or block that begins at this place.
     Short(usize),
-    /// There is no type or no designation, or indicators stand for some types alone.
+    /// There is no type or no designation, or indicators cover only some of the types.
     Counts,
-    /// This transition is not above the one before it.
+    /// This transition is not after the previous one.
     Order(usize),
-    /// This transition's type is none of the file's.
+    /// This transition's type is not in the file.
     TypeNumber(usize),
     /// This type's name has no end, or more than 32 bytes.
     Designation(usize),
@@ -34,7 +34,7 @@ pub enum TzifFault {
     TooLarge,
     /// The last transition is at or after 9999-01-01T00:00:00Z.
     TooLate,
-    /// No text between line feeds stands after the second block.
+    /// The second block is not followed by a text between line feeds.
     FooterFrame,
     /// Bytes follow the footer from this place on.
     Trailing(usize),

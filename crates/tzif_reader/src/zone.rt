@@ -28,7 +28,7 @@ fn moments_of(alloc: Global, times: &[u8], timecnt: usize) -> Result<Items<Momen
     Ok(moments)
 }
 
-/// Type `i`, which has a name.
+/// Type `i`, whose name is known to be valid.
 fn kind_of(designations: &[u8], types: &[u8], i: usize) -> Local
     requires room { 6 * i + 6 ≤ length types.now }
     requires named { is_unnamed designations.now types.now i ≡ false }
@@ -78,7 +78,7 @@ fn leaps_of(alloc: Global, leaps: &[u8], leapcnt: usize) -> Result<Items<LeapLin
     Ok(lines)
 }
 
-/// The zone that a block and a footer tell of.
+/// The zone of a block and a footer that have no fault.
 pub fn zone_from(
     alloc: Global,
     counts: &Counts,

@@ -16,7 +16,7 @@ use Rattle.jiff_core.specs.Weekday.{monday_zero, sunday_zero}
 use Rattle.posix_footer.specs.declared.rule_types.DayForm.{DayForm}
 use Rattle.posix_footer.specs.declared.rule_types.DayForm.TheVariants as day
 use Rattle.posix_footer.specs.Lawful.{IsLawfulDay}
-use Rattle.posix_footer.specs.Onset.{weekday_from_sunday, last_weekday, month_day, days_before, day_number, IsNamed}
+use Rattle.posix_footer.specs.Onset.{weekday_from_sunday, last_weekday, month_day, days_before, day_number, IsDayNamed}
 
 last_weekday-here : (y : ℤ) (m w n : ℕ) → weekday_from_sunday (days_from_civil y m (suc n)) ≡ w → last_weekday y m w (suc n) ≡ suc n
 unfolding last_weekday
@@ -77,7 +77,7 @@ month_day_is y m week w low h =
     (omega arith, omega arith, omega arith)
 
 -- a form's day stands among those that it can name
-pub named : (form : DayForm) (y : ℤ) → IsLawfulDay form → IsNamed form y
+pub named : (form : DayForm) (y : ℤ) → IsLawfulDay form → IsDayNamed form y
 named (day.Julian n) y h = record { after = 0; among = omega arith; number = omega (arith, signed_arith) }
 named (day.YearDay n) y h = record { after = 0; among = omega arith; number = omega (arith, signed_arith) }
 named (day.Week m week w) y h =

@@ -9,7 +9,7 @@ use Rattle.jiff_core.proofs.SignedLemmas.{signed_arith, one_part}
 use Rattle.jiff_core.specs.Calendar.{days_in_month}
 use Rattle.recurrence.specs.declared.rule_types.Form.{Form}
 use Rattle.recurrence.specs.declared.rule_types.Form.TheVariants as form
-use Rattle.recurrence.specs.FormFields.{are_in_a_row, week_from, month_days_form, form_of_fields}
+use Rattle.recurrence.specs.FormFields.{are_in_a_row, week_from, form_on_month_days, form_of_fields}
 use Rattle.recurrence.specs.Valid.{IsFirstDay, IsMonth, IsOrdinal}
 use Rattle.recurrence.specs.Weekdays.{Day}
 use Rattle.recurrence.proofs.lemmas.Weekdays.{IsShort}
@@ -111,6 +111,6 @@ days_of (form.FixedDate month day) = None
 -- they name the form
 pub fields_back : (f : Form) → form_of_fields (months_of f) (month_days_of f) (year_days_of f) (days_of f) ≡ Some f
 fields_back (form.NthDay month nth weekday) = refl
-fields_back (form.MonthDays month first weekday) = ap (month_days_form month weekday) (row_back (pos first))
+fields_back (form.MonthDays month first weekday) = ap (form_on_month_days month weekday) (row_back (pos first))
 fields_back (form.YearDays first weekday) = ap (option_map (λ z. form.YearDays z weekday)) (row_back first)
 fields_back (form.FixedDate month day) = refl

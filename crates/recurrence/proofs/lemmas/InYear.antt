@@ -11,7 +11,7 @@ use Rattle.posix_footer.specs.declared.rule_types.Date.{Date}
 use Rattle.posix_footer.specs.declared.rule_types.DstRule.{DstRule}
 use Rattle.posix_footer.specs.Lawful.{IsLawfulDate, IsLawfulOffset, IsLawfulRule}
 use Rattle.posix_footer.specs.Onset.{day_number, moment_on, onset_of}
-use Rattle.posix_footer.specs.Carried.{moved_by, is_steady, is_carried_rule, are_apart, comes_before, is_sooner, moved_first, moved_last}
+use Rattle.posix_footer.specs.Carried.{moved_by, is_steady, is_carried_rule, are_apart, date_comes_before, is_sooner_date, moved_first, moved_last}
 use Rattle.posix_footer.specs.Onset.{first_place, more_places}
 use Rattle.recurrence.specs.RuleOfDate.{second_in_day, row_place}
 use Rattle.recurrence.proofs.Rows.{Keeps}
@@ -94,15 +94,15 @@ either_side false y e = inr e
 at_most : (x y : ℤ) → int_le x y ≡ true → x ≤ℤ y
 at_most x y e = omega (arith, signed_arith)
 
-pub before_is : (a b : Date) → comes_before a b ≡ true → Gap a b
-unfolding comes_before
+pub before_is : (a b : Date) → date_comes_before a b ≡ true → Gap a b
+unfolding date_comes_before
 before_is a b e =
-    at_most (moved_last a (pos 2001) +ℤ pos 3) (moved_first b (pos 2001)) (and_parts (is_sooner a b (pos 2001)) (is_sooner a b (pos 2004)) e).0
+    at_most (moved_last a (pos 2001) +ℤ pos 3) (moved_first b (pos 2001)) (and_parts (is_sooner_date a b (pos 2001)) (is_sooner_date a b (pos 2004)) e).0
 
 pub gap_is : (a b : Date) → are_apart a b ≡ true → Gap a b ⊎ Gap b a
 unfolding are_apart
 gap_is a b e =
-    elim (either_side (comes_before a b) (comes_before b a) e) [
+    elim (either_side (date_comes_before a b) (date_comes_before b a) e) [
       | inl first ↦ inl (before_is a b first)
       | inr second ↦ inr (before_is b a second)
     ]

@@ -6,7 +6,7 @@ use Rattle.jiff_core.proofs.SignedLemmas.{signed_arith}
 use Rattle.td_civil.specs.declared.moment_type.Moment.{Moment}
 use Rattle.recurrence.specs.declared.part_types.Part.{Part}
 use Rattle.recurrence.specs.declared.rule_types.Rule.{Rule}
-use Rattle.recurrence.specs.PartFields.{Recur, shown_at, rule_at, part_with}
+use Rattle.recurrence.specs.PartFields.{Recur, shown_at, rule_at_offset, part_with_fields}
 use Rattle.recurrence.specs.RuleOfDate.{second_in_day}
 use Rattle.recurrence.specs.Spellable.{HasTime}
 
@@ -32,7 +32,7 @@ dates_back offset (m ∷ ms) =
 second_back : (second : ℕ) (start : ℤ) → pos second ≡ int_rem_euclid start (pos 86400) → second_in_day start ≡ second
 second_back second start h = omega (arith, signed_arith, h)
 
-rule_back : (p : Part) (rule : Option Rule) → HasTime p rule → option_map (rule_at (p.start.seconds +ℤ p.from)) (recur_for rule p.until) ≡ rule
+rule_back : (p : Part) (rule : Option Rule) → HasTime p rule → option_map (rule_at_offset (p.start.seconds +ℤ p.from)) (recur_for rule p.until) ≡ rule
 rule_back p None h = refl
 rule_back p (Some rule) h =
     ap (λ (n : ℕ). Some (record { form = rule.form; second = n })) (second_back rule.second (p.start.seconds +ℤ p.from) h)
@@ -46,12 +46,12 @@ part_by p start rule until dates =
     record { dst = p.dst; start = start; from = p.from; to = p.to; name = p.name; rule = rule; until = until; dates = dates }
 
 pub part_back : (p : Part) → HasTime p p.rule
-    → part_with p.dst (Some (local_at p.from p.start)) (Some p.from) (Some p.to) (Some p.name) (Some (map (local_at p.from) p.dates))
+    → part_with_fields p.dst (Some (local_at p.from p.start)) (Some p.from) (Some p.to) (Some p.name) (Some (map (local_at p.from) p.dates))
     (Some (recur_for p.rule p.until)) ≡ Some p
 part_back p h =
     let start = local_at p.from p.start in
     let recur = recur_for p.rule p.until in
-    let rule = option_map (rule_at start) recur in
+    let rule = option_map (rule_at_offset start) recur in
     let until = option_and_then (λ (r : Recur). r.until) recur in
     let dates = map (shown_at p.from) (map (local_at p.from) p.dates) in
     ap (λ s. Some (part_by p s rule until dates)) (shown_back p.from p.start)

@@ -14,10 +14,10 @@ use Rattle.std.proofs.lemmas.Str.Parse.{IsNumeralModel, numerals_by_value, tells
 use Rattle.std.proofs.lemmas.Str.Parse.{not_in_digits, without_leading_plus_none}
 use Rattle.std.proofs.Math.Seq.{take-append_seam, drop-append_seam}
 use Rattle.jiff_core.proofs.SignedLemmas.{signed_arith}
-use Rattle.recurrence.specs.Weekdays.{weekday_name, weekday_in, is_number, number_in, Day, day_of, nth_in, day_in}
+use Rattle.recurrence.specs.Weekdays.{weekday_name, weekday_of_text, is_number, number_of_text, Day, day_of, nth_of_text, day_of_text}
 
-pub weekday_back : (w : ℕ) → w ≤ 6 → weekday_in (weekday_name w) ≡ Some w
-unfolding weekday_in weekday_name
+pub weekday_back : (w : ℕ) → w ≤ 6 → weekday_of_text (weekday_name w) ≡ Some w
+unfolding weekday_of_text weekday_name
 weekday_back zero h = refl
 weekday_back (suc zero) h = refl
 weekday_back (suc (suc zero)) h = refl
@@ -56,8 +56,8 @@ signed_value n h =
 
 -- a number that is told by its digits and its value is read
 told : (places most : ℕ) (text : List ℕ) (n : ℕ) (z : ℤ) → without_leading_sign text ≡ decimal n → signed_digits_value 10 text ≡ z → unsigned_abs z ≡ n
-    → 0 < places → 1 ≤ n → n ≤ most → n < 10 ^ places → n < 2 ^ 64 → number_in places most text ≡ Some z
-unfolding number_in
+    → 0 < places → 1 ≤ n → n ≤ most → n < 10 ^ places → n < 2 ^ 64 → number_of_text places most text ≡ Some z
+unfolding number_of_text
 told places most text n z digits value size some low high short fits =
     let all : all_ascii_digits (without_leading_sign text) ≡ true = ap all_ascii_digits digits ∙ all_digits n fits in
     let long : length (without_leading_sign text) ≡ length (decimal n) = ap length digits in
@@ -70,7 +70,7 @@ told places most text n z digits value size some low high short fits =
     ∙ ap Some value
 
 pub number_back : (places most : ℕ) (z : ℤ) → 0 < places → 1 ≤ unsigned_abs z → unsigned_abs z ≤ most → unsigned_abs z < 10 ^ places
-    → unsigned_abs z < 2 ^ 64 → number_in places most (signed_decimal z) ≡ Some z
+    → unsigned_abs z < 2 ^ 64 → number_of_text places most (signed_decimal z) ≡ Some z
 number_back places most (pos n) some low high short fits =
     told places most (decimal n) n (pos n) (no_sign n fits) (signed_value n fits) refl some low high short fits
 number_back places most (negsuc n) some low high short fits =
@@ -84,7 +84,7 @@ pub record IsShort (places most : ℕ) (z : ℤ) : Type 0 where
   pub short : unsigned_abs z < 10 ^ places
   pub small : unsigned_abs z ≤ 1000
 
-pub short_back : (places most : ℕ) (z : ℤ) → IsShort places most z → number_in places most (signed_decimal z) ≡ Some z
+pub short_back : (places most : ℕ) (z : ℤ) → IsShort places most z → number_of_text places most (signed_decimal z) ≡ Some z
 short_back places most z h =
     let low = h.low in
     let small = h.small in
@@ -101,8 +101,8 @@ weekday_length (suc (suc (suc (suc (suc zero))))) h = refl
 weekday_length (suc (suc (suc (suc (suc (suc zero)))))) h = refl
 weekday_length (suc (suc (suc (suc (suc (suc (suc w))))))) h = absurd (omega arith)
 
-pub weekday_alone : (w : ℕ) → w ≤ 6 → day_in (weekday_name w) ≡ Some (record { nth = None; weekday = w })
-unfolding day_in weekday_in weekday_name
+pub weekday_alone : (w : ℕ) → w ≤ 6 → day_of_text (weekday_name w) ≡ Some (record { nth = None; weekday = w })
+unfolding day_of_text weekday_of_text weekday_name
 weekday_alone zero h = refl
 weekday_alone (suc zero) h = refl
 weekday_alone (suc (suc zero)) h = refl
@@ -112,7 +112,7 @@ weekday_alone (suc (suc (suc (suc (suc zero))))) h = refl
 weekday_alone (suc (suc (suc (suc (suc (suc zero)))))) h = refl
 weekday_alone (suc (suc (suc (suc (suc (suc (suc w))))))) h = absurd (omega arith)
 
-nth_back : (t : List ℕ) (z : ℤ) → 0 < length t → number_in 2 53 t ≡ Some z → nth_in t ≡ Some (Some z)
+nth_back : (t : List ℕ) (z : ℤ) → 0 < length t → number_of_text 2 53 t ≡ Some z → nth_of_text t ≡ Some (Some z)
 nth_back [] z some e = absurd (omega arith)
 nth_back (b ∷ bs) z some e = ap (option_map Some) e
 
@@ -120,8 +120,8 @@ signed_nonempty : (z : ℤ) → IsShort 2 53 z → 0 < length (signed_decimal z)
 signed_nonempty (pos n) h = let small = h.small in decimal_nonempty n (omega (arith, signed_arith))
 signed_nonempty (negsuc n) h = omega arith
 
-pub nth_weekday : (z : ℤ) (w : ℕ) → IsShort 2 53 z → w ≤ 6 → day_in (signed_decimal z ++ weekday_name w) ≡ Some (record { nth = Some z; weekday = w })
-unfolding day_in
+pub nth_weekday : (z : ℤ) (w : ℕ) → IsShort 2 53 z → w ≤ 6 → day_of_text (signed_decimal z ++ weekday_name w) ≡ Some (record { nth = Some z; weekday = w })
+unfolding day_of_text
 nth_weekday z w h le =
     let a = signed_decimal z in
     let b = weekday_name w in
@@ -129,7 +129,7 @@ nth_weekday z w h le =
     let long : length (a ++ b) - 2 ≡ length a = omega (arith, length-append a b) in
     let front : take (length (a ++ b) - 2) (a ++ b) ≡ a = ap (λ n. take n (a ++ b)) long ∙ take-append_seam a b in
     let back : drop (length (a ++ b) - 2) (a ++ b) ≡ b = ap (λ n. drop n (a ++ b)) long ∙ drop-append_seam a b in
-    ap (λ t. day_of (nth_in t) (weekday_in (drop (length (a ++ b) - 2) (a ++ b)))) front
-    ∙ ap (λ t. day_of (nth_in a) (weekday_in t)) back
-    ∙ ap (λ o. day_of o (weekday_in b)) (nth_back a z (signed_nonempty z h) (short_back 2 53 z h))
+    ap (λ t. day_of (nth_of_text t) (weekday_of_text (drop (length (a ++ b) - 2) (a ++ b)))) front
+    ∙ ap (λ t. day_of (nth_of_text a) (weekday_of_text t)) back
+    ∙ ap (λ o. day_of o (weekday_of_text b)) (nth_back a z (signed_nonempty z h) (short_back 2 53 z h))
     ∙ ap (day_of (Some (Some z))) (weekday_back w le)
