@@ -1,5 +1,6 @@
 -- What becomes of the zones of a release, one after another.
-use Rattle.std.proofs.Common.{◌≡◌, ℕ, zero, suc, ◌+◌, ◌<◌, ◌≤◌, Bool, true, false, not, if◌then◌else◌, List, [], ◌∷◌, ◌++◌, map, drop, length, get_or, Option, None}
+use Rattle.std.proofs.Common.{◌≡◌, ℕ, zero, suc, ◌+◌, ◌<◌, ◌≤◌, Bool, true, false, not, if◌then◌else◌, List, [], ◌∷◌, ◌++◌, map, drop, length, get_or, Option}
+use Rattle.std.proofs.Common.{None}
 use Rattle.std.proofs.Common.{Some, refl, sym, ap, ◌∙◌, subst, arith, append_assoc, append-nil}
 use Rattle.std.proofs.lemmas.List.{drop_all, length-map}
 use Rattle.std.proofs.lemmas.Simd.{map-map}
@@ -15,7 +16,7 @@ use Rattle.catalogue.specs.declared.holding.Catalogue.{Catalogue}
 use Rattle.catalogue.proofs.lemmas.LastRelease.{last_of}
 use Rattle.zone_meaning.specs.Sound.{IsSound}
 use Rattle.zone_meaning.specs.ZoneHistories.{zone_bytes}
-use Rattle.admission.specs.Differences.{is_changed, first_from, changed_from, change_if_any, change_from_one, with_last_if_any, changes_of, difference}
+use Rattle.admission.specs.Differences.{is_changed, first_from, changed_from, change_if_any, change_from_one, with_last_if_any, content_changes, difference}
 use Rattle.admission.specs.declared.delta.Changed.{Changed}
 use Rattle.admission.specs.declared.delta.Delta.{Delta}
 use Rattle.admission.proofs.Naming.{none_same, one_same}
@@ -61,7 +62,7 @@ zones_apart k H s =
 
 with_first : (b : Bool) (old : List ContentData) (c : ContentData) (cs : List ContentData)
     → map (changed_from old) (if b then c ∷ filter (is_changed old) cs else filter (is_changed old) cs)
-    ≡ (if b then changed_from old c ∷ changes_of old cs else changes_of old cs)
+    ≡ (if b then changed_from old c ∷ content_changes old cs else content_changes old cs)
 with_first true old c cs = refl
 with_first false old c cs = refl
 
@@ -73,10 +74,10 @@ step true x change done xs is =
 step false x change done xs is = ap (λ o. with_last_if_any done o ++ xs) (sym is)
 
 changes_next : (old : List ContentData) (done : List Changed) (c : ContentData) (cs : List ContentData) (change : Option Changed)
-    → change ≡ change_if_any old c → done ++ changes_of old (c ∷ cs) ≡ with_last_if_any done change ++ changes_of old cs
+    → change ≡ change_if_any old c → done ++ content_changes old (c ∷ cs) ≡ with_last_if_any done change ++ content_changes old cs
 changes_next old done c cs change is =
     ap (λ xs. done ++ xs) (with_first (is_changed old c) old c cs)
-    ∙ step (is_changed old c) (changed_from old c) change done (changes_of old cs) is
+    ∙ step (is_changed old c) (changed_from old c) change done (content_changes old cs) is
 
 drop_mapped : {R : Type 0} (seen : R → ContentData) (zones : List R) (i : ℕ) (r : R) → i < length zones → r ≡ get_or zones i r
     → drop i (map seen zones) ≡ seen r ∷ drop (i + 1) (map seen zones)
@@ -89,29 +90,29 @@ drop_mapped seen (z ∷ zs) (suc i) r lt is =
 -- what is listed, with what is left, is the whole
 pub changes_at : {R : Type 0} (seen : R → ContentData) (old : List ContentData) (done next all : List Changed) (zones : List R) (i : ℕ) (r : R)
     (change : Option Changed) → i < length zones → r ≡ get_or zones i r → change ≡ change_if_any old (seen r) → next ≡ with_last_if_any done change
-    → done ++ changes_of old (drop i (map seen zones)) ≡ all → next ++ changes_of old (drop (i + 1) (map seen zones)) ≡ all
+    → done ++ content_changes old (drop i (map seen zones)) ≡ all → next ++ content_changes old (drop (i + 1) (map seen zones)) ≡ all
 changes_at seen old done next all zones i r change lt at is put left =
-    ap (λ xs. xs ++ changes_of old (drop (i + 1) (map seen zones))) put
+    ap (λ xs. xs ++ content_changes old (drop (i + 1) (map seen zones))) put
     ∙ sym (changes_next old done (seen r) (drop (i + 1) (map seen zones)) change is)
-    ∙ ap (λ cs. done ++ changes_of old cs) (sym (drop_mapped seen zones i r lt at)) ∙ left
+    ∙ ap (λ cs. done ++ content_changes old cs) (sym (drop_mapped seen zones i r lt at)) ∙ left
 
 pub nothing_left : (old : List ContentData) (done all : List Changed) (cs : List ContentData) (i : ℕ) → length cs ≤ i
-    → done ++ changes_of old (drop i cs) ≡ all → done ≡ all
+    → done ++ content_changes old (drop i cs) ≡ all → done ≡ all
 nothing_left old done all cs i end left =
-    sym (append-nil done) ∙ ap (λ xs. done ++ changes_of old xs) (sym (drop_all i cs end)) ∙ left
+    sym (append-nil done) ∙ ap (λ xs. done ++ content_changes old xs) (sym (drop_all i cs end)) ∙ left
 
 -- where zones are lent
 pub all_listed : {R : Type 0} (seen : R → ContentData) (old : List ContentData) (done all : List Changed) (zones : List R) (i : ℕ) → length zones ≤ i
-    → done ++ changes_of old (drop i (map seen zones)) ≡ all → done ≡ all
+    → done ++ content_changes old (drop i (map seen zones)) ≡ all → done ≡ all
 all_listed seen old done all zones i end left = nothing_left old done all (map seen zones) i (rw (length-map zones seen) end) left
 
 -- and so the difference of two releases
 pub delta_is : {R : Type 0} (now : R → Content (List ℕ)) (H : List ReleaseData) (sorted : List R) (r : Release (List ℕ)) (changed : List Changed)
     → map now sorted ≡ rising_by (λ (c : Content (List ℕ)). c.tzid) r.zones
-    → changed ≡ changes_of (zones_of H) (map (λ z. content_data zone_bytes (now z)) sorted)
+    → changed ≡ content_changes (zones_of H) (map (λ z. content_data zone_bytes (now z)) sorted)
     → delta_with changed ≡ difference H (release_data zone_bytes r)
 unfolding difference
 delta_is {R = R} now H sorted r changed in_order is =
     let contents : map (λ z. content_data zone_bytes (now z)) sorted ≡ rising_by (λ (c : ContentData). c.tzid) (map (content_data zone_bytes) r.zones) =
     sym (map-map (content_data zone_bytes) now sorted) ∙ contents_rise zone_bytes (map now sorted) r.zones in_order in
-    ap delta_with (is ∙ ap (changes_of (zones_of H)) contents)
+    ap delta_with (is ∙ ap (content_changes (zones_of H)) contents)

@@ -38,9 +38,9 @@ with_last_if_any changed None = changed
 with_last_if_any changed (Some change) = changed ++ change ∷ []
 
 -- what becomes of those of some zones that are changed, after these zones
-abbrev pub changes_of : List ContentData → List ContentData → List Changed
-changes_of old cs = map (changed_from old) (filter (is_changed old) cs)
+abbrev pub content_changes : List ContentData → List ContentData → List Changed
+content_changes old cs = map (changed_from old) (filter (is_changed old) cs)
 
 -- what a release changes, of the last release of a history
 unfoldable pub difference : List ReleaseData → ReleaseData → Delta
-difference H next = record { changed = changes_of (zones_of H) next.contents }
+difference H next = record { changed = content_changes (zones_of H) next.contents }

@@ -1,11 +1,11 @@
-//! What chosen rules say of a release.
+//! The decision of chosen rules on a release.
 ghost use Rattle.std.specs.Prelude.{◌≡◌, map, true};
 ghost use Rattle.admission.specs.Rules.{AreKept, allows, first_refusing, is_kept, same_kind};
 
 use crate::{Chosen, Delta, Kept, RuleKind};
 
-/// The position, counted from 1, of the first chosen rule that refuses what a release changes. It
-/// takes no memory.
+/// The position, counted from 1, of the first chosen rule that refuses the changes of a release.
+/// None if no rule refuses them. It allocates nothing.
 pub fn ask(kept: &[Kept], chosen: &[Chosen], delta: &Delta) -> Option<u32>
     requires { AreKept (map (λ k. k.kind) kept.now) chosen.now }
     ensures { result ≡ first_refusing chosen.now delta.now }
@@ -18,7 +18,7 @@ pub fn ask(kept: &[Kept], chosen: &[Chosen], delta: &Delta) -> Option<u32>
     None
 }
 
-/// Whether a rule allows what a release changes, by the test that is kept for its kind.
+/// Whether a rule allows the changes of a release, by the test that is kept for its kind.
 fn is_allowed(kept: &[Kept], rule: Chosen, delta: &Delta) -> bool
     requires { is_kept (map (λ k. k.kind) kept.now) rule.kind ≡ true }
     ensures { result ≡ allows rule.kind rule.number delta.now }
@@ -31,7 +31,7 @@ fn is_allowed(kept: &[Kept], rule: Chosen, delta: &Delta) -> bool
     false
 }
 
-/// Whether two kinds are one.
+/// Whether two kinds are equal.
 fn is_kind(one: RuleKind, two: RuleKind) -> bool
     ensures { result ≡ same_kind one two }
 {

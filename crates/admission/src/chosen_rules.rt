@@ -5,7 +5,7 @@ use crate::{Chosen, Delta, Kept, ask};
 use std::alloc::Global;
 use td_base::Items;
 
-/// The rules that were chosen, in their order, beside the tests of their kinds.
+/// The chosen rules, in their order, together with the tests of their kinds.
 #[derive(Drop)]
 pub struct Rules<'k> {
     kept: &'k [Kept],
@@ -14,7 +14,7 @@ pub struct Rules<'k> {
 }
 
 impl<'k> Rules<'k> {
-    /// Chosen rules, of kinds that are all kept.
+    /// Chosen rules. A test must be kept for the kind of each.
     pub fn new(kept: &'k [Kept], chosen: Vec<Chosen>) -> Rules<'k>
         requires { AreKept (map (λ k. k.kind) kept.now) chosen.items }
         ensures { result.chosen ≡ chosen.items }
@@ -25,7 +25,7 @@ impl<'k> Rules<'k> {
         }
     }
 
-    /// No rule, so that every release is allowed.
+    /// No rule, so every release is allowed.
     pub fn none(alloc: Global) -> Rules<'k>
         ensures { result.chosen ≡ [] }
     {
@@ -42,8 +42,8 @@ impl<'k> Rules<'k> {
         self.chosen.len() == 0
     }
 
-    /// The position, counted from 1, of the first rule that refuses what a release changes. It
-    /// takes no memory.
+    /// The position, counted from 1, of the first rule that refuses the changes of a release. None
+    /// if no rule refuses them. It allocates nothing.
     pub fn ask(&self, delta: &Delta) -> Option<u32>
         ensures { result ≡ first_refusing self.now.chosen delta.now }
     {

@@ -1,4 +1,4 @@
-//! What a release changes of the one before it.
+//! Compares a release with the one before it.
 ghost use Rattle.std.specs.Prelude.{◌≡◌, IfOk, OnOk, map};
 ghost use Rattle.std.specs.Cmp.Lexicographic.{pointwise};
 ghost use Rattle.std.specs.Str.{bytes_eq};
@@ -15,8 +15,8 @@ use std::alloc::Global;
 use td_base::{Bytes, Items, NoMemory};
 use zone_meaning::{Zone, file, first_difference};
 
-/// What a release changes of the last one of a history. Its zones and their aliases may stand in
-/// any order.
+/// What a release changes compared with the last one of a history. Its zones and their aliases may
+/// stand in any order.
 pub fn delta_of(
     alloc: Global,
     last: &Catalogue<Zone>,
@@ -30,14 +30,14 @@ pub fn delta_of(
     Ok(Delta { changed })
 }
 
-/// What becomes of zones that are changed, in their order.
+/// The changes of zones, in their order. Zones that stay the same are left out.
 fn changes_in(
     alloc: Global,
     last: &Catalogue<Zone>,
     zones: &[&Content<Zone>],
 ) -> Result<Items<Changed>, NoMemory>
     ensures { IfOk result (λ changed. ForEachZoneHistory last.now (λ H.
-        changed ≡ spec.changes_of (zones_of H)
+        changed ≡ spec.content_changes (zones_of H)
         (map (λ z. content_data zone_bytes z.now) zones.now))) }
 {
     let mut changed = Items::new(alloc);
@@ -61,7 +61,7 @@ fn put_if_any(changed: &mut Items<Changed>, change: Option<Changed>) -> Result<(
     }
 }
 
-/// What becomes of a zone with the next release, if it changes.
+/// The change of a zone with the next release, if it changes.
 fn change_of(
     alloc: Global,
     last: &Catalogue<Zone>,
@@ -93,7 +93,8 @@ fn zone_named<'a>(last: &'a Catalogue<Zone>, name: &[u8]) -> Option<&'a Content<
     }
 }
 
-/// What becomes of a zone whose identifier this one had, if it changes.
+/// The change of a zone, given the zone that its identifier named before. None if the two are
+/// equal.
 fn change_from(
     alloc: Global,
     had: &Content<Zone>,
@@ -111,7 +112,8 @@ fn change_from(
     Ok(Some(Changed { tzid, first }))
 }
 
-/// Whether a zone whose aliases stand in any order is one whose aliases rise.
+/// Whether two zones are equal. The aliases of the first may stand in any order; those of the
+/// second rise.
 fn is_same(alloc: Global, zone: &Content<Zone>, had: &Content<Zone>) -> Result<bool, NoMemory>
     ensures { IfOk result (λ same. same ≡ same_content (content_data zone_bytes zone.now)
         (content_as_is zone_bytes had.now)) }
@@ -124,7 +126,7 @@ fn is_same(alloc: Global, zone: &Content<Zone>, had: &Content<Zone>) -> Result<b
     )
 }
 
-/// Whether texts that are lent are these, one for one.
+/// Whether borrowed texts equal these, one for one.
 fn are_texts(lent: &[&Bytes], texts: &[Bytes]) -> bool
     ensures { result ≡ pointwise bytes_eq (map (λ a. a.now) lent.now) texts.now }
 {
@@ -139,7 +141,7 @@ fn are_texts(lent: &[&Bytes], texts: &[Bytes]) -> bool
     true
 }
 
-/// Whether two texts are one.
+/// Whether two texts are equal.
 fn is_text(a: &Bytes, b: &Bytes) -> bool
     ensures { result ≡ bytes_eq a.now b.now }
 {

@@ -4,11 +4,11 @@ ghost use Rattle.admission.specs.Rules.{allows};
 
 use crate::{Delta, RuleKind};
 
-/// A test of what a release changes, and of a rule's number.
+/// A test of the changes of a release, with a rule's number.
 pub type Test = Box<dyn Fn(&Delta, i64) -> bool>;
 
-/// The test of a kind of rule. It may be asked of any change and any number, and says yes exactly
-/// where a rule of its kind allows the change.
+/// The test of a kind of rule. It accepts any changes and any number, and returns true exactly
+/// where a rule of its kind allows the changes.
 #[derive(Drop)]
 pub struct Kept {
     pub kind: RuleKind,
@@ -19,7 +19,7 @@ pub struct Kept {
 }
 
 impl Kept {
-    /// A test that says yes exactly where a rule of this kind allows a change.
+    /// A test that returns true exactly where a rule of this kind allows the changes.
     pub fn new(kind: RuleKind, test: Test) -> Kept
         requires callable { Test.IsAlwaysCallable test }
         requires exact { (delta : _) (number : ℤ) (answer : Bool) → FitsSigned w64 number

@@ -1,10 +1,13 @@
 //! Admission rules: what a release changes, and whether chosen rules allow it.
 //!
-//! [`delta_of`] gives what a release changes of the one before it, which is `difference` of
-//! `specs/Differences.antt`. [`ask`] gives the first of some chosen rules that refuses it, by tests
-//! that are kept as closures: a [`Kept`] test says yes exactly where `allows` of
-//! `specs/Rules.antt` does, and whoever makes one shows that. [`Rules`] has chosen rules beside the
-//! tests of their kinds.
+//! [`delta_of`] gives what a release changes compared with the one before it, which is `difference`
+//! of `specs/Differences.antt`. [`ask`] gives the first of some chosen rules that refuses it. The
+//! tests of rules are kept as closures: a [`Kept`] test returns true exactly where `allows` of
+//! `specs/Rules.antt` does, and its maker must prove that. [`Rules`] holds chosen rules together
+//! with the tests of their kinds.
+//!
+//! Differences of zones come from `zone_meaning`, the last release from `catalogue`. `installer`
+//! applies the rules before it publishes a release, and `subscribers` reports the changes.
 #![tactic(auto)]
 
 // What a release changes.
@@ -12,7 +15,7 @@ mod delta;
 mod differing;
 mod sorting;
 
-// The rules: their kinds, what each allows, their tests, and what they say of a release.
+// The rules: their kinds, what each allows, their tests, and their decision on a release.
 mod allowing;
 mod asking;
 mod chosen_rules;

@@ -1,9 +1,9 @@
-/// The kinds of rules for a release that is to join a history.
+/// The kinds of admission rules for a release that is to join a history.
 #[derive(Clone, Copy, PartialEq, Eq)]
 pub enum RuleKind {
-    /// At most so many zones may change.
+    /// At most this number of zones may change.
     MaxChanged,
-    /// No zone may change before the moment of so many seconds from 1970-01-01T00:00:00Z.
+    /// No zone may change before a moment, given in seconds since 1970-01-01T00:00:00Z.
     NoPastChange,
 }
 

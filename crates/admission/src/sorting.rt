@@ -1,4 +1,4 @@
-//! Rising order by a text, of what is lent.
+//! Borrowed items in rising order of a text.
 ghost use Rattle.std.specs.Prelude.{◌≡◌, ℕ, List, IfOk, map};
 ghost use Rattle.std.specs.Cmp.Lexicographic.{slice_cmp};
 ghost use Rattle.std.specs.Ordering.{nat_cmp};
@@ -9,7 +9,7 @@ use std::alloc::Global;
 use std::cmp::Ordering;
 use td_base::{Bytes, NoMemory};
 
-/// What has its place in an order by a text.
+/// An item that is ordered by a text.
 pub trait Ranked {
     ghost text: { Self → List ℕ };
 
@@ -41,7 +41,7 @@ fn compare<T: Ranked>(a: &T, b: &T) -> Ordering
     a.text().cmp(b.text())
 }
 
-/// The items, lent one by one.
+/// References to the items, in their order.
 fn lent<T>(alloc: Global, items: &[T]) -> Result<Vec<&T>, NoMemory>
     ensures { IfOk result (λ lent. map (λ x. x.now) lent.items ≡ items.now) }
 {

@@ -17,8 +17,7 @@ use sha2::{Digest, Sha256};
 use std::sync::Arc;
 use td_civil::utc_text;
 
-/// The bytes of the file of leap seconds and of its expiry, of which there are none without a
-/// table.
+/// The bytes of the leap second file and of its expiry date; both are empty without a table.
 fn leap_texts(leaps: &Option<Leaps>) -> (&[u8], &[u8])
     ensures file { result.0.now ≡ leap_file leaps.now }
     ensures expiry { result.1.now ≡ leap_expiry leaps.now }
@@ -41,7 +40,7 @@ fn hash_labels(hasher: &mut Sha256, head: &Head)
     hash_sized(hasher, head.version.as_slice());
 }
 
-/// Hashes the file of leap seconds and its expiry, each after its length.
+/// Hashes the leap second file and its expiry date, each after its length.
 fn hash_leaps(hasher: &mut Sha256, head: &Head)
     requires { HasLengths (release_of head.now []) }
     ensures { (m : List ℕ) → Holds256 hasher.old m → Holds256 hasher.new
@@ -64,8 +63,8 @@ fn hash_digests<Z>(hasher: &mut Sha256, held: &[Arc<Held<Z>>])
     }
 }
 
-/// The chain value of the place of the release of this head and of the zones held, from that of the
-/// place before.
+/// The chain value of a place, from the chain value of the place before and from the head and zones
+/// of its release.
 pub fn link<Z>(before: &[u8; 32], head: &Head, held: &[Arc<Held<Z>>]) -> [u8; 32]
     requires head { HasLengths (release_of head.now []) }
     requires held { length held.now < 2 ^ 32 }

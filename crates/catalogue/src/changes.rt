@@ -7,7 +7,7 @@ use std::alloc::Global;
 use std::sync::Arc;
 use td_base::NoMemory;
 
-/// The places at which the zones last changed.
+/// The places at which the zones last changed, in the order of the zones.
 fn last_changes<Z>(alloc: Global, held: &[Arc<Held<Z>>]) -> Result<Vec<u32>, NoMemory>
     ensures { IfOk result (λ r. r.items ≡ map held_change held.now) }
 {

@@ -12,7 +12,7 @@ use itoa::Buffer;
 use sha2::{Digest, Sha256};
 use td_base::{Bytes, Items, Token};
 
-/// The hex digits of a digest.
+/// The lower-case hex digits of a digest.
 fn hex_digits(digest: &[u8; 32]) -> [u8; 64]
     ensures { result ≡ encode_lower digest.now }
 {
@@ -21,7 +21,7 @@ fn hex_digits(digest: &[u8; 32]) -> [u8; 64]
     digits
 }
 
-/// The tag of a content of this digest.
+/// The tag of a content with this digest: the first 32 of its hex digits.
 pub fn tag(digest: &[u8; 32]) -> [u8; 32]
     ensures { result ≡ take 32 (encode_lower digest.now) }
 {
@@ -39,7 +39,7 @@ fn first_half(digits: &[u8]) -> [u8; 32]
     half
 }
 
-/// The token of a place of this chain value.
+/// The token of a place with this chain value.
 pub fn token(place: u32, chain: &[u8; 32]) -> Token
     ensures { result ≡ token_text place chain.now }
 {
@@ -52,7 +52,7 @@ pub fn token(place: u32, chain: &[u8; 32]) -> Token
     token
 }
 
-/// Hashes a number as four bytes, the high one first.
+/// Hashes a number as a big-endian 32-bit number.
 pub fn hash_number(hasher: &mut Sha256, number: u32)
     ensures { (m : List ℕ) → Holds256 hasher.old m →
         Holds256 hasher.new (m ++ to_be_bytes w32 number) }
@@ -60,7 +60,7 @@ pub fn hash_number(hasher: &mut Sha256, number: u32)
     hasher.update(number.to_be_bytes().as_slice());
 }
 
-/// Hashes bytes after their number.
+/// Hashes the number of bytes, then the bytes.
 pub fn hash_sized(hasher: &mut Sha256, bytes: &[u8])
     requires { length bytes.now < 2 ^ 32 }
     ensures { (m : List ℕ) → Holds256 hasher.old m →
@@ -83,7 +83,7 @@ fn hash_texts(hasher: &mut Sha256, texts: &Items<Bytes>)
     }
 }
 
-/// The digest of a content whose aliases rise.
+/// The digest of a content whose aliases are in rising order.
 pub fn content_digest<Z: ZoneData>(content: &Content<Z>) -> [u8; 32]
     requires { IsShort (content_as_is Z.bytes content.now) }
     ensures { result ≡ content_digest (content_as_is Z.bytes content.now) }

@@ -2,10 +2,10 @@ use crate::Content;
 use td_base::Bytes;
 use td_civil::Moment;
 
-/// A zone of the last release of a history, with its tag and its last change.
+/// A zone of the last release of a history, with its tag and the release of its last change.
 #[derive(Drop)]
 pub struct Entry<Z> {
-    /// The aliases stand in rising order.
+    /// The aliases are in rising order.
     pub content: Content<Z>,
     /// The first half of the content's digest in hex.
     pub tag: [u8; 32],
@@ -19,8 +19,8 @@ pub struct Entry<Z> {
     pub version: Bytes,
 }
 
-/// An entry with the digest of its content. Catalogues of one history share it as long as the
-/// content stays.
+/// An entry with the digest of its content. Catalogues of one history share it until the content
+/// changes.
 #[derive(Drop)]
 pub struct Held<Z> {
     pub entry: Entry<Z>,

@@ -17,7 +17,7 @@ use std::sync::Arc;
 use td_base::{Items, Token};
 use td_civil::Moment;
 
-/// The last release of a history, with the tokens of its last places.
+/// The last release of a history, with the tokens of its last [`KEPT_TOKENS`] places.
 #[derive(Drop)]
 pub struct Catalogue<Z> {
     pub(crate) head: Head,
@@ -27,7 +27,7 @@ pub struct Catalogue<Z> {
     pub(crate) count: u32,
     pub(crate) tokens: Items<Token>,
     pub(crate) names: Items<Name>,
-    /// Of the places at which the entries last changed.
+    /// Index of the places at which the entries last changed.
     pub(crate) index: ChangeIndex,
     ghost some: { 1 ≤ count },
     ghost counted: { length tokens ≡ count - retired count },
@@ -67,7 +67,7 @@ impl<Z: ZoneData> Catalogue<Z> {
         &self.held.as_slice()[i].entry
     }
 
-    /// How many places come before the last ones, whose tokens are kept.
+    /// The number of places whose tokens are no longer kept.
     pub(crate) fn retired(&self) -> u32
         ensures { result ≡ retired (place_count self.now) }
     {

@@ -25,7 +25,7 @@ fn is_same<Z: ZoneData>(a: &Content<Z>, b: &Content<Z>) -> bool
 }
 
 impl<Z: ZoneData + Drop> Catalogue<Z> {
-    /// The position of the zone of the last release that is the same.
+    /// The position of the zone of the last release with the same content.
     fn find_same(&self, content: &Content<Z>) -> Option<usize>
         ensures within { IfSome result (λ i. i < zone_count self.now) }
         ensures same { IfSome result (λ i. HoldsAt
@@ -43,7 +43,8 @@ impl<Z: ZoneData + Drop> Catalogue<Z> {
         }
     }
 
-    /// What is held of a zone of the next release, which has this place and this head.
+    /// The entry of a zone of the next release, which has this place and this head. It is shared
+    /// with the last release if the content is the same.
     fn held_next(
         &self,
         alloc: Global,
@@ -68,7 +69,7 @@ impl<Z: ZoneData + Drop> Catalogue<Z> {
         }
     }
 
-    /// What is held of all zones of the next release, which has this place and this head.
+    /// The entries of all zones of the next release, which has this place and this head.
     pub fn all_next(
         &self,
         alloc: Global,

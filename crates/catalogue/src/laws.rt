@@ -1,4 +1,5 @@
-//! Laws of the definitions of this crate, each the contract of a function that does nothing.
+//! Theorems about the definitions of this crate, each the contract of a function with an empty
+//! body.
 ghost use Rattle.std.specs.Prelude.{◌≡◌, ◌+◌, ◌∷◌, ◌++◌, [], ℕ, List, Some, ◌<◌, ◌≤◌, ◌^◌, length};
 ghost use Rattle.std.specs.Prelude.{IsTrue};
 ghost use Rattle.std.specs.List.{AllByRecursion};
@@ -13,15 +14,13 @@ ghost use Rattle.catalogue.specs.declared.release.Release.{Release};
 
 use crate::{KEPT_TOKENS, ZoneData};
 
-/// The order in which the zones of a release and their aliases stand does not decide whether it
-/// fits a history.
+/// Whether a release fits a history does not depend on the order of its zones or of their aliases.
 pub fn order_is_free<Z: ZoneData>()
     ensures { (H : List ReleaseData) (r : Release Z) →
         Fits H (release_as_is Z.bytes r) → Fits H (release_data Z.bytes r) }
 {}
 
-/// What fits a history follows the release that a catalogue of the history holds, and the other way
-/// round.
+/// A release fits a history exactly when it follows the release in a catalogue of the history.
 pub fn fits_what_is_held<Z: ZoneData>()
     ensures follows { (c : Catalogue Z) (H : List ReleaseData) (r : ReleaseData) →
         StandsFor Z.bytes Z.sound c H → Fits H r →
@@ -31,7 +30,7 @@ pub fn fits_what_is_held<Z: ZoneData>()
         FitsAfter (Some (release_held Z.bytes c)) (place_count c) r → Fits H r }
 {}
 
-/// A history and a release that is in order, sound and fits it are a history.
+/// A history followed by a release that is in order, sound and fits it is a history.
 pub fn histories_grow<Z: ZoneData>()
     ensures { (H : List ReleaseData) (r : ReleaseData) →
         IsHistory Z.sound H → IsRelease Z.sound H r → IsHistory Z.sound (H ++ r ∷ []) }
@@ -51,14 +50,14 @@ pub fn tokens_are_plain()
         → IsTrue (is_token (token_of H n)) }
 {}
 
-/// The token of one of the last places finds that place.
+/// The token of one of the last places leads to that place.
 pub fn tokens_find_places()
     ensures { (H : List ReleaseData) (n : ℕ) →
         1 ≤ n → n ≤ length H → length H < n + KEPT_TOKENS → length H < 2 ^ 32
         → place_of H (token_of H n) ≡ Some n }
 {}
 
-/// Two places, of whatever histories, never share a token.
+/// Two different places, of any histories, never share a token.
 pub fn tokens_are_apart()
     ensures { (G H : List ReleaseData) (m n : ℕ) → m < 2 ^ 32 → n < 2 ^ 32 →
         token_of G m ≡ token_of H n → m ≡ n }

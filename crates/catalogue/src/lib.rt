@@ -1,8 +1,9 @@
-//! Releases of time zone data, and the catalogue that holds the last release of a history of them.
+//! Releases of time zone data, and the catalogue: the in-memory index of the newest release.
 //!
-//! `Catalogue::first` begins a history, and `Catalogue::next` adds a release to it. What a
-//! catalogue then tells, its entries, tags and tokens, is what `StandsFor` of `specs/Holdings.antt`
-//! says of that history.
+//! [`Catalogue::first`] begins a history, and [`Catalogue::next`] adds a release to it. `StandsFor`
+//! of `specs/Holdings.antt` defines the entries, tags and tokens of a catalogue from that history.
+//! It depends on `td_base`, `td_civil`, `change_index` and `sha2`; nearly every crate above uses
+//! it.
 #![tactic(auto)]
 
 // A release, its zones and its limits.
@@ -10,7 +11,7 @@ mod limits;
 mod release;
 mod zone_data;
 
-// What is held of a history, and how it begins and grows.
+// The entries of a history, and how it begins and grows.
 mod entries;
 mod head;
 mod holding;
@@ -18,17 +19,17 @@ mod keeping;
 mod making;
 mod value;
 
-// What is looked up in it, and by which index.
+// Look-ups, and their index.
 mod changes;
 mod lookups;
 
-// Orders by a text, and the digests that tags and tokens are made of.
+// Sorting by a text, and the digests behind tags and tokens.
 mod chain;
 mod digest;
 mod names;
 mod order;
 
-// Laws, and what may cross threads.
+// Theorems, and which types may cross threads.
 mod laws;
 mod send_sync;
 

@@ -9,5 +9,5 @@ pub const MOST_NAMES: usize = 16_384;
 /// The most releases that a history may have.
 pub const MOST_RELEASES: u32 = 4_294_967_295;
 
-/// Of how many of the last places the tokens are kept.
+/// The number of last places whose tokens are kept.
 pub const KEPT_TOKENS: u32 = 512;

@@ -11,7 +11,7 @@ use crate::{Catalogue, ZoneData};
 use std::alloc::Global;
 use td_base::{Items, NoMemory, read_decimal};
 
-/// Where the first dash stands, or the length where there is none.
+/// The position of the first dash, or the length if there is none.
 fn dash_at(text: &[u8]) -> usize
     ensures { result ≡ position_or_len (nat_eq 45) text.now }
 {
@@ -23,7 +23,7 @@ fn dash_at(text: &[u8]) -> usize
     text.len()
 }
 
-/// The number before the first dash, with which a token begins.
+/// The number before the first dash, which is the place in a token.
 fn first_number(text: &[u8]) -> Option<u32>
     ensures { (n : ℕ) (rest : List ℕ) →
         n < 2 ^ 32 → text.now ≡ decimal n ++ 45 ∷ rest → result ≡ Some n }
@@ -39,7 +39,7 @@ fn first_number(text: &[u8]) -> Option<u32>
 impl<Z: ZoneData> Catalogue<Z> {
     ghost use Rattle.catalogue.specs.Holdings.{ForEachHistory, zone_count};
 
-    /// The position of the entry of which this is the identifier or an alias.
+    /// The position of the entry that has this name as its identifier or as an alias.
     pub fn find_name(&self, name: &[u8]) -> Option<usize>
         ensures within { IfSome result (λ i. i < zone_count self.now) }
         ensures place { ForEachHistory Z.bytes Z.sound self.now (λ H.
@@ -52,8 +52,8 @@ impl<Z: ZoneData> Catalogue<Z> {
         }
     }
 
-    /// The one of the last [`KEPT_TOKENS`] places, counted from 1, whose token is the text. A token
-    /// begins with its place, so one token alone is compared.
+    /// The place whose token is the text, among the last [`KEPT_TOKENS`] places, counted from 1. A
+    /// token begins with its place, so only one token is compared.
     pub fn place_of(&self, text: &[u8]) -> Option<u32>
         ensures { ForEachHistory Z.bytes Z.sound self.now (λ H. result ≡ place_of H text.now) }
     {
@@ -70,7 +70,7 @@ impl<Z: ZoneData> Catalogue<Z> {
     }
 
     /// The positions, in rising order, of the entries whose content last changed after a place.
-    /// What it costs grows with how many there are.
+    /// After a binary search, the cost depends only on the number of results.
     pub fn changed_since(&self, alloc: Global, n: u32) -> Result<Items<usize>, NoMemory>
         ensures positions { IfOk result (λ r. ForEachHistory Z.bytes Z.sound self.now (λ H.
             r ≡ places_changed H n)) }

@@ -23,7 +23,7 @@ use std::alloc::Global;
 use std::sync::Arc;
 use td_base::{Bytes, Items, NoMemory, Token};
 
-/// What is held of a zone that changed at this place, in the release of this head.
+/// The entry of a zone that changed at this place, in the release of this head.
 pub fn changed<Z: ZoneData + Drop>(
     alloc: Global,
     content: Content<Z>,
@@ -49,7 +49,7 @@ pub fn changed<Z: ZoneData + Drop>(
     Ok(held)
 }
 
-/// What is held of zones all of which changed at this place, in the release of this head.
+/// The entries of zones that all changed at this place, in the release of this head.
 fn all_changed<Z: ZoneData + Drop>(
     alloc: Global,
     contents: Items<Content<Z>>,
@@ -70,7 +70,7 @@ fn all_changed<Z: ZoneData + Drop>(
     Ok(Items::from(held))
 }
 
-/// The tokens, copied, without the first where there are as many as are kept.
+/// Copies the tokens, without the first if [`KEPT_TOKENS`] are already kept.
 fn copy_last(alloc: Global, tokens: &Items<Token>) -> Result<Items<Token>, NoMemory>
     ensures { IfOk result (λ r. r ≡ drop (retired (length tokens.now + 1)) tokens.now) }
 {
@@ -78,7 +78,7 @@ fn copy_last(alloc: Global, tokens: &Items<Token>) -> Result<Items<Token>, NoMem
     copy_tokens(alloc, &tokens.as_slice()[first..])
 }
 
-/// The tokens, copied.
+/// Copies the tokens.
 fn copy_tokens(alloc: Global, tokens: &[Token]) -> Result<Items<Token>, NoMemory>
     ensures { IfOk result (λ r. r ≡ tokens.now) }
 {
@@ -89,7 +89,7 @@ fn copy_tokens(alloc: Global, tokens: &[Token]) -> Result<Items<Token>, NoMemory
     Ok(copied)
 }
 
-/// A release without its zones, and its zones.
+/// Splits a release into its head and its zones.
 fn parted<Z>(release: Release<Z>) -> (Head, Items<Content<Z>>)
     ensures head { result.0 ≡ record {
       stamp = release.stamp;
@@ -115,8 +115,8 @@ fn parted<Z>(release: Release<Z>) -> (Head, Items<Content<Z>>)
     (head, zones)
 }
 
-/// The catalogue of a place, of which this head and these zones are held, from the chain value of
-/// the place before it and the tokens that are kept beside its own.
+/// The catalogue of a place, from its head and zones, the chain value of the place before and the
+/// earlier tokens that stay.
 fn closed<Z: Drop>(
     alloc: Global,
     place: u32,
@@ -153,8 +153,8 @@ fn closed<Z: Drop>(
 }
 
 impl<Z: ZoneData + Drop> Catalogue<Z> {
-    /// The catalogue of a history of one release. The zones and the aliases of each may stand in
-    /// any order.
+    /// The catalogue of a history of one release. The zones, and the aliases of each, may be in any
+    /// order.
     pub fn first(alloc: Global, release: Release<Z>) -> Result<Catalogue<Z>, NoMemory>
         requires sound { Z.sound (release_data Z.bytes release) }
         requires fits { Fits [] (release_data Z.bytes release) }
@@ -168,8 +168,8 @@ impl<Z: ZoneData + Drop> Catalogue<Z> {
         Ok(catalogue)
     }
 
-    /// The catalogue of the same history with one release more. The zones and the aliases of each
-    /// may stand in any order. A zone whose content stays keeps its entry.
+    /// The catalogue of the same history with one more release. The zones, and the aliases of each,
+    /// may be in any order. A zone with unchanged content keeps its entry.
     pub fn next(&self, alloc: Global, release: Release<Z>) -> Result<Catalogue<Z>, NoMemory>
         requires sound { Z.sound (release_data Z.bytes release) }
         requires fits { FitsAfter (Some (release_held Z.bytes self.now)) (place_count self.now)

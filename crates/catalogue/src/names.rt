@@ -13,7 +13,7 @@ use std::cmp::Ordering;
 use std::sync::Arc;
 use td_base::{Bytes, Items, NoMemory};
 
-/// A name of a zone, its identifier or an alias, with the zone's number, counted from 0.
+/// A name of a zone, its identifier or an alias, with the zone's index, counted from 0.
 #[derive(Drop)]
 pub struct Name {
     pub text: Bytes,
@@ -36,14 +36,14 @@ pub fn text_at(names: &[Name], i: usize) -> &[u8]
     names[i].text.as_slice()
 }
 
-/// How a name compares with a text, by bytes.
+/// Compares a name with a text, by bytes.
 pub fn compare(name: &Name, text: &[u8]) -> Ordering
     ensures { result ≡ slice_cmp nat_cmp name.now.text text.now }
 {
     name.text.as_slice().cmp(text)
 }
 
-/// Appends the names of the zone of this number.
+/// Appends the names of the zone of this index.
 fn put_names<Z>(
     alloc: Global,
     names: &mut Items<Name>,

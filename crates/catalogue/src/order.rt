@@ -9,7 +9,7 @@ use std::alloc::Global;
 use std::cmp::Ordering;
 use td_base::{Bytes, Items, NoMemory};
 
-/// What has its place in an order by a text.
+/// An item that is sorted by a text.
 pub trait Ranked {
     ghost text: { Self → List ℕ };
 
@@ -34,14 +34,14 @@ impl<Z> Ranked for Content<Z> {
     }
 }
 
-/// How two items compare by their texts.
+/// Compares two items by their texts.
 fn compare<T: Ranked>(a: &T, b: &T) -> Ordering
     ensures { result ≡ slice_cmp nat_cmp (T.text a.now) (T.text b.now) }
 {
     a.text().cmp(b.text())
 }
 
-/// The items in rising order. Items of the same text keep their order.
+/// Sorts the items in rising order. Items with the same text keep their order.
 pub fn rising<T: Ranked + Drop>(items: Items<T>) -> Result<Items<T>, NoMemory>
     ensures { IfOk result (λ sorted. sorted ≡ rising_by T.text items) }
 {
@@ -50,7 +50,7 @@ pub fn rising<T: Ranked + Drop>(items: Items<T>) -> Result<Items<T>, NoMemory>
     Ok(Items::from(sorted))
 }
 
-/// The zone with its aliases in rising order.
+/// Sorts the aliases of a zone in rising order.
 fn with_rising_aliases<Z: ZoneData + Drop>(content: Content<Z>) -> Result<Content<Z>, NoMemory>
     ensures { IfOk result (λ c. (c.tzid ≡ content.tzid)
         × (content_as_is Z.bytes c ≡ content_data Z.bytes content)) }
@@ -68,7 +68,7 @@ fn with_rising_aliases<Z: ZoneData + Drop>(content: Content<Z>) -> Result<Conten
     })
 }
 
-/// The zones, each with its aliases in rising order.
+/// Sorts the aliases of each zone in rising order.
 fn with_all_aliases_rising<Z: ZoneData + Drop>(
     alloc: Global,
     zones: Items<Content<Z>>,
@@ -83,7 +83,7 @@ fn with_all_aliases_rising<Z: ZoneData + Drop>(
     Ok(Items::from(contents))
 }
 
-/// The zones in rising order, each with its aliases in rising order.
+/// Sorts the zones, and the aliases of each, in rising order.
 pub fn in_order<Z: ZoneData + Drop>(
     alloc: Global,
     zones: Items<Content<Z>>,

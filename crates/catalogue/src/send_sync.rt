@@ -1,7 +1,7 @@
-//! The types of this crate may be shared with other threads, wherever the zones may.
+//! The types of this crate are `Send` and `Sync` when the zones are.
 use crate::{Catalogue, Content, Entry, LeapStep, Leaps, Release};
 
-/// Only a value that threads may share is lent to it.
+/// Compiles only for types that are `Send` and `Sync`.
 fn share<T: Send + Sync>(_value: &T) {}
 
 fn shares_all<Z: Send + Sync>(

@@ -1,9 +1,9 @@
-//! A catalogue is a value that stands for lists of releases.
+//! The implementation of `Value`: a catalogue represents lists of releases.
 use crate::{Catalogue, ZoneData};
 use std::marker::Model;
 use td_base::Value;
 
-/// A release as plain data, which stands in clauses alone. No value of it is made.
+/// A release as plain data, for use in clauses only. No value of it exists at run time.
 pub struct ReleaseMark {
     seconds: i64,
 }

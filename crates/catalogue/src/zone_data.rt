@@ -2,8 +2,8 @@ ghost use Rattle.std.specs.Prelude.{◌≡◌, ℕ, List};
 ghost use Rattle.catalogue.specs.Plain.{HasPlainLabels};
 ghost use Rattle.catalogue.specs.Releases.{ReleaseData, HasLengths};
 
-/// The data of a zone, of which the bytes of its file are told, and which releases of such zones
-/// are sound.
+/// The data of a zone. Contracts see the bytes of its file, and which releases of such zones are
+/// sound.
 pub trait ZoneData {
     ghost bytes: { Self → List ℕ };
 

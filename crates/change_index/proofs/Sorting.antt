@@ -1,5 +1,6 @@
 -- A list has one order that rises by a number and in which items of one number keep their order.
-use Rattle.std.proofs.Common.{◌≡◌, ℕ, suc, ◌<◌, ◌≤◌, ◌+◌, Bool, true, false, cond, not, ◌&&◌, if◌then◌else◌, List, [], ◌∷◌, refl, sym, ap, ◌∙◌, subst, map, arith, add-one}
+use Rattle.std.proofs.Common.{◌≡◌, ℕ, suc, ◌<◌, ◌≤◌, ◌+◌, Bool, true, false, cond, not, ◌&&◌, if◌then◌else◌, List, [], ◌∷◌, refl, sym, ap, ◌∙◌, subst, map}
+use Rattle.std.proofs.Common.{arith, add-one}
 use Rattle.std.proofs.Common.{nat_lt, nat_eq, length}
 use Rattle.std.proofs.Math.Path.{fun_ext}
 use Rattle.std.proofs.lemmas.Bool.{ltb-true, le-ltb, ltb-false}
@@ -7,7 +8,7 @@ use Rattle.std.specs.Bool.{⊤}
 use Rattle.std.specs.List.{AllByRecursion, filter}
 use Rattle.std.specs.List.Sorted.{IsSortedBy, IsSortedByKey, IsStableBy, IsStableByKey, ties}
 use Rattle.std.specs.Ordering.{is_lt, nat_cmp}
-use Rattle.change_index.specs.Orders.{put_by, rising_by}
+use Rattle.change_index.specs.Orders.{put_by_number, rising_by_number}
 
 -- whether the number of an item is below that of another
 abbrev pub earlier : {X : Type 0} → (X → ℕ) → X → X → Bool
@@ -42,18 +43,18 @@ ties_itself number x = rw (le-ltb (number x) (number x) (omega arith)) refl
 -- ---- putting in place keeps the order of items that tie
 
 put_stable : {X : Type 0} (number : X → ℕ) (p : X → Bool) (x : X) (xs : List X) → ((y : X) → earlier number y x ≡ true → p x ≡ true → p y ≡ false)
-    → filter p (put_by number x xs) ≡ filter p (x ∷ xs)
+    → filter p (put_by_number number x xs) ≡ filter p (x ∷ xs)
 put_stable number p x [] apart = refl
 put_stable number p x (y ∷ ys) apart = by (earlier number y x) refl (put_stable number p x ys apart)
   where
-    passed : (a b : Bool) → p x ≡ a → p y ≡ b → earlier number y x ≡ true → filter p (put_by number x ys) ≡ cond (p x) (x ∷ filter p ys) (filter p ys)
-        → filter p (y ∷ put_by number x ys) ≡ filter p (x ∷ y ∷ ys)
+    passed : (a b : Bool) → p x ≡ a → p y ≡ b → earlier number y x ≡ true → filter p (put_by_number number x ys) ≡ cond (p x) (x ∷ filter p ys) (filter p ys)
+        → filter p (y ∷ put_by_number number x ys) ≡ filter p (x ∷ y ∷ ys)
     passed true true hx hy before more = let other = apart y before hx in absurd (cc)
     passed true false hx hy before more = rw (hx, hy) (rw hx at more)
     passed false b hx hy before more = rw hx (ap (λ zs. cond (p y) (y ∷ zs) zs) (rw hx at more))
 
-    by : (b : Bool) → earlier number y x ≡ b → filter p (put_by number x ys) ≡ filter p (x ∷ ys)
-        → filter p (if b then y ∷ put_by number x ys else x ∷ y ∷ ys) ≡ filter p (x ∷ y ∷ ys)
+    by : (b : Bool) → earlier number y x ≡ b → filter p (put_by_number number x ys) ≡ filter p (x ∷ ys)
+        → filter p (if b then y ∷ put_by_number number x ys else x ∷ y ∷ ys) ≡ filter p (x ∷ y ∷ ys)
     by true before more = passed (p x) (p y) refl refl before more
     by false before more = refl
 
@@ -64,10 +65,10 @@ other_tie number z x y before zx = by (ties (earlier number) z y) refl
     by true e = absurd (omega (arith, tied number z y e, tied number z x zx, ltb-true (number y) (number x) before))
     by false e = e
 
-rising_stable : {X : Type 0} (number : X → ℕ) (xs : List X) → IsStableBy (earlier number) xs (rising_by number xs)
+rising_stable : {X : Type 0} (number : X → ℕ) (xs : List X) → IsStableBy (earlier number) xs (rising_by_number number xs)
 rising_stable number [] z = refl
 rising_stable number (x ∷ xs) z =
-    put_stable number (ties (earlier number) z) x (rising_by number xs) (λ y before zx. other_tie number z x y before zx)
+    put_stable number (ties (earlier number) z) x (rising_by_number number xs) (λ y before zx. other_tie number z x y before zx)
     ∙ ap (λ ys. cond (ties (earlier number) z x) (x ∷ ys) ys) (rising_stable number xs z)
 
 -- ---- one order
@@ -77,35 +78,35 @@ abbrev pub NeverFalls : {X : Type 0} → (X → ℕ) → List X → Type 0
 NeverFalls number [] = ⊤
 NeverFalls number (x ∷ xs) = AllByRecursion (λ y. number x ≤ number y) xs × NeverFalls number xs
 
-pub each_put : {X : Type 0} (number : X → ℕ) (P : X → Type 0) (x : X) (xs : List X) → P x → AllByRecursion P xs → AllByRecursion P (put_by number x xs)
+pub each_put : {X : Type 0} (number : X → ℕ) (P : X → Type 0) (x : X) (xs : List X) → P x → AllByRecursion P xs → AllByRecursion P (put_by_number number x xs)
 each_put number P x [] h all = (h, tt)
 each_put number P x (y ∷ ys) h all = by (earlier number y x) (each_put number P x ys h all.1)
   where
-    by : (b : Bool) → AllByRecursion P (put_by number x ys) → AllByRecursion P (if b then y ∷ put_by number x ys else x ∷ y ∷ ys)
+    by : (b : Bool) → AllByRecursion P (put_by_number number x ys) → AllByRecursion P (if b then y ∷ put_by_number number x ys else x ∷ y ∷ ys)
     by true later = (all.0, later)
     by false later = (h, all)
 
-pub each_risen : {X : Type 0} (number : X → ℕ) (P : X → Type 0) (xs : List X) → AllByRecursion P xs → AllByRecursion P (rising_by number xs)
+pub each_risen : {X : Type 0} (number : X → ℕ) (P : X → Type 0) (xs : List X) → AllByRecursion P xs → AllByRecursion P (rising_by_number number xs)
 each_risen number P [] all = tt
-each_risen number P (x ∷ xs) all = each_put number P x (rising_by number xs) all.0 (each_risen number P xs all.1)
+each_risen number P (x ∷ xs) all = each_put number P x (rising_by_number number xs) all.0 (each_risen number P xs all.1)
 
 at_least : {X : Type 0} (number : X → ℕ) (m n : ℕ) (xs : List X) → m ≤ n → AllByRecursion (λ y. n ≤ number y) xs → AllByRecursion (λ y. m ≤ number y) xs
 at_least number m n [] le all = tt
 at_least number m n (y ∷ ys) le all = (omega (arith, le, all.0), at_least number m n ys le all.1)
 
-never_falls_put : {X : Type 0} (number : X → ℕ) (x : X) (xs : List X) → NeverFalls number xs → NeverFalls number (put_by number x xs)
+never_falls_put : {X : Type 0} (number : X → ℕ) (x : X) (xs : List X) → NeverFalls number xs → NeverFalls number (put_by_number number x xs)
 never_falls_put number x [] h = (tt, tt)
 never_falls_put number x (y ∷ ys) h = by (earlier number y x) refl (never_falls_put number x ys h.1)
   where
-    by : (b : Bool) → earlier number y x ≡ b → NeverFalls number (put_by number x ys) → NeverFalls number (if b then y ∷ put_by number x ys else x ∷ y ∷ ys)
+    by : (b : Bool) → earlier number y x ≡ b → NeverFalls number (put_by_number number x ys) → NeverFalls number (if b then y ∷ put_by_number number x ys else x ∷ y ∷ ys)
     by true e later = (each_put number (λ z. number y ≤ number z) x ys (omega (arith, ltb-true (number y) (number x) e)) h.0, later)
     by false e later =
         let le : number x ≤ number y = ltb-false (number y) (number x) e in
         ((le, at_least number (number x) (number y) ys le h.0), h)
 
-pub never_falls : {X : Type 0} (number : X → ℕ) (xs : List X) → NeverFalls number (rising_by number xs)
+pub never_falls : {X : Type 0} (number : X → ℕ) (xs : List X) → NeverFalls number (rising_by_number number xs)
 never_falls number [] = tt
-never_falls number (x ∷ xs) = never_falls_put number x (rising_by number xs) (never_falls number xs)
+never_falls number (x ∷ xs) = never_falls_put number x (rising_by_number number xs) (never_falls number xs)
 
 one_of : {X : Type 0} (p : X → Bool) (Q : X → Type 0) (ys : List X) (x : X) (rest : List X) → filter p ys ≡ x ∷ rest → AllByRecursion Q ys → Q x
 one_of p Q [] x rest e all = absurd (cc)
@@ -157,10 +158,10 @@ never_falls_from number (x ∷ y ∷ ys) sorted =
     let first : number x ≤ number y = ltb-false (number y) (number x) (sorted 0 x (omega arith) (omega arith)) in
     ((first, at_least number (number x) (number y) ys first rest.0), rest)
 
-pub sorted_is : {X : Type 0} (number : X → ℕ) (xs ys : List X) → IsSortedByKey number nat_cmp ys → IsStableByKey number nat_cmp xs ys → ys ≡ rising_by number xs
+pub sorted_is : {X : Type 0} (number : X → ℕ) (xs ys : List X) → IsSortedByKey number nat_cmp ys → IsStableByKey number nat_cmp xs ys → ys ≡ rising_by_number number xs
 sorted_is {X} number xs ys sorted stable =
     let Sorted : (X → X → Bool) → Type 0 = λ lt. IsSortedBy lt ys in
     let Stable : (X → X → Bool) → Type 0 = λ lt. IsStableBy lt xs ys in
     let kept : IsStableBy (earlier number) xs ys = subst Stable (order_is number) stable in
-    one_order number ys (rising_by number xs) (never_falls_from number ys (subst Sorted (order_is number) sorted)) (never_falls number xs)
+    one_order number ys (rising_by_number number xs) (never_falls_from number ys (subst Sorted (order_is number) sorted)) (never_falls number xs)
     (λ z. kept z ∙ sym (rising_stable number xs z))

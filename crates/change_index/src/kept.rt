@@ -1,6 +1,6 @@
 ghost use Rattle.std.specs.Prelude.{◌≡◌, ◌≤◌, ◌-◌, IfOk, drop, filter, length, map, nat_lt};
 ghost use Rattle.change_index.specs.Keeping.{kept_of, numbers_of};
-ghost use Rattle.change_index.specs.Orders.{rising_by};
+ghost use Rattle.change_index.specs.Orders.{rising_by_number};
 ghost use Rattle.change_index.specs.Positions.{positions};
 
 use crate::{NoMemory, Placed};
@@ -26,7 +26,7 @@ impl Model for ChangeIndex {
 }
 
 impl ChangeIndex {
-    /// What is kept of the numbers above this one, by a binary search. It takes no memory.
+    /// The entries with a number above this one, by a binary search. It does not allocate.
     pub fn after(&self, n: u32) -> &[Placed]
         ensures above { result.now ≡ filter (λ p. nat_lt n p.change) (kept_of self.now) }
         ensures suffix { result.now
@@ -36,8 +36,8 @@ impl ChangeIndex {
         &kept[first_above(kept, n)..]
     }
 
-    /// The positions, in rising order, of the numbers above this one. What it costs grows with how
-    /// many there are.
+    /// The positions, in rising order, of the numbers above this one. After a binary search, the
+    /// cost depends only on the number of results.
     pub fn positions_after(&self, alloc: Global, n: u32) -> Result<Vec<usize>, NoMemory>
         ensures { IfOk result (λ r. r.items ≡ positions (λ change. nat_lt n change) 0 self.now) }
     {
@@ -46,7 +46,7 @@ impl ChangeIndex {
     }
 }
 
-/// The position of the first of what is kept of numbers above this one, or the length of all.
+/// The index of the first entry with a number above this one, or the length if none is above it.
 fn first_above(kept: &[Placed], n: u32) -> usize
     requires { kept.now ≡ kept_of (numbers_of kept.now) }
     ensures within { result ≤ length kept.now }
@@ -55,7 +55,7 @@ fn first_above(kept: &[Placed], n: u32) -> usize
     kept.partition_point(|placed| placed.change <= n)
 }
 
-/// The positions, in the order in which they stand.
+/// The positions of the entries, in the order of the entries.
 fn places(alloc: Global, kept: &[Placed]) -> Result<Vec<usize>, NoMemory>
     ensures { IfOk result (λ r. r.items ≡ map (λ p. p.at) kept.now) }
 {
@@ -66,9 +66,9 @@ fn places(alloc: Global, kept: &[Placed]) -> Result<Vec<usize>, NoMemory>
     Ok(places)
 }
 
-/// The positions in rising order.
+/// Sorts the positions in rising order.
 fn rising(places: Vec<usize>) -> Result<Vec<usize>, NoMemory>
-    ensures { IfOk result (λ r. r.items ≡ rising_by (λ place. place) places.items) }
+    ensures { IfOk result (λ r. r.items ≡ rising_by_number (λ place. place) places.items) }
 {
     let mut sorted = places;
     sorted.sort()?;

@@ -1,11 +1,11 @@
 ghost use Rattle.std.specs.Prelude.{◌≡◌, IfOk};
 ghost use Rattle.change_index.specs.Keeping.{placed_from};
-ghost use Rattle.change_index.specs.Orders.{rising_by};
+ghost use Rattle.change_index.specs.Orders.{rising_by_number};
 
 use crate::{ChangeIndex, NoMemory, Placed};
 use std::alloc::Global;
 
-/// The index of a list of numbers.
+/// Makes the index of a list of numbers. Fails only when out of memory.
 pub fn index(alloc: Global, changes: &[u32]) -> Result<ChangeIndex, NoMemory>
     ensures { IfOk result (λ i. i ≡ changes.now) }
 {
@@ -13,7 +13,7 @@ pub fn index(alloc: Global, changes: &[u32]) -> Result<ChangeIndex, NoMemory>
     Ok(ChangeIndex { kept })
 }
 
-/// The numbers, each with its position.
+/// Pairs each number with its position.
 fn placed(alloc: Global, changes: &[u32]) -> Result<Vec<Placed>, NoMemory>
     ensures { IfOk result (λ r. r.items ≡ placed_from 0 changes.now) }
 {
@@ -25,9 +25,9 @@ fn placed(alloc: Global, changes: &[u32]) -> Result<Vec<Placed>, NoMemory>
     Ok(placed)
 }
 
-/// What was placed, in rising order of the numbers. Equal ones keep their order.
+/// Sorts the entries by rising numbers. Equal numbers keep their order.
 fn rising(placed: Vec<Placed>) -> Result<Vec<Placed>, NoMemory>
-    ensures { IfOk result (λ r. r.items ≡ rising_by (λ p. p.change) placed.items) }
+    ensures { IfOk result (λ r. r.items ≡ rising_by_number (λ p. p.change) placed.items) }
 {
     let mut kept = placed;
     kept.sort_by_key(|placed| placed.change)?;

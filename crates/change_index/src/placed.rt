@@ -2,6 +2,6 @@
 #[derive(Clone, Copy, Debug, PartialEq, Eq)]
 pub struct Placed {
     pub change: u32,
-    /// Counted from 0.
+    /// The position, counted from 0.
     pub at: usize,
 }

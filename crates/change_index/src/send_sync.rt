@@ -1,7 +1,7 @@
-//! An index may cross threads and be shared by them.
+//! An index is `Send` and `Sync`.
 use crate::{ChangeIndex, NoMemory, Placed};
 
-/// Only for types that threads may hand over and share.
+/// Compiles only for types that are `Send` and `Sync`.
 fn is_shared<T: Send + Sync>() {}
 
 fn types_are_shared() {

@@ -1,6 +1,6 @@
 -- What a function that looks for a fault of a folder answers.
 use Rattle.std.specs.Prelude.{◌≡◌, ◌≢◌, ℕ, List, Option, Some, Result, Ok, Err}
-use Rattle.td_base.specs.FirstFault.{Judges}
+use Rattle.td_base.specs.FirstFault.{IsFirstFault}
 use Rattle.tzif_reader.specs.declared.tzif_fault.TzifFault.{TzifFault}
 use Rattle.tzif_reader.specs.declared.tzif_fault.TzifFault.TheVariants as tzif
 use Rattle.release_manifest.specs.Reading.{manifest_text_fault}
@@ -34,9 +34,9 @@ of_manifest f = fault.Manifest f
 
 -- the first fault is judged, and nothing is read, so no read fails
 abbrev pub JudgesUnread : {T : Type 0} → Option CheckFault → Result T CheckFault → Type 0
-JudgesUnread {T = T} first (Ok x) = Judges {T = T} fault.NoMemory first (Ok x)
+JudgesUnread {T = T} first (Ok x) = IsFirstFault {T = T} fault.NoMemory first (Ok x)
 JudgesUnread {T = T} first (Err e) =
-    (e ≢ fault.ReadFault) × Judges {T = T} fault.NoMemory first (Err e)
+    (e ≢ fault.ReadFault) × IsFirstFault {T = T} fault.NoMemory first (Err e)
 
 -- the fault of a folder is that of its manifest's text, unless memory ran out
 abbrev pub RefusesText : List ℕ → CheckFault → Type 0

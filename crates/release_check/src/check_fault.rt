@@ -11,7 +11,7 @@ use td_base::{Bytes, NoMemory, ShortText};
 use td_civil::{Moment, utc_text};
 use tzif_reader::TzifFault;
 
-/// Which number of a release is limited.
+/// The number of a release that exceeds its limit.
 #[derive(Clone, Copy, Debug, PartialEq, Eq)]
 pub enum Limited {
     /// The zones, at most [`catalogue::MOST_ZONES`].
@@ -34,14 +34,14 @@ impl fmt::Display for Limited {
     }
 }
 
-/// Why the file of leap seconds of a release is refused.
+/// Why the leap-second file of a release is refused.
 #[derive(Clone, Copy, Debug, PartialEq, Eq)]
 pub enum LeapFileFault {
-    /// This leap line, counted from 0, is not one second on from the one before.
+    /// This leap-second record, counted from 0, does not add one second to the one before.
     Step(usize),
-    /// This leap line's correction does not begin with a day of UTC.
+    /// This leap-second record's correction does not begin at the start of a day in UTC.
     Midnight(usize),
-    /// It is no zone file.
+    /// The file is not a zone file.
     File(TzifFault),
 }
 
@@ -60,47 +60,49 @@ impl fmt::Display for LeapFileFault {
     }
 }
 
-/// Why a folder gives no release. Zones are numbered from 0 in the manifest's order. The faults
-/// stand in the order in which they are looked for, but for Absent and ReadFault, which come at the
-/// file that was to be read. Those from Tzif to RuleBeyond are looked for zone by zone, and the
-/// file of leap seconds comes last.
+/// Why a folder does not hold a release. Zones are numbered from 0 in the manifest's order.
+///
+/// The faults stand in the order of the checks. Absent and ReadFault are exceptions: they are
+/// returned at the file that was to be read. Those from Tzif to RuleBeyond are checked zone by
+/// zone, and the leap-second file comes last.
 #[derive(Debug, Drop)]
 pub enum CheckFault {
     NoMemory,
     /// The manifest is refused.
     Manifest(ManifestFault),
-    /// There are too many zones or names.
+    /// There are too many zones or names; the second value is their number.
     Limit(Limited, usize),
-    /// The release is earlier than the last one: the stamps of that one and of this one.
+    /// The release is earlier than the last one. The stamps are those of the last one and of this
+    /// one.
     StampBack(Moment, Moment),
-    /// A zone's identifier or one of its aliases is no identifier.
+    /// A zone's identifier or one of its aliases is not a valid identifier.
     Identifier(usize),
-    /// The first name, in the manifest's order with each identifier before its aliases, that stood
-    /// before.
+    /// The first name that repeats an earlier one. The order is that of the manifest, with each
+    /// identifier before its aliases.
     Duplicate(Bytes),
-    /// The least name of the last release that is none of this one's.
+    /// The least name of the last release that this one lacks.
     Drops(Bytes),
-    /// The history has as many releases as it may have.
+    /// The history is full: it has as many releases as it may have.
     HistoryFull,
     /// The store has no file of the path.
     Absent(Bytes),
-    /// The store failed.
+    /// The store failed to read a file.
     ReadFault,
     /// A zone's file is refused.
     Tzif(usize, TzifFault),
-    /// A zone's file has leap seconds.
+    /// A zone's file has leap-second records.
     LeapsInZone(usize),
     /// The TZ string of a zone's file is refused.
     FooterText(usize, FooterFault),
     /// The TZ string of a zone's file does not give, at the last transition, the state that this
     /// transition begins.
     FooterDisagrees(usize),
-    /// A name of a zone's types or of its TZ string is empty, or has a byte other than a letter, a
-    /// digit, `+` or `-`.
+    /// A name of a zone's types or of its TZ string is empty, or has a forbidden byte. Letters,
+    /// digits, `+` and `-` are allowed.
     NameBeyond(usize),
-    /// No yearly rules of a calendar say what the TZ string of a zone's file says.
+    /// No yearly rules of a calendar can say what the TZ string of a zone's file says.
     RuleBeyond(usize),
-    /// The file of leap seconds is refused.
+    /// The leap-second file is refused.
     Leap(LeapFileFault),
 }
 
@@ -114,8 +116,8 @@ impl From<NoMemory> for CheckFault {
     }
 }
 
-/// Its number, its name and its values. A name or a path that is not UTF-8 is left out;
-/// [`CheckFault::put`] writes its bytes as they are.
+/// Prints the number, the name and the values of the fault. A name or a path that is not UTF-8 is
+/// left out; [`CheckFault::put`] writes its bytes as they are.
 impl fmt::Display for CheckFault {
     ghost use Rattle.std.specs.Prelude.{Some};
     ghost use Rattle.release_check.specs.FaultText.{shown_text};
@@ -163,8 +165,8 @@ impl Error for CheckFault {}
 impl CheckFault {
     ghost use Rattle.release_check.specs.FaultText.{fault_text};
 
-    /// Appends the fault as it is printed: its number, its name and its values, with a space
-    /// between them. Where memory runs out nothing is appended.
+    /// Appends the fault as it is printed: its number, its name and its values, separated by
+    /// spaces. If memory runs out, nothing is appended.
     pub fn put(&self, alloc: Global, out: &mut Bytes) -> Result<(), NoMemory>
         ensures ok { OnOk result (out.new ≡ out.old ++ fault_text self.now) }
         ensures err { OnErr result (out.new ≡ out.old) }
@@ -178,7 +180,7 @@ impl CheckFault {
     }
 }
 
-/// Appends a text, and bytes as they are. Where memory runs out nothing is appended.
+/// Appends a text, and bytes as they are. If memory runs out, nothing is appended.
 fn put_bytes(out: &mut Bytes, before: &[u8], bytes: &Bytes) -> Result<(), NoMemory>
     ensures ok { OnOk result (out.new ≡ out.old ++ (before.now ++ bytes.now)) }
     ensures err { OnErr result (out.new ≡ out.old) }
@@ -192,7 +194,7 @@ fn put_bytes(out: &mut Bytes, before: &[u8], bytes: &Bytes) -> Result<(), NoMemo
     Ok(())
 }
 
-/// Appends a fault that is a text whatever it holds.
+/// Appends a fault whose values can all be printed as text.
 fn put_shown(alloc: Global, out: &mut Bytes, fault: &CheckFault) -> Result<(), NoMemory>
     ensures ok { OnOk result (out.new ≡ out.old ++ shown_text fault.now) }
     ensures err { OnErr result (out.new ≡ out.old) }
@@ -201,7 +203,7 @@ fn put_shown(alloc: Global, out: &mut Bytes, fault: &CheckFault) -> Result<(), N
     out.append(text.as_bytes())
 }
 
-/// The text of a moment, or nothing where it has no meaning.
+/// The text of a moment, or an empty text where it is not a supported one.
 #[tactic(auto, unfolding(crate::specs::FaultText::stamp_text))]
 fn stamp_text(moment: Moment) -> ShortText<20>
     ensures { result ≡ stamp_text moment }
@@ -220,7 +222,7 @@ fn stamp_shown(text: &ShortText<20>) -> &str
     readable(text.as_slice())
 }
 
-/// The text that bytes are, or nothing where they are not UTF-8.
+/// The bytes as text, or an empty text where they are not UTF-8.
 fn readable(bytes: &[u8]) -> &str
     ensures { result.now ≡ readable bytes.now }
 {

@@ -23,10 +23,14 @@ use std::alloc::Global;
 use td_base::{Bytes, Store};
 use zone_meaning::Zone;
 
-/// The release of a folder of the store, or the folder's first fault: an absent manifest, one that
-/// is refused, what the manifest says by itself and against the history that a catalogue stands
-/// for, then zone by zone what their files say, and the file of leap seconds last. Without a
-/// catalogue the release is the first. An empty `dir` stands for the store's own top.
+/// The release in a folder of the store, or the folder's first fault.
+///
+/// The manifest is checked first: its presence, its form, and what it says, on its own and against
+/// the history of the catalogue. Then come the zone files, zone by zone, and at last the
+/// leap-second file.
+///
+/// Without a catalogue the release is the first of its history. An empty `dir` means the store's
+/// top folder.
 pub fn check<S: Store>(
     alloc: Global,
     dir: &[u8],
@@ -47,8 +51,9 @@ pub fn check<S: Store>(
     folder_in(alloc, dir, store, last)
 }
 
-/// The release of a manifest that is at hand, over the files of a folder of the store, or the first
-/// fault: a text of the manifest that has not its form, and then those that `check` tells.
+/// The release of a manifest that has been read already, over the files of a folder of the store,
+/// or the first fault. A text of the manifest that is not of its form is the first of these faults;
+/// then come those of `check`.
 pub fn examine<S: Store>(
     alloc: Global,
     manifest: &Manifest,
@@ -70,7 +75,7 @@ pub fn examine<S: Store>(
     examined_in(alloc, manifest, dir, store, last)
 }
 
-/// The release of a folder, after what a catalogue holds.
+/// The release of a folder, checked against the history of a catalogue.
 fn folder_in<S: Store>(
     alloc: Global,
     dir: &[u8],
@@ -88,7 +93,8 @@ fn folder_in<S: Store>(
     Ok(release)
 }
 
-/// The release of a manifest that is at hand, after what a catalogue holds.
+/// The release of a manifest that has been read already, checked against the history of a
+/// catalogue.
 fn examined_in<S: Store>(
     alloc: Global,
     manifest: &Manifest,
@@ -107,7 +113,7 @@ fn examined_in<S: Store>(
     Ok(release)
 }
 
-/// The release of a manifest whose texts have their forms.
+/// The release of a manifest whose texts are of their forms.
 fn release_of<S: Store>(
     alloc: Global,
     manifest: &Manifest,
@@ -156,7 +162,7 @@ fn manifest_in(alloc: Global, text: &Bytes) -> Result<Manifest, CheckFault>
     }
 }
 
-/// The fault of a manifest as that of its folder.
+/// Converts the fault of a manifest to that of its folder.
 fn of_manifest(fault: ManifestFault) -> CheckFault
     ensures { result ≡ of_manifest fault }
 {

@@ -9,8 +9,8 @@ use std::alloc::Global;
 use std::collections::BTreeSet;
 use td_base::{Bytes, NoMemory};
 
-/// Looks for the first name that stood before, and gives all names. They are kept in order, so that
-/// a name is compared with few of them.
+/// Looks for the first name that repeats an earlier one, and returns all names. They are kept in
+/// order, so each name is compared with few others.
 pub fn judge_duplicates<'a>(
     alloc: Global,
     names: &[&'a [u8]],
@@ -29,7 +29,7 @@ pub fn judge_duplicates<'a>(
     Ok(before)
 }
 
-/// Puts a name among those before, and tells whether it was none of them.
+/// Adds a name to the earlier ones, and returns whether it was new.
 fn put_new<'a>(before: &mut BTreeSet<&'a [u8]>, name: &'a [u8]) -> Result<bool, NoMemory>
     ensures none { IfOk result (λ new.
         new ≡ not (list_any (bytes_eq name.now) (map (λ n. n.now) before.old.keys))) }

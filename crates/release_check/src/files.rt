@@ -6,13 +6,13 @@ use crate::check_fault::CheckFault;
 use std::alloc::Global;
 use td_base::{Bytes, FileRead, NoMemory, Store};
 
-/// One byte more than a manifest may have, so that a longer one is seen to be longer.
+/// The most bytes read of a manifest: one more than it may have, so that a longer one is noticed.
 pub const MANIFEST_ROOM: u64 = release_manifest::MOST_BYTES as u64 + 1;
 
-/// One byte more than a zone file may have, so that a longer one is seen to be longer.
+/// The most bytes read of a zone file: one more than it may have, so that a longer one is noticed.
 pub const ZONE_ROOM: u64 = tzif_reader::MOST_BYTES as u64 + 1;
 
-/// The first bytes of a file of a directory, as many as asked for or all.
+/// The first bytes of a file of a directory: as many as requested, or the whole file.
 pub fn read_in<S: Store>(
     alloc: Global,
     dir: &[u8],
@@ -27,7 +27,7 @@ pub fn read_in<S: Store>(
     read_path(alloc, path, most, store)
 }
 
-/// The first bytes of the file at a path, as many as asked for or all.
+/// The first bytes of the file at a path: as many as requested, or the whole file.
 fn read_path<S: Store>(
     alloc: Global,
     path: Bytes,
@@ -44,7 +44,7 @@ fn read_path<S: Store>(
     }
 }
 
-/// The path of a file in a directory. An empty directory gives the name alone.
+/// The path of a file in a directory. For an empty directory it is the name.
 fn path_in(alloc: Global, dir: &[u8], name: &[u8]) -> Result<Bytes, NoMemory>
     ensures { IfOk result (λ path. path ≡ path_in dir.now name.now) }
 {

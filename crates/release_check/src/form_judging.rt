@@ -1,4 +1,4 @@
-//! The texts of a manifest value.
+//! Checks the texts of a manifest value.
 ghost use Rattle.std.specs.Prelude.{◌≡◌};
 ghost use Rattle.release_check.specs.Judged.{JudgesUnread};
 ghost use Rattle.release_check.specs.Faults.{form_fault, has_date};
@@ -8,7 +8,7 @@ use release_manifest::{Manifest, ManifestFault, ManifestLeaps, Path};
 use td_base::is_label;
 use td_civil::is_date;
 
-/// Looks for the first text of a manifest value that has not its form.
+/// Looks for the first text of a manifest value that is not of its form.
 #[tactic(auto, unfolding(crate::specs::Faults::form_fault))]
 pub fn judge_form(manifest: &Manifest) -> Result<(), CheckFault>
     ensures { JudgesUnread (form_fault manifest.now) result }
@@ -28,7 +28,7 @@ pub fn judge_form(manifest: &Manifest) -> Result<(), CheckFault>
     Ok(())
 }
 
-/// Whether the table of leap seconds, if there is one, expires on a date.
+/// Whether the expiry of the table of leap seconds, if there is one, is a date.
 fn has_date(leaps: &Option<ManifestLeaps>) -> bool
     ensures { result ≡ has_date leaps.now }
 {

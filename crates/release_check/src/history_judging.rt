@@ -1,4 +1,4 @@
-//! What is wrong with a release against the history that a catalogue stands for.
+//! Checks a release against the history of a catalogue.
 ghost use Rattle.std.specs.Prelude.{◌≡◌, ℕ, List, IsErrOf, map, option_copied};
 ghost use Rattle.std.specs.List.{list_any};
 ghost use Rattle.std.specs.Str.{bytes_eq};
@@ -17,7 +17,7 @@ use td_base::Bytes;
 use td_civil::Moment;
 use zone_meaning::Zone;
 
-/// Whether a release is earlier than the last one.
+/// Checks that a release is not earlier than the last one.
 pub fn judge_stamp(stamp: Moment, last: Option<&Catalogue<Zone>>) -> Result<(), CheckFault>
     ensures judged { JudgesUnread (stamp_fault (before_held (option_copied last.entry)).last stamp)
         result }
@@ -35,7 +35,7 @@ pub fn judge_stamp(stamp: Moment, last: Option<&Catalogue<Zone>>) -> Result<(), 
     }
 }
 
-/// Looks for the least name of the last release that is none of the new ones, which are kept in
+/// Looks for the least name of the last release that is not one of the new names, which are kept in
 /// order.
 pub fn judge_drops<'a>(
     alloc: Global,
@@ -53,7 +53,7 @@ pub fn judge_drops<'a>(
     }
 }
 
-/// The same of the names that a catalogue holds, in their order.
+/// The same for the names of a catalogue, in their order.
 fn judge_names<'a>(
     alloc: Global,
     new: &BTreeSet<&'a [u8]>,
@@ -78,7 +78,7 @@ fn is_among<'a>(name: &'a [u8], names: &BTreeSet<&'a [u8]>) -> bool
     names.contains(&name)
 }
 
-/// Whether the history has as many releases as it may have.
+/// Checks that the history is not full.
 pub fn judge_places(last: Option<&Catalogue<Zone>>) -> Result<(), CheckFault>
     ensures judged { JudgesUnread (place_fault (before_held (option_copied last.entry)).count)
         result }

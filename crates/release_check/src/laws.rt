@@ -11,8 +11,7 @@ ghost use Rattle.release_check.specs.declared.check_fault.CheckFault.{CheckFault
 
 use release_manifest::one_reading;
 
-/// A folder gives a release or a first fault, and one of them alone, after whatever stands before
-/// it.
+/// A folder gives either a release or a first fault, and exactly one of them, after any history.
 pub fn one_folder()
     ensures some { (files : List File) (dir : List ℕ) (before : Before)
         → (r : Result ReleaseData CheckFault) × FolderGives files dir before r }
@@ -23,7 +22,7 @@ pub fn one_folder()
     one_reading();
 }
 
-/// A release that a folder gives is sound, and may follow what stands before it.
+/// A release that a folder gives is sound, and may follow the history before it.
 pub fn fitting_release()
     ensures sound { (files : List File) (dir : List ℕ) (before : Before) (r : ReleaseData)
         → FolderGives files dir before (Ok r) → IsSound r }
@@ -31,7 +30,7 @@ pub fn fitting_release()
         → FolderGives files dir before (Ok r) → Follows before r }
 {}
 
-/// What a catalogue holds is what each history leaves that it stands for.
+/// The data of a catalogue is what follows from each history that it represents.
 pub fn held_before()
     ensures { (c : Catalogue (List ℕ)) (H : List ReleaseData)
         → StandsFor zone_bytes IsSound c H → before_of H ≡ before_held (Some c) }

@@ -34,7 +34,7 @@ pub fn read_table<S: Store>(
     }
 }
 
-/// The table that these leap seconds of a manifest name.
+/// The table for this leap-second entry of a manifest.
 fn read_named<S: Store>(
     alloc: Global,
     dir: &[u8],
@@ -67,7 +67,7 @@ fn table_in(alloc: Global, file: &Bytes, expires: &[u8]) -> Result<Leaps, CheckF
     }
 }
 
-/// The reader's fault as that of a folder.
+/// Converts the reader's fault to that of a folder.
 fn of_leap_reader(fault: TzifFault) -> CheckFault
     ensures { result ≡ of_leap_reader fault }
 {
@@ -77,7 +77,7 @@ fn of_leap_reader(fault: TzifFault) -> CheckFault
     }
 }
 
-/// The table's fault as that of a folder.
+/// Converts the table's fault to that of a folder.
 fn of_table(fault: LeapFault) -> CheckFault
     ensures { result ≡ of_table fault }
 {

@@ -1,20 +1,25 @@
-//! Judges the folder of a release against the history before it: reads its manifest and the files
-//! that the manifest names, and gives the release, or the first fault of the folder. [`check`] is
-//! the main call; what a folder gives is `FolderGives` in `specs/Folder.antt`. [`examine`] judges a
-//! manifest that is at hand.
+//! Checks the folder of a release against the history before it. It reads the manifest and the
+//! files that the manifest names, and returns the release or the folder's first fault.
+//!
+//! [`check`] is the main call; its result is defined by `FolderGives` in `specs/Folder.antt`.
+//! [`examine`] checks a manifest that has been read already.
+//!
+//! Manifests come from `release_manifest`, zones from `zone_meaning`, rules from `recurrence`, and
+//! leap seconds from `leap_table`. `installer` checks each release by this crate before it installs
+//! it.
 #![tactic(auto)]
 
-// A folder, judged, and its first fault.
+// The check of a folder, and its first fault.
 mod check_fault;
 mod checking;
 
-// What its manifest says, by itself and after a history.
+// What the manifest says, on its own and against a history.
 mod duplicates;
 mod form_judging;
 mod history_judging;
 mod manifest_judging;
 
-// What the files hold that the manifest names.
+// What the files that the manifest names hold.
 mod files;
 mod leap_files;
 mod text_copies;

@@ -15,8 +15,8 @@ use std::alloc::Global;
 use td_base::{Bytes, NoMemory, is_identifier};
 use zone_meaning::Zone;
 
-/// Looks for the first fault of what a manifest says, by itself and against the history that a
-/// catalogue stands for, before any file that it names is read.
+/// Looks for the first fault of what a manifest says, on its own and against the history of a
+/// catalogue. No file that it names is read before.
 pub fn judge<'a>(
     alloc: Global,
     manifest: &'a Manifest,
@@ -59,7 +59,7 @@ fn add_names<'a>(names: &mut Vec<&'a [u8]>, zone: &'a ManifestZone) -> Result<()
     Ok(())
 }
 
-/// Whether there are too many zones or names.
+/// Checks that there are not too many zones or names.
 fn judge_limits(zones: usize, names: usize) -> Result<(), CheckFault>
     ensures { JudgesUnread (limit_fault zones names) result }
 {
@@ -72,7 +72,7 @@ fn judge_limits(zones: usize, names: usize) -> Result<(), CheckFault>
     Ok(())
 }
 
-/// Looks for the first zone of which a name is no identifier.
+/// Looks for the first zone that has a name which is not an identifier.
 fn judge_identifiers(zones: &[ManifestZone]) -> Result<(), CheckFault>
     ensures { JudgesUnread (identifier_fault 0 zones.now) result }
 {

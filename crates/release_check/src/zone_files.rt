@@ -57,7 +57,7 @@ fn read_zone<S: Store>(
     })
 }
 
-/// The zone of a file, which is to have no leap seconds, and to mean what a release may say.
+/// The zone of a file. It must have no leap-second records, and mean only what a release may say.
 fn zone_in(alloc: Global, number: usize, file: Bytes) -> Result<Zone, CheckFault>
     ensures zone { IfOk result (λ zone. (zone ≡ file) × IsSoundFile file) }
     ensures judged { JudgesUnread (file_fault number file) result }
@@ -77,7 +77,7 @@ fn zone_in(alloc: Global, number: usize, file: Bytes) -> Result<Zone, CheckFault
     Ok(zone)
 }
 
-/// The reader's fault as that of a folder.
+/// Converts the reader's fault to that of a folder.
 fn of_reader(number: usize, fault: TzifFault) -> CheckFault
     ensures { result ≡ of_reader number fault }
 {

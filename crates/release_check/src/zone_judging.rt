@@ -1,4 +1,4 @@
-//! What a zone of a release may mean.
+//! Checks what a zone of a release means.
 ghost use Rattle.std.specs.Prelude.{◌≡◌, IsErrOf, false, is_err};
 ghost use Rattle.std.specs.Option.{option_map_or};
 ghost use Rattle.posix_footer.specs.Carried.{beyond};
@@ -12,8 +12,8 @@ use crate::check_fault::CheckFault;
 use recurrence::carry;
 use zone_meaning::{Zone, footer, footer_agrees, has_printable_names};
 
-/// Looks for the first fault of what a zone means: its footer does not go on from its last
-/// transition, a name cannot be printed, or no yearly rules say what its footer says.
+/// Looks for the first fault of what a zone means. Its footer disagrees with its last transition, a
+/// name cannot be printed, or no yearly rules say what its footer says.
 #[tactic(auto, unfolding(crate::specs::Faults::meaning_fault))]
 pub fn judge_zone(number: usize, zone: &Zone) -> Result<(), CheckFault>
     ensures judged { JudgesUnread (meaning_fault number zone.now) result }

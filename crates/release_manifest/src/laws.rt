@@ -5,14 +5,14 @@ ghost use Rattle.release_manifest.specs.Checks.{document_fault};
 ghost use Rattle.release_manifest.specs.Meaning.{IsManifest};
 ghost use Rattle.release_manifest.specs.Reading.{IsManifestText, manifest_text_fault};
 
-/// A JSON value is a manifest exactly where it has no fault, and is one alone.
+/// A JSON value is a manifest exactly when it has no fault, and then it is only one manifest.
 pub fn one_meaning()
     ensures found { (d : Data) → document_fault d ≡ None → (m : Manifest) × IsManifest d m }
     ensures sound { (d : Data) (m : Manifest) → IsManifest d m → document_fault d ≡ None }
     ensures one { (d : Data) (m n : Manifest) → IsManifest d m → IsManifest d n → m ≡ n }
 {}
 
-/// A text is a manifest exactly where it has no fault, and is one alone.
+/// A text is a manifest exactly when it has no fault, and then it is only one manifest.
 pub fn one_reading()
     ensures found { (text : List ℕ) → manifest_text_fault text ≡ None
         → (m : Manifest) × IsManifestText text m }

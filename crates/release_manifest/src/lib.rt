@@ -1,9 +1,11 @@
-//! The manifest of a release: the JSON object that names its publisher, version, stamp, zone files
-//! and leap second file. The main call is [`read`]: what it gives is the manifest of the text as
-//! `Meaning.antt` and `Reading.antt` say, and what it refuses has the first fault of `Checks.antt`.
+//! Reader of release manifests: JSON objects with the publisher, version, stamp, zone files and
+//! leap second file of a release. The main call is [`read`]: `Meaning.antt` and `Reading.antt`
+//! define the manifest of a text, and `Checks.antt` the first fault of a refused one. It depends on
+//! `td_base`, `td_civil` and `serde_json`; the crates that check, install and generate releases use
+//! it.
 #![tactic(auto)]
 
-// A manifest, and why a text is none.
+// A manifest, and the error of a bad one.
 mod manifest_fault;
 mod manifest_type;
 
@@ -12,7 +14,7 @@ mod members;
 mod reading;
 mod zone_members;
 
-// Laws, and what may cross threads.
+// Theorems, and which types may cross threads.
 mod laws;
 mod send_sync;
 

@@ -11,12 +11,12 @@ pub enum Path {
     Version,
     Stamp,
     Zones,
-    /// A member of the list of zones, printed `zones[3]`.
+    /// A member of the list of zones, printed like `zones[3]`.
     Zone(usize),
     Tzid(usize),
     File(usize),
     Aliases(usize),
-    /// An alias of a zone, by the zone's number and its own, printed `zones[3].aliases[0]`.
+    /// An alias of a zone, by both indexes, printed like `zones[3].aliases[0]`.
     Alias(usize, usize),
     Leaps,
     LeapFile,
@@ -48,18 +48,18 @@ impl fmt::Display for Path {
     }
 }
 
-/// Why a text is no manifest.
+/// Why a text is not a manifest.
 #[derive(Clone, Copy, Debug, PartialEq, Eq)]
 pub enum ManifestFault {
-    /// There is no memory for the document or for what it says.
+    /// Out of memory.
     NoMemory,
-    /// The text is no JSON (RFC 8259), which bytes that are not UTF-8 never are.
+    /// The text is not JSON in UTF-8 (RFC 8259).
     Syntax,
-    /// A member is missing, or is not of its kind.
+    /// A member is missing, or its JSON type is wrong.
     Field(Path),
-    /// A member's text is not of its form.
+    /// A member's text does not have the required form.
     Text(Path),
-    /// The text is longer than [`crate::MOST_BYTES`].
+    /// The text is longer than [`crate::MOST_BYTES`] bytes.
     Long,
 }
 

@@ -4,19 +4,19 @@ use td_civil::Moment;
 /// The most bytes that a manifest may have.
 pub const MOST_BYTES: usize = 4_194_304;
 
-/// What a release's manifest says.
+/// The content of a release's manifest.
 #[derive(Drop)]
 pub struct Manifest {
-    /// 1 to 64 printable ASCII bytes, as are those of the version.
+    /// 1 to 64 printable ASCII bytes; the same holds for the version.
     pub publisher: Bytes,
     pub version: Bytes,
-    /// When the release was made, from 1800-01-01T00:00:00Z to before 9999-01-01T00:00:00Z.
+    /// When the release was made, in UTC, from 1800-01-01T00:00:00Z to before 9999-01-01T00:00:00Z.
     pub stamp: Moment,
     pub zones: Items<ManifestZone>,
     pub leaps: Option<ManifestLeaps>,
 }
 
-/// A zone of a manifest. Its identifiers are any texts: who checks the release judges them.
+/// A zone of a manifest. Its identifiers are not checked here, but with the release.
 #[derive(Drop)]
 pub struct ManifestZone {
     pub tzid: Bytes,
@@ -30,6 +30,6 @@ pub struct ManifestZone {
 pub struct ManifestLeaps {
     /// The name of the file with the leap seconds in the release's folder.
     pub file: Bytes,
-    /// The date from which the table is out of date, `YYYY-MM-DD`.
+    /// The date, `YYYY-MM-DD`, from which the table is expired.
     pub expires: Bytes,
 }

@@ -16,7 +16,7 @@ use std::alloc::Global;
 use td_base::{Bytes, is_file_name, is_label};
 use td_civil::{Moment, is_date, moment_of};
 
-/// That the value is an object.
+/// Checks that the value is an object.
 #[tactic(auto, unfolding(crate::specs::Checks::object_checks))]
 pub(crate) fn check_object(value: &Value, path: Path) -> Result<(), ManifestFault>
     ensures { JudgesChecks result (object_checks path (view value.now)) }
@@ -28,7 +28,7 @@ pub(crate) fn check_object(value: &Value, path: Path) -> Result<(), ManifestFaul
     }
 }
 
-/// The text that a member of the object is.
+/// The text of a member of the object.
 pub(crate) fn text_member<'v>(
     object: &'v Value,
     name: &str,
@@ -45,7 +45,7 @@ pub(crate) fn text_member<'v>(
     }
 }
 
-/// A text of any form.
+/// Reads a text of any form.
 #[tactic(auto, unfolding(crate::specs::Checks::text_checks))]
 pub(crate) fn read_text(
     alloc: Global,
@@ -61,7 +61,7 @@ pub(crate) fn read_text(
     Ok(Bytes::from_slice(alloc, text.as_bytes())?)
 }
 
-/// The name of a publisher or of a version.
+/// Reads the name of a publisher or of a version.
 #[tactic(auto, unfolding(crate::specs::Checks::form_checks))]
 pub(crate) fn read_label(
     alloc: Global,
@@ -80,7 +80,7 @@ pub(crate) fn read_label(
     Ok(Bytes::from_slice(alloc, text)?)
 }
 
-/// The name of a file in the release's folder.
+/// Reads the name of a file in the release's folder.
 #[tactic(auto, unfolding(crate::specs::Checks::form_checks))]
 pub(crate) fn read_file_name(
     alloc: Global,
@@ -99,7 +99,7 @@ pub(crate) fn read_file_name(
     Ok(Bytes::from_slice(alloc, text)?)
 }
 
-/// The moment of the release, within the bounds for which local time is known.
+/// Reads the moment of the release, which must be within the bounds of known local time.
 #[tactic(auto, unfolding(crate::specs::Checks::form_checks, crate::specs::Checks::is_stamp_text))]
 pub(crate) fn read_stamp(object: &Value) -> Result<Moment, ManifestFault>
     ensures found { IfOk result (λ m. IsStampOf (get (codes "stamp") (view object.now)) m) }
@@ -113,7 +113,7 @@ pub(crate) fn read_stamp(object: &Value) -> Result<Moment, ManifestFault>
     }
 }
 
-/// The date from which the leap seconds are out of date.
+/// Reads the date from which the leap seconds are expired.
 #[tactic(auto, unfolding(crate::specs::Checks::form_checks))]
 pub(crate) fn read_expiry(alloc: Global, object: &Value) -> Result<Bytes, ManifestFault>
     ensures found { IfOk result

@@ -16,22 +16,22 @@ use crate::{MOST_BYTES, Manifest, ManifestFault, ManifestLeaps, Path};
 use serde_json::{Error, Value};
 use std::alloc::Global;
 
-/// Reads the manifest that a text is. [`ManifestFault::Long`] comes for a longer text than
-/// [`MOST_BYTES`], else `Syntax` for one that is no JSON (RFC 8259) in UTF-8, and else the first
-/// fault of a member, members in the order publisher, version, stamp, zones and leap seconds, and
-/// of a zone tzid, file and aliases. A member given twice is no fault: the last one counts. Members
-/// of other names are ignored.
+/// Reads a manifest. [`ManifestFault::Long`] is the error of a text longer than [`MOST_BYTES`], and
+/// `Syntax` that of a text that is not JSON in UTF-8 (RFC 8259). After these the error is the first
+/// fault of a member, in the order publisher, version, stamp, zones and leap seconds. The order in
+/// a zone is tzid, file and aliases. If a member is given twice, the last one counts. Members with
+/// other names are ignored.
 pub fn read(alloc: Global, bytes: &[u8]) -> Result<Manifest, ManifestFault>
-    // What is read is the manifest that the text says.
+    // The result is the manifest of the text.
     ensures found { IfOk result (λ m. IsManifestText bytes.now m) }
     ensures fault { IfErr result
         (λ e. e ≢ ManifestFault.NoMemory → manifest_text_fault bytes.now ≡ Some e) }
-    // What the text says is read, and as nothing else; what is wrong with it is told.
+    // The manifest of a text is read, and no other; the error is the first fault.
     ensures only { (m : Manifest) → IsManifestText bytes.now m
         → (result ≡ Ok m) ⊎ (result ≡ Err ManifestFault.NoMemory) }
     ensures refused { (f : ManifestFault) → manifest_text_fault bytes.now ≡ Some f
         → (result ≡ Err f) ⊎ (result ≡ Err ManifestFault.NoMemory) }
-    // That a text is too long is seen before memory is taken.
+    // The length is checked before any memory is allocated.
     ensures long { MOST_BYTES < length bytes.now → result ≡ Err ManifestFault.Long }
 {
     if bytes.len() > MOST_BYTES {
@@ -41,7 +41,7 @@ pub fn read(alloc: Global, bytes: &[u8]) -> Result<Manifest, ManifestFault>
     read_manifest(alloc, &value)
 }
 
-/// The JSON value that a text is.
+/// The JSON value of a text.
 fn read_value(alloc: Global, bytes: &[u8]) -> Result<Value, ManifestFault>
     ensures { ReadsValue view bytes.now result }
 {
@@ -51,7 +51,7 @@ fn read_value(alloc: Global, bytes: &[u8]) -> Result<Value, ManifestFault>
     }
 }
 
-/// What an error of the JSON reader means here.
+/// The fault for an error of the JSON reader.
 fn refusal(error: &Error) -> ManifestFault
     ensures memory { IsMemory error.now → result ≡ ManifestFault.NoMemory }
     ensures syntax { (¬ IsMemory error.now) → result ≡ ManifestFault.Syntax }
@@ -63,7 +63,7 @@ fn refusal(error: &Error) -> ManifestFault
     }
 }
 
-/// The manifest that a value is.
+/// Reads the manifest of a value.
 fn read_manifest(alloc: Global, value: &Value) -> Result<Manifest, ManifestFault>
     ensures found { IfOk result (λ m. IsManifest (view value.now) m) }
     ensures judged { JudgesChecks result (manifest_checks (view value.now)) }
@@ -83,7 +83,7 @@ fn read_manifest(alloc: Global, value: &Value) -> Result<Manifest, ManifestFault
     })
 }
 
-/// The leap seconds, of which there are none where the member is left out.
+/// Reads the leap seconds; `None` if the member is left out.
 #[tactic(auto, unfolding(crate::specs::Checks::leap_checks))]
 fn read_leaps(alloc: Global, manifest: &Value) -> Result<Option<ManifestLeaps>, ManifestFault>
     ensures found { IfOk result
@@ -97,7 +97,7 @@ fn read_leaps(alloc: Global, manifest: &Value) -> Result<Option<ManifestLeaps>, 
     }
 }
 
-/// The leap seconds that a value is.
+/// Reads the leap seconds of a value.
 #[tactic(auto, unfolding(crate::specs::Checks::leap_checks))]
 fn read_leap_members(alloc: Global, leaps: &Value) -> Result<ManifestLeaps, ManifestFault>
     ensures found { IfOk result (λ l. IsLeaps (view leaps.now) l) }

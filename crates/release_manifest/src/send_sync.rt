@@ -1,4 +1,4 @@
-//! The types of this crate may be sent to other threads and shared with them.
+//! The types of this crate are `Send` and `Sync`.
 use crate::{Manifest, ManifestFault, ManifestLeaps, ManifestZone, Path};
 
 fn is_shared<T: Send + Sync>() {}

@@ -13,7 +13,7 @@ use serde_json::Value;
 use std::alloc::Global;
 use td_base::{Bytes, Items};
 
-/// The list of zones.
+/// Reads the list of zones.
 #[tactic(auto, unfolding(crate::specs::Checks::zones_checks))]
 pub(crate) fn read_zones(
     alloc: Global,
@@ -28,7 +28,7 @@ pub(crate) fn read_zones(
     }
 }
 
-/// The zones of the list.
+/// Reads each zone of the list.
 fn read_each_zone(alloc: Global, list: &[Value]) -> Result<Items<ManifestZone>, ManifestFault>
     ensures found { IfOk result (λ zs. AllAre IsZone (items_view list.now) zs) }
     ensures judged { JudgesChecks result (each_checks zone_checks 0 (items_view list.now)) }
@@ -40,7 +40,7 @@ fn read_each_zone(alloc: Global, list: &[Value]) -> Result<Items<ManifestZone>, 
     Ok(zones)
 }
 
-/// A zone, by its number in the list.
+/// Reads a zone, with its index in the list.
 #[tactic(auto, unfolding(crate::specs::Checks::zone_checks))]
 fn read_zone(alloc: Global, zone: &Value, number: usize) -> Result<ManifestZone, ManifestFault>
     ensures found { IfOk result (λ z. IsZone (view zone.now) z) }
@@ -57,7 +57,7 @@ fn read_zone(alloc: Global, zone: &Value, number: usize) -> Result<ManifestZone,
     })
 }
 
-/// The aliases of a zone, of which there are none where the member is left out.
+/// Reads the aliases of a zone; an empty list if the member is left out.
 #[tactic(auto, unfolding(crate::specs::Checks::alias_checks))]
 fn read_aliases(alloc: Global, zone: &Value, number: usize) -> Result<Items<Bytes>, ManifestFault>
     ensures found { IfOk result
@@ -74,7 +74,7 @@ fn read_aliases(alloc: Global, zone: &Value, number: usize) -> Result<Items<Byte
     }
 }
 
-/// The aliases of the list, of a zone by its number.
+/// Reads each alias of the list, of the zone with this index.
 fn read_each_alias(
     alloc: Global,
     list: &[Value],
@@ -91,7 +91,7 @@ fn read_each_alias(
     Ok(aliases)
 }
 
-/// An alias.
+/// Reads an alias.
 #[tactic(auto, unfolding(crate::specs::Checks::text_checks))]
 fn read_alias(alloc: Global, value: &Value, path: Path) -> Result<Bytes, ManifestFault>
     ensures found { IfOk result (λ text. IsText (view value.now) text) }

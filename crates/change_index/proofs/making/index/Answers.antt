@@ -1,14 +1,14 @@
 use Rattle.std.proofs.Common.{◌≡◌, ℕ, List, sym, ap, ◌∙◌}
 use Rattle.change_index.specs.Keeping.{kept_of, numbers_of, placed_from}
-use Rattle.change_index.specs.Orders.{rising_by}
+use Rattle.change_index.specs.Orders.{rising_by_number}
 use Rattle.change_index.specs.declared.placed.Placed.{Placed}
 use Rattle.change_index.proofs.Restoring.{numbers_back}
 use Rattle.change_index.proofs.making.index.Goals as goal
 
 -- what is kept of the numbers
-kept_is : (kept placed : List Placed) (ns : List ℕ) → kept ≡ rising_by (λ (p : Placed). p.change) placed → placed ≡ placed_from 0 ns → kept ≡ kept_of ns
+kept_is : (kept placed : List Placed) (ns : List ℕ) → kept ≡ rising_by_number (λ (p : Placed). p.change) placed → placed ≡ placed_from 0 ns → kept ≡ kept_of ns
 unfolding kept_of
-kept_is kept placed ns risen all = risen ∙ ap (rising_by (λ (p : Placed). p.change)) all
+kept_is kept placed ns risen all = risen ∙ ap (rising_by_number (λ (p : Placed). p.change)) all
 
 pub invariant_of-result : goal.invariant_of-result
 invariant_of-result c =
