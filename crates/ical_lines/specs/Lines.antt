@@ -18,5 +18,5 @@ unfoldable pub content_line : List ℕ → List ℕ
 content_line line = folded most_octets line ++ 13 ∷ 10 ∷ []
 
 -- lines as they are written
-abbrev pub written : List (List ℕ) → List ℕ
-written lines = flat_map content_line lines
+abbrev pub lines_written : List (List ℕ) → List ℕ
+lines_written lines = flat_map content_line lines

@@ -28,12 +28,12 @@ first_bad at [] = None
 first_bad at (line ∷ lines) = if is_whole line then first_bad (at + length line) lines else Some at
 
 -- a space or a tab
-abbrev pub is_blank : ℕ → Bool
-is_blank b = b == 32 || b == 9
+abbrev pub is_fold_blank : ℕ → Bool
+is_fold_blank b = b == 32 || b == 9
 
 abbrev pub begins_blank : List ℕ → Bool
 begins_blank [] = false
-begins_blank (b ∷ bs) = is_blank b
+begins_blank (b ∷ bs) = is_fold_blank b
 
 -- a line that begins with a blank goes on with the one before it, of which this is read
 unfoldable pub joined_on : List ℕ → List (List ℕ) → List (List ℕ)

@@ -1,18 +1,18 @@
-//! Content lines, written.
+//! Writing of content lines.
 ghost use Rattle.std.specs.Prelude.{◌≡◌, ◌<◌, ℕ, ◌+◌, List, ◌∷◌, ◌++◌, length, take, IfOk, OnOk};
 ghost use Rattle.std.specs.Prelude.{OnErr};
 ghost use Rattle.ical_lines.specs.Lines.{folded, content_line};
 
 use td_base::{Bytes, NoMemory};
 
-/// How many octets stand in a line at most, without its end.
+/// The most octets of a line, without its CRLF.
 pub const MOST_OCTETS: usize = 75;
 
-/// Appends one content line: the name, a colon and the value, folded where the line is longer than
-/// 75 octets. Where memory runs out nothing is appended.
+/// Appends one content line: the name, a colon and the value, folded if the line is longer than 75
+/// octets. When out of memory, nothing is appended.
 ///
-/// What is written is a content line of RFC 5545 only where name and value are ASCII without
-/// control bytes and the name begins with a letter.
+/// Name and value must be ASCII without control bytes, and the name must begin with a letter.
+/// Otherwise the output is not a content line of RFC 5545.
 pub fn line(out: &mut Bytes, name: &[u8], value: &[u8]) -> Result<(), NoMemory>
     ensures ok { OnOk result (out.new ≡ out.old ++ content_line (name.now ++ 58 ∷ value.now)) }
     ensures err { OnErr result (out.new ≡ out.old) }
@@ -25,7 +25,7 @@ pub fn line(out: &mut Bytes, name: &[u8], value: &[u8]) -> Result<(), NoMemory>
     Ok(())
 }
 
-/// Appends the line. Where memory runs out its beginning stays.
+/// Appends the line. When out of memory, its beginning stays.
 fn append_line(out: &mut Bytes, name: &[u8], value: &[u8]) -> Result<(), NoMemory>
     ensures ok { OnOk result (out.new ≡ out.old ++ content_line (name.now ++ 58 ∷ value.now)) }
     ensures kept { take (length out.old) out.new ≡ out.old }
@@ -62,9 +62,10 @@ fn append_long(out: &mut Bytes, name: &[u8], value: &[u8]) -> Result<(), NoMemor
     Ok(())
 }
 
-/// Appends octets to a line that has room for so many more, folded where there is no room for the
-/// next, and answers the room after them. So a line may be written piece by piece: it begins with
-/// room for [`MOST_OCTETS`], and ends with CRLF. Where memory runs out, its beginning stays.
+/// Appends octets to a line that has room for `room` more, and folds it before each octet that has
+/// no room. It returns the room after them. So a line can be written in pieces: it begins with room
+/// for [`MOST_OCTETS`], and the caller ends it with CRLF. When out of memory, the octets' beginning
+/// stays.
 pub fn append_folded(out: &mut Bytes, room: usize, octets: &[u8]) -> Result<usize, NoMemory>
     ensures ok { IfOk result (λ left. (rest : List ℕ)
         → out.new ++ folded left rest ≡ out.old ++ folded room (octets.now ++ rest)) }

@@ -1,16 +1,18 @@
-//! Content lines of iCalendar (RFC 5545, section 3.1): [`line`] writes one folded, as
-//! `specs/Lines.antt` says, [`append_folded`] a piece of one, and [`unfold`] reads lines back, as `specs/Unfolding.antt` says.
-//! [`reads_back`] is the law that ties them, and [`lines_fit`] that no line is too long.
+//! Content lines of iCalendar (RFC 5545, section 3.1). [`line`] writes one folded
+//! (`specs/Lines.antt`), [`append_folded`] writes a piece of one, and [`unfold`] reads lines back
+//! (`specs/Unfolding.antt`). [`reads_back`] is the theorem that reading gives what was written, and
+//! [`lines_fit`] that no line is too long. It depends on `td_base`; `vtimezone` writes with it and
+//! `vtimezone_reader` reads.
 #![tactic(auto)]
 
-// Lines, written.
+// Writing.
 mod folding;
 
-// Lines, read, and why a text is none.
+// Reading, and the error of a bad text.
 mod line_fault;
 mod reading;
 
-// Laws, and what may cross threads.
+// Theorems, and which types may cross threads.
 mod laws;
 mod send_sync;
 

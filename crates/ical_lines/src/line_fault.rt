@@ -2,12 +2,12 @@ use std::error::Error;
 use std::fmt;
 use td_base::NoMemory;
 
-/// Why a text is no content lines.
+/// Why a text is not a list of content lines.
 #[derive(Clone, Copy, Debug, PartialEq, Eq)]
 pub enum BadLine {
-    /// There is no memory for the lines.
+    /// Out of memory.
     NoMemory,
-    /// At this place begins a line that does not end with CRLF.
+    /// The line that begins at this byte position does not end with CRLF.
     BadLine(usize),
 }
 

@@ -1,4 +1,4 @@
-//! Content lines, read.
+//! Reading of content lines.
 ghost use Rattle.std.specs.Prelude.{◌≡◌, ◌≢◌, ◌<◌, ◌≤◌, [], ◌++◌, ◌∷◌, ℕ, List, Ok, Err, IfOk};
 ghost use Rattle.std.specs.Prelude.{IfErr, IsErr, IsTrue, length, map, if◌then◌else◌, Some, None};
 ghost use Rattle.std.specs.Prelude.{option_copied};
@@ -9,11 +9,10 @@ use crate::BadLine;
 use std::alloc::Global;
 use td_base::{Bytes, Items, NoMemory};
 
-/// The content lines of a text, unfolded and without their ends.
+/// The content lines of a text, unfolded and without CRLF.
 ///
-/// A line that begins with a space or a tab goes on with the one before it. A first line that does
-/// has none before it and stays as it is. An empty line is a line. A text is judged before any
-/// memory is taken.
+/// A line that begins with a space or a tab continues the line before it. A first line that does so
+/// stays as it is. Empty lines are kept. A text is checked before any memory is allocated.
 pub fn unfold(alloc: Global, text: &[u8]) -> Result<Items<Bytes>, BadLine>
     ensures found { IfOk result (λ lines. spec.unfolded text.now ≡ Ok lines) }
     ensures judged { IsErr (spec.unfolded text.now) → result ≡ spec.unfolded text.now }
@@ -27,7 +26,7 @@ pub fn unfold(alloc: Global, text: &[u8]) -> Result<Items<Bytes>, BadLine>
     Ok(lines)
 }
 
-/// Where the first line begins that does not end with CRLF, if there is one.
+/// The position of the first line that does not end with CRLF. `None` if all do.
 fn first_bad(text: &[u8]) -> Option<usize>
     ensures { result ≡ spec.first_bad 0 (spec.cut_lines text.now) }
 {
@@ -42,7 +41,7 @@ fn first_bad(text: &[u8]) -> Option<usize>
     None
 }
 
-/// The lines of a text of which each ends with CRLF, unfolded.
+/// The unfolded lines of a text whose lines all end with CRLF.
 fn joined(alloc: Global, text: &[u8]) -> Result<Items<Bytes>, NoMemory>
     ensures { IfOk result (λ lines. lines
         ≡ spec.joined (map spec.content (spec.cut_lines text.now))) }
@@ -59,7 +58,7 @@ fn joined(alloc: Global, text: &[u8]) -> Result<Items<Bytes>, NoMemory>
     Ok(lines)
 }
 
-/// The length of the first line with its line feed, or of all where there is none.
+/// The length of the first line with its line feed, or of the text if it has none.
 fn first_line_len(text: &[u8]) -> usize
     ensures len { result ≡ line_len text.now }
     ensures inside { result ≤ length text.now }
@@ -81,14 +80,15 @@ fn is_whole(line: &[u8]) -> bool
     &line[line.len().saturating_sub(2)..] == b"\r\n".as_slice()
 }
 
-/// The line without its end.
+/// The line without its CRLF.
 fn content_of(line: &[u8]) -> &[u8]
     ensures { result.now ≡ spec.content line.now }
 {
     &line[..line.len().saturating_sub(2)]
 }
 
-/// Reads one more line, where the last may still go on, and answers the line that may go on now.
+/// Reads one more line. The last line so far may be continued by it; returns the line that may be
+/// continued next.
 #[tactic(auto, unfolding(crate::specs::Unfolding::joined_on))]
 fn add_line(
     alloc: Global,
@@ -121,7 +121,7 @@ fn begins_blank(line: &[u8]) -> bool
     }
 }
 
-/// The lines, with the last, if there is one.
+/// The lines, with the last one if it exists.
 #[tactic(auto, unfolding(crate::specs::Unfolding::joined_on))]
 fn close(mut lines: Items<Bytes>, last: Option<Bytes>) -> Result<Items<Bytes>, NoMemory>
     ensures { IfOk result (λ all. all ≡ lines ++ joined_with last []) }

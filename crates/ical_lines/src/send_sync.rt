@@ -1,7 +1,7 @@
-//! Why lines are refused may cross threads and be shared by them.
+//! The error of a bad text is `Send` and `Sync`.
 use crate::BadLine;
 
-/// Only for types that threads may hand over and share.
+/// Compiles only for types that are `Send` and `Sync`.
 fn is_shared<T: Send + Sync>() {}
 
 fn types_are_shared() {

@@ -13,7 +13,7 @@ use Rattle.td_civil.specs.Stamp.{Stamp, spelling, two_digits}
 use Rattle.td_civil.specs.Calendar.{stamp_of, text_of}
 use Rattle.recurrence.specs.Spellable.{is_safe, IsSafe}
 use Rattle.recurrence.specs.Weekdays.{weekday_name}
-use Rattle.jcal.specs.Values.{local_text, offset_text, seconds_text, sign_of}
+use Rattle.jcal.specs.Values.{local_text, jcal_offset_text, jcal_seconds_text, jcal_sign_of}
 
 below_128 : (b : ℕ) → is_safe b ≡ true → b < 128
 below_128 b safe = grind (arith, nat_tests)
@@ -50,20 +50,20 @@ local_is_safe text m offset is = rw is (local_spelling_is_safe (stamp_of (m +ℤ
 two_are_safe : (n : ℕ) → IsSafe (two_digits n)
 two_are_safe n = simp digit_is_safe
 
-sign_is_safe : (z : ℤ) → is_safe (sign_of z) ≡ true
+sign_is_safe : (z : ℤ) → is_safe (jcal_sign_of z) ≡ true
 sign_is_safe z = cond_both (int_lt z (pos 0)) 45 43 (λ b. is_safe b ≡ true) (λ _. refl) (λ _. refl)
 
-seconds_are_safe : (n : ℕ) → IsSafe (seconds_text n)
+seconds_are_safe : (n : ℕ) → IsSafe (jcal_seconds_text n)
 seconds_are_safe n = cond_both (n == 0) [] (58 ∷ two_digits n) IsSafe (λ _. refl) (λ _. two_are_safe n)
 
-pub offset_is_safe : (text : List ℕ) (z : ℤ) → text ≡ offset_text z → IsSafe text
-unfolding offset_text
+pub offset_is_safe : (text : List ℕ) (z : ℤ) → text ≡ jcal_offset_text z → IsSafe text
+unfolding jcal_offset_text
 offset_is_safe text z is =
     let size = unsigned_abs z in
-    let hours = sign_of z ∷ two_digits (size / 3600) in
+    let hours = jcal_sign_of z ∷ two_digits (size / 3600) in
     let minutes = 58 ∷ two_digits (size % 3600 / 60) in
-    rw is (safe-append (hours ++ minutes) (seconds_text (size % 60))
-    (safe-append hours minutes (and_from (is_safe (sign_of z)) (list_all is_safe (two_digits (size / 3600))) (sign_is_safe z) (two_are_safe (size / 3600)))
+    rw is (safe-append (hours ++ minutes) (jcal_seconds_text (size % 60))
+    (safe-append hours minutes (and_from (is_safe (jcal_sign_of z)) (list_all is_safe (two_digits (size / 3600))) (sign_is_safe z) (two_are_safe (size / 3600)))
     (two_are_safe (size % 3600 / 60))) (seconds_are_safe (size % 60)))
 
 name_is_safe : (weekday : ℕ) → IsSafe (weekday_name weekday)

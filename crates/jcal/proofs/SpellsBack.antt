@@ -12,21 +12,22 @@ use Rattle.td_civil.proofs.lemmas.Shown.{bounds_text, local_bounds_text}
 use Rattle.recurrence.specs.declared.part_types.Part.{Part}
 use Rattle.recurrence.specs.declared.rule_types.Rule.{Rule}
 use Rattle.recurrence.specs.AllRead.{all_read}
-use Rattle.recurrence.specs.PartFields.{Recur, part_with}
+use Rattle.recurrence.specs.PartFields.{Recur, part_with_fields}
 use Rattle.recurrence.specs.Spellable.{IsSpellable}
 use Rattle.recurrence.specs.Spelling.{spelling_with}
 use Rattle.recurrence.specs.Valid.{IsValidForm}
 use Rattle.recurrence.proofs.lemmas.AllRead.{read_more, read_append}
 use Rattle.recurrence.proofs.lemmas.PartFields.{local_at, recur_for, part_back}
-use Rattle.jcal.specs.Reading.{Property, Component, list_of, property_in, component_with, component_in, string_in, dates_or_none, part_of_properties, part_of, part_in}
-use Rattle.jcal.specs.Reading.{zone_of, calendar_of, spelled, recur_in}
-use Rattle.jcal.specs.Tree.{component, kind_of, change_properties, date_data, dates_properties, rule_properties, part_properties, part_data, recur_data}
-use Rattle.jcal.specs.Tree.{alias_properties, end_properties, zone_properties, zone_data, calendar_properties, tree}
-use Rattle.jcal.specs.Values.{local_text, offset_text, local_in, utc_in, offset_in}
+use Rattle.jcal.specs.Reading.{Property, Component, items_of_data, property_in, component_with, component_in, string_in, dates_or_none, part_of_properties}
+use Rattle.jcal.specs.Reading.{part_in_properties, part_in}
+use Rattle.jcal.specs.Reading.{zone_of, calendar_of_tree, spelled, recur_in_data}
+use Rattle.jcal.specs.Tree.{component, component_kind, change_properties, date_data, dates_properties, rule_properties, part_properties, part_data, recur_data}
+use Rattle.jcal.specs.Tree.{alias_properties, end_properties, zone_properties, calendar_data, calendar_properties, tree}
+use Rattle.jcal.specs.Values.{local_text, jcal_offset_text, jcal_local_in, jcal_utc_in, jcal_offset_in}
 use Rattle.jcal.proofs.RecursBack.{recur_back}
 use Rattle.jcal.proofs.ValuesBack.{local_back, utc_back, offset_back}
 
-list_back : (ds : List Data) → list_of (items_of ds) ≡ ds
+list_back : (ds : List Data) → items_of_data (items_of ds) ≡ ds
 list_back [] = refl
 list_back (d ∷ ds) = ap (λ l. d ∷ l) (list_back ds)
 
@@ -37,8 +38,8 @@ one name kind value = record { name = name; kind = kind; values = string value �
 
 abbrev change_read : Part → List Property
 change_read p =
-    one (codes "dtstart") (codes "date-time") (local_text p.start.seconds p.from) ∷ one (codes "tzoffsetfrom") (codes "utc-offset") (offset_text p.from)
-    ∷ one (codes "tzoffsetto") (codes "utc-offset") (offset_text p.to) ∷ one (codes "tzname") (codes "text") p.name ∷ []
+    one (codes "dtstart") (codes "date-time") (local_text p.start.seconds p.from) ∷ one (codes "tzoffsetfrom") (codes "utc-offset") (jcal_offset_text p.from)
+    ∷ one (codes "tzoffsetto") (codes "utc-offset") (jcal_offset_text p.to) ∷ one (codes "tzname") (codes "text") p.name ∷ []
 
 abbrev dates_read : List Moment → ℤ → List Property
 dates_read [] offset = []
@@ -77,15 +78,15 @@ properties_are p =
 
 abbrev dates_given : List Moment → ℤ → Option (List ℤ)
 dates_given [] offset = Some []
-dates_given (d ∷ ds) offset = dates_or_none (option_map Some (all_read (string_in local_in) (map (date_data offset) (d ∷ ds))))
+dates_given (d ∷ ds) offset = dates_or_none (option_map Some (all_read (string_in jcal_local_in) (map (date_data offset) (d ∷ ds))))
 
 abbrev rule_given : Option Rule → Option Moment → Option (Option Recur)
 rule_given None until = Some None
-rule_given (Some rule) until = option_map Some (recur_in (recur_data rule.form until))
+rule_given (Some rule) until = option_map Some (recur_in_data (recur_data rule.form until))
 
 content_read : (p : Part) (dates : List Moment) (rule : Option Rule)
     → part_of_properties p.dst (part_read p dates rule)
-    ≡ part_with p.dst (local_in (local_text p.start.seconds p.from)) (offset_in (offset_text p.from)) (offset_in (offset_text p.to)) (Some p.name)
+    ≡ part_with_fields p.dst (jcal_local_in (local_text p.start.seconds p.from)) (jcal_offset_in (jcal_offset_text p.from)) (jcal_offset_in (jcal_offset_text p.to)) (Some p.name)
     (dates_given dates p.from) (rule_given rule p.until)
 unfolding part_of_properties
 content_read p [] None = refl
@@ -94,10 +95,10 @@ content_read p (d ∷ ds) None = refl
 content_read p (d ∷ ds) (Some rule) = refl
 
 texts_back : (dates : List Moment) (offset : ℤ) → AllByRecursion (λ d. IsWithinBounds d.seconds) dates → IsWithin 86399 offset
-    → all_read (string_in local_in) (map (date_data offset) dates) ≡ Some (map (local_at offset) dates)
+    → all_read (string_in jcal_local_in) (map (date_data offset) dates) ≡ Some (map (local_at offset) dates)
 texts_back [] offset h within = refl
 texts_back (d ∷ ds) offset h within =
-    read_more (string_in local_in) (date_data offset d) (map (date_data offset) ds) (local_at offset d) (map (local_at offset) ds)
+    read_more (string_in jcal_local_in) (date_data offset d) (map (date_data offset) ds) (local_at offset d) (map (local_at offset) ds)
     (local_back d.seconds offset (local_bounds_text d.seconds offset h.0 within)) (texts_back ds offset h.1 within)
 
 dates_back : (dates : List Moment) (offset : ℤ) → AllByRecursion (λ d. IsWithinBounds d.seconds) dates → IsWithin 86399 offset
@@ -115,7 +116,7 @@ each_within [] h = tt
 each_within (d ∷ ds) h = (h 0 d (omega arith), each_within ds (λ i e lt. h (suc i) e (omega arith)))
 
 part_with_same : (dst : Bool) (s s₂ f f₂ t t₂ : Option ℤ) (n n₂ : Option (List ℕ)) (d d₂ : Option (List ℤ)) (r r₂ : Option (Option Recur))
-    → s ≡ s₂ → f ≡ f₂ → t ≡ t₂ → n ≡ n₂ → d ≡ d₂ → r ≡ r₂ → part_with dst s f t n d r ≡ part_with dst s₂ f₂ t₂ n₂ d₂ r₂
+    → s ≡ s₂ → f ≡ f₂ → t ≡ t₂ → n ≡ n₂ → d ≡ d₂ → r ≡ r₂ → part_with_fields dst s f t n d r ≡ part_with_fields dst s₂ f₂ t₂ n₂ d₂ r₂
 part_with_same dst s s₂ f f₂ t t₂ n n₂ d d₂ r r₂ start from to name dates recur = rw (start, from, to, name, dates, recur) refl
 
 content_back : (p : Part) → IsSpellable p → part_of_properties p.dst (part_read p p.dates p.rule) ≡ Some p
@@ -131,7 +132,7 @@ content_back p h =
     (rule_back p.rule p.until w.rule w.until)
     ∙ part_back p h.time
 
-kind_is : (dst : Bool) (ps : List Property) → part_of (kind_of dst) ps [] ≡ part_of_properties dst ps
+kind_is : (dst : Bool) (ps : List Property) → part_in_properties (component_kind dst) ps [] ≡ part_of_properties dst ps
 kind_is true ps = refl
 kind_is false ps = refl
 
@@ -140,15 +141,15 @@ component_read : (name : List ℕ) (properties components : List Data) (read : L
     → component_in (component name properties components) ≡ Some (record { name = name; properties = read; components = components })
 unfolding component_in
 component_read name properties components read is =
-    ap (λ ps. component_with name (all_read property_in ps) (list_of (items_of components))) (list_back properties)
-    ∙ ap (λ o. component_with name o (list_of (items_of components))) is
+    ap (λ ps. component_with name (all_read property_in ps) (items_of_data (items_of components))) (list_back properties)
+    ∙ ap (λ o. component_with name o (items_of_data (items_of components))) is
     ∙ ap (λ cs. component_with name (Some read) cs) (list_back components)
 
 one_part_back : (p : Part) → IsSpellable p → part_in (part_data p) ≡ Some p
 unfolding part_in part_data
 one_part_back p h =
-    ap (option_and_then (λ (c : Component). part_of c.name c.properties c.components))
-    (component_read (kind_of p.dst) (part_properties p) [] (part_read p p.dates p.rule) (properties_are p))
+    ap (option_and_then (λ (c : Component). part_in_properties c.name c.properties c.components))
+    (component_read (component_kind p.dst) (part_properties p) [] (part_read p p.dates p.rule) (properties_are p))
     ∙ kind_is p.dst (part_read p p.dates p.rule) ∙ content_back p h
 
 parts_back : (ps : List Part) → AllByRecursion IsSpellable ps → all_read part_in (map part_data ps) ≡ Some ps
@@ -186,7 +187,7 @@ zone_component tzid alias_of parts until =
 
 abbrev end_given : Option Moment → Option (Option Moment)
 end_given None = Some None
-end_given (Some end) = option_map Some (utc_in (text_of end.seconds))
+end_given (Some end) = option_map Some (jcal_utc_in (text_of end.seconds))
 
 zone_with : (tzid : List ℕ) (alias_of : Option (List ℕ)) (parts : List Part) (until : Option Moment)
     → zone_of (zone_component tzid alias_of parts until)
@@ -209,18 +210,18 @@ unfolding calendar_properties property_in
 calendar_is = refl
 
 calendar_with : (d : Data)
-    → calendar_of (record { name = codes "vcalendar"; properties = calendar_read; components = d ∷ [] }) ≡ option_and_then zone_of (component_in d)
-unfolding calendar_of
+    → calendar_of_tree (record { name = codes "vcalendar"; properties = calendar_read; components = d ∷ [] }) ≡ option_and_then zone_of (component_in d)
+unfolding calendar_of_tree
 calendar_with d = refl
 
 pub calendar_back : (tzid : List ℕ) (alias_of : Option (List ℕ)) (ps : List Part) (until : Option Moment)
     → IfSome until (λ m. IsWithinBounds m.seconds) → 0 < length ps → All IsSpellable ps
     → spelled (tree tzid alias_of ps until) ≡ Some (record { tzid = tzid; alias_of = alias_of; until = until; parts = ps })
-unfolding spelled tree zone_data
+unfolding spelled tree calendar_data
 calendar_back tzid alias_of [] until within some all = absurd (omega arith)
 calendar_back tzid alias_of (p ∷ ps) until within some all =
     let zone = component (codes "vtimezone") (zone_properties tzid alias_of until) (map part_data (p ∷ ps)) in
-    ap (option_and_then calendar_of) (component_read (codes "vcalendar") calendar_properties (zone ∷ []) calendar_read calendar_is)
+    ap (option_and_then calendar_of_tree) (component_read (codes "vcalendar") calendar_properties (zone ∷ []) calendar_read calendar_is)
     ∙ calendar_with zone
     ∙ ap (option_and_then zone_of)
     (component_read (codes "vtimezone") (zone_properties tzid alias_of until) (map part_data (p ∷ ps)) (zone_read tzid alias_of until)

@@ -18,7 +18,7 @@ use Rattle.recurrence.specs.declared.rule_types.Rule.{Rule}
 use Rattle.jcal.specs.Tree.{string_property, component, form_members, last_members, recur_data, change_properties, date_data, dates_property, rule_properties}
 use Rattle.jcal.specs.Tree.{alias_properties, end_properties, zone_properties, calendar_properties}
 use Rattle.jcal.specs.TreeTokens.{tree_tokens, row_tokens, property_begin, component_begin, components_begin, component_end, form_tokens, last_tokens}
-use Rattle.jcal.specs.Values.{local_text, offset_text}
+use Rattle.jcal.specs.Values.{local_text, jcal_offset_text}
 
 -- a document that stands alone, from what is ensured where the writer is made, where the tree is written, and at the end
 pub text_of_tree : (d : Data) (held before after text whole : List ℕ) (ts us : List Token)
@@ -108,15 +108,15 @@ property_written name kind value same ts us h is = h ∙ ap (λ v. ts ++ tree_to
 
 pub change_written : (p : Part) (t₀ t₁ t₂ t₃ t₄ : List Token)
     → t₁ ≡ t₀ ++ tree_tokens (string_property (codes "dtstart") (codes "date-time") (local_text p.start.seconds p.from))
-    → t₂ ≡ t₁ ++ tree_tokens (string_property (codes "tzoffsetfrom") (codes "utc-offset") (offset_text p.from))
-    → t₃ ≡ t₂ ++ tree_tokens (string_property (codes "tzoffsetto") (codes "utc-offset") (offset_text p.to))
+    → t₂ ≡ t₁ ++ tree_tokens (string_property (codes "tzoffsetfrom") (codes "utc-offset") (jcal_offset_text p.from))
+    → t₃ ≡ t₂ ++ tree_tokens (string_property (codes "tzoffsetto") (codes "utc-offset") (jcal_offset_text p.to))
     → t₄ ≡ t₃ ++ tree_tokens (string_property (codes "tzname") (codes "text") p.name)
     → t₄ ≡ t₀ ++ row_tokens (change_properties p)
 unfolding change_properties
 change_written p t₀ t₁ t₂ t₃ t₄ h₁ h₂ h₃ h₄ =
     then_three t₀ (tree_tokens (string_property (codes "dtstart") (codes "date-time") (local_text p.start.seconds p.from))) t₁
-    (tree_tokens (string_property (codes "tzoffsetfrom") (codes "utc-offset") (offset_text p.from))) t₂
-    (tree_tokens (string_property (codes "tzoffsetto") (codes "utc-offset") (offset_text p.to))) t₃
+    (tree_tokens (string_property (codes "tzoffsetfrom") (codes "utc-offset") (jcal_offset_text p.from))) t₂
+    (tree_tokens (string_property (codes "tzoffsetto") (codes "utc-offset") (jcal_offset_text p.to))) t₃
     (tree_tokens (string_property (codes "tzname") (codes "text") p.name)) t₄ h₁ h₂ h₃ h₄
 
 pub dates_written : (first : Moment) (dates : List Moment) (offset : ℤ) (text : List ℕ) (t₀ t₁ t₂ t₃ t₄ : List Token)

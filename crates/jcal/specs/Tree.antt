@@ -15,7 +15,7 @@ use Rattle.recurrence.specs.declared.rule_types.Form.{Form}
 use Rattle.recurrence.specs.declared.rule_types.Form.TheVariants as form
 use Rattle.recurrence.specs.declared.rule_types.Rule.{Rule}
 use Rattle.recurrence.specs.Weekdays.{weekday_name}
-use Rattle.jcal.specs.Values.{local_text, offset_text}
+use Rattle.jcal.specs.Values.{local_text, jcal_offset_text}
 
 -- a property: its name, no parameters, the type of its values, and these
 abbrev pub property : List ℕ → List ℕ → List Data → Data
@@ -73,15 +73,15 @@ recur_data form until =
 
 -- ---- parts
 
-abbrev pub kind_of : Bool → List ℕ
-kind_of dst = if dst then codes "daylight" else codes "standard"
+abbrev pub component_kind : Bool → List ℕ
+component_kind dst = if dst then codes "daylight" else codes "standard"
 
 -- the first onset, by the clocks before it, both offsets and the name
 unfoldable pub change_properties : Part → List Data
 change_properties p =
     string_property (codes "dtstart") (codes "date-time") (local_text p.start.seconds p.from)
-    ∷ string_property (codes "tzoffsetfrom") (codes "utc-offset") (offset_text p.from)
-    ∷ string_property (codes "tzoffsetto") (codes "utc-offset") (offset_text p.to)
+    ∷ string_property (codes "tzoffsetfrom") (codes "utc-offset") (jcal_offset_text p.from)
+    ∷ string_property (codes "tzoffsetto") (codes "utc-offset") (jcal_offset_text p.to)
     ∷ string_property (codes "tzname") (codes "text") p.name ∷ []
 
 abbrev pub date_data : ℤ → Moment → Data
@@ -107,7 +107,7 @@ part_properties p =
     change_properties p ++ dates_properties p.dates p.from ++ rule_properties p.rule p.until
 
 unfoldable pub part_data : Part → Data
-part_data p = component (kind_of p.dst) (part_properties p) []
+part_data p = component (component_kind p.dst) (part_properties p) []
 
 -- ---- the time zone and the calendar
 
@@ -127,8 +127,8 @@ zone_properties tzid alias_of until =
     string_property (codes "tzid") (codes "text") tzid ∷ alias_properties alias_of
     ++ end_properties until
 
-unfoldable pub zone_data : List ℕ → Option (List ℕ) → List Part → Option Moment → Data
-zone_data tzid alias_of parts until =
+unfoldable pub calendar_data : List ℕ → Option (List ℕ) → List Part → Option Moment → Data
+calendar_data tzid alias_of parts until =
     component (codes "vtimezone") (zone_properties tzid alias_of until) (map part_data parts)
 
 unfoldable pub calendar_properties : List Data
@@ -138,7 +138,7 @@ calendar_properties =
 
 unfoldable pub tree : List ℕ → Option (List ℕ) → List Part → Option Moment → Data
 tree tzid alias_of parts until =
-    component (codes "vcalendar") calendar_properties (zone_data tzid alias_of parts until ∷ [])
+    component (codes "vcalendar") calendar_properties (calendar_data tzid alias_of parts until ∷ [])
 
 -- its text
 unfoldable pub calendar : List ℕ → Option (List ℕ) → List Part → Option Moment → List ℕ

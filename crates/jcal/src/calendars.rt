@@ -17,11 +17,10 @@ use td_base::{Bytes, NoMemory};
 use td_civil::{Moment, utc_text};
 
 /// Appends the calendar of a time zone as JSON: an iCalendar object with one VTIMEZONE of these
-/// parts (RFC 7265). Where `tzid` is an alias, `alias_of` is the identifier of its zone. `until` is
-/// the end of the range, where it has one. Where memory runs out nothing is appended.
+/// parts (RFC 7265). If `tzid` is an alias, `alias_of` is the identifier of its zone. `until` is
+/// the end of the range, if it has one. If memory runs out, nothing is appended.
 ///
-/// The tree of what it appends, read as `specs/Reading.antt` says, gives back all that it was
-/// given.
+/// The tree of the appended text, read as `specs/Reading.antt` defines, gives back all arguments.
 pub fn write(
     alloc: Global,
     out: &mut Bytes,
@@ -51,7 +50,7 @@ pub fn write(
     out.append(text.as_slice())
 }
 
-/// The calendar alone.
+/// The text of the calendar, in new bytes.
 fn calendar_of(
     alloc: Global,
     tzid: &[u8],
@@ -118,7 +117,7 @@ fn put_zone(
     requires parts { All IsSpellable parts.now }
     requires until { IfSome until (λ m. IsWithinBounds m.seconds) }
     ensures tokens { OnOk result (out.new.tokens ≡ out.old.tokens
-        ++ tree_tokens (spec.zone_data tzid.now (option_copied alias_of.entry) parts.now until)) }
+        ++ tree_tokens (spec.calendar_data tzid.now (option_copied alias_of.entry) parts.now until)) }
     ensures before { out.new.before ≡ out.old.before }
 {
     begin_component(out, "vtimezone")?;

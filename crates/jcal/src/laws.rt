@@ -1,4 +1,4 @@
-//! What the calendar of a zone spells, as the contract of a function that does nothing.
+//! What the calendar of a zone encodes. The law is the contract of a function with an empty body.
 ghost use Rattle.std.specs.Prelude.{◌≡◌, ◌<◌, ℕ, List, length, Some, Option, IfSome, All};
 ghost use Rattle.td_civil.specs.Bounds.{IsWithinBounds};
 ghost use Rattle.td_civil.specs.declared.moment_type.Moment.{Moment};
@@ -7,8 +7,8 @@ ghost use Rattle.recurrence.specs.declared.part_types.Part.{Part};
 ghost use Rattle.jcal.specs.Reading.{spelled};
 ghost use Rattle.jcal.specs.Tree.{tree};
 
-/// The calendar spells what it was written of: read property by property, it gives identifiers, end
-/// and parts back.
+/// The calendar encodes its parameters: read property by property, it gives back identifiers, end
+/// and parts.
 pub fn calendar_spells()
     ensures { (tzid : List ℕ) (alias_of : Option (List ℕ)) (parts : List Part)
         (until : Option Moment) → IsSafe tzid → IfSome alias_of IsSafe

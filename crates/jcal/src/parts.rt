@@ -6,7 +6,7 @@ ghost use Rattle.recurrence.specs.Spellable.{IsSpellable};
 ghost use Rattle.recurrence.specs.Valid.{IsValidForm};
 ghost use Rattle.jcal.specs.Tree as spec;
 ghost use Rattle.jcal.specs.TreeTokens.{row_tokens, tree_tokens};
-ghost use Rattle.jcal.specs.Values.{offset_text};
+ghost use Rattle.jcal.specs.Values.{jcal_offset_text};
 
 use crate::components::{begin_component, begin_components, end_component};
 use crate::properties::{begin_property, put_property, put_text};
@@ -32,7 +32,7 @@ pub(crate) fn put_part(out: &mut Writer, part: &Part) -> Result<(), NoMemory>
 }
 
 fn kind(dst: bool) -> &'static str
-    ensures { result.now ≡ spec.kind_of dst }
+    ensures { result.now ≡ spec.component_kind dst }
 {
     if dst { "daylight" } else { "standard" }
 }
@@ -71,7 +71,7 @@ fn put_change(out: &mut Writer, part: &Part) -> Result<(), NoMemory>
 fn put_offset(out: &mut Writer, name: &str, offset: i32) -> Result<(), NoMemory>
     requires { IsWithin 86_399 offset }
     ensures tokens { OnOk result (out.new.tokens ≡ out.old.tokens
-        ++ tree_tokens (spec.string_property name.now (codes "utc-offset") (offset_text offset))) }
+        ++ tree_tokens (spec.string_property name.now (codes "utc-offset") (jcal_offset_text offset))) }
     ensures before { out.new.before ≡ out.old.before }
 {
     put_property(out, name, "utc-offset", offset_value(offset).as_slice())?;
@@ -92,7 +92,7 @@ fn put_dates(out: &mut Writer, dates: &Moments, offset: i32) -> Result<(), NoMem
     }
 }
 
-/// Writes the property of dates, of which there is one at least.
+/// Writes the property of dates. There must be at least one date.
 fn put_date_property(
     out: &mut Writer,
     first: Moment,

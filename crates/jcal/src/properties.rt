@@ -1,5 +1,5 @@
-//! Properties, written token by token. Each function appends the tokens of one tree, or of a part
-//! of one.
+//! Writes properties token by token. Each function appends the tokens of one tree, or of a part of
+//! one.
 ghost use Rattle.std.specs.Prelude.{◌≡◌, [], ◌∷◌, ◌++◌, OnOk};
 ghost use Rattle.json.specs.Token as token;
 ghost use Rattle.serde_json.specs.Data.{string};

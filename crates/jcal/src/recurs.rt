@@ -1,4 +1,4 @@
-//! Rules of each year (RFC 7265, section 3.6.10).
+//! Yearly recurrence rules (RFC 7265, section 3.6.10).
 ghost use Rattle.std.specs.Prelude.{◌≡◌, [], ◌∷◌, ◌++◌, OnOk, IfSome, codes};
 ghost use Rattle.std.specs.Fmt.{signed_decimal};
 ghost use Rattle.jiff_core.specs.Calendar.{IsWithin};
@@ -10,14 +10,14 @@ ghost use Rattle.jcal.specs.Tree.{integer, recur_data, seven_data};
 ghost use Rattle.jcal.specs.TreeTokens.{form_tokens, last_tokens, tree_tokens};
 
 use crate::properties::put_text;
-use crate::values::{Value, weekday_name};
+use crate::values::{ValueText, weekday_name};
 use itoa::Buffer;
 use json::Writer;
 use recurrence::Form;
 use td_base::NoMemory;
 use td_civil::{Moment, utc_text};
 
-/// Writes a rule, up to a last moment where there is one. Members stand in rising order of their
+/// Writes a rule, up to a last moment if one is given. Members stand in rising order of their
 /// names.
 pub(crate) fn put_recur(out: &mut Writer, form: Form, until: Option<Moment>) -> Result<(), NoMemory>
     requires form { IsValidForm form }
@@ -92,10 +92,10 @@ fn put_nth_weekday(out: &mut Writer, nth: i8, weekday: u8) -> Result<(), NoMemor
     put_text(out, nth_weekday(nth, weekday).as_slice())
 }
 
-fn nth_weekday(nth: i8, weekday: u8) -> Value
+fn nth_weekday(nth: i8, weekday: u8) -> ValueText
     ensures { result ≡ signed_decimal nth ++ weekdays.weekday_name weekday }
 {
-    let mut text = Value::new();
+    let mut text = ValueText::new();
     let mut buffer = Buffer::new();
     text.append(buffer.format(nth).as_bytes());
     text.append(&weekday_name(weekday));
@@ -121,7 +121,7 @@ fn put_integer(out: &mut Writer, number: i16) -> Result<(), NoMemory>
     Ok(())
 }
 
-/// Writes a member whose value is seven numbers in a row.
+/// Writes a member whose value is seven consecutive numbers.
 fn put_seven(out: &mut Writer, name: &str, first: i16) -> Result<(), NoMemory>
     requires { IsWithin 400 first }
     ensures tokens { OnOk result (out.new.tokens
@@ -141,7 +141,7 @@ fn put_seven(out: &mut Writer, name: &str, first: i16) -> Result<(), NoMemory>
     Ok(())
 }
 
-/// Writes the member that tells the last moment, where there is one.
+/// Writes the member with the last moment, if one is given.
 #[tactic(auto, using(crate::proofs::SafeTexts::moment_is_safe))]
 fn put_last(out: &mut Writer, until: Option<Moment>) -> Result<(), NoMemory>
     requires { IfSome until (λ m. IsWithinBounds m.seconds) }

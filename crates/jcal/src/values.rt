@@ -1,4 +1,4 @@
-//! The values of properties, in fixed room.
+//! The values of properties, in buffers of fixed size.
 ghost use Rattle.std.specs.Prelude.{◌≡◌, ◌+◌, ◌<◌, ◌≤◌, ◌++◌, length};
 ghost use Rattle.jiff_core.specs.Calendar.{IsWithin};
 ghost use Rattle.td_civil.specs.Bounds.{IsWithinBounds};
@@ -10,10 +10,11 @@ ghost use Rattle.jcal.specs.Values as spec;
 use td_base::ShortText;
 use td_civil::{Moment, local_stamp};
 
-/// Room for an offset, and for a weekday with a number.
-pub(crate) type Value = ShortText<16>;
+/// A buffer for an offset, or for a weekday with a number.
+pub(crate) type ValueText = ShortText<16>;
 
-/// A local time (RFC 7265, section 3.6.5), by clocks that are so many seconds east of UTC.
+/// The text of a local time (RFC 7265, section 3.6.5), by clocks at this offset, in seconds east of
+/// UTC.
 pub(crate) fn local_text(moment: Moment, offset: i32) -> [u8; 19]
     requires moment { IsWithinBounds moment.seconds }
     requires offset { IsWithin 86_399 offset }
@@ -34,14 +35,14 @@ fn two_digits(number: u32) -> [u8; 2]
     [b'0' + (number / 10 % 10) as u8, b'0' + (number % 10) as u8]
 }
 
-/// An offset (RFC 7265, section 3.6.13).
-#[tactic(auto, unfolding(crate::specs::Values::offset_text))]
-pub(crate) fn offset_value(offset: i32) -> Value
+/// The text of an offset, given in seconds east of UTC (RFC 7265, section 3.6.13).
+#[tactic(auto, unfolding(crate::specs::Values::jcal_offset_text))]
+pub(crate) fn offset_value(offset: i32) -> ValueText
     requires { IsWithin 86_399 offset }
-    ensures { result ≡ spec.offset_text offset }
+    ensures { result ≡ spec.jcal_offset_text offset }
 {
     let size = offset.unsigned_abs();
-    let mut text = Value::new();
+    let mut text = ValueText::new();
     text.append(&[if offset < 0 { b'-' } else { b'+' }]);
     text.append(&two_digits(size / 3_600));
     text.append(b":");
@@ -50,10 +51,10 @@ pub(crate) fn offset_value(offset: i32) -> Value
     text
 }
 
-fn append_seconds(text: &mut Value, seconds: u32)
+fn append_seconds(text: &mut ValueText, seconds: u32)
     requires seconds { seconds < 60 }
     requires room { length text.old + 3 ≤ 16 }
-    ensures { text.new ≡ text.old ++ spec.seconds_text seconds }
+    ensures { text.new ≡ text.old ++ spec.jcal_seconds_text seconds }
 {
     if seconds != 0 {
         text.append(b":");
@@ -61,7 +62,7 @@ fn append_seconds(text: &mut Value, seconds: u32)
     }
 }
 
-/// A weekday (RFC 5545, section 3.3.10).
+/// The two letters of a weekday, where 0 is Sunday (RFC 5545, section 3.3.10).
 #[tactic(auto, unfolding(recurrence::specs::Weekdays::weekday_name))]
 pub(crate) fn weekday_name(weekday: u8) -> [u8; 2]
     ensures { result ≡ weekdays.weekday_name weekday }

@@ -18,7 +18,7 @@ use Rattle.ical_lines.specs.Unfolding.{is_feed}
 use Rattle.recurrence.specs.declared.part_types.Part.{Part}
 use Rattle.recurrence.specs.declared.rule_types.Rule.{Rule}
 use Rattle.recurrence.specs.AllRead.{all_read, put_before}
-use Rattle.recurrence.specs.PartFields.{Recur, part_with}
+use Rattle.recurrence.specs.PartFields.{Recur, part_with_fields}
 use Rattle.recurrence.specs.Spellable.{is_safe, IsSafe, IsSpellable}
 use Rattle.recurrence.specs.Spelling.{spelling_with}
 use Rattle.recurrence.specs.Valid.{IsValidForm}
@@ -28,9 +28,9 @@ use Rattle.vtimezone.specs.CalendarText.{line, kind_of, start_line, change_lines
 use Rattle.vtimezone.specs.CalendarText.{part_lines, head_lines, alias_lines, end_lines, tail_lines}
 use Rattle.vtimezone.specs.CalendarText.{calendar_lines, calendar, IsLineText, IsReadable}
 use Rattle.vtimezone.specs.Cutting.{Named, cut_first}
-use Rattle.vtimezone.specs.ReadRules.{recur_in}
+use Rattle.vtimezone.specs.ReadRules.{recur_in_value}
 use Rattle.vtimezone.specs.ReadValues.{local_in, locals_in, offset_in, text_value}
-use Rattle.vtimezone.specs.Spelled.{dates_in, part_of_lines, is_end}
+use Rattle.vtimezone.specs.Spelled.{dates_in, part_of_lines, is_end_line}
 use Rattle.vtimezone.specs.Spelled.{parts_among, inside, zone_spelled}
 use Rattle.vtimezone.specs.Spelled.{calendar_spelled, spelled_by, spelled}
 use Rattle.vtimezone.specs.Values.{dates_text, offset_text, utc_basic, rule_text}
@@ -103,7 +103,7 @@ dates_read (first ∷ dates) offset = dates_in (dates_text first dates offset �
 
 abbrev rule_read : Option Rule → Option Moment → Option (Option Recur)
 rule_read None until = Some None
-rule_read (Some rule) until = option_map Some (recur_in (rule_text rule until))
+rule_read (Some rule) until = option_map Some (recur_in_value (rule_text rule until))
 
 texts_back : (dates : List Moment) (offset : ℤ) → AllByRecursion (λ d. IsWithinBounds d.seconds) dates → IsWithin 86399 offset
     → all_read local_in (local_texts dates offset) ≡ Some (map (local_at offset) dates)
@@ -129,7 +129,7 @@ rule_given (Some rule) until h within = ap (option_map Some) (recur_back rule un
 
 content_read : (p : Part) (dates : List Moment) (rule : Option Rule)
     → part_of_lines p.dst (content_named p dates rule)
-    ≡ part_with p.dst (local_in (local_text_of p.start.seconds p.from)) (offset_in (offset_text p.from)) (offset_in (offset_text p.to))
+    ≡ part_with_fields p.dst (local_in (local_text_of p.start.seconds p.from)) (offset_in (offset_text p.from)) (offset_in (offset_text p.to))
     (text_value p.name) (dates_read dates p.from) (rule_read rule p.until)
 unfolding part_of_lines
 content_read p [] None = refl
@@ -142,7 +142,7 @@ each_within [] h = tt
 each_within (d ∷ ds) h = (h 0 d (omega arith), each_within ds (λ i e lt. h (suc i) e (omega arith)))
 
 part_with_same : (dst : Bool) (s s₂ f f₂ t t₂ : Option ℤ) (n n₂ : Option (List ℕ)) (d d₂ : Option (List ℤ)) (r r₂ : Option (Option Recur))
-    → s ≡ s₂ → f ≡ f₂ → t ≡ t₂ → n ≡ n₂ → d ≡ d₂ → r ≡ r₂ → part_with dst s f t n d r ≡ part_with dst s₂ f₂ t₂ n₂ d₂ r₂
+    → s ≡ s₂ → f ≡ f₂ → t ≡ t₂ → n ≡ n₂ → d ≡ d₂ → r ≡ r₂ → part_with_fields dst s f t n d r ≡ part_with_fields dst s₂ f₂ t₂ n₂ d₂ r₂
 part_with_same dst s s₂ f f₂ t t₂ n n₂ d d₂ r r₂ start from to name dates recur = rw (start, from, to, name, dates, recur) refl
 
 content_back : (p : Part) → IsSpellable p → part_of_lines p.dst (content_named p p.dates p.rule) ≡ Some p
@@ -249,9 +249,9 @@ inside_whole component xs same =
     let long = length-append xs end in
     let last : drop (length (xs ++ end) - 1) (xs ++ end) ≡ end = drop_at xs end (length (xs ++ end) - 1) (omega arith) in
     let front : take (length (xs ++ end) - 1) (xs ++ end) ≡ xs = take_at xs end (length (xs ++ end) - 1) (omega arith) in
-    cond-true (bytes_eq component component && is_end component (drop (length (xs ++ end) - 1) (xs ++ end)))
+    cond-true (bytes_eq component component && is_end_line component (drop (length (xs ++ end) - 1) (xs ++ end)))
     (Some (take (length (xs ++ end) - 1) (xs ++ end))) None
-    (and_from _ _ same (ap (is_end component) last ∙ same))
+    (and_from _ _ same (ap (is_end_line component) last ∙ same))
     ∙ ap Some front
 
 -- the lines of the time zone

@@ -20,7 +20,7 @@ use Rattle.recurrence.specs.Falls.{IsOfYear}
 use Rattle.posix_footer.specs.Carried.{is_carried_rule}
 use Rattle.recurrence.specs.RuleOfDate.{rule_of}
 use Rattle.recurrence.specs.Occurs.{FallsAt, moment_of}
-use Rattle.recurrence.specs.InForce.{state_of_part, NotAfter, IsRuleOnset, IsOnsetBy, IsOnset, IsInForce}
+use Rattle.recurrence.specs.InForce.{state_of_part, NotAfter, IsRuleOnset, IsOnsetUnder, IsOnset, IsInForce}
 use Rattle.vtimezone.proofs.lemmas.Whole.{IsUntil, IsRulePart, AreRuleParts}
 use Rattle.vtimezone.specs.PartsOf.{offset_before, date_of_edge}
 use Rattle.vtimezone.specs.Ranges.{IsBeforeEnd}
@@ -77,7 +77,7 @@ rule_gives std rule y0 at p m h e year0 from start onset =
 part_gives : (std : Local) (rule : DstRule) (y0 : ℤ) (b : Option ℤ) (at : Edge) (p : Part) (m : ℤ) → IsLawfulRule std.offset rule
     → is_carried_rule rule ≡ true → IsYear y0 → IsRulePart std rule y0 b at p → IsOnset p m → IsOnsetFrom std rule y0 at m
 part_gives std rule y0 b at p m h e year0 is onset =
-    let P : Option Rule → Type 0 = λ r. IsOnsetBy r p m in
+    let P : Option Rule → Type 0 = λ r. IsOnsetUnder r p m in
     rule_gives std rule y0 at p m h e year0 is.from_is is.start_is (subst P is.rule_is onset)
 
 not_after_until : (std : Local) (rule : DstRule) (y0 y : ℤ) (b : Option ℤ) (until : Option Moment) (at : Edge) → IsYear y → y0 ≤ℤ y
@@ -106,7 +106,7 @@ part_has std rule y0 y b at p h e year0 year from is before =
     let there = falls_of std rule y at h year e in
     let first = first_not_later rule std.offset y0 y at h year0 year from in
     let start = is.start_is in
-    let P : Option Rule → Type 0 = λ r. IsOnsetBy r p (onset_of rule std.offset y at) in
+    let P : Option Rule → Type 0 = λ r. IsOnsetUnder r p (onset_of rule std.offset y at) in
     let onset : IsRuleOnset (rule_of (date_of_edge rule at)) p (onset_of rule std.offset y at) = record {
       day = there.day;
       falls = there.occurs.falls;

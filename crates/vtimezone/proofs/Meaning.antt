@@ -11,7 +11,7 @@ use Rattle.td_civil.specs.declared.local_time.Local.{Local}
 use Rattle.posix_footer.specs.declared.rule_types.DstRule.{DstRule}
 use Rattle.recurrence.specs.declared.rule_types.Rule.{Rule}
 use Rattle.recurrence.specs.declared.part_types.Part.{Part}
-use Rattle.recurrence.specs.InForce.{state_of_part, IsOnsetBy, IsOnset, IsInForce}
+use Rattle.recurrence.specs.InForce.{state_of_part, IsOnsetUnder, IsOnset, IsInForce}
 use Rattle.vtimezone.proofs.lemmas.Whole.{AreSingles, IsWhole}
 use Rattle.vtimezone.specs.Ranges.{IsBeforeEnd}
 use Rattle.vtimezone.proofs.InForce.{AreParts, means_from, single_before}
@@ -22,14 +22,14 @@ use Rattle.td_civil.proofs.lemmas.Years.{some_year_lem}
 module _ (state : ℤ → Local) (a e : ℤ) (Single : Part → Type 0) (singles : AreSingles state a e Single) where
   single_onset : (p : Part) (m : ℤ) → Single p → IsOnset p m → m ≡ p.start.seconds
   single_onset p m there is =
-      let P : Option Rule → Type 0 = λ r. IsOnsetBy r p m in
+      let P : Option Rule → Type 0 = λ r. IsOnsetUnder r p m in
       let Q : List Moment → Type 0 = λ dates. Contains (p.start ∷ dates) (record { seconds = m }) in
       let each = singles.each_is p there in
       one_listed p.start m (subst Q each.3 (subst P each.0 is))
 
   starts : (p : Part) → Single p → IsOnset p p.start.seconds
   starts p there =
-      let P : Option Rule → Type 0 = λ r. IsOnsetBy r p p.start.seconds in
+      let P : Option Rule → Type 0 = λ r. IsOnsetUnder r p p.start.seconds in
       subst P (sym (singles.each_is p there).0) (member_first p.start p.dates)
 
   not_before : (p : Part) → Single p → a ≤ℤ p.start.seconds

@@ -16,13 +16,13 @@ use Rattle.recurrence.specs.declared.rule_types.Rule.{Rule}
 use Rattle.recurrence.specs.Valid.{IsValidForm, IsMonth}
 use Rattle.recurrence.specs.AllRead.{all_read, put_before}
 use Rattle.recurrence.specs.FormFields.{form_read}
-use Rattle.recurrence.specs.PartFields.{recur_with}
-use Rattle.recurrence.specs.Weekdays.{weekday_name, number_in}
+use Rattle.recurrence.specs.PartFields.{recur_with_fields}
+use Rattle.recurrence.specs.Weekdays.{weekday_name, number_of_text}
 use Rattle.recurrence.proofs.lemmas.AllRead.{read_more, read_append}
 use Rattle.recurrence.proofs.lemmas.FormFields.{next_numbers, first_small, small_number, place_short, month_short, month_days_short, fields_back}
 use Rattle.recurrence.proofs.lemmas.Weekdays.{all_digits, short_back, weekday_alone, nth_weekday}
 use Rattle.vtimezone.specs.Cutting.{Named, cut_at, cut_first}
-use Rattle.vtimezone.specs.ReadRules.{month_in, months_in, numbers_in, days_in, recur_of, recur_in}
+use Rattle.vtimezone.specs.ReadRules.{month_in_value, months_in, numbers_in, days_in_value, recur_of_named, recur_in_value}
 use Rattle.vtimezone.specs.ReadValues.{utc_in}
 use Rattle.vtimezone.specs.Values.{utc_basic, seven_numbers, by_month, by_weekday, by_nth_weekday, by_month_day, by_month_days, by_year_days}
 use Rattle.vtimezone.specs.Values.{form_text, until_text, rule_text}
@@ -116,12 +116,12 @@ words_cut f until =
 abbrev read_form : Form → Option Form
 read_form (form.NthDay month nth weekday) =
     form_read (option_map Some (months_in (signed_decimal (pos month)))) (Some None) (Some None)
-    (option_map Some (days_in (signed_decimal nth ++ weekday_name weekday)))
+    (option_map Some (days_in_value (signed_decimal nth ++ weekday_name weekday)))
 read_form (form.MonthDays month first weekday) =
     form_read (option_map Some (months_in (signed_decimal (pos month)))) (option_map Some (numbers_in 2 31 (seven_numbers (pos first)))) (Some None)
-    (option_map Some (days_in (weekday_name weekday)))
+    (option_map Some (days_in_value (weekday_name weekday)))
 read_form (form.YearDays first weekday) =
-    form_read (Some None) (Some None) (option_map Some (numbers_in 3 366 (seven_numbers first))) (option_map Some (days_in (weekday_name weekday)))
+    form_read (Some None) (Some None) (option_map Some (numbers_in 3 366 (seven_numbers first))) (option_map Some (days_in_value (weekday_name weekday)))
 read_form (form.FixedDate month day) =
     form_read (option_map Some (months_in (signed_decimal (pos month)))) (option_map Some (numbers_in 2 31 (signed_decimal (pos day)))) (Some None)
     (Some None)
@@ -130,7 +130,7 @@ abbrev read_until : Option Moment → Option (Option Moment)
 read_until None = Some None
 read_until (Some last) = option_map Some (utc_in (utc_basic last.seconds))
 
-words_read : (f : Form) (until : Option Moment) → recur_of (yearly ∷ (form_named f ++ until_named until)) ≡ recur_with (read_form f) (read_until until)
+words_read : (f : Form) (until : Option Moment) → recur_of_named (yearly ∷ (form_named f ++ until_named until)) ≡ recur_with_fields (read_form f) (read_until until)
 words_read (form.NthDay month nth weekday) None = refl
 words_read (form.NthDay month nth weekday) (Some last) = refl
 words_read (form.MonthDays month first weekday) None = refl
@@ -140,18 +140,18 @@ words_read (form.YearDays first weekday) (Some last) = refl
 words_read (form.FixedDate month day) None = refl
 words_read (form.FixedDate month day) (Some last) = refl
 
-alone_back : (w : ℕ) → w ≤ 6 → days_in (weekday_name w) ≡ Some (record { nth = None; weekday = w } ∷ [])
+alone_back : (w : ℕ) → w ≤ 6 → days_in_value (weekday_name w) ≡ Some (record { nth = None; weekday = w } ∷ [])
 alone_back w h = one_day (weekday_name w) (record { nth = None; weekday = w }) (weekday_uncut 44 w (inl refl) h) (weekday_alone w h)
 
 month_back : (m : ℕ) → IsMonth m → months_in (signed_decimal (pos m)) ≡ Some (pos m ∷ [])
-unfolding month_in
+unfolding month_in_value
 month_back m h =
     let short = month_short m h in
-    let month : month_in (decimal m) ≡ Some (pos m) =
-    cond-true (all_ascii_digits (decimal m)) (number_in 2 12 (decimal m)) None (all_digits m (omega (arith, h)))
+    let month : month_in_value (decimal m) ≡ Some (pos m) =
+    cond-true (all_ascii_digits (decimal m)) (number_of_text 2 12 (decimal m)) None (all_digits m (omega (arith, h)))
     ∙ short_back 2 12 (pos m) short in
-    ap (all_read month_in) (cut_last 44 (decimal m) (signed_uncut 44 (pos m) (inl refl) short.small))
-    ∙ read_more month_in (decimal m) [] (pos m) [] month refl
+    ap (all_read month_in_value) (cut_last 44 (decimal m) (signed_uncut 44 (pos m) (inl refl) short.small))
+    ∙ read_more month_in_value (decimal m) [] (pos m) [] month refl
 
 form_back : (f : Form) → IsValidForm f → read_form f ≡ Some f
 form_back (form.NthDay month nth weekday) h =
@@ -160,19 +160,19 @@ form_back (form.NthDay month nth weekday) h =
     let day = one_day text (record { nth = Some nth; weekday = weekday })
     (uncut-append 44 (signed_decimal nth) (weekday_name weekday) (signed_uncut 44 nth (inl refl) place.small) (weekday_uncut 44 weekday (inl refl) h.2))
     (nth_weekday nth weekday place h.2) in
-    ap (λ o. form_read (option_map Some o) (Some None) (Some None) (option_map Some (days_in text))) (month_back month h.0)
+    ap (λ o. form_read (option_map Some o) (Some None) (Some None) (option_map Some (days_in_value text))) (month_back month h.0)
     ∙ ap (λ o. form_read (Some (Some (pos month ∷ []))) (Some None) (Some None) (option_map Some o)) day
 form_back (form.MonthDays month first weekday) h =
     let dates = pos first ∷ next_numbers (pos first) in
     ap (λ o. form_read (option_map Some o) (option_map Some (numbers_in 2 31 (seven_numbers (pos first)))) (Some None)
-    (option_map Some (days_in (weekday_name weekday)))) (month_back month h.0)
-    ∙ ap (λ o. form_read (Some (Some (pos month ∷ []))) (option_map Some o) (Some None) (option_map Some (days_in (weekday_name weekday))))
+    (option_map Some (days_in_value (weekday_name weekday)))) (month_back month h.0)
+    ∙ ap (λ o. form_read (Some (Some (pos month ∷ []))) (option_map Some o) (Some None) (option_map Some (days_in_value (weekday_name weekday))))
     (seven_back (pos first) 2 31 (λ k le. month_days_short month first k h.1.0 h.1.1 le))
     ∙ ap (λ o. form_read (Some (Some (pos month ∷ []))) (Some (Some dates)) (Some None) (option_map Some o)) (alone_back weekday h.2)
     ∙ fields_back (form.MonthDays month first weekday)
 form_back (form.YearDays first weekday) h =
     let dates = first ∷ next_numbers first in
-    ap (λ o. form_read (Some None) (Some None) (option_map Some o) (option_map Some (days_in (weekday_name weekday))))
+    ap (λ o. form_read (Some None) (Some None) (option_map Some o) (option_map Some (days_in_value (weekday_name weekday))))
     (seven_back first 3 366 (first_small first h.0))
     ∙ ap (λ o. form_read (Some None) (Some None) (Some (Some dates)) (option_map Some o)) (alone_back weekday h.1)
     ∙ fields_back (form.YearDays first weekday)
@@ -239,14 +239,14 @@ rule_on_a_line rule until h =
     ap (uncut 10) (rule_joined rule until) ∙ joined_uncut 10 59 (words_of rule.form until) refl (words_uncut 10 rule.form until (inl refl) h)
 
 pub recur_back : (rule : Rule) (until : Option Moment) → IsValidForm rule.form → IfSome until (λ m. IsWithinBounds m.seconds)
-    → recur_in (rule_text rule until) ≡ Some (record { form = rule.form; until = until })
-unfolding recur_in
+    → recur_in_value (rule_text rule until) ≡ Some (record { form = rule.form; until = until })
+unfolding recur_in_value
 recur_back rule until h within =
     let f = rule.form in
     let cut = cut_each 59 (codes "FREQ=YEARLY") (words_of f until) refl (words_uncut 59 f until (inr refl) h) in
-    ap (λ t. option_and_then recur_of (all_read (cut_first 61) (cut_at 59 t))) (rule_joined rule until)
-    ∙ ap (λ ws. option_and_then recur_of (all_read (cut_first 61) ws)) cut
-    ∙ ap (option_and_then recur_of) (words_cut f until)
+    ap (λ t. option_and_then recur_of_named (all_read (cut_first 61) (cut_at 59 t))) (rule_joined rule until)
+    ∙ ap (λ ws. option_and_then recur_of_named (all_read (cut_first 61) ws)) cut
+    ∙ ap (option_and_then recur_of_named) (words_cut f until)
     ∙ words_read f until
-    ∙ ap (λ o. recur_with o (read_until until)) (form_back f h)
-    ∙ ap (recur_with (Some f)) (until_back until within)
+    ∙ ap (λ o. recur_with_fields o (read_until until)) (form_back f h)
+    ∙ ap (recur_with_fields (Some f)) (until_back until within)

@@ -6,7 +6,7 @@ use Rattle.std.specs.List.{flat_map, list_all}
 use Rattle.std.specs.Option.{IfSome}
 use Rattle.td_civil.specs.declared.moment_type.Moment.{Moment}
 use Rattle.td_civil.specs.Calendar.{local_text_of}
-use Rattle.ical_lines.specs.Lines.{written}
+use Rattle.ical_lines.specs.Lines.{lines_written}
 use Rattle.ical_lines.specs.Unfolding.{is_feed}
 use Rattle.recurrence.specs.declared.part_types.Part.{Part}
 use Rattle.recurrence.specs.declared.rule_types.Rule.{Rule}
@@ -75,7 +75,7 @@ calendar_lines tzid alias_of parts until =
 
 -- the text of the lines
 abbrev pub calendar : List ℕ → Option (List ℕ) → List Part → Option Moment → List ℕ
-calendar tzid alias_of parts until = written (calendar_lines tzid alias_of parts until)
+calendar tzid alias_of parts until = lines_written (calendar_lines tzid alias_of parts until)
 
 -- a text that stands in one line
 abbrev pub IsLineText : List ℕ → Type 0

@@ -1,5 +1,6 @@
 -- The parts of changes, as one more change joins them.
-use Rattle.std.specs.Prelude.{ℕ, ◌+◌, List, [], ◌∷◌, ◌++◌, Bool, ◌&&◌, if◌then◌else◌, Option, None, Some}
+use Rattle.std.specs.Prelude.{ℕ, ◌+◌, List, [], ◌∷◌, ◌++◌, Bool, ◌&&◌, if◌then◌else◌, Option, None}
+use Rattle.std.specs.Prelude.{Some}
 use Rattle.std.specs.Ordering.{int_eq}
 use Rattle.td_civil.specs.SameLocal.{same_local}
 use Rattle.td_civil.specs.declared.moment_type.Moment.{Moment}
@@ -45,6 +46,6 @@ with_date p m = record {
 }
 
 -- the change joins the first part that is of changes alike it, or else is a part of its own
-unfoldable pub joined : List Part → Observance → List Part
-joined [] o = part_alone o ∷ []
-joined (p ∷ ps) o = if is_of p o then with_date p o.onset ∷ ps else p ∷ joined ps o
+unfoldable pub parts_joined : List Part → Observance → List Part
+parts_joined [] o = part_alone o ∷ []
+parts_joined (p ∷ ps) o = if is_of p o then with_date p o.onset ∷ ps else p ∷ parts_joined ps o

@@ -69,8 +69,8 @@ offset_in [] = None
 offset_in (sign ∷ digits) = if is_hours digits then signed_by sign (size_in digits) else None
 
 -- the byte that one after a backslash stands for: itself, or a line feed for N
-abbrev pub escaped : ℕ → Option ℕ
-escaped b =
+abbrev pub byte_of_escape : ℕ → Option ℕ
+byte_of_escape b =
     if b == 44 || b == 59 || b == 92 then Some b else if b == 78 || b == 110 then Some 10 else None
 
 -- a text; the flag says that a backslash stands before it
@@ -80,7 +80,7 @@ text_after true [] = None
 text_after false (b ∷ bs) =
     if b == 92 then text_after true bs
     else put_before (if is_safe b then Some b else None) (text_after false bs)
-text_after true (b ∷ bs) = put_before (escaped b) (text_after false bs)
+text_after true (b ∷ bs) = put_before (byte_of_escape b) (text_after false bs)
 
 abbrev pub text_value : List ℕ → Option (List ℕ)
 text_value text = text_after false text

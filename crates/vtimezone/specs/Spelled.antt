@@ -13,10 +13,10 @@ use Rattle.std.specs.Str.{bytes_eq}
 use Rattle.ical_lines.specs.Unfolding.{unfolded}
 use Rattle.recurrence.specs.declared.part_types.Part.{Part}
 use Rattle.recurrence.specs.AllRead.{put_before, all_read}
-use Rattle.recurrence.specs.PartFields.{part_with}
+use Rattle.recurrence.specs.PartFields.{part_with_fields}
 use Rattle.recurrence.specs.Spelling.{Spelling, spelling_with}
 use Rattle.vtimezone.specs.Cutting.{Named, cut_first, values_of, one_read, one_if_any, only_is}
-use Rattle.vtimezone.specs.ReadRules.{recur_in}
+use Rattle.vtimezone.specs.ReadRules.{recur_in_value}
 use Rattle.vtimezone.specs.ReadValues.{local_in, locals_in, offset_in, text_value, utc_in}
 
 -- ---- parts
@@ -37,12 +37,12 @@ dates_in values = option_map (flat_map (λ dates. dates)) (all_read locals_in va
 unfoldable pub part_of_lines : Bool → List Named → Option Part
 part_of_lines dst lines =
     if list_all is_part_line lines
-    then part_with dst (one_read local_in (values_of (codes "DTSTART") lines))
+    then part_with_fields dst (one_read local_in (values_of (codes "DTSTART") lines))
     (one_read offset_in (values_of (codes "TZOFFSETFROM") lines))
     (one_read offset_in (values_of (codes "TZOFFSETTO") lines))
     (one_read text_value (values_of (codes "TZNAME") lines))
     (dates_in (values_of (codes "RDATE") lines))
-    (one_if_any recur_in (values_of (codes "RRULE") lines))
+    (one_if_any recur_in_value (values_of (codes "RRULE") lines))
     else None
 
 -- ---- components
@@ -51,19 +51,19 @@ abbrev pub is_line : List ℕ → List ℕ → Named → Bool
 is_line name value l = bytes_eq l.name name && bytes_eq l.value value
 
 -- a line at which a component begins or ends
-abbrev pub is_mark : Named → Bool
-is_mark l = bytes_eq l.name (codes "BEGIN") || bytes_eq l.name (codes "END")
+abbrev pub is_frame_line : Named → Bool
+is_frame_line l = bytes_eq l.name (codes "BEGIN") || bytes_eq l.name (codes "END")
 
 -- the lines of a component before those of the components in it, and these
 abbrev pub properties : List Named → List Named
-properties lines = take_while (λ l. not (is_mark l)) lines
+properties lines = take_while (λ l. not (is_frame_line l)) lines
 
 abbrev pub components : List Named → List Named
 components lines = drop (length (properties lines)) lines
 
-abbrev pub is_end : List ℕ → List Named → Bool
-is_end component (l ∷ []) = is_line (codes "END") component l
-is_end component lines = false
+abbrev pub is_end_line : List ℕ → List Named → Bool
+is_end_line component (l ∷ []) = is_line (codes "END") component l
+is_end_line component lines = false
 
 -- what stands between the BEGIN of a component, with which the lines begin, and its END, with which
 -- they end
@@ -71,7 +71,7 @@ unfoldable pub inside : List ℕ → List Named → Option (List Named)
 inside component [] = None
 inside component (l ∷ ls) =
     let last = length ls - 1 in
-    if is_line (codes "BEGIN") component l && is_end component (drop last ls)
+    if is_line (codes "BEGIN") component l && is_end_line component (drop last ls)
     then Some (take last ls) else None
 
 abbrev pub group_name : Bool → List ℕ
@@ -89,7 +89,7 @@ parts_among None held (l ∷ ls) =
 parts_among (Some dst) held (l ∷ ls) =
     if is_line (codes "END") (group_name dst) l
     then put_before (part_of_lines dst held) (parts_among None [] ls)
-    else if is_mark l then None else parts_among (Some dst) (held ++ l ∷ []) ls
+    else if is_frame_line l then None else parts_among (Some dst) (held ++ l ∷ []) ls
 
 -- ---- the time zone
 

@@ -1,12 +1,13 @@
 //! The text of a calendar with one time zone.
-ghost use Rattle.std.specs.Prelude.{◌≡◌, ◌<◌, ◌∷◌, ◌++◌, ℕ, List, length, take, drop, All, IfSome, Some, OnOk};
+ghost use Rattle.std.specs.Prelude.{◌≡◌, ◌<◌, ◌∷◌, ◌++◌, ℕ, List, length, take, drop, All, IfSome};
+ghost use Rattle.std.specs.Prelude.{Some, OnOk};
 ghost use Rattle.std.specs.Prelude.{IfOk, OnErr, codes};
 ghost use Rattle.std.specs.List.{flat_map};
 ghost use Rattle.std.specs.Option.{option_copied};
 ghost use Rattle.jiff_core.specs.Calendar.{IsWithin};
 ghost use Rattle.td_civil.specs.Bounds.{IsWithinBounds};
 ghost use Rattle.td_civil.specs.Calendar.{local_text_of};
-ghost use Rattle.ical_lines.specs.Lines.{content_line, folded, written};
+ghost use Rattle.ical_lines.specs.Lines.{content_line, folded, lines_written};
 ghost use Rattle.recurrence.specs.Spellable.{IsSafe, IsSpellable, IsWritable};
 ghost use Rattle.recurrence.specs.Valid.{IsValidForm};
 ghost use Rattle.vtimezone.specs.CalendarText as text;
@@ -21,10 +22,10 @@ use td_base::{Bytes, NoMemory};
 use td_civil::{Moment, local_stamp};
 
 /// Appends the calendar of a time zone: an iCalendar object with one VTIMEZONE of these parts (RFC
-/// 5545, section 3.6.5). Where `tzid` is an alias, `alias_of` is the identifier of its zone.
-/// `until` is the end of the range, where it has one. It takes the memory of the text alone.
+/// 5545, section 3.6.5). If `tzid` is an alias, `alias_of` is the identifier of its zone. `until`
+/// is the end of the range, if it has one. The only memory taken is that of the text.
 ///
-/// What it appends, read as `specs/Spelled.antt` says, gives back all that it was given.
+/// The appended text, read as `specs/Spelled.antt` defines, gives back all arguments.
 pub fn write(
     out: &mut Bytes,
     tzid: &[u8],
@@ -55,7 +56,7 @@ pub fn write(
     Ok(())
 }
 
-/// Appends the calendar. Where memory runs out its beginning stays.
+/// Appends the calendar. If memory runs out, the part written so far remains.
 #[tactic(auto, unfolding(crate::specs::CalendarText::calendar_lines))]
 fn append_calendar(
     out: &mut Bytes,
@@ -80,7 +81,7 @@ fn append_calendar(
 
 #[tactic(auto, unfolding(crate::specs::CalendarText::head_lines))]
 fn append_head(out: &mut Bytes, tzid: &[u8]) -> Result<(), NoMemory>
-    ensures ok { OnOk result (out.new ≡ out.old ++ written (text.head_lines tzid.now)) }
+    ensures ok { OnOk result (out.new ≡ out.old ++ lines_written (text.head_lines tzid.now)) }
     ensures kept { take (length out.old) out.new ≡ out.old }
 {
     line(out, b"BEGIN", b"VCALENDAR")?;
@@ -94,7 +95,7 @@ fn append_head(out: &mut Bytes, tzid: &[u8]) -> Result<(), NoMemory>
 #[tactic(auto, unfolding(crate::specs::CalendarText::alias_lines))]
 fn append_alias(out: &mut Bytes, alias_of: Option<&[u8]>) -> Result<(), NoMemory>
     ensures ok { OnOk result (out.new
-        ≡ out.old ++ written (text.alias_lines (option_copied alias_of.entry))) }
+        ≡ out.old ++ lines_written (text.alias_lines (option_copied alias_of.entry))) }
     ensures kept { take (length out.old) out.new ≡ out.old }
 {
     if let Some(tzid) = alias_of {
@@ -106,7 +107,7 @@ fn append_alias(out: &mut Bytes, alias_of: Option<&[u8]>) -> Result<(), NoMemory
 #[tactic(auto, unfolding(crate::specs::CalendarText::end_lines))]
 fn append_end(out: &mut Bytes, until: Option<Moment>) -> Result<(), NoMemory>
     requires { IfSome until (λ m. IsWithinBounds m.seconds) }
-    ensures ok { OnOk result (out.new ≡ out.old ++ written (text.end_lines until)) }
+    ensures ok { OnOk result (out.new ≡ out.old ++ lines_written (text.end_lines until)) }
     ensures kept { take (length out.old) out.new ≡ out.old }
 {
     if let Some(end) = until {
@@ -117,7 +118,7 @@ fn append_end(out: &mut Bytes, until: Option<Moment>) -> Result<(), NoMemory>
 
 #[tactic(auto, unfolding(crate::specs::CalendarText::tail_lines))]
 fn append_tail(out: &mut Bytes) -> Result<(), NoMemory>
-    ensures ok { OnOk result (out.new ≡ out.old ++ written text.tail_lines) }
+    ensures ok { OnOk result (out.new ≡ out.old ++ lines_written text.tail_lines) }
     ensures kept { take (length out.old) out.new ≡ out.old }
 {
     line(out, b"END", b"VTIMEZONE")?;
@@ -128,7 +129,7 @@ fn append_tail(out: &mut Bytes) -> Result<(), NoMemory>
 fn append_parts(out: &mut Bytes, parts: &[Part]) -> Result<(), NoMemory>
     requires { All IsWritable parts.now }
     ensures ok { OnOk result (out.new
-        ≡ out.old ++ written (flat_map text.part_lines parts.now)) }
+        ≡ out.old ++ lines_written (flat_map text.part_lines parts.now)) }
     ensures kept { take (length out.old) out.new ≡ out.old }
 {
     for part in parts {
@@ -146,7 +147,7 @@ fn kind(dst: bool) -> &'static [u8]
 #[tactic(auto, unfolding(crate::specs::CalendarText::part_lines))]
 fn append_part(out: &mut Bytes, part: &Part) -> Result<(), NoMemory>
     requires { IsWritable part.now }
-    ensures ok { OnOk result (out.new ≡ out.old ++ written (text.part_lines part.now)) }
+    ensures ok { OnOk result (out.new ≡ out.old ++ lines_written (text.part_lines part.now)) }
     ensures kept { take (length out.old) out.new ≡ out.old }
 {
     line(out, b"BEGIN", kind(part.dst))?;
@@ -160,7 +161,7 @@ fn append_part(out: &mut Bytes, part: &Part) -> Result<(), NoMemory>
 #[tactic(auto, unfolding(crate::specs::CalendarText::change_lines))]
 fn append_change(out: &mut Bytes, part: &Part) -> Result<(), NoMemory>
     requires { IsWritable part.now }
-    ensures ok { OnOk result (out.new ≡ out.old ++ written (text.change_lines part.now)) }
+    ensures ok { OnOk result (out.new ≡ out.old ++ lines_written (text.change_lines part.now)) }
     ensures kept { take (length out.old) out.new ≡ out.old }
 {
     append_start(out, part.start, part.from)?;
@@ -193,7 +194,7 @@ fn append_offset(out: &mut Bytes, name: &[u8], offset: i32) -> Result<(), NoMemo
 fn append_dates(out: &mut Bytes, dates: &Moments, offset: i32) -> Result<(), NoMemory>
     requires dates { All (λ d. IsWithinBounds d.seconds) dates.now }
     requires offset { IsWithin 86_399 offset }
-    ensures ok { OnOk result (out.new ≡ out.old ++ written (text.date_lines dates.now offset)) }
+    ensures ok { OnOk result (out.new ≡ out.old ++ lines_written (text.date_lines dates.now offset)) }
     ensures kept { take (length out.old) out.new ≡ out.old }
 {
     match dates.as_slice() {
@@ -202,7 +203,7 @@ fn append_dates(out: &mut Bytes, dates: &Moments, offset: i32) -> Result<(), NoM
     }
 }
 
-/// Appends the line of dates piece by piece, since there may be any number of them.
+/// Appends the line of dates piece by piece, since their number has no bound.
 #[tactic(auto, unfolding(crate::specs::Values::dates_text))]
 fn append_date_line(
     out: &mut Bytes,
@@ -224,8 +225,8 @@ fn append_date_line(
     Ok(())
 }
 
-/// Appends dates, each after a comma, to a line that has room for so many more octets, and answers
-/// the room after them.
+/// Appends dates, each after a comma, to a line that has room for this many more octets. Returns
+/// the room that is left after them.
 fn append_more_dates(
     out: &mut Bytes,
     room: usize,
@@ -262,7 +263,7 @@ fn append_date(out: &mut Bytes, room: usize, date: Moment, offset: i32) -> Resul
 fn append_rule(out: &mut Bytes, rule: &Option<Rule>, until: Option<Moment>) -> Result<(), NoMemory>
     requires rule { IfSome rule.now (λ r. IsValidForm r.form) }
     requires until { IfSome until (λ m. IsWithinBounds m.seconds) }
-    ensures ok { OnOk result (out.new ≡ out.old ++ written (text.rule_lines rule.now until)) }
+    ensures ok { OnOk result (out.new ≡ out.old ++ lines_written (text.rule_lines rule.now until)) }
     ensures kept { take (length out.old) out.new ≡ out.old }
 {
     if let Some(rule) = rule {

@@ -1,4 +1,4 @@
-//! The parts of changes, of which alike ones stand in one part.
+//! Parts for the changes of a zone. Changes that differ only in their moments share one part.
 ghost use Rattle.std.specs.Prelude.{◌≡◌, ◌<◌, length, IfOk, IfSome, OnOk};
 ghost use Rattle.zone_meaning.specs.Observed.{observed, IsRange};
 ghost use Rattle.zone_meaning.specs.State.{zone_state};
@@ -31,10 +31,11 @@ pub(crate) fn change_parts(
     Ok(Items::from(parts))
 }
 
-/// Adds a change to the part of those alike it, or else as a part of its own. A zone has few kinds
-/// of changes, whatever their number, so the parts are searched from their beginning.
+/// Adds a change to the part of the same changes at other moments, or else as a new part. A zone
+/// has few kinds of changes, however many changes there are, so the parts are searched from the
+/// beginning.
 fn join(alloc: Global, parts: &mut Vec<Part>, change: Observance) -> Result<(), NoMemory>
-    ensures { OnOk result (parts.new.items ≡ spec.joined parts.old.items change) }
+    ensures { OnOk result (parts.new.items ≡ spec.parts_joined parts.old.items change) }
 {
     match place_of(parts.as_slice(), &change) {
         Some(place) => {
@@ -48,7 +49,8 @@ fn join(alloc: Global, parts: &mut Vec<Part>, change: Observance) -> Result<(), 
     }
 }
 
-/// Where the first part stands that is of changes alike this one, if there is one.
+/// The index of the first part of the same changes as this one, apart from their moments, if it
+/// exists.
 fn place_of(parts: &[Part], change: &Observance) -> Option<usize>
     ensures place { result ≡ spec.place_from 0 parts.now change.now }
     ensures inside { IfSome result (λ place. place < length parts.now) }
@@ -61,7 +63,7 @@ fn place_of(parts: &[Part], change: &Observance) -> Option<usize>
     None
 }
 
-/// Whether the part is of changes that are alike this one.
+/// Whether the part is one of the same changes as this one, apart from their moments.
 #[tactic(auto, unfolding(crate::specs::Gathering::is_of, td_civil::specs::SameLocal::same_local))]
 fn is_of(part: &Part, change: &Observance) -> bool
     ensures { result ≡ spec.is_of part.now change.now }
@@ -70,7 +72,7 @@ fn is_of(part: &Part, change: &Observance) -> bool
         && (part.to == change.to && (part.dst == change.dst && part.name == change.name))
 }
 
-/// The part of one change.
+/// The part of a single change.
 #[tactic(auto, unfolding(crate::specs::Gathering::part_alone))]
 fn part_alone(alloc: Global, change: Observance) -> Part
     ensures { result ≡ spec.part_alone change }

@@ -1,4 +1,4 @@
-//! What the parts of a zone mean, as the contracts of functions that do nothing.
+//! What the parts of a zone mean. Each law is the contract of a function with an empty body.
 ghost use Rattle.std.specs.Prelude.{◌≡◌, ◌<◌, ℕ, List, length, ℤ, None, Some, Option, Ok, IfSome};
 ghost use Rattle.std.specs.Prelude.{IsTrue, All};
 ghost use Rattle.std.specs.List.{Contains, AllByRecursion};
@@ -35,8 +35,8 @@ pub fn one_in_force()
         → IsInForce (Contains parts) t p → IsInForce (Contains parts) t q → p ≡ q }
 {}
 
-/// The text of a calendar is read as its lines (RFC 5545, section 3.1), where identifiers and names
-/// hold no line feed.
+/// The text of a calendar is read as its lines (RFC 5545, section 3.1), if identifiers and names
+/// have no line feed.
 pub fn calendar_reads_back()
     ensures { (tzid : List ℕ) (alias_of : Option (List ℕ)) (parts : List Part)
         (until : Option Moment) → IsLineText tzid → IfSome alias_of IsLineText
@@ -45,8 +45,8 @@ pub fn calendar_reads_back()
         ≡ Ok (calendar_lines tzid alias_of parts until) }
 {}
 
-/// The text of a calendar spells what it was written of: cut into lines, components and values, and
-/// read by the grammar of RFC 5545, it gives identifiers, end and parts back.
+/// The text of a calendar encodes its parameters. Cut into lines, components and values, and read
+/// by the grammar of RFC 5545, it gives back identifiers, end and parts.
 pub fn calendar_spells()
     ensures { (tzid : List ℕ) (alias_of : Option (List ℕ)) (parts : List Part)
         (until : Option Moment) → IsSafe tzid → IfSome alias_of IsSafe
@@ -55,7 +55,7 @@ pub fn calendar_spells()
         { tzid = tzid; alias_of = alias_of; until = until; parts = parts }) }
 {}
 
-/// So the calendar of a zone for a range spells the parts of the zone, where its names can be
+/// So the calendar of a zone for a range encodes the parts of the zone, if its names can be
 /// printed.
 pub fn zone_calendar_spells()
     ensures { (file : List ℕ) (range : Range) (tzid : List ℕ) (alias_of : Option (List ℕ))
@@ -71,8 +71,8 @@ pub fn zone_calendar_spells()
         }) }
 {}
 
-/// The parts of a zone for a range, of which there is one at least, and the end of the range can be
-/// spelled in any text of a calendar, where the names of the zone can be printed.
+/// A zone has at least one part in a range. If the names of the zone can be printed, the text of a
+/// calendar can encode these parts and the end of the range.
 pub fn zone_parts_are_spellable()
     ensures { (file : List ℕ) (range : Range) → zone_fault file ≡ None
         → IsTrue (has_printable_names file)

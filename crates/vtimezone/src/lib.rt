@@ -1,13 +1,16 @@
 //! Calendars of time zones: the VTIMEZONE of a zone for a range (RFC 5545, section 3.6.5).
 //!
-//! `parts` gives the parts of `specs/ZoneParts.antt`: those of the changes up to the end of the last
-//! transition's year, alike ones in one part, and then the rules of the footer. Its contract is what
-//! they mean: at each
-//! moment of the range, the part in force (`specs/InForce.antt` of `recurrence`) has the offset,
-//! the flag and the name of the zone's state.
+//! `parts` gives the parts of `specs/ZoneParts.antt`. First come those of the changes up to the end
+//! of the last transition's year. Changes that differ only in their moments share one part. Then
+//! come the rules of the footer. The contract states what the parts mean. At each moment of the
+//! range, the part in force has the offset, the flag and the name of the zone's state
+//! (`specs/InForce.antt` of `recurrence`).
 //!
-//! `write` appends the text of `specs/CalendarText.antt`, and that text, read as
-//! `specs/Spelled.antt` says, gives back what it was written of.
+//! `write` appends the text of `specs/CalendarText.antt`. That text, read as `specs/Spelled.antt`
+//! defines, gives back what was written.
+//!
+//! Zones come from `zone_meaning`, rules from `recurrence`, and folded lines from `ical_lines`.
+//! `actions` serves these calendars, and `vtimezone_reader` reads them.
 #![tactic(auto)]
 
 // The parts of a zone.

@@ -27,7 +27,8 @@ fn last_year(end: Moment) -> i32
     year_of(end).min(9998)
 }
 
-/// The last of a change's onsets, in the years from one on up to 9998, that comes before the end.
+/// The last onset before the end, of one of the two yearly changes, in the years from a year to
+/// 9998.
 fn last_onset(rule: &DstRule, std: i32, edge: Edge, year: i32, end: Moment) -> Option<Moment>
     requires lawful { IsLawfulRule std rule.now }
     requires carried { is_carried_rule rule.now ≡ true }
@@ -56,7 +57,7 @@ pub(crate) fn comes_before(moment: Moment, end: Moment) -> bool
     moment.seconds < end.seconds
 }
 
-/// The part of a change of each year, whose rule is known.
+/// The part of a yearly change whose rule is known.
 #[tactic(auto, unfolding(crate::specs::PartsOf::rule_part))]
 fn rule_part(
     alloc: Global,
@@ -88,7 +89,7 @@ fn rule_part(
     }
 }
 
-/// The same up to its last onset before the end of a range, if it has one.
+/// The same, up to its last onset before the end of a range, if it has one.
 fn part_before(
     alloc: Global,
     std: &Local,
@@ -153,7 +154,7 @@ fn starts_first(rule: &DstRule, std: i32, year: i32) -> bool
     )
 }
 
-/// The parts of both changes of each year, by their first onsets.
+/// The parts of both yearly changes, in the order of their first onsets.
 #[tactic(auto, unfolding(crate::specs::PartsOf::rule_parts))]
 fn push_both(
     alloc: Global,
@@ -210,7 +211,7 @@ fn push_rule(
     }
 }
 
-/// The parts of a footer's rules from a year on, as far as it has a meaning.
+/// The parts of a footer's rules from a year on, up to the last supported year.
 pub(crate) fn push_rules(
     alloc: Global,
     parts: &mut Items<Part>,

@@ -1,4 +1,4 @@
-//! The values of content lines (RFC 5545, section 3.3), in fixed room.
+//! The values of content lines (RFC 5545, section 3.3), in buffers of fixed size.
 ghost use Rattle.std.specs.Prelude.{◌≡◌, ◌+◌, ◌<◌, ◌≤◌, ◌++◌, length, IfSome};
 ghost use Rattle.std.specs.Fmt.{signed_decimal};
 ghost use Rattle.jiff_core.specs.Calendar.{IsWithin};
@@ -13,8 +13,8 @@ use recurrence::{Form, Rule};
 use td_base::ShortText;
 use td_civil::{Moment, local_stamp};
 
-/// Room for the value of a rule.
-pub(crate) type Value = ShortText<128>;
+/// A buffer for the value of a rule, in bytes.
+pub(crate) type LineValue = ShortText<128>;
 
 fn two_digits(number: u32) -> [u8; 2]
     requires { number < 100 }
@@ -23,14 +23,14 @@ fn two_digits(number: u32) -> [u8; 2]
     [b'0' + (number / 10 % 10) as u8, b'0' + (number % 10) as u8]
 }
 
-/// An offset (RFC 5545, section 3.3.14).
+/// The text of an offset, given in seconds east of UTC (RFC 5545, section 3.3.14).
 #[tactic(auto, unfolding(crate::specs::Values::offset_text))]
-pub(crate) fn offset_value(offset: i32) -> Value
+pub(crate) fn offset_value(offset: i32) -> LineValue
     requires { IsWithin 86_399 offset }
     ensures { result ≡ values.offset_text offset }
 {
     let size = offset.unsigned_abs();
-    let mut text = Value::new();
+    let mut text = LineValue::new();
     text.append(&[if offset < 0 { b'-' } else { b'+' }]);
     text.append(&two_digits(size / 3_600));
     text.append(&two_digits(size % 3_600 / 60));
@@ -38,7 +38,7 @@ pub(crate) fn offset_value(offset: i32) -> Value
     text
 }
 
-fn append_seconds(text: &mut Value, seconds: u32)
+fn append_seconds(text: &mut LineValue, seconds: u32)
     requires seconds { seconds < 60 }
     requires room { length text.old + 2 ≤ 128 }
     ensures { text.new ≡ text.old ++ values.seconds_text seconds }
@@ -48,20 +48,20 @@ fn append_seconds(text: &mut Value, seconds: u32)
     }
 }
 
-/// A moment in UTC (RFC 5545, section 3.3.5).
+/// The text of a moment in UTC (RFC 5545, section 3.3.5).
 #[tactic(auto, unfolding(crate::specs::Values::utc_basic))]
-pub(crate) fn utc_value(moment: Moment) -> Value
+pub(crate) fn utc_value(moment: Moment) -> LineValue
     requires { IsWithinBounds moment.seconds }
     ensures text { result ≡ values.utc_basic moment.seconds }
     ensures length { length result ≡ 16 }
 {
-    let mut text = Value::new();
+    let mut text = LineValue::new();
     text.append(&local_stamp(moment, 0));
     text.append(b"Z");
     text
 }
 
-fn append_number(text: &mut Value, number: i16)
+fn append_number(text: &mut LineValue, number: i16)
     requires { length text.old + 6 ≤ 128 }
     ensures text { text.new ≡ text.old ++ signed_decimal number }
     ensures length { length text.new ≤ length text.old + 6 }
@@ -70,7 +70,7 @@ fn append_number(text: &mut Value, number: i16)
     text.append(buffer.format(number).as_bytes());
 }
 
-fn append_named(text: &mut Value, name: &[u8], number: i16)
+fn append_named(text: &mut LineValue, name: &[u8], number: i16)
     requires { length text.old + length name.now + 6 ≤ 128 }
     ensures text { text.new ≡ text.old ++ (name.now ++ signed_decimal number) }
     ensures length { length text.new ≤ length text.old + length name.now + 6 }
@@ -80,7 +80,7 @@ fn append_named(text: &mut Value, name: &[u8], number: i16)
 }
 
 #[tactic(auto, unfolding(crate::specs::Values::next_number))]
-fn append_next(text: &mut Value, first: i16, more: u8)
+fn append_next(text: &mut LineValue, first: i16, more: u8)
     requires first { IsWithin 400 first }
     requires more { more ≤ 6 }
     requires room { length text.old + 7 ≤ 128 }
@@ -92,7 +92,7 @@ fn append_next(text: &mut Value, first: i16, more: u8)
 }
 
 #[tactic(auto, unfolding(crate::specs::Values::seven_numbers))]
-fn append_seven(text: &mut Value, first: i16)
+fn append_seven(text: &mut LineValue, first: i16)
     requires first { IsWithin 400 first }
     requires room { length text.old + 48 ≤ 128 }
     ensures text { text.new ≡ text.old ++ values.seven_numbers first }
@@ -129,7 +129,7 @@ fn weekday_name(weekday: u8) -> [u8; 2]
 }
 
 #[tactic(auto, unfolding(crate::specs::Values::by_month))]
-fn append_month(text: &mut Value, month: u8)
+fn append_month(text: &mut LineValue, month: u8)
     requires { length text.old + 15 ≤ 128 }
     ensures text { text.new ≡ text.old ++ values.by_month month }
     ensures length { length text.new ≤ length text.old + 15 }
@@ -139,7 +139,7 @@ fn append_month(text: &mut Value, month: u8)
 }
 
 #[tactic(auto, unfolding(crate::specs::Values::by_weekday))]
-fn append_weekday(text: &mut Value, weekday: u8)
+fn append_weekday(text: &mut LineValue, weekday: u8)
     requires { length text.old + 9 ≤ 128 }
     ensures text { text.new ≡ text.old ++ values.by_weekday weekday }
     ensures length { length text.new ≤ length text.old + 9 }
@@ -149,7 +149,7 @@ fn append_weekday(text: &mut Value, weekday: u8)
 }
 
 #[tactic(auto, unfolding(crate::specs::Values::by_nth_weekday))]
-fn append_nth_weekday(text: &mut Value, nth: i8, weekday: u8)
+fn append_nth_weekday(text: &mut LineValue, nth: i8, weekday: u8)
     requires { length text.old + 15 ≤ 128 }
     ensures text { text.new ≡ text.old ++ values.by_nth_weekday nth weekday }
     ensures length { length text.new ≤ length text.old + 15 }
@@ -160,7 +160,7 @@ fn append_nth_weekday(text: &mut Value, nth: i8, weekday: u8)
 }
 
 #[tactic(auto, unfolding(crate::specs::Values::by_month_day))]
-fn append_month_day(text: &mut Value, day: u8)
+fn append_month_day(text: &mut LineValue, day: u8)
     requires { length text.old + 18 ≤ 128 }
     ensures text { text.new ≡ text.old ++ values.by_month_day day }
     ensures length { length text.new ≤ length text.old + 18 }
@@ -169,7 +169,7 @@ fn append_month_day(text: &mut Value, day: u8)
 }
 
 #[tactic(auto, unfolding(crate::specs::Values::by_month_days))]
-fn append_month_days(text: &mut Value, first: u8)
+fn append_month_days(text: &mut LineValue, first: u8)
     requires { length text.old + 60 ≤ 128 }
     ensures text { text.new ≡ text.old ++ values.by_month_days first }
     ensures length { length text.new ≤ length text.old + 60 }
@@ -179,7 +179,7 @@ fn append_month_days(text: &mut Value, first: u8)
 }
 
 #[tactic(auto, unfolding(crate::specs::Values::by_year_days))]
-fn append_year_days(text: &mut Value, first: i16)
+fn append_year_days(text: &mut LineValue, first: i16)
     requires first { IsWithin 400 first }
     requires room { length text.old + 59 ≤ 128 }
     ensures text { text.new ≡ text.old ++ values.by_year_days first }
@@ -190,7 +190,7 @@ fn append_year_days(text: &mut Value, first: i16)
 }
 
 /// The days of a rule.
-fn append_form(text: &mut Value, form: Form)
+fn append_form(text: &mut LineValue, form: Form)
     requires form { IsValidForm form }
     requires room { length text.old + 84 ≤ 128 }
     ensures text { text.new ≡ text.old ++ values.form_text form }
@@ -226,7 +226,7 @@ fn append_form(text: &mut Value, form: Form)
 }
 
 #[tactic(auto, unfolding(crate::specs::Values::until_text))]
-fn append_until(text: &mut Value, until: Option<Moment>)
+fn append_until(text: &mut LineValue, until: Option<Moment>)
     requires until { IfSome until (λ m. IsWithinBounds m.seconds) }
     requires room { length text.old + 23 ≤ 128 }
     ensures { text.new ≡ text.old ++ values.until_text until }
@@ -237,15 +237,14 @@ fn append_until(text: &mut Value, until: Option<Moment>)
     }
 }
 
-/// A recurrence rule of each year, up to a last moment where there is one (RFC 5545, section
-/// 3.3.10).
+/// A yearly recurrence rule, up to a last moment if one is given (RFC 5545, section 3.3.10).
 #[tactic(auto, unfolding(crate::specs::Values::rule_text))]
-pub(crate) fn rule_value(rule: &Rule, until: Option<Moment>) -> Value
+pub(crate) fn rule_value(rule: &Rule, until: Option<Moment>) -> LineValue
     requires form { IsValidForm rule.now.form }
     requires until { IfSome until (λ m. IsWithinBounds m.seconds) }
     ensures { result ≡ values.rule_text rule.now until }
 {
-    let mut text = Value::new();
+    let mut text = LineValue::new();
     text.append(b"FREQ=YEARLY");
     append_form(&mut text, rule.form);
     append_until(&mut text, until);

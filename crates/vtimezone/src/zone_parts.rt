@@ -22,9 +22,9 @@ use td_civil::{Moment, new_year_day, year_of};
 use zone_meaning::{Zone, footer, lists};
 
 /// The parts of a zone for a range (RFC 5545, section 3.6.5), in rising order of their first
-/// onsets: the first has its onset at the beginning of the range, and those with rules come after
-/// all others. Changes that are alike stand in one part. They take the memory of the list and of
-/// the dates of its parts.
+/// onsets. The first has its onset at the beginning of the range. Parts with rules come after all
+/// others. Changes that differ only in their moments share one part. Memory is taken for the list
+/// and for the dates of its parts.
 pub fn parts(alloc: Global, zone: &Zone, range: Range) -> Result<Items<Part>, NoMemory>
     requires from { HasMeaning range.from.seconds }
     requires until { ranges.IsEndOf range.from.seconds (ranges.end_in range) }
@@ -54,8 +54,8 @@ fn listed(alloc: Global, zone: &Zone, range: Range) -> Result<Items<Part>, NoMem
     Ok(parts)
 }
 
-/// The first year of the rules: the one after the year, in UTC, of the last transition or of the
-/// range's beginning.
+/// The first year of the rules, in UTC. It is the one after the year of the last transition, or of
+/// the beginning of the range if that is later.
 fn rule_year(zone: &Zone, from: Moment) -> i32
     requires { HasMeaning from.seconds }
     ensures year { result ≡ zone_spec.rule_year zone.now from.seconds }
@@ -65,7 +65,7 @@ fn rule_year(zone: &Zone, from: Moment) -> i32
     year_of(last_moment(zone, from)) + 1
 }
 
-/// The last transition of a zone, or the beginning of the range where that is later.
+/// The last transition of a zone, or the beginning of the range if that is later.
 fn last_moment(zone: &Zone, from: Moment) -> Moment
     requires { HasMeaning from.seconds }
     ensures moment { result.seconds
@@ -76,7 +76,7 @@ fn last_moment(zone: &Zone, from: Moment) -> Moment
     latest(lists(zone).moments.as_slice(), from)
 }
 
-/// The last of moments, or another moment where that is later or there is none.
+/// The last of the moments, or the other moment if that is later or the list is empty.
 fn latest(moments: &[Moment], from: Moment) -> Moment
     ensures { result.seconds ≡ zone_spec.latest from.seconds moments.now }
 {
@@ -91,7 +91,8 @@ fn latest(moments: &[Moment], from: Moment) -> Moment
     }
 }
 
-/// Where the parts of the changes end: where a year begins, or at the end of the range.
+/// The end of the parts of the changes: the beginning of a year, or the end of the range if that is
+/// earlier.
 fn changes_end(year: i32, until: Option<Moment>) -> Moment
     requires { IsBetween (pos 1801) (pos 9999) year }
     ensures { result.seconds

@@ -11,7 +11,7 @@ use Rattle.td_civil.proofs.lemmas.Counting.{IsDated, date_of_counts, date_of_num
 use Rattle.recurrence.specs.declared.rule_types.Form.{Form}
 use Rattle.recurrence.specs.declared.rule_types.Form.TheVariants as form
 use Rattle.recurrence.specs.Falls.{IsNth, IsAmongDays, HasDate, Falls, IsOfYear}
-use Rattle.vtimezone_reader.specs.FallsOn.{date_of_day, is_nth, is_among_days, is_weekday, has_date, falls_on}
+use Rattle.vtimezone_reader.specs.FallsOn.{date_of_day, is_nth, is_among_days, is_weekday, has_month_day, falls_on}
 
 nth_is : (nth : ℤ) (length day : ℕ) → is_nth nth length day ≡ true → IsNth nth length day
 nth_is (pos n) length day e = grind (arith, nat_tests)
@@ -41,7 +41,7 @@ same_is a b e = grind (arith, nat_tests)
 is_same_of : (a b : ℕ) → a ≡ b → (a == b) ≡ true
 is_same_of a b e = eq-eqb a b e
 
-date_is : (f : Form) (c : Civil) (day : ℤ) → has_date f c day ≡ true → HasDate f (pos c.year) c.month c.day day
+date_is : (f : Form) (c : Civil) (day : ℤ) → has_month_day f c day ≡ true → HasDate f (pos c.year) c.month c.day day
 date_is (form.NthDay month nth weekday) c day e =
     let left = and_parts ((c.month == month) && is_weekday weekday day) (is_nth nth (days_in_month (pos c.year) c.month) c.day) e in
     let two = and_parts (c.month == month) (is_weekday weekday day) left.0 in
@@ -59,7 +59,7 @@ date_is (form.FixedDate month date) c day e =
     let two = and_parts (c.month == month) (c.day == date) e in
     (same_is _ _ two.0, same_is _ _ two.1)
 
-is_date_of : (f : Form) (c : Civil) (day : ℤ) → HasDate f (pos c.year) c.month c.day day → has_date f c day ≡ true
+is_date_of : (f : Form) (c : Civil) (day : ℤ) → HasDate f (pos c.year) c.month c.day day → has_month_day f c day ≡ true
 is_date_of (form.NthDay month nth weekday) c day h =
     and_from _ _ (and_from _ _ (is_same_of _ _ h.0) (is_same_of _ _ h.1)) (is_nth_of nth _ _ h.2)
 is_date_of (form.MonthDays month first weekday) c day h =
@@ -111,5 +111,5 @@ falls_on_of f n day low h within falls =
     let found = date_of_number day h.0 h.1 in
     let eq : c ≡ date_of_day day = one_date c (date_of_day day) dated (dated_day day h)
     (omega (arith, signed_arith, days_from_civil-day_count, is, found)) in
-    let P : Civil → Type 0 = λ k. has_date f k day ≡ true in
+    let P : Civil → Type 0 = λ k. has_month_day f k day ≡ true in
     subst P eq (is_date_of f c day (subst Has same falls.has))

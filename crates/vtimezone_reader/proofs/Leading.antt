@@ -8,7 +8,7 @@ use Rattle.std.proofs.Math.Seq.{take-append_seam, drop-append_seam}
 use Rattle.td_base.specs.FirstFault.{◌>>=◌}
 use Rattle.vtimezone_reader.specs.declared.standing.Standing.{Standing}
 use Rattle.vtimezone.specs.CalendarText.{line}
-use Rattle.vtimezone_reader.specs.ContentLines.{is_name_byte, name_length, name_of, ends_name, after_colon, value_of}
+use Rattle.vtimezone_reader.specs.ContentLines.{is_line_name_byte, name_length, name_of, ends_name, after_colon, value_of}
 use Rattle.vtimezone_reader.specs.ReadLines.{step}
 use Rattle.vtimezone_reader.specs.ReadLines.{at_line, step_if, line_read, lines_read}
 
@@ -31,18 +31,18 @@ more_read n s line lines = refl
 
 -- a name of letters, digits and hyphens
 abbrev pub is_plain_name : List ℕ → Bool
-is_plain_name name = nat_lt 0 (length name) && list_all is_name_byte name
+is_plain_name name = nat_lt 0 (length name) && list_all is_line_name_byte name
 
-length_named : (name value : List ℕ) → list_all is_name_byte name ≡ true → name_length (line name value) ≡ length name
+length_named : (name value : List ℕ) → list_all is_line_name_byte name ≡ true → name_length (line name value) ≡ length name
 length_named [] value e = refl
 length_named (b ∷ bs) value e =
-    let both = and_parts (is_name_byte b) (list_all is_name_byte bs) e in
-    cond-true (is_name_byte b) (suc (name_length (bs ++ 58 ∷ value))) 0 both.0 ∙ ap suc (length_named bs value both.1)
+    let both = and_parts (is_line_name_byte b) (list_all is_line_name_byte bs) e in
+    cond-true (is_line_name_byte b) (suc (name_length (bs ++ 58 ∷ value))) 0 both.0 ∙ ap suc (length_named bs value both.1)
 
 named_is : (name value : List ℕ) → is_plain_name name ≡ true → name_of (line name value) ≡ name
 unfolding name_of
 named_is name value e =
-    let both = and_parts (nat_lt 0 (length name)) (list_all is_name_byte name) e in
+    let both = and_parts (nat_lt 0 (length name)) (list_all is_line_name_byte name) e in
     ap (λ n. take n (line name value)) (length_named name value both.1) ∙ take-append_seam name (58 ∷ value)
 
 colon_first : (value : List ℕ) → after_colon false (58 ∷ value) ≡ Some value
@@ -52,7 +52,7 @@ colon_first value = refl
 valued : (name value : List ℕ) → is_plain_name name ≡ true → value_of (line name value) ≡ Some value
 unfolding value_of
 valued name value e =
-    let both = and_parts (nat_lt 0 (length name)) (list_all is_name_byte name) e in
+    let both = and_parts (nat_lt 0 (length name)) (list_all is_line_name_byte name) e in
     let long = length_named name value both.1 in
     let rest : drop (name_length (line name value)) (line name value) ≡ 58 ∷ value =
     ap (λ n. drop n (line name value)) long ∙ drop-append_seam name (58 ∷ value) in

@@ -25,7 +25,7 @@ use Rattle.vtimezone_reader.specs.PartLines.{begun_part, name_in, more_line, par
 use Rattle.vtimezone_reader.specs.ReadLines.{with_part, ends, in_zone, in_part, step}
 use Rattle.vtimezone_reader.specs.RuleWords.{recur_in}
 use Rattle.vtimezone_reader.specs.Sound.{IsMeant, HasStartTime}
-use Rattle.vtimezone_reader.specs.TimeTexts.{moment_if, moment_by, moments_by}
+use Rattle.vtimezone_reader.specs.TimeTexts.{moment_within, moment_by, moments_by}
 use Rattle.vtimezone.specs.Cutting.{cut_at}
 use Rattle.vtimezone.specs.ReadValues.{offset_in}
 use Rattle.vtimezone.specs.Values.{dates_text, offset_text, rule_text}
@@ -101,8 +101,8 @@ back_and_on m o = omega (arith, signed_arith)
 moment_back : (m : Moment) (o : ℤ) → IsWithin 86399 o → HasMeaning m.seconds → moment_by o (local_text_of m.seconds o) ≡ Some m
 moment_back m o within h =
     let text = local_bounds_text m.seconds o (h.0, omega (arith, signed_arith, h.1)) within in
-    ap (option_and_then (λ shown. moment_if (shown -ℤ o))) (local_back m.seconds o text)
-    ∙ ap moment_if (back_and_on m.seconds o)
+    ap (option_and_then (λ shown. moment_within (shown -ℤ o))) (local_back m.seconds o text)
+    ∙ ap moment_within (back_and_on m.seconds o)
     ∙ cond-true (has_meaning m.seconds) (Some m) None (meant_back m.seconds h)
 
 moments_back : (ms : List Moment) (o : ℤ) → IsWithin 86399 o → AllByRecursion IsMeant ms → moments_by o (local_texts ms o) ≡ Some ms

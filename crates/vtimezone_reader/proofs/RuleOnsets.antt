@@ -17,7 +17,7 @@ use Rattle.recurrence.specs.declared.rule_types.Rule.{Rule}
 use Rattle.recurrence.specs.Falls.{Falls, IsOfYear}
 use Rattle.recurrence.specs.Occurs.{moment_of}
 use Rattle.vtimezone_reader.specs.FallsOn.{falls_on}
-use Rattle.vtimezone_reader.specs.Observing.{NoneBetween, IsNext, IsOnsetIn, IsYearShown, IsOnsetAfter, IsLate, IsFromTo, kept, kept_if, kept_until}
+use Rattle.vtimezone_reader.specs.Observing.{NoneBetween, IsNextWhere, IsOnsetIn, IsYearShown, IsOnsetAfter, IsLate, IsFromTo, kept, kept_if, kept_until}
 use Rattle.vtimezone_reader.specs.Observing.{later}
 use Rattle.vtimezone_reader.specs.Onsets.{day_shown, is_rule_onset, is_onset_of, is_not_after}
 use Rattle.vtimezone_reader.specs.Sound.{IsSoundPart, HasStartTime}
@@ -202,9 +202,9 @@ none_to_end p rule t y m end h past last bound v later before =
 -- the next moment of the rule, kept where it comes before the end and not after the last one
 pub kept_next : (p : Part) (rule : Rule) (t end : ℤ) (m : Moment) → NoneBetween (is_rule_onset p rule) t m.seconds → t <ℤ m.seconds
     → (is_not_after p.until m.seconds ≡ true → is_rule_onset p rule m.seconds ≡ true)
-    → IsNext (is_rule_onset p rule) t end (kept m p.until end)
+    → IsNextWhere (is_rule_onset p rule) t end (kept m p.until end)
 kept_next p rule t end m none later passes =
-    cond_both (int_lt m.seconds end) (kept_until p.until m) None (IsNext (is_rule_onset p rule) t end)
+    cond_both (int_lt m.seconds end) (kept_until p.until m) None (IsNextWhere (is_rule_onset p rule) t end)
     (λ lt. until_next p.until passes refl (before lt))
     (λ ge. λ v low high. none v low (sooner v ge high))
   where
@@ -221,10 +221,10 @@ kept_next p rule t end m none later passes =
     by_last last e = grind (arith, ints)
 
     until_next : (until : Option Moment) → (is_not_after until m.seconds ≡ true → is_rule_onset p rule m.seconds ≡ true) → p.until ≡ until → m.seconds <ℤ end
-        → IsNext (is_rule_onset p rule) t end (kept_until until m)
+        → IsNextWhere (is_rule_onset p rule) t end (kept_until until m)
     until_next None pass is lt = record { later = later; before = lt; passes = pass refl; none = none }
     until_next (Some last) pass is lt =
-        cond_both (int_lt last.seconds m.seconds) None (Some m) (IsNext (is_rule_onset p rule) t end)
+        cond_both (int_lt last.seconds m.seconds) None (Some m) (IsNextWhere (is_rule_onset p rule) t end)
         (λ past. λ v low high. by_lt_z v m.seconds (λ sooner_v. none v low sooner_v)
         (λ ge. not_true (is_rule_onset p rule v) (λ e.
         let at = rule_at p rule v e in
@@ -252,9 +252,9 @@ passing p rule (negsuc n) m second low high start h until = absurd (omega (arith
 
 -- the next moment of the rule
 pub rule_next : (p : Part) (rule : Rule) (t end y : ℤ) (this : Moment) (after : Option Moment) → IsSearched p rule t y this.seconds
-    → IsOnsetAfter rule p.from y after → end ≤ℤ HI → IsNext (is_rule_onset p rule) t end (kept_if (later t this after) p.until end)
+    → IsOnsetAfter rule p.from y after → end ≤ℤ HI → IsNextWhere (is_rule_onset p rule) t end (kept_if (later t this after) p.until end)
 rule_next p rule t end y this after h next bound =
-    cond_both (int_lt t this.seconds) (Some this) after (λ o. IsNext (is_rule_onset p rule) t end (kept_if o p.until end))
+    cond_both (int_lt t this.seconds) (Some this) after (λ o. IsNextWhere (is_rule_onset p rule) t end (kept_if o p.until end))
     (λ lt. let sooner = below t this.seconds lt in
     kept_next p rule t end this (none_before_this p rule t y this.seconds h) sooner
     (λ until. passing p rule y this.seconds h.second h.year_low h.year_high (omega (arith, signed_arith, start, sooner)) h.this until))
@@ -275,7 +275,7 @@ rule_next p rule t end y this after h next bound =
     next_high : y <ℤ pos 9999 → (y +ℤ pos 1) ≤ℤ pos 9999
     next_high lt = omega (arith, signed_arith, lt)
 
-    by_next : (o : Option Moment) → IsOnsetAfter rule p.from y o → this.seconds ≤ℤ t → IsNext (is_rule_onset p rule) t end (kept_if o p.until end)
+    by_next : (o : Option Moment) → IsOnsetAfter rule p.from y o → this.seconds ≤ℤ t → IsNextWhere (is_rule_onset p rule) t end (kept_if o p.until end)
     by_next None last past = none_to_end p rule t y this.seconds end h past last bound
     by_next (Some m) more past =
         let sooner = next_is_later p rule t y this.seconds m.seconds h more.1 in

@@ -25,7 +25,7 @@ use Rattle.vtimezone_reader.specs.declared.rule_words.Words.{Words}
 use Rattle.td_civil.proofs.lemmas.Shown.{bounds_text}
 use Rattle.std.proofs.Common.{int_le, int_lt, ◌≤ℤ◌, ◌<ℤ◌}
 use Rattle.vtimezone_reader.specs.ContentLines.{is_word}
-use Rattle.vtimezone_reader.specs.RuleWords.{month_in, days_in, day_in, moment_meant, day_read, word_read, words_read, no_words, form_of}
+use Rattle.vtimezone_reader.specs.RuleWords.{month_in, days_in, day_in, moment_meant, day_read, word_read, words_read, no_words, form_of_words}
 use Rattle.vtimezone_reader.specs.RuleWords.{valid_only, recur_with, recur_of, recur_in}
 use Rattle.vtimezone_reader.specs.ValidForms.{is_valid_form}
 use Rattle.recurrence.specs.Weekdays.{weekday_name}
@@ -233,8 +233,8 @@ all_said f (Some last) h k =
     none (form.YearDays first weekday) = refl
     none (form.FixedDate month day) = refl
 
-form_again : (f : Form) → form_of (form_words_say f).month (form_words_say f).month_days (form_words_say f).year_days (form_words_say f).weekday ≡ Some f
-unfolding form_of
+form_again : (f : Form) → form_of_words (form_words_say f).month (form_words_say f).month_days (form_words_say f).year_days (form_words_say f).weekday ≡ Some f
+unfolding form_of_words
 form_again (form.NthDay month nth weekday) = refl
 form_again (form.MonthDays month first weekday) = refl
 form_again (form.YearDays first weekday) = refl

@@ -42,7 +42,7 @@ use Rattle.vtimezone_reader.specs.ReadLines.{in_zone, in_part, step}
 use Rattle.vtimezone_reader.specs.ReadLines.{at_line, step_if, line_read, ended_at, lines_read, of_lines, calendar_in}
 use Rattle.vtimezone_reader.specs.RuleWords.{recur_in, recur_of, recur_with, valid_only}
 use Rattle.vtimezone_reader.specs.Sound.{IsMeant, HasStartTime, IsSoundPart, IsSoundCalendar}
-use Rattle.vtimezone_reader.specs.TimeTexts.{moment_if, moment_by, moments_by}
+use Rattle.vtimezone_reader.specs.TimeTexts.{moment_within, moment_by, moments_by}
 use Rattle.vtimezone_reader.proofs.SoundSteps.{IsSoundOpen, IsSoundZone, IsSoundStanding}
 
 -- ---- results that hold
@@ -109,7 +109,7 @@ recur_valid : (text : List ℕ) → IfSome (recur_in text) (λ r. IsValidForm r.
 unfolding recur_in
 recur_valid text = and_then_holds _ recur_of (λ r. IsValidForm r.form) of_valid
 
-meant : (m : ℤ) → IfSome (moment_if m) IsMeant
+meant : (m : ℤ) → IfSome (moment_within m) IsMeant
 meant m = cond_both (has_meaning m) (Some (record { seconds = m })) None (λ o. IfSome o IsMeant) (λ e. is_meant m e) (λ _. tt)
   where
     is_meant : (m : ℤ) → has_meaning m ≡ true → HasMeaning m
@@ -119,7 +119,7 @@ meant m = cond_both (has_meaning m) (Some (record { seconds = m })) None (λ o. 
         (grind (arith, ints), grind (arith, ints))
 
 moment_meant : (offset : ℤ) (text : List ℕ) → IfSome (moment_by offset text) IsMeant
-moment_meant offset text = and_then_holds (local_in text) (λ shown. moment_if (shown -ℤ offset)) IsMeant (λ shown. meant (shown -ℤ offset))
+moment_meant offset text = and_then_holds (local_in text) (λ shown. moment_within (shown -ℤ offset)) IsMeant (λ shown. meant (shown -ℤ offset))
 
 moments_meant : (offset : ℤ) (texts : List (List ℕ)) → IfSome (moments_by offset texts) (AllByRecursion IsMeant)
 unfolding moments_by

@@ -17,7 +17,7 @@ use Rattle.td_civil.specs.declared.moment_type.Moment.{Moment}
 use Rattle.zone_meaning.proofs.lemmas.Members.{no_member}
 use Rattle.recurrence.specs.declared.part_types.Part.{Part}
 use Rattle.recurrence.specs.declared.rule_types.Rule.{Rule}
-use Rattle.vtimezone_reader.specs.declared.turns.Turn.{Turn}
+use Rattle.vtimezone_reader.specs.declared.turns.PartOnset.{PartOnset}
 use Rattle.vtimezone_reader.specs.Observing.{NoneBetween, IsNextAt}
 use Rattle.vtimezone_reader.specs.Onsets.{is_among, is_rule_onset, is_onset_of, has_onset}
 use Rattle.vtimezone_reader.specs.Turns.{turn_at, IsTurnOf, AddsTurns, falls_later, AreTurns}
@@ -32,17 +32,17 @@ by_lt_n zero (suc j) f g = f (omega arith)
 by_lt_n (suc i) zero f g = g (omega arith)
 by_lt_n (suc i) (suc j) f g = by_lt_n i j (λ lt. f (omega (arith, lt))) (λ le. g (omega (arith, le)))
 
-only_member : (x y : Turn) → Contains (y ∷ []) x → x ≡ y
+only_member : (x y : PartOnset) → Contains (y ∷ []) x → x ≡ y
 only_member x y h = at h.0 h.1 h.2
   where
     at : (k : ℕ) → k < 1 → get_or (y ∷ []) k x ≡ x → x ≡ y
     at zero lt e = sym e
     at (suc k) lt e = absurd (omega arith)
 
-here : (x : Turn) → Contains (x ∷ []) x
+here : (x : PartOnset) → Contains (x ∷ []) x
 here x = (0, omega arith, refl)
 
-pub adds_none : (test : ℤ → Bool) (place : ℕ) (t end : ℤ) (xs : List Turn) → NoneBetween test t end → AddsTurns test place t end xs xs
+pub adds_none : (test : ℤ → Bool) (place : ℕ) (t end : ℤ) (xs : List PartOnset) → NoneBetween test t end → AddsTurns test place t end xs xs
 adds_none test place t end xs none = record {
   added = [];
   is = sym (append-nil xs);
@@ -50,21 +50,21 @@ adds_none test place t end xs none = record {
   every = λ v low high e. let not = none v low high in absurd (cc);
 }
 
-pub adds_one : (test : ℤ → Bool) (place : ℕ) (t end m : ℤ) (xs : List Turn) → t <ℤ m → m <ℤ end → test m ≡ true → ((v : ℤ) → test v ≡ true → v ≡ m)
+pub adds_one : (test : ℤ → Bool) (place : ℕ) (t end m : ℤ) (xs : List PartOnset) → t <ℤ m → m <ℤ end → test m ≡ true → ((v : ℤ) → test v ≡ true → v ≡ m)
     → AddsTurns test place t end xs (xs ++ turn_at m place ∷ [])
 adds_one test place t end m xs low high passes only = record {
   added = turn_at m place ∷ [];
   is = refl;
   each = λ x there.
       let same : turn_at m place ≡ x = sym (only_member x (turn_at m place) there) in
-      let P : Turn → Type 0 = λ y. IsTurnOf test place t end y in
+      let P : PartOnset → Type 0 = λ y. IsTurnOf test place t end y in
       subst P same (record { part_is = refl; passes = passes; after = low; before = high });
   every = λ v lower higher e.
       let P : ℤ → Type 0 = λ w. Contains (turn_at m place ∷ []) (turn_at w place) in
       subst P (sym (only v e)) (here (turn_at m place));
 }
 
-pub adds_both : (f g : ℤ → Bool) (place : ℕ) (t end : ℤ) (xs ys zs : List Turn) → AddsTurns f place t end xs ys → AddsTurns g place t end ys zs
+pub adds_both : (f g : ℤ → Bool) (place : ℕ) (t end : ℤ) (xs ys zs : List PartOnset) → AddsTurns f place t end xs ys → AddsTurns g place t end ys zs
     → AddsTurns (either f g) place t end xs zs
 adds_both f g place t end xs ys zs a b = record {
   added = a.added ++ b.added;
@@ -81,7 +81,7 @@ adds_both f g place t end xs ys zs a b = record {
   ];
 }
 
-pub adds_same : (f g : ℤ → Bool) (place : ℕ) (t end : ℤ) (xs ys : List Turn) → ((v : ℤ) → g v ≡ f v) → AddsTurns f place t end xs ys
+pub adds_same : (f g : ℤ → Bool) (place : ℕ) (t end : ℤ) (xs ys : List PartOnset) → ((v : ℤ) → g v ≡ f v) → AddsTurns f place t end xs ys
     → AddsTurns g place t end xs ys
 adds_same f g place t end xs ys same a = record {
   added = a.added;
@@ -92,17 +92,17 @@ adds_same f g place t end xs ys same a = record {
 
 -- ---- one moment
 
-pub adds_early : (m t end : ℤ) (place : ℕ) (xs : List Turn) → int_lt t m ≡ false → AddsTurns (λ v. int_eq m v) place t end xs xs
+pub adds_early : (m t end : ℤ) (place : ℕ) (xs : List PartOnset) → int_lt t m ≡ false → AddsTurns (λ v. int_eq m v) place t end xs xs
 adds_early m t end place xs e =
     adds_none (λ v. int_eq m v) place t end xs (λ v low high. not_true (int_eq m v) (λ on.
     let by = not_lt t m e in let same = int_same m v on in omega (arith, signed_arith, by, same, low)))
 
-pub adds_late : (m t end : ℤ) (place : ℕ) (xs : List Turn) → int_lt m end ≡ false → AddsTurns (λ v. int_eq m v) place t end xs xs
+pub adds_late : (m t end : ℤ) (place : ℕ) (xs : List PartOnset) → int_lt m end ≡ false → AddsTurns (λ v. int_eq m v) place t end xs xs
 adds_late m t end place xs e =
     adds_none (λ v. int_eq m v) place t end xs (λ v low high. not_true (int_eq m v) (λ on.
     let by = not_lt m end e in let same = int_same m v on in omega (arith, signed_arith, by, same, high)))
 
-pub adds_moment : (m : Moment) (t end : ℤ) (place : ℕ) (xs : List Turn) → int_lt t m.seconds ≡ true → int_lt m.seconds end ≡ true
+pub adds_moment : (m : Moment) (t end : ℤ) (place : ℕ) (xs : List PartOnset) → int_lt t m.seconds ≡ true → int_lt m.seconds end ≡ true
     → AddsTurns (λ v. int_eq m.seconds v) place t end xs (xs ++ record { onset = m; part = place } ∷ [])
 adds_moment m t end place xs low high =
     adds_one (λ v. int_eq m.seconds v) place t end m.seconds xs (lt_is t m.seconds low) (lt_is m.seconds end high) (int_eq_of m.seconds m.seconds refl)
@@ -110,7 +110,7 @@ adds_moment m t end place xs low high =
 
 -- ---- dates
 
-pub adds_date : (dates : List Moment) (i : ℕ) (e : Moment) (place : ℕ) (t end : ℤ) (xs ys zs : List Turn) → i < length dates
+pub adds_date : (dates : List Moment) (i : ℕ) (e : Moment) (place : ℕ) (t end : ℤ) (xs ys zs : List PartOnset) → i < length dates
     → AddsTurns (is_among (take i dates)) place t end xs ys → AddsTurns (λ v. int_eq (get_or dates i e).seconds v) place t end ys zs
     → AddsTurns (is_among (take (i + 1) dates)) place t end xs zs
 adds_date dates i e place t end xs ys zs lt a b =
@@ -120,7 +120,7 @@ adds_date dates i e place t end xs ys zs lt a b =
 
 -- ---- onsets of a rule, one after another
 
-pub adds_next : (test : ℤ → Bool) (place : ℕ) (from at end m : ℤ) (xs ys : List Turn) → from ≤ℤ at → IsNextAt test at end m
+pub adds_next : (test : ℤ → Bool) (place : ℕ) (from at end m : ℤ) (xs ys : List PartOnset) → from ≤ℤ at → IsNextAt test at end m
     → AddsTurns test place from (at +ℤ pos 1) xs ys → AddsTurns test place from (m +ℤ pos 1) xs (ys ++ turn_at m place ∷ [])
 adds_next test place from at end m xs ys begun next a =
     let later = next.later in
@@ -134,7 +134,7 @@ adds_next test place from at end m xs ys begun next a =
             record { part_is = is.part_is; passes = is.passes; after = is.after; before = omega (arith, signed_arith, before, later) }
         | inr two ↦
             let same : turn_at m place ≡ x = sym (only_member x (turn_at m place) two) in
-            let P : Turn → Type 0 = λ y. IsTurnOf test place from (m +ℤ pos 1) y in
+            let P : PartOnset → Type 0 = λ y. IsTurnOf test place from (m +ℤ pos 1) y in
             subst P same (record {
               part_is = refl;
               passes = next.passes;
@@ -153,7 +153,7 @@ adds_next test place from at end m xs ys begun next a =
           subst P is (Contains-append_right a.added (turn_at m place ∷ []) (turn_at m place) (here (turn_at m place)))));
     }
 
-pub adds_end : (test : ℤ → Bool) (place : ℕ) (from at end : ℤ) (xs ys : List Turn) → at <ℤ end → NoneBetween test at end
+pub adds_end : (test : ℤ → Bool) (place : ℕ) (from at end : ℤ) (xs ys : List PartOnset) → at <ℤ end → NoneBetween test at end
     → AddsTurns test place from (at +ℤ pos 1) xs ys → AddsTurns test place from end xs ys
 adds_end test place from at end xs ys before none a = record {
   added = a.added;
@@ -183,7 +183,7 @@ max_below a b m v e x y = elim (max_is a b) [
 ]
 
 -- those of a rule after a moment that is not before the start are all after both
-pub adds_later : (p : Part) (rule : Rule) (place : ℕ) (t end from : ℤ) (xs ys : List Turn) → p.rule ≡ Some rule → from ≡ int_max t p.start.seconds
+pub adds_later : (p : Part) (rule : Rule) (place : ℕ) (t end from : ℤ) (xs ys : List PartOnset) → p.rule ≡ Some rule → from ≡ int_max t p.start.seconds
     → AddsTurns (is_rule_onset p rule) place from end xs ys → AddsTurns (falls_later p) place t end xs ys
 adds_later p rule place t end from xs ys has is a =
     let by = max_low t p.start.seconds from is in
@@ -240,7 +240,7 @@ onset_same p v from = by_cases (int_eq p.start.seconds v) (is_among p.dates v) (
       | inr x ↦ rw x refl
     ]
 
-pub adds_part : (p : Part) (place : ℕ) (t end : ℤ) (xs ys zs ws : List Turn) → ((v : ℤ) → is_onset_of p.rule p v ≡ true → p.start.seconds ≤ℤ v)
+pub adds_part : (p : Part) (place : ℕ) (t end : ℤ) (xs ys zs ws : List PartOnset) → ((v : ℤ) → is_onset_of p.rule p v ≡ true → p.start.seconds ≤ℤ v)
     → AddsTurns (λ v. int_eq p.start.seconds v) place t end xs ys → AddsTurns (is_among p.dates) place t end ys zs → AddsTurns (falls_later p) place t end zs ws
     → AddsTurns (has_onset p) place t end xs ws
 adds_part p place t end xs ys zs ws from a b c =
@@ -249,11 +249,11 @@ adds_part p place t end xs ys zs ws from a b c =
 
 -- ---- all parts
 
-pub are_more : (parts : List Part) (n : ℕ) (p : Part) (t end : ℤ) (xs ys : List Turn) → n < length parts → p ≡ get_or parts n p
+pub are_more : (parts : List Part) (n : ℕ) (p : Part) (t end : ℤ) (xs ys : List PartOnset) → n < length parts → p ≡ get_or parts n p
     → AreTurns parts n t end xs → AddsTurns (has_onset p) n t end xs ys → AreTurns parts (n + 1) t end ys
 are_more parts n p t end xs ys lt is a b =
     let at : (d : Part) → get_or parts n d ≡ p = λ d. get_or_default parts n d p lt ∙ sym is in
-    let whole : List Turn → Type 0 = λ l. AreTurns parts (n + 1) t end l in
+    let whole : List PartOnset → Type 0 = λ l. AreTurns parts (n + 1) t end l in
     subst whole (sym b.is) (record {
       each = λ x there. elim (Contains-append_cases xs b.added x there) [
         | inl one ↦
@@ -283,7 +283,7 @@ are_more parts n p t end xs ys lt is a b =
         let here_is : has_onset p v ≡ true = ap (λ q. has_onset q v) (sym at) ∙ ap (λ k. has_onset (get_or parts k p) v) same ∙ e p in
         subst P same (Contains-append_right xs b.added (turn_at v n) (b.every v low high here_is)))
 
-pub are_sorted : (parts : List Part) (n : ℕ) (t end : ℤ) (xs ys : List Turn) → IsPermutation xs ys → AreTurns parts n t end xs → AreTurns parts n t end ys
+pub are_sorted : (parts : List Part) (n : ℕ) (t end : ℤ) (xs ys : List PartOnset) → IsPermutation xs ys → AreTurns parts n t end xs → AreTurns parts n t end ys
 are_sorted parts n t end xs ys same a = record {
   each = λ x there. a.each x (Contains-permutation ys xs x (IsPermutation-sym xs ys same) there);
   every = λ place v lt low high e. Contains-permutation xs ys (turn_at v place) same (a.every place v lt low high e);

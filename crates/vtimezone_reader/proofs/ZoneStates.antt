@@ -33,7 +33,7 @@ use Rattle.zone_meaning.proofs.lemmas.Members.{member_first, member_later, membe
 use Rattle.recurrence.specs.declared.part_types.Part.{Part}
 use Rattle.recurrence.specs.declared.rule_types.Rule.{Rule}
 use Rattle.recurrence.specs.Falls.{IsOfYear}
-use Rattle.recurrence.specs.InForce.{NotAfter, IsRuleOnset, IsOnsetBy, IsOnset, GivesState}
+use Rattle.recurrence.specs.InForce.{NotAfter, IsRuleOnset, IsOnsetUnder, IsOnset, GivesState}
 use Rattle.recurrence.specs.Occurs.{AreRulesOf}
 use Rattle.recurrence.specs.RuleOfDate.{rule_of}
 use Rattle.recurrence.specs.Spellable.{IsSpellable}
@@ -232,7 +232,7 @@ module _ (p : Part) (within : IsWithin 86399 p.from) where
       (is_not_after_of p.until v h.not_after)
 
   has_by : (r : Option Rule) (v : ℤ) → IsPlainBy p r → IsWithinBounds v
-      → (int_eq p.start.seconds v || is_among p.dates v || is_onset_of r p v) ≡ true → IsOnsetBy r p v
+      → (int_eq p.start.seconds v || is_among p.dates v || is_onset_of r p v) ≡ true → IsOnsetUnder r p v
   has_by None v plain bounds e = elim (either_is (int_eq p.start.seconds v || is_among p.dates v) false e) [
     | inl x ↦ among_is (p.start ∷ p.dates) v x
     | inr x ↦ absurd (cc)
@@ -249,7 +249,7 @@ module _ (p : Part) (within : IsWithin 86399 p.from) where
     | inr x ↦ rule_is rule v plain.second bounds x
   ]
 
-  is_by : (r : Option Rule) (v : ℤ) → IsPlainBy p r → IsWithinBounds v → IsOnsetBy r p v
+  is_by : (r : Option Rule) (v : ℤ) → IsPlainBy p r → IsWithinBounds v → IsOnsetUnder r p v
       → (int_eq p.start.seconds v || is_among p.dates v || is_onset_of r p v) ≡ true
   is_by None v plain bounds h =
       or_left (int_eq p.start.seconds v || is_among p.dates v) false (is_among_of (p.start ∷ p.dates) v h)
@@ -299,7 +299,7 @@ only_begun [] p m one e = absurd (cc)
 only_begun (x ∷ xs) p m one e =
     only_by (any_onset xs m) x xs p m refl (λ is. only_begun xs p m (λ q there. one q (member_later x q xs there)) is) e (one x (member_first x xs))
 
-onset_low : (p : Part) (r : Option Rule) (m : ℤ) → IsSpellable p → IsOnsetBy r p m → LO ≤ℤ m
+onset_low : (p : Part) (r : Option Rule) (m : ℤ) → IsSpellable p → IsOnsetUnder r p m → LO ≤ℤ m
 onset_low p None m h on = elim (member_cases p.start (record { seconds = m }) p.dates on) [
   | inl is ↦
       let low = h.writable.start.0 in

@@ -25,17 +25,17 @@ abbrev pub is_weekday : ℕ → ℤ → Bool
 is_weekday weekday day = weekday_from_sunday day == weekday
 
 -- whether a rule's days have the date, whose day number follows it
-abbrev pub has_date : Form → Civil → ℤ → Bool
-has_date (form.NthDay month nth weekday) c day =
+abbrev pub has_month_day : Form → Civil → ℤ → Bool
+has_month_day (form.NthDay month nth weekday) c day =
     c.month == month && is_weekday weekday day
     && is_nth nth (days_in_month (pos c.year) c.month) c.day
-has_date (form.MonthDays month first weekday) c day =
+has_month_day (form.MonthDays month first weekday) c day =
     c.month == month && is_weekday weekday day && nat_le first c.day && nat_le c.day (first + 6)
-has_date (form.YearDays first weekday) c day =
+has_month_day (form.YearDays first weekday) c day =
     is_weekday weekday day
     && is_among_days first (days_in_year (pos c.year)) (day_of_year (pos c.year) c.month c.day)
-has_date (form.FixedDate month date) c day = c.month == month && c.day == date
+has_month_day (form.FixedDate month date) c day = c.month == month && c.day == date
 
 -- whether the rule falls on a day of the years 0 to 9999
 unfoldable pub falls_on : Form → ℤ → Bool
-falls_on rule day = has_date rule (date_of_day day) day
+falls_on rule day = has_month_day rule (date_of_day day) day

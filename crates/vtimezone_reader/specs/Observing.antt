@@ -33,9 +33,9 @@ pub record IsNextAt (test : ℤ → Bool) (t end m : ℤ) : Type 0 where
   pub none : NoneBetween test t m
 
 -- the next such moment, or none
-abbrev pub IsNext : (ℤ → Bool) → ℤ → ℤ → Option Moment → Type 0
-IsNext test t end None = NoneBetween test t end
-IsNext test t end (Some m) = IsNextAt test t end m.seconds
+abbrev pub IsNextWhere : (ℤ → Bool) → ℤ → ℤ → Option Moment → Type 0
+IsNextWhere test t end None = NoneBetween test t end
+IsNextWhere test t end (Some m) = IsNextAt test t end m.seconds
 
 abbrev pub any_onset : List Part → ℤ → Bool
 any_onset parts t = list_any (λ p. has_onset p t) parts
@@ -91,7 +91,7 @@ IsOnsetAfter rule offset y None = pos 9999 ≤ℤ y
 IsOnsetAfter rule offset y (Some m) = (y <ℤ pos 9999) × IsOnsetIn rule offset (y +ℤ pos 1) m.seconds
 
 -- the moment, or the end of a rule where that comes first
-pub record IsLastBy (until : Option Moment) (t last : ℤ) : Type 0 where
+pub record IsLastOnsetBy (until : Option Moment) (t last : ℤ) : Type 0 where
   pub by : last ≤ℤ t
   pub within : (v : ℤ) → v ≤ℤ last → is_not_after until v ≡ true
   pub one : (last ≡ t) ⊎ IfSome until (λ m. last ≡ m.seconds)

@@ -175,12 +175,12 @@ one_of_month month days = if days.seven then None else date_form month days.firs
 
 -- a month with a number and a weekday; a month with seven days and a weekday; seven days of the
 -- year and a weekday; a month with one day
-unfoldable pub form_of : Option ℕ → Option Days → Option Days → Option WeekDay → Option Form
-form_of (Some month) None None (Some d) = nth_form month d.weekday d.nth
-form_of (Some month) (Some days) None (Some d) = seven_of_month month days d
-form_of None None (Some days) (Some d) = seven_of_year days d
-form_of (Some month) (Some days) None None = one_of_month month days
-form_of month month_days year_days weekday = None
+unfoldable pub form_of_words : Option ℕ → Option Days → Option Days → Option WeekDay → Option Form
+form_of_words (Some month) None None (Some d) = nth_form month d.weekday d.nth
+form_of_words (Some month) (Some days) None (Some d) = seven_of_month month days d
+form_of_words None None (Some days) (Some d) = seven_of_year days d
+form_of_words (Some month) (Some days) None None = one_of_month month days
+form_of_words month month_days year_days weekday = None
 
 abbrev pub valid_only : Option Form → Option Form
 valid_only None = None
@@ -193,7 +193,7 @@ recur_with until (Some f) = Some (record { form = f; until = until })
 unfoldable pub recur_of : Words → Option Recur
 recur_of w =
     if w.yearly
-    then recur_with w.until (valid_only (form_of w.month w.month_days w.year_days w.weekday))
+    then recur_with w.until (valid_only (form_of_words w.month w.month_days w.year_days w.weekday))
     else None
 
 -- a form of each year, up to a last moment where there is one

@@ -6,12 +6,12 @@ use Rattle.td_civil.specs.declared.moment_type.Moment.{Moment}
 use Rattle.td_civil.specs.Bounds.{has_meaning}
 use Rattle.vtimezone.specs.ReadValues.{local_in}
 
-abbrev pub moment_if : ℤ → Option Moment
-moment_if m = if has_meaning m then Some (record { seconds = m }) else None
+abbrev pub moment_within : ℤ → Option Moment
+moment_within m = if has_meaning m then Some (record { seconds = m }) else None
 
 -- the moment that has a meaning, at which clocks so many seconds east of UTC show a local time
 abbrev pub moment_by : ℤ → List ℕ → Option Moment
-moment_by offset text = option_and_then (λ shown. moment_if (shown -ℤ offset)) (local_in text)
+moment_by offset text = option_and_then (λ shown. moment_within (shown -ℤ offset)) (local_in text)
 
 -- the moments of local times, if each has one
 unfoldable pub moments_by : ℤ → List (List ℕ) → Option (List Moment)

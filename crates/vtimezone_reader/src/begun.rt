@@ -10,9 +10,9 @@ use crate::onsets::late_of_rule;
 use recurrence::Part;
 use td_civil::{HI, LO, Moment};
 
-/// The second before an onset that is not after a moment, as near as it is found without a walk, or
-/// the second before all meaning where no part has begun. No onset of a date, and only few of a
-/// rule, come after it and by that moment.
+/// The second before an onset that is not after a moment. The onset is as late as can be found
+/// without a walk. If no part has begun, it is the second before 1800. After that onset, up to the
+/// moment, there are at most a few onsets of rules, and none of dates.
 pub(crate) fn before_onset(parts: &[Part], t: Moment) -> Moment
     requires sound { AllByRecursion IsSoundPart parts.now }
     requires range { IsBetween LO HI t.seconds }
@@ -33,7 +33,7 @@ fn second_before(moment: Moment) -> Moment
     }
 }
 
-/// A late onset of the parts that is not after a moment.
+/// A recent onset of the parts that is not after a moment.
 fn late_onset(parts: &[Part], t: Moment) -> Option<Moment>
     requires sound { AllByRecursion IsSoundPart parts.now }
     requires range { IsBetween LO HI t.seconds }
@@ -46,7 +46,7 @@ fn late_onset(parts: &[Part], t: Moment) -> Option<Moment>
     late
 }
 
-/// The later of two moments, where there are two.
+/// The later of two moments, if both are given; else the one that is.
 fn later_of(a: Option<Moment>, b: Option<Moment>) -> Option<Moment>
     ensures { (result ≡ a) ⊎ (result ≡ b) }
 {
@@ -59,7 +59,7 @@ fn later_of(a: Option<Moment>, b: Option<Moment>) -> Option<Moment>
     }
 }
 
-/// A late onset of a part that is not after a moment: its start, a date, or one of its rule.
+/// A recent onset of a part that is not after a moment: its start, a date, or one of its rule.
 fn late_of_part(part: &Part, t: Moment) -> Option<Moment>
     requires sound { IsSoundPart part.now }
     requires range { IsBetween LO HI t.seconds }
@@ -82,7 +82,7 @@ fn late_if_ruled(part: &Part, t: Moment) -> Option<Moment>
     }
 }
 
-/// The moment, if it is not after another.
+/// The moment, if it is not after another; else None.
 fn if_by(moment: Moment, t: Moment) -> Option<Moment>
     ensures { IfSome result (λ m. (m ≡ moment) × (m.seconds ≤ℤ t.seconds)) }
 {

@@ -18,9 +18,10 @@ use td_base::{Items, NoMemory};
 use td_civil::{HI, LO, Local, Moment, Name, Observance};
 
 /// The observances of the calendar from a moment to before another: the state at the first, and
-/// each change after it (RFC 7808, section 5.4). The first is no earlier than the first onset, and
-/// the second no later than the calendar's end, if it has one. It takes time and memory for the
-/// onsets of that range, and time for each part and its dates.
+/// each change after it (RFC 7808, section 5.4). Before the first onset the state has offset 0 and
+/// no name. The calendar's end, if it has one, is ignored, so the range should not go beyond it.
+///
+/// It takes time and memory for the onsets of that range, and time for each part and its dates.
 pub fn expand(
     alloc: Global,
     calendar: &Calendar,
@@ -42,7 +43,7 @@ pub fn expand(
     Ok(list)
 }
 
-/// The state after the part's onsets.
+/// The state of local time after the part's onsets.
 fn state_of(part: &Part) -> Local
     ensures { result ≡ state_of_part part.now }
 {

@@ -1,4 +1,4 @@
-//! The form of a rule, from what its words say.
+//! The form of a rule, from its words.
 ghost use Rattle.std.specs.Prelude.{◌≡◌, IfSome, Some, None};
 ghost use Rattle.recurrence.specs.Valid.{IsValidForm};
 ghost use Rattle.vtimezone_reader.specs.RuleWords as words;
@@ -6,7 +6,7 @@ ghost use Rattle.vtimezone_reader.specs.RuleWords as words;
 use crate::rule_words::{Days, Recur, WeekDay, Words};
 use recurrence::{Form, Rule, valid};
 
-/// The rule that words say.
+/// The rule that its words describe.
 #[tactic(auto, unfolding(crate::specs::RuleWords::recur_of))]
 pub(crate) fn recur_of(read: &Words) -> Option<Recur>
     ensures exact { result ≡ words.recur_of read.now }
@@ -22,7 +22,7 @@ pub(crate) fn recur_of(read: &Words) -> Option<Recur>
     })
 }
 
-/// The form, if it has a day in each year.
+/// The form, if it has a day in each year; else None.
 fn valid_only(form: Form) -> Option<Form>
     ensures exact { result ≡ words.valid_only (Some form) }
     ensures valid { IfSome result IsValidForm }
@@ -34,8 +34,8 @@ fn valid_only(form: Form) -> Option<Form>
     }
 }
 
-/// The form of these days, if it has a day in each year.
-#[tactic(auto, unfolding(crate::specs::RuleWords::form_of))]
+/// The form of these days, if it has a day in each year; else None.
+#[tactic(auto, unfolding(crate::specs::RuleWords::form_of_words))]
 fn form_of(
     month: Option<u8>,
     month_days: Option<Days>,
@@ -43,7 +43,7 @@ fn form_of(
     day: Option<WeekDay>,
 ) -> Option<Form>
     ensures exact { result
-        ≡ words.valid_only (words.form_of month month_days year_days day) }
+        ≡ words.valid_only (words.form_of_words month month_days year_days day) }
     ensures valid { IfSome result IsValidForm }
 {
     match month {
@@ -63,9 +63,9 @@ fn form_of(
 }
 
 /// The form of days of a month.
-#[tactic(auto, unfolding(crate::specs::RuleWords::form_of))]
+#[tactic(auto, unfolding(crate::specs::RuleWords::form_of_words))]
 fn of_month(month: u8, days: Option<Days>, day: Option<WeekDay>) -> Option<Form>
-    ensures exact { result ≡ words.valid_only (words.form_of (Some month) days None day) }
+    ensures exact { result ≡ words.valid_only (words.form_of_words (Some month) days None day) }
     ensures valid { IfSome result IsValidForm }
 {
     match days {

@@ -1,4 +1,5 @@
-//! Laws of calendars, each the contract of a function that does nothing.
+//! Laws of calendars. Each is the contract of a function with an empty body, or of one that only
+//! calls other laws.
 ghost use Rattle.std.specs.Prelude.{◌≡◌, ◌<◌, ◌≤◌, ℕ, List, Option, None, Ok, IfSome, IfOk, length};
 ghost use Rattle.std.specs.Prelude.{true, ℤ, ◌≤ℤ◌, ◌<ℤ◌};
 ghost use Rattle.std.specs.List.{AllByRecursion};
@@ -18,12 +19,12 @@ ghost use Rattle.vtimezone_reader.specs.Written.{IsWrittenPart, parts_after, wri
 use crate::MOST_BYTES;
 use td_civil::HI;
 
-/// What is read is sound.
+/// A calendar that was read is sound.
 pub fn read_is_sound()
     ensures { (text : List ℕ) → IfOk (calendar_in text) IsSoundCalendar }
 {}
 
-/// The calendar that was written is read back.
+/// A calendar that was written is read back.
 pub fn reads_back()
     ensures { (tzid : List ℕ) (alias_of : Option (List ℕ)) (parts : List Part)
         (until : Option Moment) → is_identifier tzid ≡ true
@@ -50,7 +51,7 @@ pub fn zone_is_read()
     vtimezone::zone_parts_are_spellable();
 }
 
-/// And it tells the observances of the zone in each later range.
+/// And it gives the observances of the zone in each later range.
 pub fn zone_is_told()
     ensures { (file : List ℕ) (from : Moment) (a b : ℤ) → IsSoundFile file
         → HasMeaning from.seconds → from.seconds ≤ℤ a → a <ℤ b → b ≤ℤ HI

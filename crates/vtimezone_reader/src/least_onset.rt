@@ -9,7 +9,7 @@ use crate::Calendar;
 use recurrence::Part;
 use td_civil::Moment;
 
-/// The least onset of all parts of the calendar. It takes no memory.
+/// The earliest onset of all parts of the calendar. It allocates nothing.
 pub fn first_onset(calendar: &Calendar) -> Moment
     requires { IsSoundCalendar calendar.now }
     ensures { spec.IsFirstOnset calendar.now.parts result.seconds }
@@ -28,7 +28,7 @@ fn first_of_parts(parts: &[Part]) -> Moment
     first
 }
 
-/// The least onset of a part. Those of its rule do not come before its start.
+/// The earliest onset of a part. Those of its rule are not before its start.
 fn first_of_part(part: &Part) -> Moment
     ensures { spec.IsLeast (has_onset part.now) result.seconds }
 {

@@ -1,13 +1,16 @@
-//! Calendars of time zones, read: the VTIMEZONE of a text (RFC 5545, section 3.6.5), and what it
+//! Reads calendars of time zones: the VTIMEZONE of a text (RFC 5545, section 3.6.5), and what it
 //! means.
 //!
 //! [`read`] gives the calendar of a text, or its first fault, line by line as
-//! `specs/ReadLines.antt` says. [`expand`] gives the observances of a calendar in a range, by the
-//! definition of those of a zone, for the state after the latest onset at each moment
+//! `specs/ReadLines.antt` defines. [`expand`] gives the observances of a calendar in a range. They
+//! are defined as those of a zone are, with the state after the latest onset at each moment
 //! (`specs/Onsets.antt`).
+//!
+//! Lines are unfolded by `ical_lines`, and rules are those of `recurrence`. `calendar_mirror`
+//! checks the calendars of its upstream by this crate, and `td_top` expands them.
 #![tactic(auto)]
 
-// Calendars, and why a text is none.
+// Calendars, and why a text is not one.
 mod calendar_fault;
 mod calendar_type;
 

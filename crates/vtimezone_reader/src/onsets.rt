@@ -1,4 +1,4 @@
-//! The onsets of a rule: the next one, and a late one.
+//! The onsets of a rule: the next one, and a recent one.
 ghost use Rattle.std.specs.Prelude.{◌≡◌, ◌<◌, ◌≤ℤ◌, ◌<ℤ◌, ◌+ℤ◌, ◌-ℤ◌, ◌*ℤ◌, ℤ, pos, neg_ℤ, Some};
 ghost use Rattle.std.specs.Prelude.{IfSome, true, int_lt};
 ghost use Rattle.jiff_core.specs.Calendar.{IsBetween, IsWithin};
@@ -21,7 +21,7 @@ fn onset_in(rule: &Rule, offset: i32, year: i32) -> Moment
     moment_on(day, second, offset)
 }
 
-/// The moment of a second of a day, by clocks so many seconds east of UTC.
+/// The moment of a second of a day, by clocks at this offset, in seconds east of UTC.
 fn moment_on(day: i64, second: u32, offset: i32) -> Moment
     requires day { IsBetween (neg_ℤ (pos 719_528)) (pos 2_932_896) day }
     requires second { second < 86_400 }
@@ -33,7 +33,7 @@ fn moment_on(day: i64, second: u32, offset: i32) -> Moment
     }
 }
 
-/// The year that clocks so many seconds east of UTC show, from 1800 on.
+/// The year that clocks at this offset show, from 1800 on. The offset is in seconds east of UTC.
 fn year_shown(offset: i32, t: Moment) -> i32
     requires t { IsBetween (LO -ℤ pos 1) HI t.seconds }
     requires offset { IsWithin 86_399 offset }
@@ -43,7 +43,7 @@ fn year_shown(offset: i32, t: Moment) -> i32
     date_of_day(day).year.max(1800)
 }
 
-/// The moment of the rule in the year after this one, if that is one of the years up to 9999.
+/// The moment of the rule in the following year, if that is 9999 at most.
 fn onset_after(rule: &Rule, offset: i32, year: i32) -> Option<Moment>
     requires valid { IsValid rule.now }
     requires offset { IsWithin 86_399 offset }
@@ -68,7 +68,7 @@ fn later(t: Moment, this: Moment, after: Option<Moment>) -> Option<Moment>
     }
 }
 
-/// The moment, if it comes before the end and not after the last one.
+/// The moment, if it is before the end and not after the last onset; else None.
 fn kept(moment: Option<Moment>, until: Option<Moment>, end: Moment) -> Option<Moment>
     ensures { result ≡ next.kept_if moment until end.seconds }
 {
@@ -88,14 +88,15 @@ fn kept(moment: Option<Moment>, until: Option<Moment>, end: Moment) -> Option<Mo
     }
 }
 
-/// The next moment of the rule after one that is not before the part's start.
+/// The next onset of the rule before the end, or None. The search begins after a moment that is not
+/// before the part's start.
 pub(crate) fn next_of_rule(part: &Part, rule: &Rule, t: Moment, end: Moment) -> Option<Moment>
     requires sound { IsSoundPart part.now }
     requires rule { part.now.rule ≡ Some rule.now }
     requires from { part.now.start.seconds ≤ℤ t.seconds }
     requires range { t.seconds <ℤ end.seconds }
     requires end { end.seconds ≤ℤ HI }
-    ensures { next.IsNext (onsets.is_rule_onset part.now rule.now) t.seconds end.seconds result }
+    ensures { next.IsNextWhere (onsets.is_rule_onset part.now rule.now) t.seconds end.seconds result }
 {
     let year = year_shown(part.from, t);
     let this = onset_in(rule, part.from, year);
@@ -103,8 +104,8 @@ pub(crate) fn next_of_rule(part: &Part, rule: &Rule, t: Moment, end: Moment) -> 
     kept(later(t, this, after), part.until, end)
 }
 
-/// A late onset of the rule that is not after a moment, if the part has begun: that of the year
-/// which clocks show then, or that of the year before.
+/// A recent onset of the rule that is not after a moment, if the part has begun. It is the onset in
+/// the year that clocks show then, or in the year before.
 pub(crate) fn late_of_rule(part: &Part, rule: &Rule, t: Moment) -> Option<Moment>
     requires sound { IsSoundPart part.now }
     requires rule { part.now.rule ≡ Some rule.now }
@@ -146,7 +147,8 @@ fn late_before(part: &Part, rule: &Rule, year: i32, last: Moment) -> Option<Mome
     }
 }
 
-/// The onset of the rule in a year, if it is not after a moment by which the rule has not ended.
+/// The onset of the rule in a year, if it is not after a moment. The rule must not have ended by
+/// that moment.
 fn late_in(part: &Part, rule: &Rule, year: i32, last: Moment) -> Option<Moment>
     requires sound { IsSoundPart part.now }
     requires rule { part.now.rule ≡ Some rule.now }
@@ -157,7 +159,7 @@ fn late_in(part: &Part, rule: &Rule, year: i32, last: Moment) -> Option<Moment>
     within(onset_in(rule, part.from, year), part.start, last)
 }
 
-/// The moment, if it comes from a first one on and not after a last one.
+/// The moment, if it is not before a first one and not after a last one; else None.
 fn within(moment: Moment, first: Moment, last: Moment) -> Option<Moment>
     ensures { IfSome result (λ m. next.IsFromTo moment.seconds first.seconds last.seconds m.seconds) }
 {
@@ -174,9 +176,9 @@ pub(crate) fn is_before(a: Moment, b: Moment) -> bool
     a.seconds < b.seconds
 }
 
-/// The moment, or the last onset of a rule where that comes before it.
+/// The moment, or the last onset of a rule if that is earlier.
 fn last_by(until: Option<Moment>, t: Moment) -> Moment
-    ensures { next.IsLastBy until t.seconds result.seconds }
+    ensures { next.IsLastOnsetBy until t.seconds result.seconds }
 {
     match until {
         Some(last) if last.seconds < t.seconds => last,

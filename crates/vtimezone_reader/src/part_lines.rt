@@ -19,22 +19,22 @@ use std::alloc::Global;
 use td_base::{Bytes, Items, NoMemory};
 use td_civil::{Moment, Name};
 
-/// What the lines of a part say, as far as they were read.
+/// What the lines of a part say, as far as they have been read.
 #[derive(Drop)]
 pub struct OpenPart {
     pub dst: bool,
-    /// The first local time, as it is written.
+    /// The text of the first local time.
     pub start: Option<Bytes>,
     pub from: Option<i32>,
     pub to: Option<i32>,
     pub name: Option<Name>,
     pub recur: Option<Recur>,
-    /// The further local times, as they are written.
+    /// The texts of the further local times.
     pub dates: Items<Bytes>,
 }
 
 impl OpenPart {
-    /// A part of which no line is read.
+    /// A part of which no line has been read.
     pub(crate) fn begin(alloc: Global, dst: bool) -> OpenPart
         ensures exact { result ≡ lines.begun_part dst }
     {
@@ -50,7 +50,8 @@ impl OpenPart {
     }
 }
 
-/// What a value gives, where there was none before.
+/// The value, if none was read before. A repeated value is a `Count` fault, and a malformed one the
+/// given fault.
 pub(crate) fn set_once<T: Drop>(
     before: &Option<T>,
     bad: LineFault,
@@ -98,7 +99,7 @@ pub(crate) fn part_line(
     more_line(alloc, part, name, value)
 }
 
-/// One more line of a part that tells neither of its start nor of offsets.
+/// Reads one more line of a part, which is neither its start nor an offset.
 #[tactic(auto, unfolding(crate::specs::PartLines::more_line))]
 fn more_line(
     alloc: Global,
@@ -127,7 +128,7 @@ fn more_line(
     Ok(part)
 }
 
-/// The first name counts.
+/// Keeps the first name.
 fn name_with(name: Option<Name>, value: &[u8]) -> Option<Name>
     ensures { result ≡ lines.name_with name value.now }
 {
@@ -150,7 +151,7 @@ fn add_dates(alloc: Global, dates: &mut Items<Bytes>, value: &[u8]) -> Result<()
     Ok(())
 }
 
-/// The name that a value is: at most 32 visible bytes of ASCII.
+/// The name that a value encodes: at most 32 visible bytes of ASCII.
 fn name_in(value: &[u8]) -> Option<Name>
     ensures { result ≡ lines.name_in value.now }
 {
@@ -173,7 +174,7 @@ fn are_visible(text: &[u8]) -> bool
     true
 }
 
-/// The part of all its lines.
+/// The part, once all its lines have been read.
 #[tactic(auto, unfolding(crate::specs::PartLines::part_of))]
 pub(crate) fn part_of(alloc: Global, part: OpenPart) -> Result<Part, LineFault>
     ensures found { IfOk result (λ p. lines.part_of part ≡ Ok p) }
@@ -215,7 +216,7 @@ fn made(part: &OpenPart, from: i32, to: i32, start: Moment, dates: Moments) -> P
     }
 }
 
-/// The moments of local times, if each has one.
+/// The moments of local times at an offset, if each has one; else None.
 #[tactic(auto, unfolding(crate::specs::TimeTexts::moments_by))]
 fn moments_by(alloc: Global, offset: i32, texts: &[Bytes]) -> Result<Option<Moments>, NoMemory>
     ensures { IfOk result (λ moments. moments ≡ times.moments_by offset texts.now) }
@@ -239,7 +240,7 @@ fn name_or_none(name: &Option<Name>) -> Name
     }
 }
 
-/// The second of the day that clocks show which are so many seconds east of UTC.
+/// The second of the day that clocks show at a moment. The offset is in seconds east of UTC.
 fn second_shown(moment: Moment, offset: i32) -> u32
     requires { HasMeaning moment.seconds }
     ensures { result
@@ -248,7 +249,7 @@ fn second_shown(moment: Moment, offset: i32) -> u32
     (moment.seconds + i64::from(offset)).rem_euclid(86_400) as u32
 }
 
-/// A rule at the time of day that clocks show.
+/// The rule at the time of day that clocks show at the part's start.
 fn rule_at(start: Moment, offset: i32, recur: Option<Recur>) -> Option<Rule>
     requires { HasMeaning start.seconds }
     ensures { result ≡ option_map (lines.rule_at (start.seconds +ℤ offset)) recur }

@@ -4,7 +4,7 @@ ghost use Rattle.std.specs.Option.{option_copied};
 ghost use Rattle.vtimezone.specs.Cutting.{cut_at};
 ghost use Rattle.vtimezone_reader.specs.Pieces as texts;
 
-/// The text before the first separator, and what follows it, if there is one.
+/// The text before the first separator, and the text after it, if there is a separator.
 pub(crate) fn cut(text: &[u8], separator: u8) -> (&[u8], Option<&[u8]>)
     ensures before { result.0.now ≡ texts.before separator text.now }
     ensures after { option_copied result.1 ≡ texts.after separator text.now }

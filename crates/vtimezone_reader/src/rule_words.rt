@@ -1,4 +1,4 @@
-//! Rules of each year, read (RFC 5545, section 3.3.10).
+//! Reads yearly rules (RFC 5545, section 3.3.10).
 ghost use Rattle.std.specs.Prelude.{◌≡◌, ◌<◌, ◌≤◌, ◌∷◌, [], List, ℕ, ℤ, pos, length, IfSome, None};
 ghost use Rattle.std.specs.Prelude.{Some, if◌then◌else◌};
 ghost use Rattle.std.specs.Option.{option_copied, option_map};
@@ -16,14 +16,14 @@ use crate::time_texts::utc_in;
 use recurrence::Form;
 use td_civil::{HI, LO, Moment};
 
-/// One day, or seven days in a row.
+/// One day, or seven consecutive days.
 #[derive(Clone, Copy)]
 pub struct Days {
     pub first: i16,
     pub seven: bool,
 }
 
-/// A weekday, each or the nth.
+/// A weekday: each one, or the nth.
 #[derive(Clone, Copy)]
 pub struct WeekDay {
     pub nth: Option<i8>,
@@ -31,7 +31,7 @@ pub struct WeekDay {
     pub weekday: u8,
 }
 
-/// What the words of a rule say, as far as they were read.
+/// What the words of a rule say, as far as they have been read.
 #[derive(Clone, Copy)]
 pub struct Words {
     pub yearly: bool,
@@ -44,14 +44,14 @@ pub struct Words {
     pub weekday: Option<WeekDay>,
 }
 
-/// A day of each year, up to a last moment where there is one.
+/// A day of each year, up to a last moment if one is given.
 #[derive(Clone, Copy)]
 pub struct Recur {
     pub form: Form,
     pub until: Option<Moment>,
 }
 
-/// The rule that a text is.
+/// The rule that a text encodes.
 #[tactic(auto, unfolding(crate::specs::RuleWords::recur_in))]
 pub(crate) fn recur_in(text: &[u8]) -> Option<Recur>
     ensures exact { result ≡ words.recur_in text.now }
@@ -60,7 +60,7 @@ pub(crate) fn recur_in(text: &[u8]) -> Option<Recur>
     recur_of(&words_in(text)?)
 }
 
-/// What all words of a text say.
+/// What the words of a text say together.
 #[tactic(auto, unfolding(crate::specs::RuleWords::words_read))]
 fn words_in(text: &[u8]) -> Option<Words>
     ensures { result ≡ words.words_read words.no_words (cut_at 59 text.now) }
@@ -84,7 +84,7 @@ fn words_in(text: &[u8]) -> Option<Words>
     Some(read)
 }
 
-/// One more word: a name, `=` and a value.
+/// Reads one more word: a name, `=` and a value.
 fn one_word(read: Words, word: &[u8]) -> Option<Words>
     ensures { result ≡ words.word_if read (before 61 word.now) (after 61 word.now) }
 {
@@ -92,7 +92,7 @@ fn one_word(read: Words, word: &[u8]) -> Option<Words>
     word_read(read, name, value?)
 }
 
-/// What a word says, beside what was read before.
+/// What a word says, together with what was read before.
 #[tactic(auto, unfolding(crate::specs::RuleWords::word_read))]
 fn word_read(read: Words, name: &[u8], value: &[u8]) -> Option<Words>
     ensures { result ≡ words.word_read read name.now value.now }
@@ -117,7 +117,7 @@ fn word_read(read: Words, name: &[u8], value: &[u8]) -> Option<Words>
     }
 }
 
-/// The moment, if it has a meaning.
+/// The moment, if it is a supported one; else None.
 fn moment_meant(moment: Option<Moment>) -> Option<Moment>
     ensures { result ≡ words.moment_meant moment }
 {

@@ -1,4 +1,4 @@
-//! Where a reader of lines stands, and the order of the lines (RFC 5545, sections 3.4 and 3.6).
+//! The state of a reader of lines, and the order of the lines (RFC 5545, sections 3.4 and 3.6).
 ghost use Rattle.std.specs.Prelude.{◌≡◌, ◌≢◌, Ok, Err, IfOk, IfErr};
 ghost use Rattle.vtimezone.specs.CalendarText.{kind_of};
 ghost use Rattle.vtimezone_reader.specs.ReadLines as read;
@@ -10,7 +10,7 @@ use crate::part_lines::{OpenPart, part_line, part_of};
 use crate::zone_lines::{OpenZone, zone_line};
 use std::alloc::Global;
 
-/// What is open before a line, with what was read of it.
+/// Which components are open before a line, with what was read of them.
 #[derive(Drop)]
 pub enum Standing {
     Outside,
@@ -45,7 +45,7 @@ fn kind_of(dst: bool) -> &'static [u8]
     if dst { b"DAYLIGHT" } else { b"STANDARD" }
 }
 
-/// Where a reader stays at any line that is no mark.
+/// Keeps the state at any line that is neither BEGIN nor END.
 fn stay(standing: Standing, name: &[u8]) -> Result<Standing, LineFault>
     ensures { result ≡ read.stays standing name.now }
 {
@@ -56,7 +56,7 @@ fn stay(standing: Standing, name: &[u8]) -> Result<Standing, LineFault>
     }
 }
 
-/// Where the reader stands after a line.
+/// The reader's state after a line.
 #[tactic(auto, unfolding(crate::specs::ReadLines::step))]
 pub(crate) fn step(
     alloc: Global,

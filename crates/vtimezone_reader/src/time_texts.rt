@@ -1,4 +1,4 @@
-//! Local times, moments and offsets, read (RFC 5545, sections 3.3.5 and 3.3.14).
+//! Reads local times, moments and offsets (RFC 5545, sections 3.3.5 and 3.3.14).
 ghost use Rattle.std.specs.Prelude.{◌≡◌, ◌<◌, ◌+◌, ◌-◌, length, Some, None, IfSome};
 ghost use Rattle.std.specs.Prelude.{if◌then◌else◌};
 ghost use Rattle.std.specs.Str.{all_ascii_digits};
@@ -11,7 +11,7 @@ ghost use Rattle.vtimezone_reader.specs.TimeTexts as times;
 
 use td_civil::{HI, LO, Moment, moment_of};
 
-/// The seconds from 1970 to the moment at which UTC shows a local time `YYYYMMDDTHHMMSS`.
+/// The moment at which UTC shows a local time `YYYYMMDDTHHMMSS`, in seconds since 1970.
 fn local_in(text: &[u8]) -> Option<i64>
     ensures value { result ≡ values.local_in text.now }
     ensures bound { IfSome result (IsWithin 400_000_000_000) }
@@ -29,7 +29,7 @@ fn is_date_time(text: &[u8]) -> bool
     text.len() == 15 && are_digits(&text[..8]) && text[8] == b'T' && are_digits(&text[9..])
 }
 
-/// The moment of a text `YYYY-MM-DDTHH:MM:SSZ`.
+/// The moment of a text `YYYY-MM-DDTHH:MM:SSZ`, in seconds since 1970.
 fn moment_in(text: &[u8]) -> Option<i64>
     ensures value { result ≡ reading.moment_in text.now }
     ensures bound { IfSome result (IsWithin 400_000_000_000) }
@@ -40,7 +40,7 @@ fn moment_in(text: &[u8]) -> Option<i64>
     }
 }
 
-/// The same time with the separators of a moment's text.
+/// The same time, with the separators of a moment's text.
 fn separated(text: &[u8]) -> [u8; 20]
     requires { length text.now ≡ 15 }
     ensures { result ≡ separated text.now }
@@ -51,8 +51,8 @@ fn separated(text: &[u8]) -> [u8; 20]
     ]
 }
 
-/// The moment at which clocks show a local time that are so many seconds east of UTC, if it has a
-/// meaning.
+/// The moment at which clocks show a local time, if it is a supported one. The offset of the clocks
+/// is in seconds east of UTC.
 pub(crate) fn moment_by(offset: i32, text: &[u8]) -> Option<Moment>
     ensures value { result ≡ times.moment_by offset text.now }
     ensures bound { IfSome result (λ m. HasMeaning m.seconds) }
@@ -66,7 +66,7 @@ pub(crate) fn moment_by(offset: i32, text: &[u8]) -> Option<Moment>
     }
 }
 
-/// The moment that UTC shows, with a `Z` at its end.
+/// The moment of a UTC time, which ends with `Z`.
 #[tactic(auto, unfolding(vtimezone::specs::ReadValues::utc_in))]
 pub(crate) fn utc_in(text: &[u8]) -> Option<Moment>
     ensures { result ≡ values.utc_in text.now }
@@ -89,7 +89,7 @@ pub(crate) fn are_digits(text: &[u8]) -> bool
     true
 }
 
-/// The number that the two digits from there on write.
+/// The number written by the two digits at an index.
 fn two_at(text: &[u8], at: usize) -> u32
     requires { at + 1 < length text.now }
     ensures value { result ≡ reading.two_at text.now at }
@@ -105,7 +105,7 @@ fn digit_value(byte: u8) -> u32
     u32::from(byte.saturating_sub(b'0'))
 }
 
-/// How many seconds `HHMM` or `HHMMSS` are.
+/// The number of seconds that `HHMM` or `HHMMSS` stand for.
 fn size_in(digits: &[u8]) -> Option<u32>
     ensures value { result
         ≡ (if values.is_hours digits.now then Some (values.size_in digits.now) else None) }
@@ -132,7 +132,7 @@ fn seconds_in(digits: &[u8]) -> u32
     }
 }
 
-/// An offset in seconds east of UTC: a sign, hours, minutes and seconds or none, below a day.
+/// An offset in seconds east of UTC, below a day: a sign, hours, minutes and optional seconds.
 #[tactic(auto, unfolding(vtimezone::specs::ReadValues::offset_in))]
 pub(crate) fn offset_in(text: &[u8]) -> Option<i32>
     ensures value { result ≡ values.offset_in text.now }

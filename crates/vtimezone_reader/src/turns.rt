@@ -16,21 +16,21 @@ use std::alloc::Global;
 use td_base::NoMemory;
 use td_civil::{HI, LO, Moment};
 
-/// An onset, and the place of the part that has it.
+/// An onset, and the index of its part.
 #[derive(Clone, Copy)]
-pub struct Turn {
+pub struct PartOnset {
     pub onset: Moment,
     pub part: usize,
 }
 
 /// The onsets of all parts after a moment and before another, in rising order. It takes time for
-/// them, and for each part and its dates.
+/// these onsets, and for each part and its dates.
 pub(crate) fn turns_between(
     alloc: Global,
     parts: &[Part],
     t: Moment,
     end: Moment,
-) -> Result<Vec<Turn>, NoMemory>
+) -> Result<Vec<PartOnset>, NoMemory>
     requires sound { AllByRecursion IsSoundPart parts.now }
     requires low { (LO -ℤ pos 1) ≤ℤ t.seconds }
     requires end { end.seconds ≤ℤ HI }
@@ -44,7 +44,12 @@ pub(crate) fn turns_between(
 }
 
 /// The onsets of all parts, part by part.
-fn all_turns(alloc: Global, parts: &[Part], t: Moment, end: Moment) -> Result<Vec<Turn>, NoMemory>
+fn all_turns(
+    alloc: Global,
+    parts: &[Part],
+    t: Moment,
+    end: Moment,
+) -> Result<Vec<PartOnset>, NoMemory>
     requires sound { AllByRecursion IsSoundPart parts.now }
     requires low { (LO -ℤ pos 1) ≤ℤ t.seconds }
     requires end { end.seconds ≤ℤ HI }
@@ -60,7 +65,7 @@ fn all_turns(alloc: Global, parts: &[Part], t: Moment, end: Moment) -> Result<Ve
 
 /// Adds the onsets of a part: its start, its dates, and those of its rule.
 fn add_part(
-    turns: &mut Vec<Turn>,
+    turns: &mut Vec<PartOnset>,
     place: usize,
     part: &Part,
     t: Moment,
@@ -78,9 +83,9 @@ fn add_part(
     Ok(())
 }
 
-/// Adds a moment, if it comes after `t` and before the end.
+/// Adds a moment, if it is after `t` and before the end.
 fn add_one(
-    turns: &mut Vec<Turn>,
+    turns: &mut Vec<PartOnset>,
     place: usize,
     moment: Moment,
     t: Moment,
@@ -95,7 +100,7 @@ fn add_one(
     if !is_before(moment, end) {
         return Ok(());
     }
-    turns.push(Turn {
+    turns.push(PartOnset {
         onset: moment,
         part: place,
     })?;
@@ -103,7 +108,7 @@ fn add_one(
 }
 
 fn add_dates(
-    turns: &mut Vec<Turn>,
+    turns: &mut Vec<PartOnset>,
     place: usize,
     dates: &[Moment],
     t: Moment,
@@ -120,7 +125,7 @@ fn add_dates(
 
 /// Adds the onsets of the part's rule after its start, if it has one.
 fn add_rule(
-    turns: &mut Vec<Turn>,
+    turns: &mut Vec<PartOnset>,
     place: usize,
     part: &Part,
     t: Moment,
@@ -140,7 +145,7 @@ fn add_rule(
 
 /// Adds the onsets of a rule after the part's start.
 fn add_later(
-    turns: &mut Vec<Turn>,
+    turns: &mut Vec<PartOnset>,
     place: usize,
     part: &Part,
     rule: &Rule,
@@ -171,7 +176,7 @@ pub(crate) fn later(a: Moment, b: Moment) -> Moment
 
 /// Adds the onsets of a rule after a moment that is not before the part's start.
 fn add_falls(
-    turns: &mut Vec<Turn>,
+    turns: &mut Vec<PartOnset>,
     place: usize,
     part: &Part,
     rule: &Rule,
@@ -188,7 +193,7 @@ fn add_falls(
 {
     let mut at = from;
     'onsets: while let Some(next) = next_of_rule(part, rule, at, end) {
-        turns.push(Turn {
+        turns.push(PartOnset {
             onset: next,
             part: place,
         })?;
@@ -197,11 +202,11 @@ fn add_falls(
     Ok(())
 }
 
-/// The later part that has an onset at the moment of the turn at a place of the list, and the place
-/// after all turns at that moment.
-pub(crate) fn together(turns: &[Turn], from: usize) -> (usize, usize)
+/// Groups the turns at one moment, of which the first has the given index. Returns the later part
+/// that has an onset then, and the index after the last of these turns.
+pub(crate) fn together(turns: &[PartOnset], from: usize) -> (usize, usize)
     requires { from < length turns.now }
-    ensures turns { (d : Turn) → spec.AreTogether turns.now from result.1
+    ensures turns { (d : PartOnset) → spec.AreTogether turns.now from result.1
         (slice_index_or turns.now from d).onset.seconds result.0 }
     ensures after { from < result.1 }
 {
@@ -219,14 +224,14 @@ pub(crate) fn together(turns: &[Turn], from: usize) -> (usize, usize)
     (part, to)
 }
 
-pub(crate) fn nth(turns: &[Turn], place: usize) -> Turn
+pub(crate) fn nth(turns: &[PartOnset], place: usize) -> PartOnset
     requires { place < length turns.now }
     ensures { result ≡ slice_index_or turns.now place result }
 {
     turns[place]
 }
 
-fn is_at(turn: Turn, first: Turn) -> bool
+fn is_at(turn: PartOnset, first: PartOnset) -> bool
     ensures { result ≡ int_eq turn.onset.seconds first.onset.seconds }
 {
     turn.onset.seconds == first.onset.seconds

@@ -7,8 +7,9 @@ use Rattle.std.specs.Str.{bytes_eq}
 use Rattle.std.proofs.lemmas.Bool.{cond_both, eqb-false}
 use Rattle.std.proofs.lemmas.List.{append-nil, map-append, take_at, drop_at, length-append}
 use Rattle.std.proofs.lemmas.List.Folds.{list_all-append}
-use Rattle.ical_lines.specs.Lines.{most_octets, folded, content_line, written}
-use Rattle.ical_lines.specs.Unfolding.{is_feed, cut_lines, is_whole, content, first_bad, is_blank, begins_blank, joined_on, joined, read_as, unfolded, is_plain}
+use Rattle.ical_lines.specs.Lines.{most_octets, folded, content_line, lines_written}
+use Rattle.ical_lines.specs.Unfolding.{is_feed, cut_lines, is_whole, content, first_bad, is_fold_blank, begins_blank, joined_on, joined, read_as, unfolded}
+use Rattle.ical_lines.specs.Unfolding.{is_plain}
 use Rattle.ical_lines.specs.LineLengths.{joined_with}
 
 both : (s t : Bool) → (s && t) ≡ true → (s ≡ true) × (t ≡ true)
@@ -116,7 +117,7 @@ unfolding joined_on
 begins_by t None line rest e = refl
 begins_by t (Some begun) line rest e = rw e refl
 
-stands_by : (t : Bool) (room c : ℕ) (f : List ℕ) (b : ℕ) (bs : List ℕ) (rest : List (List ℕ)) (begun : Option (List ℕ)) → is_blank c ≡ false
+stands_by : (t : Bool) (room c : ℕ) (f : List ℕ) (b : ℕ) (bs : List ℕ) (rest : List (List ℕ)) (begun : Option (List ℕ)) → is_fold_blank c ≡ false
     → ((r : ℕ) (g : List ℕ) → joined_with begun (lines_of r (c ∷ g) bs ++ rest) ≡ before begun ++ joined_on ((c ∷ g) ++ bs) rest)
     → joined_with begun (cond t ((c ∷ f) ∷ lines_of (most_octets - 2) (32 ∷ b ∷ []) bs) (lines_of (room - 1) ((c ∷ f) ++ b ∷ []) bs) ++ rest)
     ≡ before begun ++ joined_on ((c ∷ f) ++ b ∷ bs) rest
@@ -126,7 +127,7 @@ stands_by true room c f b bs rest begun e next =
 stands_by false room c f b bs rest begun e next =
     next (room - 1) (f ++ b ∷ []) ∙ ap (λ l. before begun ++ joined_on (c ∷ l) rest) (append_assoc f (b ∷ []) bs)
 
-stands : (c : ℕ) (bs : List ℕ) (rest : List (List ℕ)) (begun : Option (List ℕ)) → is_blank c ≡ false → (room : ℕ) (f : List ℕ)
+stands : (c : ℕ) (bs : List ℕ) (rest : List (List ℕ)) (begun : Option (List ℕ)) → is_fold_blank c ≡ false → (room : ℕ) (f : List ℕ)
     → joined_with begun (lines_of room (c ∷ f) bs ++ rest) ≡ before begun ++ joined_on ((c ∷ f) ++ bs) rest
 unfolding lines_of
 stands c [] rest begun e room f =
@@ -153,18 +154,18 @@ joined_all (line ∷ lines) begun h =
     one_line line (all_lines lines) begun (not_true (begins_blank line) q.1)
     ∙ ap (λ ls. before begun ++ ls) (joined_all lines (Some line) p.1)
 
-cut_all : (lines : List (List ℕ)) → list_all is_plain lines ≡ true → cut_lines (written lines) ≡ map ended (all_lines lines)
+cut_all : (lines : List (List ℕ)) → list_all is_plain lines ≡ true → cut_lines (lines_written lines) ≡ map ended (all_lines lines)
 unfolding all_lines cut_lines content_line
 cut_all [] h = refl
 cut_all (line ∷ lines) h =
     let p = both (is_plain line) (list_all is_plain lines) h in
     let q = both (list_all (λ b. not (is_feed b)) line) (not (begins_blank line)) p.0 in
-    ap cut_lines (append_assoc (folded most_octets line) (13 ∷ 10 ∷ []) (written lines))
-    ∙ cuts line (written lines) q.0 most_octets [] refl
+    ap cut_lines (append_assoc (folded most_octets line) (13 ∷ 10 ∷ []) (lines_written lines))
+    ∙ cuts line (lines_written lines) q.0 most_octets [] refl
     ∙ ap (λ ls. map ended (lines_of most_octets [] line) ++ ls) (cut_all lines p.1)
     ∙ sym (map-append ended (lines_of most_octets [] line) (all_lines lines))
 
-pub reads_back : (lines : List (List ℕ)) → list_all is_plain lines ≡ true → unfolded (written lines) ≡ Ok lines
+pub reads_back : (lines : List (List ℕ)) → list_all is_plain lines ≡ true → unfolded (lines_written lines) ≡ Ok lines
 unfolding unfolded
 reads_back lines h =
     let cut = cut_all lines h in
@@ -200,5 +201,5 @@ all_fit (line ∷ lines) =
     subst Fit (sym (map-append ended (lines_of most_octets [] line) (all_lines lines)))
     (fit-append (map ended (lines_of most_octets [] line)) (map ended (all_lines lines)) (line_fits line most_octets [] (omega arith)) (all_fit lines))
 
-pub lines_fit : (lines : List (List ℕ)) → list_all is_plain lines ≡ true → Fit (cut_lines (written lines))
+pub lines_fit : (lines : List (List ℕ)) → list_all is_plain lines ≡ true → Fit (cut_lines (lines_written lines))
 lines_fit lines h = subst Fit (sym (cut_all lines h)) (all_fit lines)

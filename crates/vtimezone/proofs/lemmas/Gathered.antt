@@ -10,7 +10,7 @@ use Rattle.td_civil.specs.declared.local_time.Observance.{Observance}
 use Rattle.zone_meaning.proofs.lemmas.Members.{member_first, member_later, member_cases, no_member}
 use Rattle.recurrence.specs.declared.part_types.Part.{Part}
 use Rattle.vtimezone.specs.Grouping.{is_alike, first_ones, part_among, grouped}
-use Rattle.vtimezone.specs.Gathering.{is_of, part_alone, with_date, joined}
+use Rattle.vtimezone.specs.Gathering.{is_of, part_alone, with_date, parts_joined}
 use Rattle.vtimezone.proofs.Alike.{alike_is, alike_of, alike_on, is_itself, unlike_back, unlike_on, no_other, kept_member, first_there}
 use Rattle.vtimezone.proofs.Alike.{first_leads, first_of}
 
@@ -112,14 +112,14 @@ AreApart (f ∷ fs) = ((g : Observance) → Contains fs g → is_alike f g ≡ f
 
 none_joined : (os fs : List Observance) (o : Observance) → ((x : Observance) → Contains os x → is_alike x o ≡ false)
     → ((f : Observance) → Contains fs f → is_alike f o ≡ false)
-    → map (part_among (os ++ o ∷ [])) (fs ++ o ∷ []) ≡ joined (map (part_among os) fs) o
-unfolding joined
+    → map (part_among (os ++ o ∷ [])) (fs ++ o ∷ []) ≡ parts_joined (map (part_among os) fs) o
+unfolding parts_joined
 none_joined os [] o none each = ap (λ p. p ∷ []) (alone_part os o none)
 none_joined os (f ∷ fs) o none each =
     let unlike = each f (member_first f fs) in
     ap₂ (λ p ps. p ∷ ps) (same_part os f o unlike) (none_joined os fs o none (λ g there. each g (member_later f g fs there)))
     ∙ sym (cond-false (is_of (part_among os f) o) (with_date (part_among os f) o.onset ∷ map (part_among os) fs)
-    (part_among os f ∷ joined (map (part_among os) fs) o) (test_of os f o false unlike))
+    (part_among os f ∷ parts_joined (map (part_among os) fs) o) (test_of os f o false unlike))
 
 all_stay : (os fs : List Observance) (o : Observance) → ((f : Observance) → Contains fs f → is_alike f o ≡ false)
     → map (part_among (os ++ o ∷ [])) fs ≡ map (part_among os) fs
@@ -129,18 +129,18 @@ all_stay os (f ∷ fs) o each =
 
 one_joined : (os fs : List Observance) (o x : Observance) → AreApart fs → ((f : Observance) → Contains fs f → Contains (first_ones os) f)
     → Contains fs x → is_alike x o ≡ true
-    → map (part_among (os ++ o ∷ [])) fs ≡ joined (map (part_among os) fs) o
-unfolding joined
+    → map (part_among (os ++ o ∷ [])) fs ≡ parts_joined (map (part_among os) fs) o
+unfolding parts_joined
 one_joined os [] o x apart first there same = absurd (no_member x there)
 one_joined os (f ∷ fs) o x apart first there same =
     let p = part_among os f in
     let ps = map (part_among os) fs in
-    let Says : Type 0 = map (part_among (os ++ o ∷ [])) (f ∷ fs) ≡ joined (p ∷ ps) o in
+    let Says : Type 0 = map (part_among (os ++ o ∷ [])) (f ∷ fs) ≡ parts_joined (p ∷ ps) o in
     elim (is_alike f o) as (λ b. is_alike f o ≡ b → Says) [
       | true ↦ λ alike.
           ap₂ (λ q qs. q ∷ qs) (more_part os f o (first f (member_first f fs)) alike)
           (all_stay os fs o (λ g later. unlike_on f g o (alike_is f o alike) (apart.0 g later)))
-          ∙ sym (cond-true (is_of p o) (with_date p o.onset ∷ ps) (p ∷ joined ps o) (test_of os f o true alike))
+          ∙ sym (cond-true (is_of p o) (with_date p o.onset ∷ ps) (p ∷ parts_joined ps o) (test_of os f o true alike))
       | false ↦ λ unlike.
           let later : Contains fs x = elim (member_cases f x fs there) [
             | inl is ↦
@@ -150,7 +150,7 @@ one_joined os (f ∷ fs) o x apart first there same =
           ] in
           ap₂ (λ q qs. q ∷ qs) (same_part os f o unlike)
           (one_joined os fs o x apart.1 (λ g inside. first g (member_later f g fs inside)) later same)
-          ∙ sym (cond-false (is_of p o) (with_date p o.onset ∷ ps) (p ∷ joined ps o) (test_of os f o false unlike))
+          ∙ sym (cond-false (is_of p o) (with_date p o.onset ∷ ps) (p ∷ parts_joined ps o) (test_of os f o false unlike))
     ] refl
 
 -- ---- first ones are apart
@@ -171,7 +171,7 @@ first_apart (o ∷ os) =
     ((λ g there. no_other (is_alike o g) ((kept_member keeps (first_ones os) g there).1)), apart_kept keeps (first_ones os) (first_apart os))
 
 -- the parts of a list with one more change
-pub grouped_push : (os : List Observance) (o : Observance) → grouped (os ++ o ∷ []) ≡ joined (grouped os) o
+pub grouped_push : (os : List Observance) (o : Observance) → grouped (os ++ o ∷ []) ≡ parts_joined (grouped os) o
 unfolding grouped
 grouped_push os o =
     let firsts = first_ones os in
@@ -179,7 +179,7 @@ grouped_push os o =
     let any = list_any (λ p. is_alike p o) os in
     ap parts (first_ones-push os o)
     ∙ elim any as (λ b. list_any (λ p. is_alike p o) os ≡ b
-    → parts (if b then firsts else firsts ++ o ∷ []) ≡ joined (map (part_among os) firsts) o) [
+    → parts (if b then firsts else firsts ++ o ∷ []) ≡ parts_joined (map (part_among os) firsts) o) [
       | true ↦ λ some.
           let found = some_alike os o some in
           let first = first_of os found.0 found.1.0 in
@@ -201,11 +201,11 @@ unfolding grouped first_ones
 gathered_none all = record { seen = []; whole = refl; parts_are = refl }
 
 pub gathered_more : (all : List Observance) (parts more : List Part) (o : Observance) (rest : List Observance) → AreGathered all parts (o ∷ rest)
-    → more ≡ joined parts o → AreGathered all more rest
+    → more ≡ parts_joined parts o → AreGathered all more rest
 gathered_more all parts more o rest h is = record {
   seen = h.seen ++ o ∷ [];
   whole = append_assoc h.seen (o ∷ []) rest ∙ h.whole;
-  parts_are = is ∙ ap (λ ps. joined ps o) h.parts_are ∙ sym (grouped_push h.seen o);
+  parts_are = is ∙ ap (λ ps. parts_joined ps o) h.parts_are ∙ sym (grouped_push h.seen o);
 }
 
 pub gathered_all : (all : List Observance) (parts : List Part) → AreGathered all parts [] → parts ≡ grouped all
@@ -218,7 +218,7 @@ gathered_begin all rest parts none is =
     subst P (sym none) (subst Q (sym is) (gathered_none all))
 
 pub gathered_next : (all rest left : List Observance) (parts more : List Part) (o : Observance) → AreGathered all parts rest → rest ≡ o ∷ left
-    → more ≡ joined parts o → AreGathered all more left
+    → more ≡ parts_joined parts o → AreGathered all more left
 gathered_next all rest left parts more o h is joins =
     let P : List Observance → Type 0 = λ os. AreGathered all parts os in
     gathered_more all parts more o left (subst P is h) joins

@@ -14,12 +14,12 @@ use Rattle.td_civil.specs.Calendar.{stamp_of, local_text_of}
 use Rattle.td_civil.specs.Stamp.{two_digits, four_digits}
 use Rattle.td_civil.specs.declared.moment_type.Moment.{Moment}
 use Rattle.recurrence.specs.AllRead.{all_read}
-use Rattle.recurrence.specs.Weekdays.{weekday_name, number_in, Day, day_in}
+use Rattle.recurrence.specs.Weekdays.{weekday_name, number_of_text, Day, day_of_text}
 use Rattle.recurrence.proofs.lemmas.AllRead.{read_more}
 use Rattle.recurrence.proofs.lemmas.FormFields.{numbers_after, next_numbers, AreShort}
 use Rattle.recurrence.proofs.lemmas.Weekdays.{IsShort, short_back}
 use Rattle.vtimezone.specs.Cutting.{cut_at}
-use Rattle.vtimezone.specs.ReadRules.{numbers_in, days_in}
+use Rattle.vtimezone.specs.ReadRules.{numbers_in, days_in_value}
 use Rattle.vtimezone.specs.Values.{dates_text, more_dates, utc_basic, next_number, seven_numbers}
 
 -- ---- texts without a separator, and where they are cut
@@ -193,8 +193,8 @@ dates_uncut first dates offset =
 
 pub one_number_back : (places most : ℕ) (z : ℤ) → IsShort places most z → numbers_in places most (signed_decimal z) ≡ Some (z ∷ [])
 one_number_back places most z h =
-    ap (all_read (number_in places most)) (cut_last 44 (signed_decimal z) (signed_uncut 44 z (inl refl) h.small))
-    ∙ read_more (number_in places most) (signed_decimal z) [] z [] (short_back places most z h) refl
+    ap (all_read (number_of_text places most)) (cut_last 44 (signed_decimal z) (signed_uncut 44 z (inl refl) h.small))
+    ∙ read_more (number_of_text places most) (signed_decimal z) [] z [] (short_back places most z h) refl
 
 -- the texts of n numbers in a row from the kth after this one
 abbrev pub texts_after : ℤ → ℕ → ℕ → List (List ℕ)
@@ -215,10 +215,10 @@ texts_uncut s z k (suc n) places most is h le =
     (signed_uncut s (z +ℤ pos k) is ((h k (omega arith)).small)) (texts_uncut s z (suc k) n places most is h (omega arith))
 
 pub texts_read : (z : ℤ) (k n : ℕ) (places most : ℕ) → AreShort places most z → k + n ≤ 7
-    → all_read (number_in places most) (texts_after z k n) ≡ Some (numbers_after z k n)
+    → all_read (number_of_text places most) (texts_after z k n) ≡ Some (numbers_after z k n)
 texts_read z k zero places most h le = refl
 texts_read z k (suc n) places most h le =
-    read_more (number_in places most) (signed_decimal (z +ℤ pos k)) (texts_after z (suc k) n) (z +ℤ pos k) (numbers_after z (suc k) n)
+    read_more (number_of_text places most) (signed_decimal (z +ℤ pos k)) (texts_after z (suc k) n) (z +ℤ pos k) (numbers_after z (suc k) n)
     (short_back places most (z +ℤ pos k) (h k (omega arith))) (texts_read z (suc k) n places most h (omega arith))
 
 pub no_more : (z : ℤ) → z +ℤ pos 0 ≡ z
@@ -231,8 +231,8 @@ seven_back z places most h =
     let cut = cut_each 44 (signed_decimal z) (next_texts z) (signed_uncut 44 z (inl refl) first.small)
     (texts_uncut 44 z 1 6 places most (inl refl) h (omega arith)) in
     ap (numbers_in places most) (seven_are z)
-    ∙ ap (all_read (number_in places most)) cut
-    ∙ read_more (number_in places most) (signed_decimal z) (next_texts z) z (next_numbers z) (short_back places most z first)
+    ∙ ap (all_read (number_of_text places most)) cut
+    ∙ read_more (number_of_text places most) (signed_decimal z) (next_texts z) z (next_numbers z) (short_back places most z first)
     (texts_read z 1 6 places most h (omega arith))
 
 pub seven_uncut : (s : ℕ) (z : ℤ) (places most : ℕ) → EndsWord s → AreShort places most z → uncut s (seven_numbers z) ≡ true
@@ -243,5 +243,5 @@ seven_uncut s z places most is h =
     ∙ uncut-append s (signed_decimal z) (after_each 44 (next_texts z)) (signed_uncut s z (inr is) first.small)
     (joined_uncut s 44 (next_texts z) (comma_uncut s is) (texts_uncut s z 1 6 places most (inr is) h (omega arith)))
 
-pub one_day : (t : List ℕ) (d : Day) → uncut 44 t ≡ true → day_in t ≡ Some d → days_in t ≡ Some (d ∷ [])
-one_day t d h e = ap (all_read day_in) (cut_last 44 t h) ∙ read_more day_in t [] d [] e refl
+pub one_day : (t : List ℕ) (d : Day) → uncut 44 t ≡ true → day_of_text t ≡ Some d → days_in_value t ≡ Some (d ∷ [])
+one_day t d h e = ap (all_read day_of_text) (cut_last 44 t h) ∙ read_more day_of_text t [] d [] e refl

@@ -6,7 +6,7 @@ use Rattle.std.specs.Option.{IfSome}
 use Rattle.td_base.specs.FirstFault.{◌>>=◌}
 use Rattle.td_civil.specs.declared.local_time.Local.{Local}
 use Rattle.posix_footer.specs.Items.{after_byte, name_at, offset_at, daylight_offset_at}
-use Rattle.posix_footer.specs.Grammar.{place, date_at, standard_at, daylight_at, dates_after, rule_at, rule_in, footer_at, footer_in}
+use Rattle.posix_footer.specs.Grammar.{place, date_at, standard_at, daylight_at, dates_after, rule_read_at, rule_in, footer_at, footer_in}
 use Rattle.posix_footer.specs.declared.footer_fault.FooterFault.{FooterFault}
 use Rattle.posix_footer.specs.declared.footer_fault.FooterFault.TheVariants as fault
 use Rattle.posix_footer.specs.declared.rule_types.Date.{Date}
@@ -62,8 +62,8 @@ daylight_short size std rest s e =
     let long : length one.value.0 ≡ length s.0.name = ap length name in
     omega (arith, short, long)
 
-rule_dst : (size : ℕ) (dst : Local) (rest : List ℕ) (rule : DstRule) → rule_at size dst rest ≡ Ok rule → dst ≡ rule.dst
-unfolding rule_at
+rule_dst : (size : ℕ) (dst : Local) (rest : List ℕ) (rule : DstRule) → rule_read_at size dst rest ≡ Ok rule → dst ≡ rule.dst
+unfolding rule_read_at
 rule_dst size dst rest rule e =
     let Last : Date → Date × List ℕ → Result DstRule FooterFault = λ start end.
     if length end.1 == 0 then Ok (record { dst = dst; start = start; end = end.0 }) else Err (fault.Rest (place size end.1)) in
@@ -91,9 +91,9 @@ rule_short : (size : ℕ) (std : Local) (rest : List ℕ) (f : Footer) → lengt
 unfolding rule_in
 rule_short size std rest f first e =
     let Made : DstRule → Result Footer FooterFault = λ rule. Ok (record { std = std; dst = Some rule }) in
-    let one = bound (daylight_at size std.offset rest) (λ dst. dates_after size dst.1 >>= λ dates. rule_at size dst.0 dates >>= λ rule. Made rule) f e in
-    let two = bound (dates_after size one.value.1) (λ dates. rule_at size one.value.0 dates >>= λ rule. Made rule) f one.gives in
-    let three = bound (rule_at size one.value.0 two.value) (λ rule. Made rule) f two.gives in
+    let one = bound (daylight_at size std.offset rest) (λ dst. dates_after size dst.1 >>= λ dates. rule_read_at size dst.0 dates >>= λ rule. Made rule) f e in
+    let two = bound (dates_after size one.value.1) (λ dates. rule_read_at size one.value.0 dates >>= λ rule. Made rule) f one.gives in
+    let three = bound (rule_read_at size one.value.0 two.value) (λ rule. Made rule) f two.gives in
     some_short std one.value.0 three.value f (ok_same (record { std = std; dst = Some three.value }) f three.gives)
     (rule_dst size one.value.0 two.value three.value three.is) first (daylight_short size std.offset rest one.value one.is)
 
