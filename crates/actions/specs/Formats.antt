@@ -56,20 +56,20 @@ zone_spelling name c bounds = record {
 abbrev pub file_text : List ℕ → ContentData → Bounds → List ℕ
 file_text name c bounds = c.file
 
-abbrev pub form_of : Format → FormData
-form_of format.Calendar = record {
+abbrev pub format_data : Format → FormData
+format_data format.Calendar = record {
   bounds = rule.Optional;
   kind = kind.Calendar;
   mark = codes "c2";
   text = calendar_text;
 }
-form_of format.Tzif = record {
+format_data format.Tzif = record {
   bounds = rule.Refused;
   kind = kind.Tzif;
   mark = codes "t";
   text = file_text;
 }
-form_of format.CalendarJson = record {
+format_data format.CalendarJson = record {
   bounds = rule.Optional;
   kind = kind.CalendarJson;
   mark = codes "j";

@@ -16,7 +16,7 @@ use Rattle.target.specs.declared.asked_types.Param.{Param}
 use Rattle.actions.specs.declared.bounds.Bounds.{Bounds}
 use Rattle.actions.specs.Bounds.{bounds_in}
 use Rattle.actions.specs.Documents.{with_data, with_problem, not_modified}
-use Rattle.actions.specs.Formats.{FormData, form_of}
+use Rattle.actions.specs.Formats.{FormData, format_data}
 use Rattle.actions.specs.Tags.{data_tag}
 
 -- the client holds what has this tag (RFC 9110, section 13.1.2)
@@ -40,7 +40,7 @@ form_answer form name e held (Err refused) = with_problem refused
 abbrev pub format_answer : Option Format → List ℕ → EntryData → Option (List ℕ) → Param → Param
     → Answer
 format_answer (Some format) name e held start end =
-    form_answer (form_of format) name e held (bounds_in (form_of format).bounds start end)
+    form_answer (format_data format) name e held (bounds_in (format_data format).bounds start end)
 format_answer None name e held start end = with_problem problem.InvalidFormat
 
 -- of the zone that has the name, if there is one

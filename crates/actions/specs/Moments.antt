@@ -15,16 +15,16 @@ moment_given (param.Once text) = moment_in text
 moment_given param.Repeated = None
 
 -- a moment that passes a test
-abbrev pub moment_if : (ℤ → Bool) → Option ℤ → Option ℤ
-moment_if test moment = option_and_then (λ m. then_some (test m) m) moment
+abbrev pub moment_where : (ℤ → Bool) → Option ℤ → Option ℤ
+moment_where test moment = option_and_then (λ m. then_some (test m) m) moment
 
 -- a start has a meaning
 unfoldable pub start_of : Param → Option ℤ
-start_of p = moment_if has_meaning (moment_given p)
+start_of p = moment_where has_meaning (moment_given p)
 
 -- an end comes after the start, and no later than where meaning ends
 abbrev pub is_end : ℤ → ℤ → Bool
 is_end start m = int_lt start m && int_le m HI
 
 unfoldable pub end_of : ℤ → Param → Option ℤ
-end_of start p = moment_if (is_end start) (moment_given p)
+end_of start p = moment_where (is_end start) (moment_given p)

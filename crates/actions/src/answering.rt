@@ -20,7 +20,8 @@ use target::{Asked, read};
 use td_base::{NoMemory, Role};
 use zone_meaning::Zone;
 
-/// Answers a request over the last release of a catalogue. Every refusal of RFC 7808 is an answer.
+/// Answers a request over the newest release of a catalogue. Every refusal of RFC 7808 is an
+/// answer.
 #[tactic(auto, unfolding(crate::specs::Action::action))]
 pub fn answer(
     alloc: Global,
@@ -39,7 +40,7 @@ pub fn answer(
     answer_to(alloc, catalogue, role, head, &asked)
 }
 
-/// Answers what was asked.
+/// Answers a request, given the action that its target names.
 fn answer_to(
     alloc: Global,
     catalogue: &Catalogue<Zone>,

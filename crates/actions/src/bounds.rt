@@ -1,4 +1,4 @@
-//! The range of time that a request asks for, by its bounds.
+//! The range of time that a request gives by its parameters.
 ghost use Rattle.std.specs.Prelude.{◌≡◌, IfOk, IfSome};
 ghost use Rattle.td_civil.specs.Bounds.{HasMeaning};
 ghost use Rattle.vtimezone.specs.Ranges.{IsEndOf, seconds_if_any};
@@ -10,33 +10,33 @@ use target::Param;
 use td_civil::{HI, LO, Moment};
 use vtimezone::Range;
 
-/// A bound of a range of time.
+/// A bound of a range of time, in UTC.
 #[derive(Clone, Copy)]
 pub enum Bound {
-    /// The range goes as far as there is a meaning.
+    /// The range extends to the first or to the last supported moment.
     Open,
     At(Moment),
 }
 
-/// A range of time.
+/// A range of time. The end does not belong to it.
 #[derive(Clone, Copy)]
 pub struct Bounds {
     pub start: Bound,
     pub end: Bound,
 }
 
-/// Which bounds may be given.
+/// Which bounds a request may give.
 #[derive(Clone, Copy)]
 pub enum BoundRule {
-    /// Both have to be.
+    /// Both must be given.
     Required,
     /// Each may be left open.
     Optional,
-    /// None may be.
+    /// None may be given.
     Refused,
 }
 
-/// A bound that is not given, unless that is refused.
+/// The bound if the request gives none. None if a bound is required.
 fn bound_absent(rule: BoundRule) -> Option<Bound>
     ensures { result ≡ spec.bound_absent rule }
 {
@@ -47,7 +47,8 @@ fn bound_absent(rule: BoundRule) -> Option<Bound>
     }
 }
 
-/// A bound that is given, by its moment, unless that is refused.
+/// The bound at a moment that the request gives. None if no bound may be given, or the moment is
+/// invalid.
 fn bound_present(rule: BoundRule, moment: Option<Moment>) -> Option<Bound>
     ensures { result ≡ spec.bound_present rule (seconds_if_any moment) }
 {
@@ -58,7 +59,7 @@ fn bound_present(rule: BoundRule, moment: Option<Moment>) -> Option<Bound>
     }
 }
 
-/// The start of a range. None where it is refused.
+/// The start of a range. None if it is refused.
 #[tactic(auto, using(crate::proofs::BoundLemmas::absent_start, crate::proofs::BoundLemmas::present_start), unfolding(crate::specs::Bounds::start_bound))]
 fn start_bound(rule: BoundRule, parameter: &Param) -> Option<Bound>
     ensures bound { result ≡ spec.start_bound rule parameter.now }
@@ -70,7 +71,7 @@ fn start_bound(rule: BoundRule, parameter: &Param) -> Option<Bound>
     }
 }
 
-/// The end of a range with this start. None where it is refused.
+/// The end of a range with this start. None if it is refused.
 #[tactic(auto, using(crate::proofs::BoundLemmas::absent_end, crate::proofs::BoundLemmas::present_end), unfolding(crate::specs::Bounds::end_bound))]
 fn end_bound(rule: BoundRule, start: Bound, parameter: &Param) -> Option<Bound>
     ensures bound { result ≡ spec.end_bound rule start parameter.now }
@@ -83,7 +84,7 @@ fn end_bound(rule: BoundRule, start: Bound, parameter: &Param) -> Option<Bound>
     }
 }
 
-/// The range that a request asks for. A start that is refused is told before an end.
+/// The range that a request gives. If both bounds are refused, the problem is that of the start.
 #[tactic(auto, unfolding(crate::specs::Bounds::bounds_in))]
 pub fn bounds_in(rule: BoundRule, start: &Param, end: &Param) -> Result<Bounds, Problem>
     ensures bounds { result ≡ spec.bounds_in rule start.now end.now }
@@ -98,7 +99,7 @@ pub fn bounds_in(rule: BoundRule, start: &Param, end: &Param) -> Result<Bounds, 
     Ok(Bounds { start, end })
 }
 
-/// Where a range with this start begins.
+/// The first moment of a range with this start.
 pub fn begin_of(start: Bound) -> Moment
     ensures { result ≡ spec.begin_of start }
 {
@@ -108,7 +109,7 @@ pub fn begin_of(start: Bound) -> Moment
     }
 }
 
-/// Where a range with this end ends.
+/// The first moment after a range with this end.
 pub fn finish_of(end: Bound) -> Moment
     ensures { result ≡ spec.finish_of end }
 {
@@ -118,7 +119,7 @@ pub fn finish_of(end: Bound) -> Moment
     }
 }
 
-/// Where a range with this end ends, if it has an end.
+/// The first moment after a range with this end, if the end is not open.
 fn end_if_any(end: Bound) -> Option<Moment>
     ensures { result ≡ spec.end_if_any end }
 {

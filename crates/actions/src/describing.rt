@@ -30,7 +30,7 @@ pub fn capabilities(
     Ok(document(body))
 }
 
-/// Sends a client from the well-known address to the service (RFC 7808, section 4.2.1.3).
+/// Redirects a client from the well-known address to the service (RFC 7808, section 4.2.1.3).
 pub fn redirect(alloc: Global) -> Answer
     ensures { result ≡ redirect }
 {

@@ -20,7 +20,7 @@ pub fn document(body: Bytes) -> Answer
     }
 }
 
-/// A refusal, told by a problem document (RFC 7807).
+/// A refusal, with a problem document as its body (RFC 7807).
 pub fn refusal(alloc: Global, problem: Problem) -> Result<Answer, NoMemory>
     ensures { IfOk result (λ answer. answer ≡ with_problem problem) }
 {
@@ -35,7 +35,7 @@ pub fn refusal(alloc: Global, problem: Problem) -> Result<Answer, NoMemory>
     })
 }
 
-/// The refusal of a target that names no action.
+/// The refusal of a request target that names no action.
 pub fn unknown_action(alloc: Global) -> Result<Answer, NoMemory>
     ensures { IfOk result (λ answer. answer ≡ unknown_action) }
 {
@@ -55,7 +55,7 @@ pub fn zone_data(kind: Kind, tag: Bytes, body: Bytes) -> Answer
     }
 }
 
-/// The answer to a client that holds the data of this tag.
+/// The answer to a client that already has the data of this tag.
 pub fn not_modified(alloc: Global, tag: Bytes) -> Answer
     ensures { result ≡ not_modified tag }
 {

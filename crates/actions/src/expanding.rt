@@ -44,7 +44,7 @@ pub fn expand(
     }
 }
 
-/// Answers for a zone that was found.
+/// Answers for the zone that was found.
 #[tactic(auto, using(crate::proofs::BoundLemmas::range_is))]
 fn expand_zone(
     alloc: Global,
@@ -68,7 +68,7 @@ fn expand_zone(
     }
 }
 
-/// The document of a zone's observances from one moment to another.
+/// The JSON document of a zone's observances from one moment to another.
 fn expansion(
     alloc: Global,
     name: &Bytes,

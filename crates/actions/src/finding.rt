@@ -33,7 +33,7 @@ pub fn find(alloc: Global, catalogue: &Catalogue<Zone>, pattern: &Param) -> Resu
     }
 }
 
-/// Answers a pattern's text.
+/// Answers for the text of a pattern.
 fn find_text(alloc: Global, catalogue: &Catalogue<Zone>, text: &Bytes) -> Result<Answer, NoMemory>
     requires { HasZoneHistory catalogue.now }
     ensures answer { ForEachZoneHistory catalogue.now (λ H.

@@ -15,33 +15,33 @@ use td_base::{Bytes, NoMemory};
 use vtimezone::{parts, write};
 use zone_meaning::{Zone, file};
 
-/// A format, without its texts.
+/// How a format is served: which bounds it allows, its media type, and the mark of its tags.
 #[derive(Clone, Copy)]
-pub struct Form {
+pub struct FormatForm {
     pub bounds: BoundRule,
     pub kind: Kind,
-    /// The mark of its entity tags.
+    /// The part of its entity tags that names the format.
     pub mark: &'static [u8],
 }
 
-/// How a format is served.
-pub fn form_of(format: Format) -> Form
-    ensures bounds { result.bounds ≡ (formats.form_of format).bounds }
-    ensures kind { result.kind ≡ (formats.form_of format).kind }
-    ensures mark { result.mark.now ≡ (formats.form_of format).mark }
+/// Returns how a format is served.
+pub fn form_of(format: Format) -> FormatForm
+    ensures bounds { result.bounds ≡ (formats.format_data format).bounds }
+    ensures kind { result.kind ≡ (formats.format_data format).kind }
+    ensures mark { result.mark.now ≡ (formats.format_data format).mark }
 {
     match format {
-        Format::Calendar => Form {
+        Format::Calendar => FormatForm {
             bounds: BoundRule::Optional,
             kind: Kind::Calendar,
             mark: b"c2",
         },
-        Format::Tzif => Form {
+        Format::Tzif => FormatForm {
             bounds: BoundRule::Refused,
             kind: Kind::Tzif,
             mark: b"t",
         },
-        Format::CalendarJson => Form {
+        Format::CalendarJson => FormatForm {
             bounds: BoundRule::Optional,
             kind: Kind::CalendarJson,
             mark: b"j",
@@ -49,7 +49,7 @@ pub fn form_of(format: Format) -> Form
     }
 }
 
-/// The data of a zone in a format, between two bounds, under the name that was asked for.
+/// The data of a zone in a format, between two bounds, under the name that was requested.
 pub fn text_in(
     alloc: Global,
     format: Format,
@@ -60,7 +60,7 @@ pub fn text_in(
     requires sound { IsSoundFile content.now.zone }
     requires names { formats.AreTexts name.now content.now.tzid }
     requires bounds { AreBounds bounds }
-    ensures { IfOk result (λ text. text ≡ (formats.form_of format).text name.now
+    ensures { IfOk result (λ text. text ≡ (formats.format_data format).text name.now
         (content_as_is (λ z. z) content.now) bounds) }
 {
     match format {
@@ -125,7 +125,7 @@ fn json_text(
     Ok(text)
 }
 
-/// The identifier of a zone, where the name is an alias.
+/// The identifier of a zone, if the name is one of its aliases.
 fn alias_of<'a>(name: &Bytes, tzid: &'a Bytes) -> Option<&'a [u8]>
     requires { IsSafe tzid.now }
     ensures alias_of { option_copied result ≡ formats.alias_of name.now tzid.now }
@@ -137,7 +137,7 @@ fn alias_of<'a>(name: &Bytes, tzid: &'a Bytes) -> Option<&'a [u8]>
     Some(tzid.as_slice())
 }
 
-/// The file of a zone.
+/// A copy of the zone's file.
 fn file_text(alloc: Global, content: &Content<Zone>) -> Result<Bytes, NoMemory>
     ensures { IfOk result (λ text. text ≡ (content_as_is (λ z. z) content.now).file) }
 {

@@ -4,7 +4,7 @@ ghost use Rattle.http_answer.specs.Replies.{IsAnswerStatus};
 ghost use Rattle.zone_meaning.specs.Sound.{IsSoundFile};
 ghost use Rattle.zone_meaning.specs.ZoneHistories.{ForEachZoneHistory, HasZoneHistory};
 ghost use Rattle.actions.specs.Bounds.{AreBounds};
-ghost use Rattle.actions.specs.Formats.{AreTexts, form_of};
+ghost use Rattle.actions.specs.Formats.{AreTexts, format_data};
 ghost use Rattle.actions.specs.Getting as getting;
 
 use crate::bounds::{Bounds, bounds_in};
@@ -63,7 +63,7 @@ fn get_zone(
     }
 }
 
-/// Answers in a format, between the bounds that are asked for.
+/// Answers in a format, between the bounds that the request gives.
 fn get_as(
     alloc: Global,
     format: Format,
@@ -86,7 +86,7 @@ fn get_as(
     }
 }
 
-/// Answers with the data of a zone between two bounds, unless the client holds them.
+/// Answers with the data of a zone between two bounds, unless the client already has it.
 fn get_between(
     alloc: Global,
     format: Format,
@@ -99,7 +99,7 @@ fn get_between(
     requires names { AreTexts name.now entry.now.content.tzid }
     requires bounds { AreBounds bounds }
     ensures answer { IfOk result (λ answer. answer
-        ≡ getting.form_answer (form_of format) name.now (entry_data (λ z. z) entry.now) held.now
+        ≡ getting.form_answer (format_data format) name.now (entry_data (λ z. z) entry.now) held.now
         (Ok bounds)) }
     ensures status { IfOk result (λ answer. IsAnswerStatus answer.status) }
 {
@@ -119,7 +119,7 @@ fn bytes_of(field: &Option<Bytes>) -> Option<&[u8]>
     field.as_ref().map(|bytes| bytes.as_slice())
 }
 
-/// Whether an If-None-Match field, if there is one, has the tag.
+/// Whether there is an If-None-Match field, and it has the tag.
 fn is_held(held: &Option<Bytes>, tag: &Bytes) -> bool
     ensures { result ≡ getting.is_held held.now tag.now }
 {

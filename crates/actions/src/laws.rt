@@ -1,5 +1,5 @@
-//! What a third format leaves as it was, and what both calendars spell, as the contracts of
-//! functions that do nothing but call laws.
+//! What a third format leaves unchanged, and what both calendars encode. Each law is the contract
+//! of a function with an empty body, or of one that only calls other laws.
 ghost use Rattle.std.specs.Prelude.{◌≡◌, [], ◌∷◌, ℕ, List, IfSome, Some};
 ghost use Rattle.td_base.specs.declared.report.Role.{Role as TheRole};
 ghost use Rattle.catalogue.specs.Releases.{ContentData, ReleaseData};
@@ -17,9 +17,9 @@ ghost use Rattle.actions.specs.Formats.{AreTexts, alias_of, calendar_text, zone_
 ghost use Rattle.actions.specs.Offering.{action_among};
 ghost use Rattle.actions.specs.declared.bounds.Bounds.{Bounds as TheBounds};
 
-/// Each answer is that of a server that offers all formats; where no element of an Accept field
-/// names calendars as JSON, or there is no such field, it is that of a server that does not offer
-/// them. What a server says that it can do lists them in any case.
+/// Each answer is that of a server that offers all formats. Without an Accept field, or if no
+/// element of it names calendars as JSON, it is that of a server without this format. The
+/// capabilities list the format in any case.
 pub fn unnamed_format_changes_no_answer()
     ensures all { (H : List ReleaseData) (role : TheRole) (head : TheHead)
         → action H role head ≡ action_among formats H role head }
@@ -28,9 +28,9 @@ pub fn unnamed_format_changes_no_answer()
         → action H role head ≡ action_among (calendar_format ∷ file_format ∷ []) H role head }
 {}
 
-/// The calendar of a zone between two bounds and its calendar as JSON, whose text is that of this
-/// tree, spell the same: the name that was asked for, the identifier of the zone where that is an
-/// alias, the end, and the parts, which mean the zone (`parts_mean` of `vtimezone`).
+/// The calendar of a zone between two bounds encodes the same as its calendar as JSON, whose text
+/// is that of this tree. It encodes the requested name, the identifier of the zone if that name is
+/// an alias, the end, and the parts. The parts mean the zone (`parts_mean` of `vtimezone`).
 pub fn calendars_spell_the_zone()
     ensures lines { (name : List ℕ) (c : ContentData) (bounds : TheBounds) → IsSoundFile c.file
         → AreTexts name c.tzid → AreBounds bounds

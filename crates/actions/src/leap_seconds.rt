@@ -12,8 +12,8 @@ use std::alloc::Global;
 use td_base::{Bytes, NoMemory};
 use zone_meaning::Zone;
 
-/// Answers the action `leapseconds` (RFC 7808, section 5.6). Without a table of leap seconds it is
-/// no action.
+/// Answers the action `leapseconds` (RFC 7808, section 5.6). A release without a table of leap
+/// seconds does not offer this action.
 pub fn leap_seconds(alloc: Global, catalogue: &Catalogue<Zone>) -> Result<Answer, NoMemory>
     requires { HasZoneHistory catalogue.now }
     ensures answer { ForEachZoneHistory catalogue.now (λ H.

@@ -35,7 +35,8 @@ pub fn list(alloc: Global, catalogue: &Catalogue<Zone>, since: &Param) -> Result
     }
 }
 
-/// Answers with the changes since the one of the last places of which this is the token.
+/// Answers with the changes since the place of this token. It refuses a token that the catalogue
+/// does not resolve.
 fn changes_since(
     alloc: Global,
     catalogue: &Catalogue<Zone>,
@@ -52,7 +53,7 @@ fn changes_since(
     }
 }
 
-/// The list of the zones that changed after a place, with the token of the last place.
+/// The list of the zones that changed after a place, with the token of the newest place.
 fn change_list(alloc: Global, catalogue: &Catalogue<Zone>, place: u32) -> Result<Bytes, NoMemory>
     requires { HasZoneHistory catalogue.now }
     ensures { ForEachZoneHistory catalogue.now (λ H.
@@ -89,7 +90,7 @@ fn full_list(alloc: Global, catalogue: &Catalogue<Zone>) -> Result<Answer, NoMem
     Ok(document(list_body(alloc, catalogue, &Everything)?))
 }
 
-/// The list of the zones that a choice takes, with the token of the last place.
+/// The list of the zones that a choice takes, with the token of the newest place.
 pub fn list_body<C: Choice>(
     alloc: Global,
     catalogue: &Catalogue<Zone>,
@@ -107,7 +108,7 @@ pub fn list_body<C: Choice>(
     list.end()
 }
 
-/// Writes a zone, where the choice takes it.
+/// Writes a zone, if the choice takes it.
 fn put_chosen<C: Choice>(
     list: &mut ListWriter,
     entry: &Entry<Zone>,
@@ -125,7 +126,7 @@ fn put_chosen<C: Choice>(
     Ok(())
 }
 
-/// What a list tells of a zone.
+/// The texts of a zone's entry in a list.
 fn texts_of(entry: &Entry<Zone>) -> ZoneTexts<'_>
     ensures { told_zone result ≡ spec.list_zone (entry_data (λ z. z) entry.now) }
 {

@@ -1,4 +1,4 @@
-//! The moments that a request bounds a range by.
+//! The moments of the parameters `start` and `end`.
 ghost use Rattle.std.specs.Prelude.{◌≡◌, ◌≤ℤ◌, ◌<ℤ◌, IfSome, IsTrue};
 ghost use Rattle.td_civil.specs.Bounds.{HasMeaning};
 ghost use Rattle.vtimezone.specs.Ranges.{seconds_if_any};
@@ -7,7 +7,7 @@ ghost use Rattle.actions.specs.Moments as moments;
 use target::Param;
 use td_civil::{HI, Moment, moment_of};
 
-/// The moment of a parameter that is given once, where it is the text of one.
+/// The moment of a parameter that is given once, if its text is that of a moment.
 fn moment_given(parameter: &Param) -> Option<Moment>
     ensures { seconds_if_any result ≡ moments.moment_given parameter.now }
 {
@@ -26,7 +26,8 @@ fn is_end(start: Moment, m: Moment) -> bool
     start.seconds < m.seconds && m.seconds <= HI
 }
 
-/// The start of a range that a request gives.
+/// The start of the range that a request gives. None if it is not given once, or not a supported
+/// moment.
 #[tactic(auto, unfolding(crate::specs::Moments::start_of))]
 pub fn start_of(parameter: &Param) -> Option<Moment>
     ensures start { seconds_if_any result ≡ moments.start_of parameter.now }
@@ -35,7 +36,8 @@ pub fn start_of(parameter: &Param) -> Option<Moment>
     moment_given(parameter).filter(|m| m.has_meaning())
 }
 
-/// The end of a range that a request gives, of which the start is known.
+/// The end of the range that a request gives, after a known start. None if it is not given once, is
+/// not after the start, or is beyond the supported moments.
 #[tactic(auto, unfolding(crate::specs::Moments::end_of))]
 pub fn end_of(start: Moment, parameter: &Param) -> Option<Moment>
     ensures end { seconds_if_any result ≡ moments.end_of start.seconds parameter.now }

@@ -8,8 +8,8 @@ use std::alloc::Global;
 use td_base::{Bytes, NoMemory};
 use td_civil::utc_text;
 
-/// The entity tag of a zone's data between two bounds, by the tag of its content and the mark of a
-/// format.
+/// The entity tag of a zone's data between two bounds. It is made of the tag of the zone's content,
+/// the mark of the format, and the bounds unless both are open.
 #[tactic(auto, unfolding(crate::specs::Tags::data_tag))]
 pub fn data_tag(alloc: Global, tag: &[u8], mark: &[u8], bounds: Bounds) -> Result<Bytes, NoMemory>
     requires { AreBounds bounds }

@@ -1,4 +1,4 @@
-//! Laws of patterns, each the contract of a function that does nothing.
+//! Theorems about patterns, each the contract of a function with an empty body.
 ghost use Rattle.std.specs.Prelude.{◌≡◌, Ok, IsTrue};
 ghost use Rattle.find_pattern.specs.declared.pattern_type.Pattern.{Pattern};
 ghost use Rattle.find_pattern.specs.Patterns.{pattern};

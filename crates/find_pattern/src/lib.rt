@@ -1,18 +1,19 @@
-//! Patterns of the names of time zones (RFC 7808, section 5.5). [`read`] gives the pattern that
-//! `specs/Patterns.antt` reads from a text, and [`matches`] says, by `specs/Matching.antt`, whether
-//! a name matches it. [`reads_back`] is the law that each pattern is read from its text.
+//! Patterns of the names of time zones (RFC 7808, section 5.5). [`read`] gives the pattern of a
+//! text (`specs/Patterns.antt`), and [`matches`] returns whether a name matches it
+//! (`specs/Matching.antt`). [`reads_back`] is the theorem that each pattern is read from its text.
+//! It depends on `td_base`; `actions` uses it.
 #![tactic(auto)]
 
-// Patterns, and why a text is none.
+// Patterns, and the error of a bad one.
 mod pattern_fault;
 mod pattern_type;
 
-// A pattern read from its text, and names against it.
+// Reading a pattern, and matching names.
 mod folding;
 mod matching;
 mod reading;
 
-// Laws, and what may cross threads.
+// Theorems, and which types may cross threads.
 mod laws;
 mod send_sync;
 

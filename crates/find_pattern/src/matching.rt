@@ -1,12 +1,11 @@
-//! Names against a pattern.
+//! Matching of names.
 ghost use Rattle.std.specs.Prelude.{◌≡◌};
 ghost use Rattle.find_pattern.specs.Matching as matching;
 
 use crate::Pattern;
 use crate::folding::is_same;
 
-/// Whether a name matches the pattern. Letters of ASCII match in either case, and `_` matches a
-/// space.
+/// Whether a name matches the pattern. ASCII letters match in either case, and `_` matches a space.
 #[tactic(auto, unfolding(crate::specs::Matching::matches))]
 pub fn matches(pattern: &Pattern, name: &[u8]) -> bool
     ensures { result ≡ matching.matches pattern.now name.now }
@@ -36,7 +35,7 @@ fn ends(text: &[u8], name: &[u8]) -> bool
     is_same(text, &name[start..])
 }
 
-/// Whether the text stands in the name.
+/// Whether the text occurs in the name.
 #[tactic(auto, unfolding(crate::specs::Matching::suffixes))]
 fn contains(text: &[u8], name: &[u8]) -> bool
     ensures { result ≡ matching.contains text.now name.now }

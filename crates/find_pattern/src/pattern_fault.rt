@@ -2,13 +2,13 @@ use std::error::Error;
 use std::fmt;
 use td_base::NoMemory;
 
-/// Why a text is no pattern.
+/// Why a text is not a pattern.
 #[derive(Clone, Copy, Debug, PartialEq, Eq)]
 pub enum BadPattern {
-    /// There is no memory for the pattern.
+    /// Out of memory.
     NoMemory,
-    /// At this place, counted from 0, stands a `*` that is neither first nor last, or a backslash
-    /// with neither `*` nor a backslash after it.
+    /// The byte position, from 0, of a `*` that is neither first nor last, or of a backslash
+    /// without `*` or a backslash after it.
     BadPattern(usize),
 }
 

@@ -1,12 +1,12 @@
 use td_base::Bytes;
 
-/// What a name is searched for: a text, alone or among others.
+/// A search pattern: a text that is the whole of a name, its beginning, its end or any part.
 #[derive(Drop)]
 pub struct Pattern {
-    /// Whether any text may stand before it.
+    /// Whether any text may precede it.
     pub lead: bool,
-    /// Whether any text may stand after it.
+    /// Whether any text may follow it.
     pub trail: bool,
-    /// The text as it is written, without marks and escapes.
+    /// The text to find, without stars and escapes.
     pub text: Bytes,
 }

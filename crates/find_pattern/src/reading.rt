@@ -1,4 +1,4 @@
-//! The pattern that a text is read as.
+//! Reading a pattern.
 ghost use Rattle.std.specs.Prelude.{◌≡◌, ◌≢◌, ◌<◌, ◌≤◌, length, drop, IfOk, IfErr};
 ghost use Rattle.find_pattern.specs.Patterns as patterns;
 ghost use Rattle.find_pattern.specs.Pieces as pieces;
@@ -7,16 +7,16 @@ use crate::{BadPattern, Pattern};
 use std::alloc::Global;
 use td_base::Bytes;
 
-/// What a text that is not at its end begins with.
+/// The first item of a text that is not at its end.
 #[derive(Clone, Copy)]
 pub enum Piece {
-    /// A byte that stands for itself, and how many bytes it is written with.
+    /// A byte to be matched, and the number of bytes that write it.
     Byte(u8, usize),
     LastStar,
     Fault,
 }
 
-/// What the rest of a text begins with.
+/// The first item of the rest of a text.
 fn first_piece(left: &[u8]) -> Piece
     requires { 0 < length left.now }
     ensures piece { result ≡ pieces.first_piece left.now }
@@ -31,7 +31,7 @@ fn first_piece(left: &[u8]) -> Piece
     }
 }
 
-/// The pattern that a text is read as, or the place of the first fault.
+/// Reads the pattern of a text, or returns the position of the first fault.
 #[tactic(auto, unfolding(crate::specs::Patterns::pattern))]
 pub fn read(alloc: Global, text: &[u8]) -> Result<Pattern, BadPattern>
     ensures found { IfOk result (λ p. patterns.pattern text.now ≡ Ok p) }
@@ -52,7 +52,7 @@ pub fn read(alloc: Global, text: &[u8]) -> Result<Pattern, BadPattern>
     }
 }
 
-/// What the text is read as from a place on, where a star can only be the last.
+/// Reads the rest from a position on, where only the last byte may be a star.
 fn read_from(alloc: Global, text: &[u8], start: usize) -> Result<Pattern, BadPattern>
     requires { start ≤ length text.now }
     ensures found { IfOk result (λ p. patterns.read_from start (drop start text.now) ≡ Ok p) }

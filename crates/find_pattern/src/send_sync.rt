@@ -1,7 +1,7 @@
-//! A pattern may cross threads and be shared by them.
+//! The types of this crate are `Send` and `Sync`.
 use crate::{BadPattern, Pattern};
 
-/// Only for types that threads may hand over and share.
+/// Compiles only for types that are `Send` and `Sync`.
 fn is_shared<T: Send + Sync>() {}
 
 fn types_are_shared() {

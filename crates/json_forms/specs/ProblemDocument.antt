@@ -32,18 +32,18 @@ title_of InvalidEnd = codes "Invalid end"
 title_of InvalidPattern = codes "Invalid pattern"
 
 -- the last part of the type
-abbrev pub name_of : Problem → List ℕ
-name_of InvalidAction = codes "invalid-action"
-name_of InvalidChangedsince = codes "invalid-changedsince"
-name_of TzidNotFound = codes "tzid-not-found"
-name_of InvalidFormat = codes "invalid-format"
-name_of InvalidStart = codes "invalid-start"
-name_of InvalidEnd = codes "invalid-end"
-name_of InvalidPattern = codes "invalid-pattern"
+abbrev pub problem_name : Problem → List ℕ
+problem_name InvalidAction = codes "invalid-action"
+problem_name InvalidChangedsince = codes "invalid-changedsince"
+problem_name TzidNotFound = codes "tzid-not-found"
+problem_name InvalidFormat = codes "invalid-format"
+problem_name InvalidStart = codes "invalid-start"
+problem_name InvalidEnd = codes "invalid-end"
+problem_name InvalidPattern = codes "invalid-pattern"
 
 -- the URN that names the problem
 abbrev pub type_of : Problem → List ℕ
-type_of problem = codes "urn:ietf:params:tzdist:error:" ++ name_of problem
+type_of problem = codes "urn:ietf:params:tzdist:error:" ++ problem_name problem
 
 unfoldable pub problem_data : Problem → Data
 problem_data problem =

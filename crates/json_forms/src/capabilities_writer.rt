@@ -10,8 +10,9 @@ use serde_json::{Value, json};
 use std::alloc::Global;
 use td_base::{Bytes, NoMemory, Role};
 
-/// Appends what the service can do as JSON (RFC 7808, section 6.1): its actions, the formats of its
-/// data, and where the data comes from, the publisher or the server that it follows.
+/// Appends the capabilities of the service as JSON (RFC 7808, section 6.1). They are its actions,
+/// the formats of its data, and the source of the data: the publisher or the server that it
+/// follows.
 #[tactic(auto, using(crate::proofs::CapabilitiesReads::capabilities_have_no_float), unfolding(crate::specs::CapabilitiesDocument::capabilities_document))]
 pub fn capabilities_text(
     alloc: Global,
@@ -47,7 +48,7 @@ fn capabilities(
     Ok(json!(in alloc; {"actions": actions, "info": info, "version": 1u8})?)
 }
 
-/// The actions, of which the last needs a table of leap seconds.
+/// The actions. The last one is listed only if there is a table of leap seconds.
 fn actions(alloc: Global, with_leaps: bool) -> Result<Vec<Value>, NoMemory>
     ensures { IfOk result (λ vs. map view vs.items ≡ document.actions_data with_leaps) }
 {
@@ -119,7 +120,7 @@ fn leapseconds_action(alloc: Global) -> Result<Value, NoMemory>
     action(alloc, "leapseconds", Vec::new(alloc), "/tzdist/leapseconds")
 }
 
-/// An action with its parameters and the template of its targets (RFC 6570).
+/// An action with its parameters and its URI template (RFC 6570).
 #[tactic(auto, unfolding(crate::specs::CapabilitiesDocument::action_data))]
 fn action(
     alloc: Global,
@@ -144,7 +145,7 @@ fn one_parameter(alloc: Global, name: &str, required: bool) -> Result<Vec<Value>
     Ok(parameters)
 }
 
-/// The two parameters of a range of time.
+/// The two parameters of a range of time, `start` and `end`.
 fn range(alloc: Global, required: bool) -> Result<Vec<Value>, NoMemory>
     ensures { IfOk result (λ vs. map view vs.items ≡ document.range_data required) }
 {
@@ -161,7 +162,7 @@ fn parameter(alloc: Global, name: &str, required: bool) -> Result<Value, NoMemor
     Ok(json!(in alloc; {"multi": false, "name": name, "required": required})?)
 }
 
-/// The formats of the data, where it comes from, and that any range of time may be asked for.
+/// The formats of the data, its source, and that any range of time may be requested.
 fn info(alloc: Global, role: &Role, publisher: &[u8]) -> Result<Value, NoMemory>
     requires role { IsPlainRole role.now }
     requires publisher { IsPlain publisher.now }
@@ -200,7 +201,7 @@ fn secondary_info(alloc: Global, url: &str) -> Result<Value, NoMemory>
     })?)
 }
 
-/// The three texts, one after another.
+/// The three texts joined.
 fn url(alloc: Global, scheme: &str, authority: &str, path: &str) -> Result<String, NoMemory>
     ensures { IfOk result (λ text. string_bytes text ≡ scheme.now ++ authority.now ++ path.now) }
 {

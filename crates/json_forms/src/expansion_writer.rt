@@ -15,8 +15,8 @@ use std::marker::Model;
 use td_base::{Bytes, NoMemory};
 use td_civil::{Moment, Observance};
 
-/// The observances of a time zone in a range of time that are being written as JSON (RFC 7808,
-/// sections 5.4 and 6.3), one after another. After `NoMemory` it is no longer the beginning of such
+/// A JSON document of a zone's observances in a range (RFC 7808, sections 5.4 and 6.3), while it is
+/// written one observance at a time. After `NoMemory` the bytes are no longer the beginning of such
 /// a document.
 #[derive(Drop)]
 pub struct ExpansionWriter {
@@ -32,7 +32,7 @@ impl Model for ExpansionWriter {
 }
 
 impl ExpansionWriter {
-    /// Begins the document of a range with this end, after the bytes.
+    /// Begins the document of a range with this end. It is appended to the given bytes.
     pub fn begin(before: Bytes, until: Moment) -> Result<ExpansionWriter, NoMemory>
         requires { IsWithinBounds until.seconds }
         ensures { IfOk result (IsExpansionBegun before until.seconds []) }
@@ -57,8 +57,8 @@ impl ExpansionWriter {
         Ok(())
     }
 
-    /// Ends the document with the zone's name as it was asked for and the start of the range. The
-    /// bytes, and after them the document.
+    /// Ends the document with the zone's name as requested and the start of the range. Returns the
+    /// given bytes, followed by the document.
     pub fn end(self, tzid: &[u8], from: Moment) -> Result<Bytes, NoMemory>
         requires tzid { IsPlain tzid.now }
         requires from { IsWithinBounds from.seconds }
@@ -77,7 +77,7 @@ impl ExpansionWriter {
 }
 
 /// Appends the observances of a time zone from one moment to another as JSON (RFC 7808, section
-/// 6.3), under the zone's name as it was asked for.
+/// 6.3). The zone is named as it was requested.
 pub fn expand_text(
     alloc: Global,
     out: &mut Bytes,

@@ -7,7 +7,7 @@ use serde_json::{Error, Value};
 use std::alloc::Global;
 use td_base::NoMemory;
 
-/// The JSON value that the bytes are, if they are one.
+/// The JSON value that the bytes encode, or None where they are not JSON.
 pub(crate) fn read_value(alloc: Global, bytes: &[u8]) -> Result<Option<Value>, NoMemory>
     ensures { IfOk result (λ found. option_map view found ≡ json_in bytes.now) }
 {
@@ -20,7 +20,7 @@ pub(crate) fn read_value(alloc: Global, bytes: &[u8]) -> Result<Option<Value>, N
     }
 }
 
-/// That nothing was read for another cause than memory.
+/// Returns `NoMemory` if reading failed because memory ran out.
 fn check_memory(error: &Error) -> Result<(), NoMemory>
     ensures ok { OnOk result (¬ IsMemory error.now) }
     ensures err { OnErr result (IsMemory error.now) }

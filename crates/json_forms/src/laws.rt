@@ -1,4 +1,4 @@
-//! Laws of the documents.
+//! Laws of the documents. Each is the contract of a function with an empty body.
 ghost use Rattle.std.specs.Prelude.{◌≡◌, ℕ, ℤ, List, Some, Ok};
 ghost use Rattle.std.specs.List.{AllByRecursion};
 ghost use Rattle.serde_json.specs.Read.{read};
@@ -15,8 +15,8 @@ ghost use Rattle.json_forms.specs.ListReading.{list_read};
 ghost use Rattle.json_forms.specs.ProblemDocument.{problem_data, problem_document, problem_in};
 ghost use Rattle.json_forms.specs.SoundLists.{IsSoundList};
 
-/// The text of a list reads as the tree that it is the text of, and where the list is sound, as
-/// that list.
+/// Reading the text of a list gives the tree that it was printed from. If the list is sound, it
+/// gives that list.
 #[tactic(auto, using(crate::proofs::lemmas::ListReads::list_reads, crate::proofs::lemmas::ListFound::list_back))]
 pub fn list_reads_back()
     ensures tree { (token : List ℕ) (zones : List ListZone)
@@ -25,7 +25,7 @@ pub fn list_reads_back()
         → list_read (list_document list.token list.zones) ≡ Ok list }
 {}
 
-/// The text of a problem reads as the tree that it is the text of, and tells of that problem.
+/// Reading the text of a problem gives the tree that it was printed from, and that problem.
 #[tactic(auto, using(crate::proofs::lemmas::ProblemReads::problem_reads, crate::proofs::lemmas::ProblemReads::problem_found))]
 pub fn problem_reads_back()
     ensures tree { (problem : Problem)
@@ -34,7 +34,7 @@ pub fn problem_reads_back()
         → problem_in (problem_document problem) ≡ Some problem }
 {}
 
-/// The text of an expansion reads as the tree that it is the text of.
+/// Reading the text of an expansion gives the tree that it was printed from.
 #[tactic(auto, using(crate::proofs::ExpansionReads::expansion_reads))]
 pub fn expansion_reads_back()
     ensures { (tzid : List ℕ) (from until : ℤ) (observances : List Observance)
@@ -43,7 +43,7 @@ pub fn expansion_reads_back()
         ≡ Some (expansion_data tzid from until observances) }
 {}
 
-/// The text of a table of leap seconds reads as the tree that it is the text of.
+/// Reading the text of a table of leap seconds gives the tree that it was printed from.
 #[tactic(auto, using(crate::proofs::LeapReads::table_reads))]
 pub fn leap_reads_back()
     ensures { (leaps : Leaps) (publisher version : List ℕ) → AllByRecursion HasOffset leaps.steps

@@ -17,7 +17,7 @@ use td_base::{Bytes, NoMemory};
 use td_civil::{Moment, utc_text};
 
 /// Appends the table of leap seconds as JSON (RFC 7808, section 6.4), with the publisher and the
-/// version of the release that it is of.
+/// version of its release.
 pub fn leap_text(
     alloc: Global,
     out: &mut Bytes,
@@ -106,7 +106,7 @@ fn put_step(out: &mut Writer, step: LeapStep) -> Result<(), NoMemory>
     Ok(())
 }
 
-/// Writes a member whose value is the date of a day that is counted from 1970-01-01.
+/// Writes a member whose value is a date. The day is counted from 1970-01-01.
 #[tactic(auto, using(crate::proofs::lemmas::PlainStamps::date_is_plain))]
 fn put_date(out: &mut Writer, name: &str, day: i64) -> Result<(), NoMemory>
     requires { IsWithinBounds (start_of_day day) }

@@ -1,14 +1,16 @@
 //! The JSON documents of the service (RFC 7808, section 6, and RFC 7807), with exact texts.
 //!
 //! Each document is defined in `specs/` as a tree of `serde_json`'s data, and its text is the
-//! compact text of that tree: the list of time zones is `list_document`, the observances of one
-//! `expansion_document`, what the service can do `capabilities_document`, the table of leap seconds
-//! `leap_document`, and why a request is refused `problem_document`. Those that grow with the data
-//! are written token by token, and `ListWriter` and `ExpansionWriter` take one item at a time; the
-//! others are built as a `Value` and printed.
+//! compact text of that tree. The list of time zones is `list_document`, the observances of one
+//! zone `expansion_document`, the capabilities `capabilities_document`, the leap seconds
+//! `leap_document`, and a refusal `problem_document`.
+//!
+//! Documents that grow with the data are written token by token: `ListWriter` and `ExpansionWriter`
+//! take one item at a time. The others are built as a `Value` and printed. The server writes these
+//! documents (`actions`), and its clients read them (`mirror`, `made_load`).
 #![tactic(auto)]
 
-// What a list and a problem hold, and why bytes are no list.
+// What a list and a problem hold, and why bytes are not a list.
 mod list_fault;
 mod problem_type;
 mod zone_list;

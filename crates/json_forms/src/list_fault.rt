@@ -2,13 +2,13 @@ use std::error::Error;
 use std::fmt;
 use td_base::NoMemory;
 
-/// Why bytes are no list of time zones.
+/// Why bytes are not a list of time zones.
 #[derive(Clone, Copy, Debug, PartialEq, Eq)]
 pub enum BadList {
-    /// There is no memory for the list.
+    /// Memory ran out.
     NoMemory,
-    /// The entry of this number, counted from 1, is none; or, at 0, the document itself is no list,
-    /// or has more zones or names than a release may have.
+    /// The number of the first bad entry, counted from 1. It is 0 where the document itself is not
+    /// a list, or has more zones or names than a release may have.
     BadList(usize),
 }
 

@@ -15,7 +15,8 @@ use serde_json::Value;
 use td_base::{is_identifier, is_label};
 use td_civil::moment_of;
 
-/// Where the value is no list: 0 for the value itself, and the numbers from 1 for its entries.
+/// Where the value stops being a list: 0 for the value itself, and the numbers from 1 for its
+/// entries. None for a list.
 #[tactic(auto, unfolding(crate::specs::ListReading::list_fault))]
 pub(crate) fn list_fault(list: &Value) -> Option<usize>
     ensures { result ≡ reading.list_fault (view list.now) }
@@ -29,7 +30,7 @@ pub(crate) fn list_fault(list: &Value) -> Option<usize>
     }
 }
 
-/// Whether the value is a list, whatever its entries are.
+/// Whether the value is a list, regardless of its entries.
 #[tactic(auto, unfolding(crate::specs::ListReading::is_list))]
 fn is_list(list: &Value) -> bool
     ensures { result ≡ reading.is_list (view list.now) }
@@ -86,7 +87,7 @@ fn item_count(items: &[Value]) -> usize
     items.len()
 }
 
-/// The number of the first entry that is none.
+/// The number of the first bad entry, counted from 1.
 fn entry_fault(entries: &[Value]) -> Option<usize>
     ensures { result ≡ reading.entry_fault 1 (items_view entries.now) }
 {
@@ -172,7 +173,7 @@ fn has_text(object: &Value, name: &str) -> bool
     }
 }
 
-/// Whether the aliases are a list of identifiers, or are left out.
+/// Whether the aliases are a list of identifiers, or are absent.
 fn has_aliases(entry: &Value) -> bool
     ensures { result ≡ reading.aliases_pass (get (codes "aliases") (view entry.now)) }
 {

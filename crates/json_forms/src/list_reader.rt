@@ -14,8 +14,8 @@ use std::alloc::Global;
 use td_base::{Bytes, Items, NoMemory};
 use td_civil::{Moment, moment_of};
 
-/// The list of time zones that a body is (RFC 7808, section 6.2). Members of other names are
-/// ignored, and of a member given twice the last one counts.
+/// The list of time zones that a body encodes (RFC 7808, section 6.2). Unknown members are ignored.
+/// If a member is given twice, the last one counts.
 pub fn read_list(alloc: Global, bytes: &[u8]) -> Result<ListDoc, BadList>
     ensures found { IfOk result (λ list. reading.list_read bytes.now ≡ Ok list) }
     ensures fault { IfErr result
@@ -27,7 +27,7 @@ pub fn read_list(alloc: Global, bytes: &[u8]) -> Result<ListDoc, BadList>
     }
 }
 
-/// The list that a value is. It is judged without memory, and only a list takes any.
+/// The list that a value encodes. It is judged without memory, and only a valid list takes any.
 #[tactic(auto, unfolding(crate::specs::ListReading::list_found))]
 fn list_in(alloc: Global, value: &Value) -> Result<ListDoc, BadList>
     ensures found { IfOk result (λ list. reading.list_found (view value.now) ≡ Ok list) }
@@ -42,7 +42,7 @@ fn list_in(alloc: Global, value: &Value) -> Result<ListDoc, BadList>
     }
 }
 
-/// What is taken of a value, as a list.
+/// The list with the members of a value that was judged to be a list.
 #[tactic(auto, unfolding(crate::specs::ListReading::list_of))]
 fn list_of(alloc: Global, value: &Value) -> Result<ListDoc, NoMemory>
     ensures { IfOk result (λ list. list ≡ reading.list_of (view value.now)) }
@@ -86,7 +86,7 @@ fn zone_in(alloc: Global, entry: &Value) -> Result<ListZone, NoMemory>
     })
 }
 
-/// The moment that a text spells, and that of 1970 where it spells none.
+/// The moment that a text encodes, or 1970-01-01T00:00:00Z where it encodes none.
 fn moment_in(text: &str) -> Moment
     ensures { result.seconds ≡ unwrap_or (moment_meant text.now) (pos 0) }
 {

@@ -16,8 +16,8 @@ use std::alloc::Global;
 use std::marker::Model;
 use td_base::{Bytes, NoMemory};
 
-/// A list of time zones that is being written as JSON (RFC 7808, sections 5.2 and 6.2), zone by
-/// zone. After `NoMemory` it is no longer the beginning of a list.
+/// A list of time zones as JSON (RFC 7808, sections 5.2 and 6.2), while it is written zone by zone.
+/// After `NoMemory` the bytes are no longer the beginning of a list.
 #[derive(Drop)]
 pub struct ListWriter {
     out: Writer,
@@ -32,7 +32,7 @@ impl Model for ListWriter {
 }
 
 impl ListWriter {
-    /// Begins the list with its synchronization token, after the bytes.
+    /// Begins the list with its synchronization token. It is appended to the given bytes.
     pub fn begin(before: Bytes, token: &[u8]) -> Result<ListWriter, NoMemory>
         requires { IsPlain token.now }
         ensures { IfOk result (IsListBegun before token.now []) }
@@ -56,7 +56,7 @@ impl ListWriter {
         Ok(())
     }
 
-    /// Ends the list. The bytes, and after them the list.
+    /// Ends the list. Returns the given bytes, followed by the list.
     pub fn end(self) -> Result<Bytes, NoMemory>
         ensures { (before token : List ℕ) (zones : List ListZone)
             → IsListBegun before token zones self
@@ -69,8 +69,8 @@ impl ListWriter {
     }
 }
 
-/// Appends the list of the zones as JSON, with the synchronization token of the list (RFC 7808,
-/// sections 5.2 and 6.2).
+/// Appends the list of the zones as JSON, with its synchronization token (RFC 7808, sections 5.2
+/// and 6.2).
 pub fn list_text(
     alloc: Global,
     out: &mut Bytes,
@@ -118,7 +118,7 @@ fn put_zone(out: &mut Writer, zone: &ZoneTexts<'_>) -> Result<(), NoMemory>
     Ok(())
 }
 
-/// Writes the member of the aliases, where there are any.
+/// Writes the member of the aliases, if there are any.
 fn put_aliases(out: &mut Writer, aliases: &[Bytes]) -> Result<(), NoMemory>
     requires { AllByRecursion IsPlain aliases.now }
     ensures tokens { OnOk result (out.new.tokens ≡ out.old.tokens ++ alias_tokens aliases.now) }

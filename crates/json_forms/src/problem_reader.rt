@@ -20,7 +20,7 @@ const PROBLEMS: &[Problem] = &[
     Problem::InvalidPattern,
 ];
 
-/// The problem that a body tells of (RFC 7807, section 3.1). None where the bytes are no JSON
+/// The problem that a body reports (RFC 7807, section 3.1). None where the bytes are not a JSON
 /// object, or its member `type` is none of the types of [`Problem`].
 pub fn read_problem(alloc: Global, bytes: &[u8]) -> Result<Option<Problem>, NoMemory>
     ensures { IfOk result (λ found. found ≡ problem_in bytes.now) }
@@ -31,7 +31,7 @@ pub fn read_problem(alloc: Global, bytes: &[u8]) -> Result<Option<Problem>, NoMe
     }
 }
 
-/// The problem that a value tells of.
+/// The problem that a value reports.
 fn problem_of(value: &Value) -> Option<Problem>
     ensures { result ≡ option_and_then problem_named (type_member (view value.now)) }
 {
@@ -41,7 +41,7 @@ fn problem_of(value: &Value) -> Option<Problem>
     }
 }
 
-/// The first of the problems that the URN names.
+/// The first of the problems that the URN identifies.
 #[tactic(auto, unfolding(crate::specs::ProblemDocument::has_type))]
 fn named_in(problems: &[Problem], urn: &str) -> Option<Problem>
     ensures { result ≡ find (has_type urn.now) problems.now }

@@ -14,7 +14,7 @@ pub enum Problem {
 }
 
 impl Problem {
-    /// The status of the reply (RFC 9110, section 15).
+    /// The HTTP status of the reply (RFC 9110, section 15).
     pub fn status(self) -> u16
         ensures { result ≡ status_of self }
     {
@@ -25,7 +25,7 @@ impl Problem {
         }
     }
 
-    /// The title, for people.
+    /// The title, for human readers.
     pub(crate) fn title(self) -> &'static str
         ensures { result.now ≡ title_of self }
     {
@@ -40,7 +40,7 @@ impl Problem {
         }
     }
 
-    /// The URN that names the problem (RFC 7808, section 10.4).
+    /// The URN that identifies the problem (RFC 7808, section 10.4).
     pub(crate) fn urn(self) -> &'static str
         ensures { result.now ≡ type_of self }
     {

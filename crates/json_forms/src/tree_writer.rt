@@ -1,5 +1,5 @@
-//! Documents are written token by token. Each function appends the tokens of one tree, or of one
-//! member of an object.
+//! Writes documents token by token. Each function appends the tokens of one tree, or of one member
+//! of an object.
 ghost use Rattle.std.specs.Prelude.{◌≡◌, ◌++◌, [], ◌∷◌, OnOk};
 ghost use Rattle.std.specs.List.{AllByRecursion};
 ghost use Rattle.json.specs.Token.{key as key_token, string as string_token};

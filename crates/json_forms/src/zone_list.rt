@@ -9,7 +9,7 @@ pub struct ListZone {
     pub tzid: Bytes,
     /// The tag of the zone's content, without quotes.
     pub etag: Bytes,
-    /// When the zone's content last changed.
+    /// When the zone's content last changed, in UTC.
     pub stamp: Moment,
     pub publisher: Bytes,
     pub version: Bytes,
@@ -24,13 +24,13 @@ pub struct ListDoc {
     pub zones: Items<ListZone>,
 }
 
-/// A time zone of the list whose texts lie elsewhere.
+/// A time zone of the list, with borrowed texts.
 #[derive(Clone, Copy, Drop)]
 pub struct ZoneTexts<'a> {
     pub tzid: &'a [u8],
     /// The tag of the zone's content, without quotes.
     pub etag: &'a [u8],
-    /// When the zone's content last changed.
+    /// When the zone's content last changed, in UTC.
     pub stamp: Moment,
     pub publisher: &'a [u8],
     pub version: &'a [u8],
@@ -41,7 +41,7 @@ pub struct ZoneTexts<'a> {
 impl ListZone {
     ghost use Rattle.json_forms.specs.ToldZone.{told_zone};
 
-    /// The zone, with its texts lying in this one.
+    /// The zone, with texts borrowed from this one.
     pub fn texts(&self) -> ZoneTexts<'_>
         ensures { told_zone result ≡ self.now }
     {

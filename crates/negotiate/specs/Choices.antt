@@ -1,5 +1,6 @@
 -- The format that an Accept field chooses.
-use Rattle.std.specs.Prelude.{◌≡◌, ℕ, List, [], ◌∷◌, find, max, ◌==◌, if◌then◌else◌, Option, Some, None}
+use Rattle.std.specs.Prelude.{◌≡◌, ℕ, List, [], ◌∷◌, find, max, ◌==◌, if◌then◌else◌, Option, Some}
+use Rattle.std.specs.Prelude.{None}
 use Rattle.std.specs.Prelude.{option_map, codes}
 use Rattle.negotiate.specs.Qualities.{quality_of_range}
 use Rattle.negotiate.specs.declared.choosing.Format.{Format}
@@ -7,16 +8,16 @@ use Rattle.negotiate.specs.declared.choosing.Format.TheVariants.{Calendar, Tzif,
 use Rattle.negotiate.specs.declared.choosing.Offer.{Offer}
 
 -- the first of the qualities that there is, or none at all
-abbrev pub first_of : Option ℕ → Option ℕ → Option ℕ → ℕ
-first_of (Some exact) group any = exact
-first_of None (Some group) any = group
-first_of None None (Some any) = any
-first_of None None None = 0
+abbrev pub first_choice : Option ℕ → Option ℕ → Option ℕ → ℕ
+first_choice (Some exact) group any = exact
+first_choice None (Some group) any = group
+first_choice None None (Some any) = any
+first_choice None None None = 0
 
 -- the quality of a format is that of the most specific range that names it
 unfoldable pub quality_of : List ℕ → List ℕ → List ℕ → ℕ
 quality_of exact group field =
-    first_of (quality_of_range exact field) (quality_of_range group field)
+    first_choice (quality_of_range exact field) (quality_of_range group field)
     (quality_of_range (codes "*/*") field)
 
 -- a format, with its media type and the range of all subtypes of its type

@@ -15,16 +15,16 @@ pub enum Format {
     CalendarJson,
 }
 
-/// A format, and the ranges of an Accept field that name it.
+/// A format, with the ranges of an Accept field that include it.
 struct Offer {
     format: Format,
     /// Its media type.
     exact: &'static [u8],
-    /// All subtypes of its type.
+    /// The range of all subtypes of its type.
     group: &'static [u8],
 }
 
-/// The formats, in the order in which they are preferred.
+/// The formats, most preferred first.
 const OFFERS: [Offer; 3] = [
     Offer {
         format: Format::Calendar,
@@ -43,11 +43,11 @@ const OFFERS: [Offer; 3] = [
     },
 ];
 
-/// The format that an Accept field chooses (RFC 9110, section 12.5.1), if it accepts one.
+/// The format that an Accept field chooses (RFC 9110, section 12.5.1). `None` if it accepts none.
 ///
-/// Without a field that is the calendar. Ranges are compared without case. An element that names
-/// none of the formats, or has a malformed quality, is ignored, and so are all parameters but the
-/// first `q`. The quality of a format is that of the most specific range that names it.
+/// Without a field the choice is `text/calendar`. Ranges are compared without case. An element that
+/// matches none of the formats, or has a malformed quality, is ignored, and so are all parameters
+/// but the first `q`. The quality of a format is that of the most specific range that includes it.
 #[tactic(auto, unfolding(crate::specs::Choices::chosen_format))]
 pub fn choose(accept: Option<&[u8]>) -> Option<Format>
     ensures { result ≡ choices.chosen_format (option_copied accept.entry) }
@@ -58,7 +58,7 @@ pub fn choose(accept: Option<&[u8]>) -> Option<Format>
     }
 }
 
-/// The first format of the largest quality, if that is not 0.
+/// The first of the formats with the largest quality. `None` if that is 0.
 fn best_format(field: &[u8], offers: &[Offer]) -> Option<Format>
     ensures { result ≡ choices.best_format field.now (map choices.named_offer offers.now) }
 {
@@ -74,7 +74,7 @@ fn best_format(field: &[u8], offers: &[Offer]) -> Option<Format>
     best
 }
 
-/// The quality of a format, by its own range and by that of its group.
+/// The quality of a format, by its own range, its group's, or `*/*`, in thousandths.
 #[tactic(auto, unfolding(crate::specs::Choices::quality_of))]
 fn quality_of(field: &[u8], exact: &[u8], group: &[u8]) -> u16
     ensures { result ≡ choices.quality_of exact.now group.now field.now }
@@ -86,9 +86,9 @@ fn quality_of(field: &[u8], exact: &[u8], group: &[u8]) -> u16
     )
 }
 
-/// The first of the qualities that there is, or none at all.
+/// The first quality that is given, or 0.
 fn first_of(exact: Option<u16>, group: Option<u16>, any: Option<u16>) -> u16
-    ensures { result ≡ choices.first_of exact group any }
+    ensures { result ≡ choices.first_choice exact group any }
 {
     exact.or(group).or(any).unwrap_or(0)
 }

@@ -1,7 +1,8 @@
-//! Content negotiation (RFC 9110): [`choose`] gives the format that `specs/Choices.antt` chooses
-//! for an Accept field, and [`none_match`] says whether an If-None-Match field has an entity tag,
-//! by `specs/Tags.antt`. Where no element names calendars as JSON, the choice is that among the
-//! other formats: [`unnamed_is_not_chosen`].
+//! Content negotiation (RFC 9110). [`choose`] gives the format that an Accept field chooses
+//! (`specs/Choices.antt`), and [`none_match`] whether an If-None-Match field has an entity tag
+//! (`specs/Tags.antt`). [`unnamed_is_not_chosen`] is a theorem: if no element matches calendars as
+//! JSON, the choice is the same as among the other formats. It depends on `td_base`; `actions` uses
+//! it.
 #![tactic(auto)]
 
 // The choice of a format.
@@ -11,7 +12,7 @@ mod qualities;
 // Entity tags.
 mod tags;
 
-// Laws, and what may cross threads.
+// Theorems, and which types may cross threads.
 mod laws;
 mod send_sync;
 

@@ -8,7 +8,7 @@ ghost use Rattle.negotiate.specs.Qualities as qualities;
 
 use td_base::texts::{begins, cut, is_same, skip, trim};
 
-/// The largest quality that the field gives to a range, in thousandths.
+/// The largest quality that the field gives to a range, in thousandths. `None` if it gives none.
 pub fn quality_of_range(field: &[u8], range: &[u8]) -> Option<u16>
     ensures { result ≡ qualities.quality_of_range range.now field.now }
 {
@@ -22,7 +22,7 @@ pub fn quality_of_range(field: &[u8], range: &[u8]) -> Option<u16>
     best
 }
 
-/// The larger of the qualities that there are.
+/// The larger of the given qualities.
 fn larger_quality(a: Option<u16>, b: Option<u16>) -> Option<u16>
     ensures { result ≡ qualities.larger_quality a b }
 {
@@ -33,7 +33,8 @@ fn larger_quality(a: Option<u16>, b: Option<u16>) -> Option<u16>
     }
 }
 
-/// The quality that an element gives to a range, if it names it and has a quality.
+/// The quality that an element gives to a range, in thousandths. `None` if it is for another range
+/// or its quality is malformed.
 fn quality_for(element: &[u8], range: &[u8]) -> Option<u16>
     ensures { result ≡ qualities.quality_for range.now (pieces semicolon element.now) }
 {
@@ -44,7 +45,7 @@ fn quality_for(element: &[u8], range: &[u8]) -> Option<u16>
     quality_in(parameters)
 }
 
-/// The quality that the parameters give.
+/// The quality of the parameters, in thousandths: that of the first `q`, or 1000 without one.
 #[tactic(auto, unfolding(crate::specs::Qualities::quality_in))]
 fn quality_in(parameters: Option<&[u8]>) -> Option<u16>
     ensures { result
@@ -62,7 +63,7 @@ fn quality_in(parameters: Option<&[u8]>) -> Option<u16>
     Some(1000)
 }
 
-/// A quality in thousandths, if the text is one.
+/// Reads a quality in thousandths. `None` if the text is not one.
 #[tactic(auto, unfolding(crate::specs::Qualities::quality_value))]
 fn quality_value(text: &[u8]) -> Option<u16>
     ensures { result ≡ qualities.quality_value text.now }
@@ -82,7 +83,7 @@ fn is_whole(byte: u8) -> bool
     byte == b'0' || byte == b'1'
 }
 
-/// Whether nothing is left, or a point and up to three digits.
+/// Whether the rest is empty, or a point and up to three digits.
 fn is_fraction(rest: &[u8]) -> bool
     ensures is { result ≡ qualities.is_fraction rest.now }
     ensures short { IsTrue result → length rest.now ≤ 4 }
@@ -93,7 +94,7 @@ fn is_fraction(rest: &[u8]) -> bool
     }
 }
 
-/// Whether each byte is a digit.
+/// Whether all bytes are digits.
 fn has_digits(digits: &[u8]) -> bool
     ensures { result ≡ list_all is_ascii_digit digits.now }
 {

@@ -8,7 +8,7 @@ ghost use Rattle.negotiate.specs.Tags as tags;
 use td_base::texts::trim;
 
 /// Whether an If-None-Match field (RFC 9110, section 13.1.2) has this entity tag, which is given
-/// with its quotes. Weak tags are compared as strong ones, and a field `*` has every tag.
+/// with its quotes. Weak and strong tags compare as equal, and the field `*` matches every tag.
 #[tactic(auto, unfolding(crate::specs::Tags::none_match))]
 pub fn none_match(field: &[u8], tag: &[u8]) -> bool
     ensures { result ≡ tags.none_match field.now tag.now }
@@ -25,7 +25,7 @@ fn is_listed(field: &[u8], tag: &[u8]) -> bool
         .any(|piece| strong_tag(trim(piece)) == tag)
 }
 
-/// The tag without the mark of a weak one.
+/// The tag without the prefix of a weak one.
 fn strong_tag(tag: &[u8]) -> &[u8]
     ensures { result.now ≡ tags.strong_tag tag.now }
 {
