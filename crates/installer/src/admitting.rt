@@ -1,4 +1,4 @@
-//! What is asked of a release that is to follow another one.
+//! Checks that the admission rules make on a release that is to follow another one.
 ghost use Rattle.std.specs.Prelude.{◌≡◌, [], ◌∷◌, ◌++◌, None, Some, IfOk, IfErr};
 ghost use Rattle.catalogue.specs.Holdings.{StandsFor, release_held};
 ghost use Rattle.catalogue.specs.Releases.{release_data};
@@ -17,16 +17,16 @@ use subscribers::Subscribers;
 use td_base::Store;
 use zone_meaning::Zone;
 
-/// A catalogue that may be published, and what its last release changes, where a rule or a
-/// subscriber asks for that.
+/// A catalogue that may be published, and what its last release changes, if a rule or a subscriber
+/// needs the changes.
 #[derive(Drop)]
-pub struct Admitted {
+pub struct AdmittedRelease {
     pub catalogue: Catalogue<Zone>,
     pub delta: Option<Delta>,
 }
 
-/// The catalogue of the history of another one, with the release that a folder gives after it and
-/// that no rule refuses.
+/// Makes the next catalogue: the history of `last` with the release of a folder after it, if no
+/// rule refuses that release.
 pub fn admitted_in<S: Store>(
     alloc: Global,
     dir: &[u8],
@@ -34,7 +34,7 @@ pub fn admitted_in<S: Store>(
     last: &Catalogue<Zone>,
     rules: &Rules<'_>,
     subscribers: &Subscribers,
-) -> Result<Admitted, InstallFault>
+) -> Result<AdmittedRelease, InstallFault>
     ensures found { ForEachZoneHistory last.now (λ H.
         Installs (S.seen store.old) (S.seen store.new) dir.now rules.now.chosen H
         (λ a. H ++ release_held zone_bytes a.catalogue ∷ []) result) }
@@ -49,10 +49,11 @@ pub fn admitted_in<S: Store>(
     let release = check(alloc, dir, store, Some(last))?;
     let delta = judge(alloc, last, &release, rules, subscribers)?;
     let catalogue = last.next(alloc, release)?;
-    Ok(Admitted { catalogue, delta })
+    Ok(AdmittedRelease { catalogue, delta })
 }
 
-/// The same of the release of a manifest, whose files stand in the store's own top.
+/// Like [`admitted_in`], for the release of a manifest whose files are in the store's own top
+/// folder.
 pub fn admitted_stated<S: Store>(
     alloc: Global,
     manifest: &Manifest,
@@ -60,7 +61,7 @@ pub fn admitted_stated<S: Store>(
     last: &Catalogue<Zone>,
     rules: &Rules<'_>,
     subscribers: &Subscribers,
-) -> Result<Admitted, InstallFault>
+) -> Result<AdmittedRelease, InstallFault>
     ensures found { ForEachZoneHistory last.now (λ H.
         InstallsStated (S.seen store.old) (S.seen store.new) manifest.now rules.now.chosen H
         (λ a. H ++ release_held zone_bytes a.catalogue ∷ []) result) }
@@ -75,11 +76,11 @@ pub fn admitted_stated<S: Store>(
     let release = examine(alloc, manifest, b"", store, Some(last))?;
     let delta = judge(alloc, last, &release, rules, subscribers)?;
     let catalogue = last.next(alloc, release)?;
-    Ok(Admitted { catalogue, delta })
+    Ok(AdmittedRelease { catalogue, delta })
 }
 
-/// Asks the rules of a release that is to follow the one that a catalogue holds, and gives what it
-/// changes. Where there are neither rules nor subscribers nothing is compared.
+/// Applies the rules to the release that would follow the one a catalogue holds, and returns what
+/// changes. With neither rules nor subscribers nothing is compared.
 fn judge(
     alloc: Global,
     last: &Catalogue<Zone>,

@@ -15,7 +15,7 @@ use subscribers::Subscribers;
 use td_base::Store;
 use zone_meaning::Zone;
 
-/// The catalogue of a history that begins with the release of a folder.
+/// The catalogue of a new history whose first release is that of a folder.
 pub fn first_in<S: Store>(
     alloc: Global,
     dir: &[u8],
@@ -31,7 +31,7 @@ pub fn first_in<S: Store>(
     Ok(catalogue)
 }
 
-/// The catalogue of the history of another one, with the release that a folder gives after it.
+/// The catalogue of an existing history, extended by the release of a folder.
 pub fn next_in<S: Store>(
     alloc: Global,
     dir: &[u8],
@@ -49,8 +49,8 @@ pub fn next_in<S: Store>(
     Ok(admitted.catalogue)
 }
 
-/// The catalogue of a history that begins with the release of a manifest, whose files stand in the
-/// store's own top.
+/// The catalogue of a new history whose first release is that of a manifest. The files are in the
+/// store's own top folder.
 pub fn first_stated<S: Store>(
     alloc: Global,
     manifest: &Manifest,
@@ -66,7 +66,7 @@ pub fn first_stated<S: Store>(
     Ok(catalogue)
 }
 
-/// The catalogue of the history of another one, with the release of a manifest after it.
+/// The catalogue of an existing history, extended by the release of a manifest.
 pub fn next_stated<S: Store>(
     alloc: Global,
     manifest: &Manifest,

@@ -1,19 +1,19 @@
-//! Those who hear of what an install changes.
+//! Notifying subscribers of what an install changes.
 ghost use Rattle.std.specs.Prelude.{◌≡◌, List, OnErr, OnOk, map};
 ghost use Rattle.admission.specs.Differences.{difference};
 ghost use Rattle.catalogue.specs.Releases.{ReleaseData};
 ghost use Rattle.subscribers.specs.Views.{IsIdle, prepared};
 ghost use Rattle.installer.specs.Views.{IsMadeOut};
 
-use crate::asked::Asked;
+use crate::asked::InstallPolicy;
 use admission::Delta;
 use subscribers::Subscribers;
 use td_base::NoMemory;
 
-/// Prepares the notices of what the release at a place changes, where that was made out.
+/// Prepares the notices of what the release at a place changes, if the changes were computed.
 pub fn prepare(
     subscribers: &mut Subscribers,
-    asked: &Asked<'_>,
+    asked: &InstallPolicy<'_>,
     place: u32,
     delta: &Option<Delta>,
 ) -> Result<(), NoMemory>

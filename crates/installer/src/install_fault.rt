@@ -13,8 +13,8 @@ pub enum InstallFault {
     NoMemory,
     /// The folder is refused, or the store failed.
     Check(CheckFault),
-    /// The folder gives a release that the chosen rule at this position, counted from 1, is the
-    /// first to refuse.
+    /// A rule refuses the folder's release. The number is the position of the first rule that does,
+    /// counted from 1.
     Policy(u32),
 }
 
@@ -41,8 +41,8 @@ impl From<CheckFault> for InstallFault {
     }
 }
 
-/// The folder's fault. A name or a path that is not UTF-8 is left out; [`InstallFault::put`] writes
-/// its bytes as they are.
+/// Prints the folder's fault. A name or a path that is not UTF-8 is left out; [`InstallFault::put`]
+/// writes its bytes as they are.
 impl fmt::Display for InstallFault {
     ghost use Rattle.std.specs.Prelude.{Some};
     ghost use Rattle.installer.specs.FaultText.{shown_text};
@@ -63,8 +63,7 @@ impl Error for InstallFault {}
 impl InstallFault {
     ghost use Rattle.installer.specs.FaultText.{fault_text};
 
-    /// Appends the fault as it is printed. Where memory runs out
-    /// nothing is appended.
+    /// Appends the fault as it is printed. When memory runs out nothing is appended.
     pub fn put(&self, alloc: Global, out: &mut Bytes) -> Result<(), NoMemory>
         ensures ok { OnOk result (out.new ≡ out.old ++ fault_text self.now) }
         ensures err { OnErr result (out.new ≡ out.old) }

@@ -6,7 +6,7 @@ ghost use mathlib.Core.List.{IsPrefix};
 ghost use Rattle.catalogue.specs.Holdings.{StandsFor, history_of, release_held};
 ghost use Rattle.publication.specs.Views.{IsNewDesk};
 ghost use Rattle.subscribers.specs.Hearing.{all_hear};
-ghost use Rattle.subscribers.specs.News.{numbered};
+ghost use Rattle.subscribers.specs.News.{numbered_from};
 ghost use Rattle.subscribers.specs.Views.{changed_numbered, emptied, newcomer};
 ghost use Rattle.subscribers.specs.declared.subscriber_list.TheConstants.{MOST_SUBSCRIBERS};
 ghost use Rattle.td_base.specs.Views.{one_more};
@@ -16,12 +16,12 @@ ghost use Rattle.installer.specs.Installing.{GrowsBy, Installs, InstallsStated};
 ghost use Rattle.installer.specs.Serving.{FindsWhether, IsServed};
 ghost use Rattle.installer.specs.Views.{IsMadeOut, with_subscribers};
 
-use crate::admitting::{Admitted, admitted_in, admitted_stated};
-use crate::asked::Asked;
+use crate::admitting::{AdmittedRelease, admitted_in, admitted_stated};
+use crate::asked::InstallPolicy;
+use crate::comparing::is_stated;
 use crate::growing::{first_in, first_stated};
 use crate::hearing::prepare;
 use crate::install_fault::InstallFault;
-use crate::serving::is_stated;
 use catalogue::Catalogue;
 use publication::{Desk, Ended, Publisher, Receipt, make};
 use release_manifest::Manifest;
@@ -32,8 +32,8 @@ use subscribers::{Notices, SubscribeFault, Subscribers, Wish};
 use td_base::{NoMemory, Store};
 use zone_meaning::Zone;
 
-/// Publishes the catalogues of one history, and keeps who hears of installs. It is not `Drop`: each
-/// path ends it by `end` or `close`.
+/// Publishes the catalogues of one history, and keeps the subscribers to its installs. It is not
+/// `Drop`: each path ends it by `end` or `close`.
 pub struct Installer {
     publisher: Publisher<Catalogue<Zone>>,
     subscribers: Subscribers,
@@ -57,8 +57,8 @@ impl Model for Installer {
 }
 
 impl Installer {
-    /// Publishes the release of a first folder, for so many desks. No rule is asked of it. An empty
-    /// `dir` stands for the store's own top. Nothing is published after a fault.
+    /// Publishes the release of a first folder, for a given number of desks. No rule is applied to
+    /// it. An empty `dir` means the store's own top folder. Nothing is published after a fault.
     pub fn open<R: Wait, S: Store>(
         rt: &R,
         alloc: Global,
@@ -87,7 +87,8 @@ impl Installer {
         ))
     }
 
-    /// The same of a manifest that is at hand, whose files stand in the store's own top.
+    /// Like `open`, for a manifest that the caller has. The files are in the store's own top
+    /// folder.
     pub fn open_manifest<R: Wait, S: Store>(
         rt: &R,
         alloc: Global,
@@ -116,18 +117,18 @@ impl Installer {
         ))
     }
 
-    /// Publishes the release of one more folder, where the folder gives one after the history so
-    /// far and no rule refuses it. The rules are asked before the next catalogue is made, and this
-    /// before the publish, which is the last that may be refused, for want of memory alone. Where
-    /// the publish is refused at its last step, the installer is stuck: no later release is
-    /// published. It may wait for desks that are entering.
+    /// Publishes the release of one more folder, if the folder gives one after the history so far
+    /// and no rule refuses it. The rules are applied before the next catalogue is made. The publish
+    /// is the last step that may fail, and only when out of memory. If the publish is refused at
+    /// its last step, the installer is stuck: no later release is published. The call may wait for
+    /// desks that are entering.
     pub fn install<R: Wait, S: Store>(
         &mut self,
         rt: &R,
         alloc: Global,
         dir: &[u8],
         store: &mut S,
-        asked: &Asked<'_>,
+        asked: &InstallPolicy<'_>,
     ) -> Result<Receipt<Catalogue<Zone>>, InstallFault>
         ensures found { Installs (S.seen store.old) (S.seen store.new) dir.now
             asked.now.rules.chosen (history_of self.old.list) (λ r. history_of r.list) result }
@@ -152,14 +153,15 @@ impl Installer {
         Ok(receipt)
     }
 
-    /// The same of a manifest that is at hand, whose files stand in the store's own top.
+    /// Like `install`, for a manifest that the caller has. The files are in the store's own top
+    /// folder.
     pub fn install_manifest<R: Wait, S: Store>(
         &mut self,
         rt: &R,
         alloc: Global,
         manifest: &Manifest,
         store: &mut S,
-        asked: &Asked<'_>,
+        asked: &InstallPolicy<'_>,
     ) -> Result<Receipt<Catalogue<Zone>>, InstallFault>
         ensures found { InstallsStated (S.seen store.old) (S.seen store.new) manifest.now
             asked.now.rules.chosen (history_of self.old.list) (λ r. history_of r.list) result }
@@ -191,13 +193,13 @@ impl Installer {
         Ok(receipt)
     }
 
-    /// Publishes a catalogue that stands for the history with one release more. The notices are
-    /// prepared before it, and held once it is published.
+    /// Publishes a catalogue of the history with one more release. The notices are prepared before
+    /// it is published, and held once it is.
     fn publish<R: Wait>(
         &mut self,
         rt: &R,
-        next: Admitted,
-        asked: &Asked<'_>,
+        next: AdmittedRelease,
+        asked: &InstallPolicy<'_>,
     ) -> Result<Receipt<Catalogue<Zone>>, NoMemory>
         requires stands { StandsFor zone_bytes IsSound next.catalogue
             (history_of self.old.list ++ release_held zone_bytes next.catalogue ∷ []) }
@@ -230,8 +232,8 @@ impl Installer {
         }
     }
 
-    /// Adds a subscriber to what is published next, and gives its number, counted from 1. It is
-    /// refused as full exactly where [`subscribers::MOST_SUBSCRIBERS`] are there.
+    /// Adds a subscriber to what is published next, and returns its number, counted from 1. It is
+    /// refused as full exactly when [`subscribers::MOST_SUBSCRIBERS`] exist already.
     pub fn subscribe(&mut self, wish: Wish) -> Result<u32, SubscribeFault>
         ensures ok { OnOk result (self.new ≡ with_subscribers
             (self.old.subscribers ++ newcomer wish (length self.old.list) ∷ []) self.old) }
@@ -244,16 +246,16 @@ impl Installer {
         self.subscribers.subscribe(wish, place)
     }
 
-    /// What the subscriber of a number holds: the notices that were not cleared. None exactly where
-    /// there is no such subscriber. It takes no memory.
+    /// The notices that the subscriber of a number holds, which are those not cleared yet. None
+    /// exactly when no such subscriber exists. It allocates no memory.
     pub fn held(&self, number: u32) -> Option<Notices<'_>>
         ensures { option_map (λ held. held.now) result
-            ≡ option_map (λ s. s.held) (numbered self.now.subscribers number) }
+            ≡ option_map (λ s. s.held) (numbered_from self.now.subscribers number) }
     {
         self.subscribers.held(number)
     }
 
-    /// Drops what the subscriber of a number holds. It takes no memory.
+    /// Drops what the subscriber of a number holds. It allocates no memory.
     pub fn clear(&mut self, number: u32)
         requires some { 0 < number }
         requires there { number ≤ length self.old.subscribers }
@@ -263,10 +265,10 @@ impl Installer {
         self.subscribers.clear(number);
     }
 
-    /// Whether the release published last is the one that a manifest and its files state, which
-    /// stand in the store's own top: the same stamp, publisher, version and zones, leap seconds
-    /// aside. No file is judged or read further than one byte beyond what is published.
-    pub fn serves<S: Store>(
+    /// Whether the release published last is the one that a manifest and its files state: the same
+    /// stamp, publisher, version and zones, leap seconds aside. The files are in the store's own
+    /// top folder. No file is validated, or read further than one byte beyond what is published.
+    pub fn last_matches<S: Store>(
         &self,
         alloc: Global,
         manifest: &Manifest,
@@ -278,7 +280,7 @@ impl Installer {
         is_stated(alloc, manifest, store, self.last())
     }
 
-    /// A receipt of all that was published so far. It takes no memory, and is refused where the
+    /// A receipt of all that was published so far. It allocates no memory, and is refused when the
     /// last catalogue has too many owners.
     pub fn receipt(&self) -> Result<Receipt<Catalogue<Zone>>, NoMemory>
         ensures { IfOk result (λ r. (r.list ≡ self.now.list) × (r.pair ≡ self.now.pair)) }
@@ -286,7 +288,7 @@ impl Installer {
         self.publisher.receipt()
     }
 
-    /// The catalogue published last, which stands for the whole history.
+    /// The catalogue published last, which covers the whole history.
     pub fn last(&self) -> &Catalogue<Zone>
         ensures last { last_or None self.now.list ≡ Some result.now }
         ensures stands { StandsFor zone_bytes IsSound result.now (history_of self.now.list) }
@@ -294,7 +296,7 @@ impl Installer {
         self.publisher.last()
     }
 
-    /// Ends the history. After `Err` the installer is gone. It may wait for desks that are
+    /// Ends the history. After `Err` the installer is gone. The call may wait for desks that are
     /// entering.
     pub fn end<R: Wait>(self, rt: &R) -> Result<Ended<Catalogue<Zone>>, NoMemory>
         ensures ended { IfOk result (λ e. (e.pair ≡ self.pair) × (e.list ≡ self.list)) }
@@ -307,7 +309,7 @@ impl Installer {
         publisher.end(rt)
     }
 
-    /// Waits for desks that are entering, and gives up what is shown.
+    /// Waits for desks that are entering, and releases what was published.
     pub fn close<R: Wait>(self, rt: &R) {
         let Installer {
             publisher,

@@ -1,40 +1,44 @@
-//! Grows a history by the releases of folders, and publishes each.
+//! Installs releases: extends a history by the releases of folders, and publishes each.
 //!
-//! [`Installer::open`] publishes the release of a first folder for so many desks, and
-//! [`Installer::install`] that of one more. A release is published exactly where the folder gives
-//! it after the history so far, and where memory serves; every refusal leaves the history as it
-//! was. What an install says is `Installs` of specs/Installing.antt. [`first_in`] and [`next_in`]
-//! make the catalogues without publishing them.
+//! [`Installer::open`] publishes the release of a first folder for a given number of desks, and
+//! [`Installer::install`] that of one more. A release is published exactly when the folder gives it
+//! after the history so far, and memory suffices. For `install` it is also needed that no rule
+//! refuses it. Every refusal leaves the history as it was. The contract of an install is `Installs`
+//! of specs/Installing.antt. [`first_in`] and [`next_in`] make the catalogues without publishing
+//! them.
 //!
 //! [`Installer::open_manifest`], [`Installer::install_manifest`], [`first_stated`] and
-//! [`next_stated`] do the same of a manifest that is at hand, by `InstallsStated`.
-//! [`Installer::serves`] tells whether such a manifest and its files are what was published last,
+//! [`next_stated`] do the same for a manifest that the caller has, by `InstallsStated`.
+//! [`Installer::serves`] returns whether such a manifest and its files are what was published last,
 //! by `IsServed` of specs/Serving.antt.
 //!
-//! [`Installer::subscribe`] adds one who hears of later installs. What an install changes for it is
-//! prepared before the release is published and held once it is, as `all_hear` of the subscribers'
-//! crate says; a refused install leaves no notice.
+//! [`Installer::subscribe`] adds a subscriber to later installs. Its notice of an install is
+//! prepared before the release is published, and held once it is (`all_hear` of `subscribers`). A
+//! refused install leaves no notice.
+//!
+//! The crate stands on `release_check` (reading a folder), `admission` (rules), `subscribers` and
+//! `publication`. `td_top` calls it.
 #![tactic(auto)]
 
 // Installs, and why one is refused.
 mod install_fault;
 mod installing;
 
-// The catalogues that they publish, what is asked before, and who hears of them.
+// The catalogues that they publish, the rules applied before, and the subscribers.
 mod admitting;
 mod asked;
 mod growing;
 mod hearing;
 
-// Whether a release is published already.
-mod serving;
+// Whether a release is already published.
+mod comparing;
 mod sorting;
 
 // A law, and what may cross threads.
 mod laws;
 mod send_sync;
 
-pub use asked::Asked;
+pub use asked::InstallPolicy;
 pub use growing::{first_in, first_stated, next_in, next_stated};
 pub use install_fault::InstallFault;
 pub use installing::Installer;

@@ -1,13 +1,13 @@
-//! What goes from the thread that installs to those that serve, and the faults.
+//! What crosses from the installing thread to the serving threads, and the faults.
 use crate::InstallFault;
 use catalogue::Catalogue;
 use publication::{Desk, Receipt};
 use zone_meaning::Zone;
 
-/// Only a value that may go to another thread is lent to it.
+/// Accepts only a value that may move to another thread.
 fn sends<T: Send>(_value: &T) {}
 
-/// Only a value that threads may share is lent to it.
+/// Accepts only a value that threads may share.
 fn share<T: Send + Sync>(_value: &T) {}
 
 fn sends_all(

@@ -1,4 +1,4 @@
-//! Rising order by a text, of what is lent.
+//! Rising order by a text, over borrowed items.
 ghost use Rattle.std.specs.Prelude.{◌≡◌, ℕ, List, IfOk, map};
 ghost use Rattle.std.specs.Cmp.Lexicographic.{slice_cmp};
 ghost use Rattle.std.specs.Ordering.{nat_cmp};
@@ -9,11 +9,11 @@ use std::alloc::Global;
 use std::cmp::Ordering;
 use td_base::{Bytes, NoMemory};
 
-/// What has its place in an order by a text.
+/// An item that is ordered by a text.
 pub trait Ranked {
     ghost text: { Self → List ℕ };
 
-    /// The text.
+    /// The text that it is ordered by.
     fn text(&self) -> &[u8]
         ensures { result.now ≡ text self.now };
 }
@@ -41,7 +41,7 @@ fn compare<T: Ranked>(a: &T, b: &T) -> Ordering
     a.text().cmp(b.text())
 }
 
-/// The items, lent one by one.
+/// The items, borrowed one by one.
 fn lent<T>(alloc: Global, items: &[T]) -> Result<Vec<&T>, NoMemory>
     ensures { IfOk result (λ lent. map (λ x. x.now) lent.items ≡ items.now) }
 {

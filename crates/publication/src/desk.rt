@@ -17,7 +17,7 @@ use crate::shown::Shown;
 use std::marker::Model;
 use td_base::{NoMemory, Value};
 
-/// A desk holds the value that it saw last. One thread has it.
+/// The reader handle of one thread. It holds the last value that it has seen.
 #[derive(Drop)]
 pub struct Desk<V: Value> {
     // `None` only while the desk enters.
@@ -48,8 +48,8 @@ impl<V: Value> Model for Desk<V> {
         × (r.place.me.0.client.home ≡ home_of d.held.prefix.book)) };
 }
 
-/// What an enter found: the history up to what was shown, how many values that has, and what was
-/// shown, unless its copy was refused.
+/// The result of one enter: the history up to the shown edition and the number of its values.
+/// `edition` is a copy of it, unless the copy was refused.
 #[derive(Drop)]
 pub struct Found<V: Value> {
     pub prefix: Prefix<V>,
@@ -57,7 +57,7 @@ pub struct Found<V: Value> {
     pub edition: Option<Edition<V>>,
 }
 
-// What is shown, copied. Only the copy of the value's `Arc` may be refused.
+// Copies the shown edition. Only the copy of the value's `Arc` may be refused.
 fn copy_shown<V: Value>(shown: &Shown<V>) -> Option<Found<V>>
     ensures { MatchOption result
         (option_map (λ i. told_of (values i.prefix.log) (home_of i.prefix.book)) shown.now.edition
@@ -77,7 +77,7 @@ fn copy_shown<V: Value>(shown: &Shown<V>) -> Option<Found<V>>
     }
 }
 
-// One enter: takes what is shown, copies it and leaves. `None` where the enter is refused.
+// One enter: takes the shown edition, copies it and leaves. `None` if the enter is refused.
 fn enter_once<V: Value>(reader: DeskReader<V>) -> (DeskReader<V>, Option<Found<V>>)
     requires { (view reader.place).role ≡ AtDesk }
     ensures { MatchOption result.1
@@ -96,7 +96,7 @@ fn enter_once<V: Value>(reader: DeskReader<V>) -> (DeskReader<V>, Option<Found<V
     }
 }
 
-/// A desk that holds the edition of which its reader was told.
+/// A desk that holds the edition that its reader has learned.
 pub(crate) fn desk_over<V: Value>(reader: DeskReader<V>, edition: Edition<V>) -> Desk<V>
     requires role { (view reader.place).role ≡ AtDesk }
     requires list { (view reader.place).list ≡ values edition.prefix.log }
@@ -114,9 +114,10 @@ pub(crate) fn desk_over<V: Value>(reader: DeskReader<V>, edition: Edition<V>) ->
 }
 
 impl<V: Value> Desk<V> {
-    /// Enters what is shown, copies its value and leaves at once. It waits for nobody.
+    /// Loads the shown edition: enters, copies its value and leaves at once. It never waits.
     ///
-    /// `NoMemory` where the enter or the copy is refused; the desk then holds what it held.
+    /// `NoMemory` is the result if the enter or the copy is refused; the desk then keeps what it
+    /// held.
     pub fn enter(&mut self) -> Result<(), NoMemory>
         ensures ok { OnOk result
             ((self.new.enters ≡ self.old.enters + 1) × (self.new.seen ≡ self.new.entered)) }
@@ -140,8 +141,9 @@ impl<V: Value> Desk<V> {
             edition,
         } = found;
         are_of_one(&self.held.prefix, &prefix);
-        // What is shown is never older than what the desk was told of, but the two rules are
-        // apart, and neither says so. No schedule comes here.
+        // The shown edition is never older than what the desk has learned. But the rule of the
+        // history and that of the shown editions are separate, and neither says so. No schedule
+        // leads here.
         if number < self.held.number {
             return Err(NoMemory);
         }
@@ -164,8 +166,8 @@ impl<V: Value> Desk<V> {
         &self.held.value
     }
 
-    /// Takes in what the publisher told. The desk then holds the later value, its own or the
-    /// receipt's.
+    /// Applies a receipt of the publisher. The desk then holds the later of the two values, its own
+    /// or the receipt's.
     pub fn learn(&mut self, receipt: Receipt<V>)
         requires { receipt.pair ≡ self.old.pair }
         ensures told { IsPrefix receipt.list self.new.seen }

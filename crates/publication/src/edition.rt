@@ -8,8 +8,8 @@ use std::alloc::AllocError;
 use std::sync::Arc;
 use td_base::Value;
 
-/// What is shown: a value, the history up to it, its place there, counted from 1, and whether that
-/// history has ended.
+/// What is shown to the desks: a value, the history up to it, its place there, counted from 1, and
+/// whether the history has ended.
 #[derive(Drop)]
 pub struct Edition<V: Value> {
     pub value: Arc<V>,
@@ -37,7 +37,7 @@ impl<V: Value> Edition<V> {
         }
     }
 
-    /// The same once more. It takes no memory, and is refused where the value has too many owners.
+    /// A copy. It does not allocate, and is refused if the value has too many owners.
     pub fn again(&self) -> Result<Edition<V>, AllocError>
         ensures value { IfOk result (λ i. arc_value i.value ≡ arc_value self.now.value) }
         ensures rest { IfOk result (λ i. (i.prefix ≡ self.now.prefix)

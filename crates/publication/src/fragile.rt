@@ -1,5 +1,5 @@
-//! Copies that refuse a call, as those of `Shown` do only where memory is short: to try what then
-//! becomes of a publisher.
+//! Copies that refuse a call, for tests. Those of `Shown` do so only when out of memory; these show
+//! how the publisher behaves then.
 ghost use Rattle.std.specs.Prelude.{◌≡◌, [], ◌∷◌, Some, None, IfOk, refl, option_map};
 ghost use Rattle.left_right.specs.Sides.{view};
 ghost use Rattle.publication.specs.declared.view.SeatRole.TheVariants.{Desk as AtDesk};
@@ -22,9 +22,9 @@ use td_base::{NoMemory, Value};
 #[derive(Drop)]
 pub struct Fragile<V: Value> {
     edition: Option<Edition<V>>,
-    // How many calls have come.
+    // How many calls were made.
     calls: u32,
-    // The one that is refused, counted from 1; 0 where none is.
+    // The number of the call that is refused, counted from 1; 0 if none is.
     refused: u32,
 }
 
@@ -65,12 +65,12 @@ impl<V: Value> Sets<V> for Fragile<V> {
     }
 }
 
-/// A publisher over copies of which each refuses one call.
+/// A publisher whose two copies each refuse one call.
 pub type FragilePublisher<V> = PublisherOf<V, Fragile<V>>;
 
 type FragileReader<V> = ReaderOf<V, Fragile<V>>;
 
-/// Who looks at what such a publisher shows.
+/// A reader of what such a publisher shows.
 #[derive(Drop)]
 pub struct Onlooker<V: Value> {
     reader: FragileReader<V>,
@@ -78,7 +78,7 @@ pub struct Onlooker<V: Value> {
 }
 
 impl<V: Value> Onlooker<V> {
-    /// The number of the value that a desk would find, or none where its enter is refused.
+    /// The number of the value that a desk would find. `None` if its enter is refused.
     pub fn look(self) -> (Onlooker<V>, Option<u32>) {
         let Onlooker { reader } = self;
         let (reader, number) = found(reader);
@@ -109,8 +109,8 @@ fn vacant<V: Value>(refused: u32) -> Fragile<V>
     }
 }
 
-/// Publishes a first value over two copies of which these calls are refused, counted from 1, none
-/// for 0.
+/// Publishes a first value over two copies. `refused` has the number of the call that each copy
+/// refuses, counted from 1, or 0 for none.
 pub fn make_fragile<V: Value, R: Wait>(
     rt: &R,
     alloc: Global,

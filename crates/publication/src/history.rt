@@ -1,5 +1,5 @@
-//! The history: the values published, in one list that only grows, and at the end a mark. It exists
-//! in the proofs alone; at run time there is one word, which counts.
+//! The history: one list of all published values that only grows, with a mark at its end. It exists
+//! only in the proofs; at run time there is one word with the count.
 ghost use Rattle.std.specs.Prelude.{◌≡◌, ◌++◌, ◌∷◌, [], length, map, MatchBool, Some, None, IfSome};
 ghost use Rattle.std.specs.Prelude.{false};
 ghost use mathlib.Core.List.{IsPrefix};
@@ -11,7 +11,7 @@ use logbook::{Gain, Offer, Plain, Play, Rule, Seen, Start, Word};
 use std::marker::PhantomData;
 use td_base::Value;
 
-/// The rule of the history.
+/// The invariant of the history.
 pub struct HistoryRule<V> {
     values: PhantomData<V>,
 }
@@ -34,7 +34,7 @@ impl<V: Value> Rule<Option<V>, u64> for HistoryRule<V> {
     ghost moves = { λ ask before after answer. Unit {0} };
 }
 
-/// Who adds to the history trades nothing with others.
+/// The gain of a step that exchanges nothing with other threads.
 pub struct Nothing;
 
 impl<V> Gain<Option<V>, u64> for Nothing {
@@ -43,7 +43,7 @@ impl<V> Gain<Option<V>, u64> for Nothing {
     ghost after = { λ names about answer. ftrue };
 }
 
-/// A step that adds a value.
+/// The step that adds a value.
 pub struct Adding;
 
 impl<V> Play<Option<V>, u64> for Adding {
@@ -60,10 +60,10 @@ impl<V> Plain<V, Option<V>, u64> for Adding {
     ghost state = { λ x. None };
 }
 
-/// The same step, where it adds the mark of the end.
-pub struct Ending;
+/// The step that adds the mark of the end.
+pub struct EndMark;
 
-impl<V> Plain<(), Option<V>, u64> for Ending {
+impl<V> Plain<(), Option<V>, u64> for EndMark {
     ghost use Rattle.std.specs.Prelude.{None};
 
     ghost ask = { λ x. None };
@@ -71,15 +71,15 @@ impl<V> Plain<(), Option<V>, u64> for Ending {
     ghost state = { λ x. None };
 }
 
-/// A prefix of the history, as far as it was seen.
+/// A prefix of the history that was seen.
 pub type Prefix<V> = Seen<Option<V>, u64, HistoryRule<V>>;
 
-/// The history, for the one who adds to it.
+/// The history, as its single writer holds it.
 #[derive(Drop)]
 pub struct HistoryWriter<V: Value> {
     head: Word<Option<V>, u64, HistoryRule<V>>,
     pub prefix: Prefix<V>,
-    /// How often it was asked to grow.
+    /// How many times a value or the mark was to be added, saturating.
     pub tries: u64,
     count: u64,
     ghost counted: { count ≡ length prefix.log },
@@ -87,6 +87,7 @@ pub struct HistoryWriter<V: Value> {
 }
 
 impl<V: Value> HistoryWriter<V> {
+    /// An empty history.
     pub fn new() -> HistoryWriter<V>
         ensures { result.prefix.log ≡ [] }
     {
@@ -99,7 +100,7 @@ impl<V: Value> HistoryWriter<V> {
         }
     }
 
-    /// Adds a value, and says whether it did.
+    /// Adds a value, and returns whether it was added.
     pub fn add(&mut self, value: &V) -> bool
         requires going { ended_in self.old.prefix.log ≡ false }
         requires stands { V.stands value.now
@@ -113,7 +114,7 @@ impl<V: Value> HistoryWriter<V> {
         self.append::<V, Adding>(value)
     }
 
-    /// Adds the mark of the end, and says whether it did.
+    /// Adds the mark of the end, and returns whether it was added.
     pub fn finish(&mut self) -> bool
         requires going { ended_in self.old.prefix.log ≡ false }
         ensures book { self.new.prefix.book ≡ self.old.prefix.book }
@@ -122,10 +123,10 @@ impl<V: Value> HistoryWriter<V> {
             (self.new.prefix.log ≡ self.old.prefix.log ++ None ∷ [])
             (IsPrefix self.old.prefix.log self.new.prefix.log) }
     {
-        self.append::<(), Ending>(&())
+        self.append::<(), EndMark>(&())
     }
 
-    /// Adds what is asked for, a value or the mark of the end, and says whether it did.
+    /// Adds a value or the mark of the end, and returns whether it was added.
     fn append<X, M: Plain<X, Option<V>, u64>>(&mut self, about: &X) -> bool
         requires going { ended_in self.old.prefix.log ≡ false }
         requires waits { M.state about.now ≡ None }
@@ -160,8 +161,8 @@ impl<V: Value> HistoryWriter<V> {
     }
 }
 
-/// Two prefixes of one history begin one list, in which each value stands for what is up to it and
-/// nothing follows the mark.
+/// Two prefixes of one history are both prefixes of one list. In that list each value represents
+/// the values up to it, and nothing follows the mark.
 pub fn are_of_one<V: Value>(one: &Prefix<V>, other: &Prefix<V>)
     requires { other.now.book ≡ one.now.book }
     ensures { AreOfOne V.last V.stands one.now.log other.now.log }

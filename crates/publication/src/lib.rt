@@ -1,10 +1,10 @@
-//! One publisher of values, and desks that take the value which was published last and wait for
-//! nobody.
+//! One publisher of values, and desks that load the newest published value without waiting.
 //!
-//! [`make`] gives a publisher and its desks. [`Publisher::publish`] appends a value to the list of
-//! all that was published, and each [`Desk::enter`] gives the desk the value that is shown at that
-//! step. What a desk has seen only grows, and a desk that learns a [`Receipt`] has seen all that
-//! the receipt tells. What clauses see of each is one record of specs/Views.antt.
+//! [`make`] gives a publisher and its desks. [`Publisher::publish`] appends a value to the history,
+//! and each [`Desk::enter`] loads the value that is shown at that step. The history that a desk has
+//! seen only grows. A desk that learns a [`Receipt`] has seen all that the receipt covers. The
+//! views are the records of `specs/Views.antt`. It depends on `td_base`, `left_right`, `logbook`
+//! and `atomic_table`; `installer`, `connection` and `td_top` use it.
 #![tactic(auto)]
 
 // A publisher and its desks.
@@ -13,12 +13,12 @@ mod making;
 mod publisher;
 mod receipt;
 
-// What is shown to the desks, in two copies.
+// The two copies that are shown to the desks.
 mod edition;
 mod shown;
 mod stage;
 
-// The rules of what is shared: all that was published, and what is shown.
+// The invariants of what is shared: the history, and what is shown.
 mod history;
 mod rule;
 mod view;
@@ -26,7 +26,7 @@ mod view;
 // Copies that refuse a call, for tests.
 mod fragile;
 
-// What may cross threads.
+// Which types may cross threads.
 mod send_sync;
 
 pub use desk::Desk;

@@ -9,15 +9,15 @@ use crate::desk::{Desk, desk_over};
 use crate::edition::Edition;
 use crate::history::HistoryWriter;
 use crate::publisher::{Publisher, PublisherOf};
-use crate::rule::Stage;
+use crate::rule::ShownStage;
 use crate::shown::Shown;
 use crate::stage::{new_reader, open};
 use std::alloc::Global;
 use std::sync::{Arc, Wait};
 use td_base::{NoMemory, Value};
 
-// One desk, which holds the edition that is shown.
-fn desk_of<V: Value>(stage: &mut Stage<V>, edition: &Edition<V>) -> Result<Desk<V>, NoMemory>
+// Makes one desk, which holds the shown edition.
+fn desk_of<V: Value>(stage: &mut ShownStage<V>, edition: &Edition<V>) -> Result<Desk<V>, NoMemory>
     requires role { (view stage.old.desk.place).role ≡ AtStage }
     requires home { (view stage.old.desk.place).home ≡ home_of edition.now.prefix.book }
     requires list { (view stage.old.desk.place).list ≡ values edition.now.prefix.log }
@@ -32,9 +32,9 @@ fn desk_of<V: Value>(stage: &mut Stage<V>, edition: &Edition<V>) -> Result<Desk<
     Ok(desk_over(reader, edition))
 }
 
-// So many desks.
+// Makes `desks` desks.
 fn desks_of<V: Value>(
-    stage: &mut Stage<V>,
+    stage: &mut ShownStage<V>,
     alloc: Global,
     edition: &Edition<V>,
     desks: u32,
@@ -57,7 +57,7 @@ fn desks_of<V: Value>(
     Ok(made)
 }
 
-/// Publishes a first value, and makes so many desks, which hold it.
+/// Publishes a first value, and makes `desks` desks that hold it.
 pub fn make<V: Value, R: Wait>(
     rt: &R,
     alloc: Global,

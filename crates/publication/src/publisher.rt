@@ -19,21 +19,21 @@ use std::mem::replace;
 use std::sync::{Arc, Wait};
 use td_base::{NoMemory, Value};
 
-/// Appends values to the list of all that was published, and shows the last of them.
+/// The single writer: appends values to the history, and shows the last of them.
 pub type Publisher<V> = PublisherOf<V, Shown<V>>;
 
-/// A publisher after its end. It tells the whole list.
+/// A publisher after its end. Its receipts cover the whole history.
 pub type Ended<V> = EndedOf<V, Shown<V>>;
 
-/// A publisher over copies of the type `T`. It is not `Drop`: each path ends it by `end` or
-/// `close`.
+/// A publisher over copies of the type `T`. It is not `Drop`: `end` or `close` ends it on each
+/// path.
 pub struct PublisherOf<V: Value, T: Sets<V>> {
     // `None` only while it publishes.
     pub(crate) stage: Option<StageOf<V, T>>,
     pub(crate) history: HistoryWriter<V>,
     pub(crate) last: Edition<V>,
     pub(crate) alloc: Global,
-    // A value stands in the history that was not shown. Nothing is published from then on.
+    // The history has a value that was not shown. Every later publish is refused.
     pub(crate) stuck: bool,
 }
 
@@ -64,12 +64,12 @@ impl<V: Value, T: Sets<V>> Model for PublisherOf<V, T> {
 }
 
 impl<V: Value, T: Sets<V>> PublisherOf<V, T> {
-    /// Appends a value and shows it. It may wait for desks that are entering.
+    /// Appends a value to the history and shows it. It may wait for desks that are entering.
     ///
-    /// All memory but that of the operation that shows the value is taken before the history
-    /// grows. Where that is refused, what was published and shown is as before, and the publisher
-    /// is stuck: no later value is published. Where memory was refused before, the publisher is as
-    /// it was.
+    /// All memory is allocated before the history grows, except for the operation that shows the
+    /// value. If that operation is refused, readers see what they saw before, and the publisher is
+    /// stuck: it refuses every later publish. If memory is refused earlier, the publisher is
+    /// unchanged.
     pub fn publish<R: Wait>(&mut self, rt: &R, next: V) -> Result<Receipt<V>, NoMemory>
         requires { V.stands next (map V.last (self.old.list ++ next ∷ [])) }
         ensures ok { IfOk result (λ r. (r.pair ≡ self.old.pair)
@@ -96,8 +96,8 @@ impl<V: Value, T: Sets<V>> PublisherOf<V, T> {
             return Err(NoMemory);
         };
         let added: &V = &value;
-        // From here on the operation alone takes memory. It carries the history with the value in
-        // it, and so can be made only after the value was added.
+        // From here on only the operation allocates. It carries the history with the value in it,
+        // so it can be made only after the value was added.
         self.stuck = true;
         if !self.history.add(added) {
             return Err(NoMemory);
@@ -127,8 +127,8 @@ impl<V: Value, T: Sets<V>> PublisherOf<V, T> {
         &self.last.value
     }
 
-    /// A receipt of all that was published so far. It takes no memory, and is refused where the
-    /// last value has too many owners.
+    /// A receipt of all that was published so far. It does not allocate, and is refused if the last
+    /// value has too many owners.
     pub fn receipt(&self) -> Result<Receipt<V>, NoMemory>
         ensures { IfOk result (λ r. (r.list ≡ self.now.list) × (r.pair ≡ self.now.pair)) }
     {
@@ -138,8 +138,8 @@ impl<V: Value, T: Sets<V>> PublisherOf<V, T> {
         }
     }
 
-    /// Shows the last value once more, with the mark of the end. After `Err` the publisher is gone.
-    /// It may wait for desks that are entering.
+    /// Shows the last value again, with the mark of the end. After `Err` the publisher is gone. It
+    /// may wait for desks that are entering.
     pub fn end<R: Wait>(self, rt: &R) -> Result<EndedOf<V, T>, NoMemory>
         ensures ended { IfOk result (λ e. (e.pair ≡ self.pair) × (e.list ≡ self.list)) }
         ensures blocked { self.stuck ≡ true → IsErr result }
@@ -178,7 +178,7 @@ impl<V: Value, T: Sets<V>> PublisherOf<V, T> {
         })
     }
 
-    /// Waits for desks that are entering, and gives up what is shown. From then on each enter is
+    /// Waits for desks that are entering, and removes the shown value. From then on each enter is
     /// refused.
     pub fn close<R: Wait>(self, rt: &R) {
         let PublisherOf {
@@ -194,7 +194,7 @@ impl<V: Value, T: Sets<V>> PublisherOf<V, T> {
     }
 }
 
-/// What an ended publisher over copies of the type `T` leaves. It is not `Drop`: `close` ends it.
+/// A publisher over copies of the type `T` after its end. It is not `Drop`: `close` ends it.
 pub struct EndedOf<V: Value, T: Sets<V>> {
     stage: StageOf<V, T>,
     edition: Edition<V>,
@@ -218,7 +218,7 @@ impl<V: Value, T: Sets<V>> Model for EndedOf<V, T> {
 }
 
 impl<V: Value, T: Sets<V>> EndedOf<V, T> {
-    /// A receipt of the whole list.
+    /// A receipt of the whole history. It is refused if the last value has too many owners.
     pub fn receipt(&mut self) -> Result<Receipt<V>, NoMemory>
         ensures ok { IfOk result (λ r.
             (r.list ≡ self.old.list) × (r.pair ≡ self.old.pair) × (r.ended ≡ true)) }
@@ -230,7 +230,7 @@ impl<V: Value, T: Sets<V>> EndedOf<V, T> {
         }
     }
 
-    /// Waits for desks that are entering, and gives up what is shown. From then on each enter is
+    /// Waits for desks that are entering, and removes the shown value. From then on each enter is
     /// refused.
     pub fn close<R: Wait>(self, rt: &R) {
         let EndedOf { stage, edition: _ } = self;

@@ -2,8 +2,8 @@ use crate::edition::Edition;
 use std::marker::Model;
 use td_base::Value;
 
-/// What a publisher tells: a value, with all that was published up to it, and whether nothing
-/// follows.
+/// Proof that a version was published: a value, all values published up to it, and whether the
+/// history ends there.
 #[derive(Drop)]
 pub struct Receipt<V: Value> {
     pub(crate) edition: Edition<V>,

@@ -1,4 +1,4 @@
-//! The rule of what is shown, and what each step on it tells.
+//! The invariant of what is shown, and the meaning of each step on it.
 ghost use Rattle.publication.specs.ShownRule.{ShownHolds, OpensView, Publishes, Enters};
 ghost use Rattle.publication.specs.ShownRule.{spent, told, taken_over};
 
@@ -12,6 +12,7 @@ use left_right::writer::Writer;
 use std::marker::PhantomData;
 use td_base::Value;
 
+/// The invariant of what is shown to the desks.
 pub struct ShownRule<V> {
     values: PhantomData<V>,
 }
@@ -22,28 +23,28 @@ impl<V: Value, T: Sets<V>> Protocol<T, View<V>> for ShownRule<V> {
     ghost first = { spent };
 }
 
-/// The pair is made: the first value is shown.
+/// The step that shows the first value, when the pair of copies is made.
 pub struct Opening;
 
 impl<V: Value, T: Sets<V>> Outcome<T, View<V>> for Opening {
     ghost then = { OpensView T.content (λ t. t.list) (λ t. t.home) };
 }
 
-/// One value more is shown; or, at the end, the last one again.
+/// The step that shows the next value; or, at the end, the last one again.
 pub struct Publishing;
 
 impl<V: Value, T: Sets<V>> Outcome<T, View<V>> for Publishing {
     ghost then = { Publishes T.content (λ t. t.list) (λ t. t.home) };
 }
 
-/// A desk enters.
+/// The step of a desk that enters.
 pub struct Entering;
 
 impl<V: Value, T: Sets<V>> Outcome<T, View<V>> for Entering {
     ghost then = { Enters T.content (λ t. t.list) (λ t. t.home) };
 }
 
-/// The publisher tells its list.
+/// The step in which the publisher hands its history to a new reader.
 pub struct Telling;
 
 impl<V> Split<View<V>> for Telling {
@@ -52,7 +53,7 @@ impl<V> Split<View<V>> for Telling {
     ghost right = { told };
 }
 
-/// A new reader takes over what was told.
+/// The step in which a new reader takes that history over.
 pub struct TakingOver;
 
 impl<V> Join<View<V>> for TakingOver {
@@ -64,10 +65,12 @@ impl<V> Join<View<V>> for TakingOver {
 /// The side of a desk, over copies of the type `T`.
 pub type ReaderOf<V, T> = Reader<T, View<V>, ShownRule<V>>;
 
+/// The side of a desk.
 pub type DeskReader<V> = ReaderOf<V, Shown<V>>;
 
-/// The side of the publisher. The copies are of a type of their own, since a struct that is generic
-/// in the value cannot hold a writer of the copies of that value.
+/// The side of the publisher. The copies have a type parameter, since a struct that is generic in
+/// the value cannot hold a writer of the copies of that value.
 pub type StageOf<V, T> = Writer<T, Edition<V>, View<V>, ShownRule<V>>;
 
-pub type Stage<V> = StageOf<V, Shown<V>>;
+/// The side of the publisher.
+pub type ShownStage<V> = StageOf<V, Shown<V>>;

@@ -1,8 +1,8 @@
-//! Desks and receipts may go to other threads, wherever their values may be shared.
+//! Desks and receipts are `Send` when their values are `Send` and `Sync`.
 use crate::{Desk, Receipt};
 use td_base::Value;
 
-/// Only a value that may go to another thread is lent to it.
+/// Compiles only for types that are `Send`.
 fn sends<T: Send>(_value: &T) {}
 
 fn sends_all<V: Value + Send + Sync>(desk: &Desk<V>, receipt: &Receipt<V>) {

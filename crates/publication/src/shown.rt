@@ -1,4 +1,4 @@
-//! What is shown, in the two copies between which readers and publisher take turns.
+//! The two copies of what is shown, between which readers and publisher alternate.
 ghost use Rattle.std.specs.Prelude.{◌≡◌, Option, Some, refl, option_map};
 ghost use Rattle.publication.specs.declared.view.View.{View};
 ghost use Rattle.publication.specs.Histories.{values};
@@ -11,13 +11,13 @@ use left_right::Absorb;
 use std::alloc::AllocError;
 use td_base::Value;
 
-/// A copy of which each operation sets the whole.
+/// A copy that each operation replaces as a whole.
 pub trait Sets<V: Value>: Absorb<Edition<V>> + Drop {
     ghost content: { Self → Option (View V) };
 
     ghost of_state: { Self.State → Option (View V) };
 
-    /// Whether nothing is there.
+    /// Whether nothing is shown yet.
     fn is_vacant(&self) -> bool;
 
     ghost content_is: { (x : Self) → content x ≡ of_state (Self.state x) };
@@ -26,7 +26,7 @@ pub trait Sets<V: Value>: Absorb<Edition<V>> + Drop {
         ≡ Some (told_of (values op.prefix.log) (home_of op.prefix.book)) };
 }
 
-/// One copy: nothing until the first value is shown.
+/// One copy: empty until the first value is shown.
 #[derive(Drop)]
 pub struct Shown<V: Value> {
     pub edition: Option<Edition<V>>,

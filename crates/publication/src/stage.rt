@@ -14,8 +14,8 @@ use std::alloc::{AllocError, Global};
 use std::sync::Wait;
 use td_base::{NoMemory, Value};
 
-/// Shows an edition. At `Err` it is pending, and readers see what they saw; the edition that is
-/// shown next comes after it, so it never is.
+/// Shows an edition. On `Err` readers keep seeing the earlier edition. The new one stays pending
+/// and is never shown, since any later edition replaces it.
 pub(crate) fn show<V: Value, T: Sets<V>, R: Wait>(
     rt: &R,
     stage: StageOf<V, T>,
@@ -41,8 +41,8 @@ pub(crate) fn show<V: Value, T: Sets<V>, R: Wait>(
     (stage, Ok(()))
 }
 
-/// Makes what is shown of two copies, with a first edition. Nothing was shown before, so no reader
-/// can have seen less.
+/// Makes the two copies, and shows a first edition. Nothing was shown before, so no reader has seen
+/// more.
 pub(crate) fn open<V: Value, T: Sets<V>, R: Wait>(
     rt: &R,
     alloc: Global,
@@ -74,7 +74,7 @@ pub(crate) fn open<V: Value, T: Sets<V>, R: Wait>(
     Ok(stage)
 }
 
-/// The reader of a desk, which was told what is published.
+/// A new reader for a desk, which has learned the published history.
 pub(crate) fn new_reader<V: Value, T: Sets<V>>(
     stage: &mut StageOf<V, T>,
 ) -> Result<ReaderOf<V, T>, NoMemory>

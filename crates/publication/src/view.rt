@@ -1,23 +1,23 @@
-//! What the rule of what is shown knows of a seat. No value of these is made.
+//! What the invariant of what is shown knows of a seat. No value of these types exists at run time.
 
 use std::collections::LinkedList;
 
-/// What a seat is: the publisher, a desk, or one that is no longer used.
+/// The role of a seat: no longer used, the publisher, or a desk.
 pub enum SeatRole {
     Spent,
     Publisher,
     Desk,
 }
 
-/// Which history it is.
+/// The identity of a history.
 pub struct Home {
     pub number: u64,
     pub log: u64,
     pub cells: u64,
 }
 
-/// What a seat knows: which history it is of, the values that it has published, entered or was told
-/// of, and how often it has entered.
+/// The state of a seat: its history, the values that it has published, entered or learned, and how
+/// many times it has entered.
 pub struct View<V> {
     pub role: SeatRole,
     pub list: LinkedList<V>,

@@ -12,9 +12,9 @@ use Rattle.subscribers.specs.declared.notice.Notice.{Notice}
 use Rattle.subscribers.specs.declared.wish.Wish.{Wish}
 
 -- the item of a number, counted from 1
-abbrev pub numbered : {A : Type 0} → List A → ℕ → Option A
-numbered xs zero = None
-numbered xs (suc i) = slice_get xs i
+abbrev pub numbered_from : {A : Type 0} → List A → ℕ → Option A
+numbered_from xs zero = None
+numbered_from xs (suc i) = slice_get xs i
 
 -- the identifiers of those changed zones that a wish takes, in their order
 abbrev pub taken_from : Wish → List Changed → List (List ℕ)
@@ -32,7 +32,7 @@ notice_of wish place delta = notice_if_any place (taken_from wish delta.changed)
 -- the same of a history, by the release at the place and those before it
 abbrev pub notice_at : List ReleaseData → Wish → ℕ → Option Notice
 notice_at H wish k =
-    option_and_then (λ r. notice_of wish k (difference (take (k - 1) H) r)) (numbered H k)
+    option_and_then (λ r. notice_of wish k (difference (take (k - 1) H) r)) (numbered_from H k)
 
 -- for each place after the one at which the subscriber began, in their order, the place and the
 -- changed zones that its wish takes; a place without one is left out

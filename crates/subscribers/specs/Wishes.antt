@@ -23,15 +23,15 @@ abbrev pub takes : Wish → Changed → Bool
 takes wish change = takes_by wish.kind change wish
 
 -- whether two kinds are one
-abbrev pub same_kind : WishKind → WishKind → Bool
-same_kind kind.Any kind.Any = true
-same_kind kind.Under kind.Under = true
-same_kind kind.Past kind.Past = true
-same_kind one two = false
+abbrev pub same_wish_kind : WishKind → WishKind → Bool
+same_wish_kind kind.Any kind.Any = true
+same_wish_kind kind.Under kind.Under = true
+same_wish_kind kind.Past kind.Past = true
+same_wish_kind one two = false
 
 -- whether a kind is one of these
 abbrev pub is_wanted : List WishKind → WishKind → Bool
-is_wanted kinds kind = list_any (same_kind kind) kinds
+is_wanted kinds kind = list_any (same_wish_kind kind) kinds
 
 -- each kind is one of these
 abbrev pub WantsAll : List WishKind → Type 0

@@ -1,12 +1,17 @@
-//! Who wants to hear which zones an install changes, and what each was not yet told.
+//! Subscribers: who wants to be notified of zones that an install changes, and the notices that
+//! each has yet to clear.
 //!
-//! A [`Wish`] says which changes its subscriber wants to hear of: `takes` of specs/Wishes.antt. The
-//! tests of the kinds of wishes are kept as closures: a [`Want`] says yes exactly where its kind
-//! does, and whoever makes one shows that. [`Subscribers`] prepares a notice for each subscriber
-//! whose wish takes a zone of a release before that release is published, and adds it to what is
-//! held without memory after that. What a subscriber is owed is `news` of specs/News.antt.
-//! [`hears_each_change_once`] says that what was cleared for it, followed by what it holds, is
-//! exactly that, whatever is installed, refused, subscribed and cleared.
+//! A [`Wish`] is the filter of a subscriber; which changes it takes is `takes` of
+//! `specs/Wishes.antt`. The tests of the kinds of wishes are kept as closures. A [`Want`] returns
+//! true exactly where its kind takes the change, and its maker must prove that.
+//!
+//! Before a release is published, [`Subscribers`] prepares a notice for each subscriber whose wish
+//! takes a zone of it. After publishing, the notice is added to what the subscriber holds, without
+//! allocation. What a subscriber is owed is `news` of `specs/News.antt`. [`hears_each_change_once`]
+//! states that it gets exactly that, whatever is installed, refused, subscribed and cleared.
+//!
+//! Changes are those of `admission`. `installer` prepares and adds notices, and `console` prints
+//! them.
 #![tactic(auto)]
 
 // Wishes: their kinds, which changes they take, and the tests of the kinds.
@@ -14,7 +19,7 @@ mod taking;
 mod want;
 mod wish;
 
-// What is told, and to whom.
+// Notices, and their subscribers.
 mod notice;
 mod noticing;
 mod subscribe_fault;

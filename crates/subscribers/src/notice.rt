@@ -3,7 +3,7 @@ use td_base::{Bytes, Items};
 /// Identifiers of zones.
 pub type Names = Items<Bytes>;
 
-/// What a subscriber is told of one install.
+/// The notice of one install for a subscriber.
 #[derive(Drop)]
 pub struct Notice {
     /// The place of the installed release in the history, counted from 1.
@@ -12,5 +12,5 @@ pub struct Notice {
     pub tzids: Names,
 }
 
-/// Notices that are lent, the earliest first.
+/// Borrowed notices, the earliest first.
 pub type Notices<'n> = &'n [Notice];

@@ -1,14 +1,14 @@
 //! The notice of a wish, by the tests that are kept.
 ghost use Rattle.std.specs.Prelude.{◌≡◌, IfOk, map, true};
 ghost use Rattle.subscribers.specs.News as spec;
-ghost use Rattle.subscribers.specs.Wishes.{WantsAll, is_wanted, same_kind, takes};
+ghost use Rattle.subscribers.specs.Wishes.{WantsAll, is_wanted, same_wish_kind, takes};
 
 use crate::{Names, Notice, Want, Wish, WishKind};
 use admission::{Changed, Delta};
 use std::alloc::Global;
 use td_base::{Items, NoMemory};
 
-/// What a wish takes of what the release at a place changes, if it takes any of it.
+/// The notice of the release at a place, with the changes that a wish takes. None if it takes none.
 pub fn notice_of(
     alloc: Global,
     wants: &[Want],
@@ -42,7 +42,7 @@ fn taken_from(
     Ok(tzids)
 }
 
-/// The notice of a place, if it names a zone.
+/// The notice of a place, if it has a zone.
 fn notice_if_any(place: u32, tzids: Names) -> Option<Notice>
     ensures { result ≡ spec.notice_if_any place tzids }
 {
@@ -65,9 +65,9 @@ fn is_taken(wants: &[Want], wish: &Wish, change: &Changed) -> bool
     false
 }
 
-/// Whether two kinds are one.
+/// Whether two kinds are equal.
 fn is_kind(one: WishKind, two: WishKind) -> bool
-    ensures { result ≡ same_kind one two }
+    ensures { result ≡ same_wish_kind one two }
 {
     one == two
 }

@@ -1,5 +1,5 @@
-//! The types of this crate may be sent to other threads and shared with them. A test may not: it is
-//! asked by the thread that has it.
+//! The types of this crate may be sent to other threads and shared with them. A test may not: it
+//! runs on the thread that owns it.
 use crate::{Notice, SubscribeFault, Subscribers, Wish, WishKind};
 
 fn is_shared<T: Send + Sync>() {}

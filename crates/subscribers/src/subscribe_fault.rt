@@ -2,11 +2,11 @@ use std::error::Error;
 use std::fmt;
 use td_base::NoMemory;
 
-/// Why somebody did not become a subscriber.
+/// Why a subscription was refused.
 #[derive(Clone, Copy, Debug, PartialEq, Eq)]
 pub enum SubscribeFault {
     NoMemory,
-    /// There are [`MOST_SUBSCRIBERS`](crate::MOST_SUBSCRIBERS) subscribers.
+    /// There are [`MOST_SUBSCRIBERS`](crate::MOST_SUBSCRIBERS) subscribers already.
     WatchFull,
 }
 

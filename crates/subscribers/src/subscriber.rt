@@ -9,7 +9,7 @@ use std::alloc::Global;
 use std::marker::Model;
 use td_base::NoMemory;
 
-/// One subscriber. What is prepared for it has room among what it holds.
+/// One subscriber. The notice that is prepared for it has room reserved among those that it holds.
 #[derive(Drop)]
 pub struct Subscriber {
     wish: Wish,
@@ -34,7 +34,7 @@ impl Model for Subscriber {
 }
 
 impl Subscriber {
-    /// One that has seen the history up to a place. It takes no memory.
+    /// A subscriber that has seen the history up to a place. It allocates nothing.
     pub fn new(alloc: Global, wish: Wish, from: u32) -> Subscriber
         ensures subscriber { result.subscriber ≡ newcomer wish from }
         ensures next { result.next ≡ None }
@@ -47,7 +47,7 @@ impl Subscriber {
         }
     }
 
-    /// Makes the notice of what the release at a place changes, and room for it.
+    /// Makes the notice of the changes of the release at a place, and reserves room for it.
     pub fn prepare(
         &mut self,
         alloc: Global,
@@ -65,7 +65,7 @@ impl Subscriber {
         Ok(())
     }
 
-    /// Holds what is prepared.
+    /// Adds the prepared notice to those that it holds.
     pub fn commit(&mut self)
         ensures { self.new ≡ committed self.old }
     {
@@ -75,21 +75,21 @@ impl Subscriber {
         }
     }
 
-    /// Drops what is prepared.
+    /// Drops the prepared notice.
     pub fn give_up(&mut self)
         ensures { self.new ≡ given_up self.old }
     {
         self.next = None;
     }
 
-    /// What it holds.
+    /// The notices that it holds.
     pub fn held(&self) -> Notices<'_>
         ensures { result.now ≡ self.now.subscriber.held }
     {
         self.held.as_slice()
     }
 
-    /// Drops what it holds.
+    /// Drops the notices that it holds.
     pub fn clear(&mut self)
         ensures { self.new ≡ emptied_beside self.old }
     {

@@ -1,7 +1,7 @@
 ghost use Rattle.std.specs.Prelude.{◌≡◌, ◌↔◌, ◌<◌, ◌≤◌, [], ◌∷◌, ◌++◌, length, map, IsTrue, None};
 ghost use Rattle.std.specs.Prelude.{IfOk, IsErrOf, OnErr, OnOk};
 ghost use Rattle.std.specs.Option.{option_map};
-ghost use Rattle.subscribers.specs.News.{numbered};
+ghost use Rattle.subscribers.specs.News.{numbered_from};
 ghost use Rattle.subscribers.specs.Views.{IsIdle, changed_numbered, committed, emptied_beside};
 ghost use Rattle.subscribers.specs.Views.{given_up, newcomer, prepared};
 ghost use Rattle.subscribers.specs.Wishes.{WantsAll};
@@ -13,10 +13,11 @@ use std::alloc::Global;
 use std::marker::Model;
 use td_base::NoMemory;
 
-/// The most subscribers that there are at once.
+/// The most subscribers at one time.
 pub const MOST_SUBSCRIBERS: usize = 64;
 
-/// Subscribers, in the order in which they came. Contracts see each beside what is prepared for it.
+/// Subscribers, in the order in which they subscribed. Contracts see each with the notice that is
+/// prepared for it.
 #[derive(Drop)]
 pub struct Subscribers {
     alloc: Global,
@@ -33,7 +34,7 @@ impl Model for Subscribers {
 }
 
 impl Subscribers {
-    /// No subscribers. What they come to hold takes its memory from `alloc`.
+    /// No subscribers. Later growth uses `alloc`.
     pub fn new(alloc: Global) -> Subscribers
         ensures { result ≡ [] }
     {
@@ -43,15 +44,15 @@ impl Subscribers {
         }
     }
 
-    /// Whether there are none.
+    /// Whether there are no subscribers.
     pub fn is_empty(&self) -> bool
         ensures { IsTrue result ↔ (self.now ≡ []) }
     {
         self.list.is_empty()
     }
 
-    /// Adds a subscriber that has seen the history up to a place, and gives its number, counted
-    /// from 1. It is refused as full exactly where [`MOST_SUBSCRIBERS`] are there.
+    /// Adds a subscriber that has seen the history up to a place, and returns its number, counted
+    /// from 1. It is refused as full exactly if [`MOST_SUBSCRIBERS`] exist already.
     pub fn subscribe(&mut self, wish: Wish, place: u32) -> Result<u32, SubscribeFault>
         ensures ok { OnOk result (self.new
             ≡ self.old ++ (record { subscriber = newcomer wish place; next = None }) ∷ []) }
@@ -69,8 +70,8 @@ impl Subscribers {
         }
     }
 
-    /// Makes, for each subscriber whose wish takes a zone that the release at a place changes, the
-    /// notice of that release, and room for it. Nothing is prepared where memory runs out.
+    /// Prepares the notice of the release at a place, and room for it, for each subscriber whose
+    /// wish takes a zone that this release changes. If memory runs out, nothing is prepared.
     pub fn prepare(&mut self, wants: &[Want], place: u32, delta: &Delta) -> Result<(), NoMemory>
         requires wanted { WantsAll (map (λ w. w.kind) wants.now) }
         requires idle { IsIdle self.old }
@@ -86,25 +87,25 @@ impl Subscribers {
         }
     }
 
-    /// Adds what is prepared to what is held. It takes no memory.
+    /// Adds the prepared notices to those that are held. It allocates nothing.
     pub fn commit(&mut self)
         ensures { self.new ≡ map committed self.old }
     {
         commit_each(self.list.as_mut_slice());
     }
 
-    /// Drops what is prepared. It takes no memory.
+    /// Drops the prepared notices. It allocates nothing.
     pub fn give_up(&mut self)
         ensures { self.new ≡ map given_up self.old }
     {
         give_up_each(self.list.as_mut_slice());
     }
 
-    /// What the subscriber of a number holds: the notices that were not cleared. None exactly where
-    /// there is no such subscriber.
+    /// The notices that the subscriber of a number holds, that is, those not yet cleared. None
+    /// exactly if no such subscriber exists.
     pub fn held(&self, number: u32) -> Option<Notices<'_>>
         ensures { option_map (λ held. held.now) result
-            ≡ option_map (λ p. p.subscriber.held) (numbered self.now number) }
+            ≡ option_map (λ p. p.subscriber.held) (numbered_from self.now number) }
     {
         if number == 0 {
             return None;
@@ -115,7 +116,7 @@ impl Subscribers {
         }
     }
 
-    /// Drops what the subscriber of a number holds. It takes no memory.
+    /// Drops the notices that the subscriber of a number holds. It allocates nothing.
     pub fn clear(&mut self, number: u32)
         requires some { 0 < number }
         requires there { number ≤ length self.old }
@@ -125,8 +126,8 @@ impl Subscribers {
     }
 }
 
-/// Makes the notice of each subscriber, and room for it. Where memory runs out, some may be
-/// prepared and nothing else has changed.
+/// Makes the notice of each subscriber, and room for it. If memory runs out, some may be prepared,
+/// and nothing else has changed.
 fn prepare_each(
     alloc: Global,
     list: &mut [Subscriber],
@@ -144,7 +145,7 @@ fn prepare_each(
     Ok(())
 }
 
-/// Adds what is prepared for each subscriber to what it holds.
+/// Adds the prepared notice of each subscriber to those that it holds.
 fn commit_each(list: &mut [Subscriber])
     ensures { list.new ≡ map committed list.old }
 {
@@ -153,7 +154,7 @@ fn commit_each(list: &mut [Subscriber])
     }
 }
 
-/// Drops what is prepared for each subscriber.
+/// Drops the prepared notice of each subscriber.
 fn give_up_each(list: &mut [Subscriber])
     ensures { list.new ≡ map given_up list.old }
 {

@@ -5,7 +5,7 @@ ghost use Rattle.subscribers.specs.Wishes.{takes_by};
 use crate::{Wish, WishKind};
 use admission::Changed;
 
-/// Any change is one that a wish for every change takes.
+/// Whether a wish for every change takes a change: it always does.
 pub fn is_any(change: &Changed, wish: &Wish) -> bool
     ensures { result ≡ takes_by WishKind.Any change.now wish.now }
 {
@@ -19,7 +19,7 @@ pub fn is_under(change: &Changed, wish: &Wish) -> bool
     change.tzid.as_slice().starts_with(wish.under.as_slice())
 }
 
-/// Whether a change begins, if at any moment, before that of a wish.
+/// Whether a change begins, if it does at all, before the moment of a wish.
 pub fn is_past(change: &Changed, wish: &Wish) -> bool
     ensures { result ≡ takes_by WishKind.Past change.now wish.now }
 {

@@ -4,11 +4,11 @@ ghost use Rattle.subscribers.specs.Wishes.{takes_by};
 use crate::{Wish, WishKind};
 use admission::Changed;
 
-/// A test of a change, and of a wish.
+/// A test of a change against a wish.
 pub type WantTest = Box<dyn Fn(&Changed, &Wish) -> bool>;
 
-/// The test of a kind of wish. It may be asked of any change and any wish, and says yes exactly
-/// where a wish of its kind takes the change.
+/// The test of a kind of wish. It accepts any change and any wish, and returns true exactly where a
+/// wish of its kind takes the change.
 #[derive(Drop)]
 pub struct Want {
     pub kind: WishKind,
@@ -19,7 +19,7 @@ pub struct Want {
 }
 
 impl Want {
-    /// A test that says yes exactly where a wish of this kind takes a change.
+    /// A test that returns true exactly where a wish of this kind takes a change.
     pub fn new(kind: WishKind, test: WantTest) -> Want
         requires callable { WantTest.IsAlwaysCallable test }
         requires exact { (change : _) (wish : _) (answer : Bool)

@@ -1,23 +1,23 @@
 use td_base::Bytes;
 use td_civil::Moment;
 
-/// The kinds of wishes to hear of changes.
+/// The kinds of wishes to be notified of changes.
 #[derive(Clone, Copy, PartialEq, Eq)]
 pub enum WishKind {
     /// Every change.
     Any,
-    /// Changes of zones whose identifier begins with given bytes. Case counts.
+    /// Changes of zones whose identifier begins with given bytes, case-sensitively.
     Under,
     /// Changes that begin before a given moment.
     Past,
 }
 
-/// A wish of its kind, which may leave `under` or `before` without a meaning.
+/// A wish of its kind. Some kinds do not use `under` or `before`.
 #[derive(Drop)]
 pub struct Wish {
     pub kind: WishKind,
-    /// What the identifier of a zone is to begin with.
+    /// The prefix that the identifier of a zone must have.
     pub under: Bytes,
-    /// The moment before which a change is to begin.
+    /// The moment before which a change must begin, in UTC.
     pub before: Moment,
 }

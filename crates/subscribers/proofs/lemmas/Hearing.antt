@@ -8,12 +8,14 @@ use Rattle.std.proofs.lemmas.List.{length_push, take-append-le}
 use Rattle.std.proofs.lemmas.List.Elements.{filter_map-append}
 use Rattle.admission.specs.Differences.{difference}
 use Rattle.catalogue.specs.Releases.{ReleaseData}
-use Rattle.subscribers.specs.Hearing.{Audience, Event, HearsEachChangeOnce, after, after_all, all_hear, cleared_by, cleared_by_all}
-use Rattle.subscribers.specs.News.{news, notice_at, notice_of, numbered}
-use Rattle.subscribers.specs.Views.{PreparedView, SubscriberView, and_then, changed_numbered, committed, emptied, newcomer, prepared, subscribers_of, with_notice}
+use Rattle.subscribers.specs.Hearing.{Audience, Event, HearsEachChangeOnce, audience_after, after_all, all_hear, cleared_by, cleared_by_all}
+use Rattle.subscribers.specs.News.{news, notice_at, notice_of, numbered_from}
+use Rattle.subscribers.specs.Views.{PreparedView, SubscriberView, and_then, changed_numbered, committed, emptied, newcomer, prepared, subscribers_of}
+use Rattle.subscribers.specs.Views.{with_notice}
 use Rattle.subscribers.specs.declared.notice.Notice.{Notice}
 use Rattle.subscribers.specs.declared.wish.Wish.{Wish}
-use Rattle.subscribers.proofs.lemmas.Numbered.{numbered_before, numbered_changed, numbered_last, numbered_map, numbered_pushed, numbered_unchanged, numbered_none}
+use Rattle.subscribers.proofs.lemmas.Numbered.{numbered_before, numbered_changed, numbered_last, numbered_map, numbered_pushed, numbered_unchanged}
+use Rattle.subscribers.proofs.lemmas.Numbered.{numbered_none}
 
 -- ---- the notice of a place
 
@@ -116,12 +118,12 @@ is_cleared : (H : List ReleaseData) (given : List Notice) (o : Option Subscriber
 is_cleared H given None told = append-nil given ∙ told
 is_cleared H given (Some s) told = (told.0, append-nil (given ++ s.held) ∙ told.1)
 
-pub event_told : (number : ℕ) (a : Audience) (e : Event) (given : List Notice) → IsTold a.history given (numbered a.subscribers number)
-    → IsTold (after a e).history (given ++ cleared_by number a e) (numbered (after a e).subscribers number)
+pub event_told : (number : ℕ) (a : Audience) (e : Event) (given : List Notice) → IsTold a.history given (numbered_from a.subscribers number)
+    → IsTold (audience_after a e).history (given ++ cleared_by number a e) (numbered_from (audience_after a e).subscribers number)
 event_told number a (Event.Subscribes wish) given told =
     none_more a.history given _ (added (numbered_pushed a.subscribers (newcomer wish (length a.history)) number))
   where
-    added : {o : Option SubscriberView} → (o ≡ numbered a.subscribers number) ⊎ ((numbered a.subscribers number ≡ None) × (o ≡ Some (newcomer wish (length a.history))))
+    added : {o : Option SubscriberView} → (o ≡ numbered_from a.subscribers number) ⊎ ((numbered_from a.subscribers number ≡ None) × (o ≡ Some (newcomer wish (length a.history))))
         → IsTold a.history given o
     added (inl same) = subst (IsTold a.history given) (sym same) told
     added (inr here) =
@@ -133,12 +135,12 @@ event_told number a (Event.Grows r) given told =
 event_told number a Event.IsRefused given told = none_more a.history given _ told
 event_told number a (Event.Clears other) given told =
     elim (number == other) as (λ b. number == other ≡ b
-    → IsTold a.history (given ++ (if b then option_map_or (λ s. s.held) (numbered a.subscribers number) [] else []))
-    (numbered (changed_numbered emptied other a.subscribers) number)) [
+    → IsTold a.history (given ++ (if b then option_map_or (λ s. s.held) (numbered_from a.subscribers number) [] else []))
+    (numbered_from (changed_numbered emptied other a.subscribers) number)) [
       | true ↦ λ e.
           let same : number ≡ other = eqb-true number other e in
-          subst (IsTold a.history (given ++ option_map_or (λ s. s.held) (numbered a.subscribers number) []))
-          (sym (ap (λ k. numbered (changed_numbered emptied k a.subscribers) number) (sym same) ∙ numbered_changed emptied number a.subscribers))
+          subst (IsTold a.history (given ++ option_map_or (λ s. s.held) (numbered_from a.subscribers number) []))
+          (sym (ap (λ k. numbered_from (changed_numbered emptied k a.subscribers) number) (sym same) ∙ numbered_changed emptied number a.subscribers))
           (is_cleared a.history given _ told)
       | false ↦ λ e.
           none_more a.history given _ (subst (IsTold a.history given)
@@ -146,13 +148,13 @@ event_told number a (Event.Clears other) given told =
     ] refl
 
 -- of several events
-pub events_told : (number : ℕ) (events : List Event) (a : Audience) (given : List Notice) → IsTold a.history given (numbered a.subscribers number)
-    → IsTold (after_all a events).history (given ++ cleared_by_all number a events) (numbered (after_all a events).subscribers number)
+pub events_told : (number : ℕ) (events : List Event) (a : Audience) (given : List Notice) → IsTold a.history given (numbered_from a.subscribers number)
+    → IsTold (after_all a events).history (given ++ cleared_by_all number a events) (numbered_from (after_all a events).subscribers number)
 events_told number [] a given told = none_more a.history given _ told
 events_told number (e ∷ events) a given told =
-    subst (λ g. IsTold (after_all (after a e) events).history g (numbered (after_all (after a e) events).subscribers number))
-    (append_assoc given (cleared_by number a e) (cleared_by_all number (after a e) events))
-    (events_told number events (after a e) (given ++ cleared_by number a e) (event_told number a e given told))
+    subst (λ g. IsTold (after_all (audience_after a e) events).history g (numbered_from (after_all (audience_after a e) events).subscribers number))
+    (append_assoc given (cleared_by number a e) (cleared_by_all number (audience_after a e) events))
+    (events_told number events (audience_after a e) (given ++ cleared_by number a e) (event_told number a e given told))
 
 pub told_is_owed : (H : List ReleaseData) (given : List Notice) (o : Option SubscriberView) → IsTold H given o
     → IfSome o (λ s. given ++ s.held ≡ news H s.from s.wish)

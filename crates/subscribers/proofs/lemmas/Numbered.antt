@@ -4,7 +4,7 @@ use Rattle.std.proofs.Common.{arith, ◌⊎◌, inl, inr, add-one}
 use Rattle.std.specs.List.{slice_get}
 use Rattle.std.specs.Option.{option_map}
 use Rattle.std.proofs.lemmas.Option.{slice_get-map}
-use Rattle.subscribers.specs.News.{numbered}
+use Rattle.subscribers.specs.News.{numbered_from}
 use Rattle.subscribers.specs.Views.{changed_at, changed_numbered}
 
 -- ---- a list that is longer by one
@@ -25,26 +25,26 @@ get_pushed [] x (suc i) = inl refl
 get_pushed (y ∷ ys) x zero = inl refl
 get_pushed (y ∷ ys) x (suc i) = get_pushed ys x i
 
-pub numbered_before : {A : Type 0} (xs : List A) (x : A) (k : ℕ) → k ≤ length xs → numbered (xs ++ x ∷ []) k ≡ numbered xs k
+pub numbered_before : {A : Type 0} (xs : List A) (x : A) (k : ℕ) → k ≤ length xs → numbered_from (xs ++ x ∷ []) k ≡ numbered_from xs k
 numbered_before xs x zero le = refl
 numbered_before xs x (suc i) le = get_before xs x i (omega arith)
 
-pub numbered_last : {A : Type 0} (xs : List A) (x : A) → numbered (xs ++ x ∷ []) (length xs + 1) ≡ Some x
+pub numbered_last : {A : Type 0} (xs : List A) (x : A) → numbered_from (xs ++ x ∷ []) (length xs + 1) ≡ Some x
 numbered_last xs x = rw add-one (get_last xs x)
 
 -- it has the item that the shorter list had, or none was there and it has the last
 pub numbered_pushed : {A : Type 0} (xs : List A) (x : A) (k : ℕ)
-    → (numbered (xs ++ x ∷ []) k ≡ numbered xs k) ⊎ ((numbered xs k ≡ None) × (numbered (xs ++ x ∷ []) k ≡ Some x))
+    → (numbered_from (xs ++ x ∷ []) k ≡ numbered_from xs k) ⊎ ((numbered_from xs k ≡ None) × (numbered_from (xs ++ x ∷ []) k ≡ Some x))
 numbered_pushed xs x zero = inl refl
 numbered_pushed xs x (suc i) = get_pushed xs x i
 
-pub numbered_none : {A : Type 0} (k : ℕ) → numbered {A = A} [] k ≡ None
+pub numbered_none : {A : Type 0} (k : ℕ) → numbered_from {A = A} [] k ≡ None
 numbered_none zero = refl
 numbered_none (suc i) = refl
 
 -- ---- items seen by a function
 
-pub numbered_map : {A B : Type 0} (f : A → B) (xs : List A) (k : ℕ) → numbered (map f xs) k ≡ option_map f (numbered xs k)
+pub numbered_map : {A B : Type 0} (f : A → B) (xs : List A) (k : ℕ) → numbered_from (map f xs) k ≡ option_map f (numbered_from xs k)
 numbered_map f xs zero = refl
 numbered_map f xs (suc i) = slice_get-map f xs i
 
@@ -73,11 +73,11 @@ get_unchanged f zero (suc j) (x ∷ xs) ne = refl
 get_unchanged f (suc i) zero (x ∷ xs) ne = refl
 get_unchanged f (suc i) (suc j) (x ∷ xs) ne = get_unchanged f i j xs (λ e. ne (ap suc e))
 
-pub numbered_changed : {A : Type 0} (f : A → A) (k : ℕ) (xs : List A) → numbered (changed_numbered f k xs) k ≡ option_map f (numbered xs k)
+pub numbered_changed : {A : Type 0} (f : A → A) (k : ℕ) (xs : List A) → numbered_from (changed_numbered f k xs) k ≡ option_map f (numbered_from xs k)
 numbered_changed f zero xs = refl
 numbered_changed f (suc i) xs = get_changed f i xs
 
-pub numbered_unchanged : {A : Type 0} (f : A → A) (k j : ℕ) (xs : List A) → k ≢ j → numbered (changed_numbered f k xs) j ≡ numbered xs j
+pub numbered_unchanged : {A : Type 0} (f : A → A) (k j : ℕ) (xs : List A) → k ≢ j → numbered_from (changed_numbered f k xs) j ≡ numbered_from xs j
 numbered_unchanged f zero j xs ne = refl
 numbered_unchanged f (suc i) zero xs ne = refl
 numbered_unchanged f (suc i) (suc j) xs ne = get_unchanged f i j xs (λ e. ne (ap suc e))

@@ -1,7 +1,7 @@
 use Rattle.std.proofs.Common.{◌<◌, length, rules}
 use Rattle.std.proofs.lemmas.Option.{slice_get_read}
 use Rattle.installer.proofs.Stated.{agree_text, lent_at, texts_differ}
-use Rattle.installer.proofs.serving.are_texts.Goals as goal
+use Rattle.installer.proofs.comparing.are_texts.Goals as goal
 
 pub returns-then-not-is_text : goal.returns-then-not-is_text
 returns-then-not-is_text c =

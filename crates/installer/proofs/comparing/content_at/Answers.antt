@@ -2,7 +2,7 @@ use Rattle.catalogue.specs.HeldZones.{entry_data, held_entry}
 use Rattle.catalogue.specs.Histories.{EntryData, meta}
 use Rattle.zone_meaning.specs.ZoneHistories.{zone_bytes}
 use Rattle.installer.proofs.Stated.{content_held}
-use Rattle.installer.proofs.serving.content_at.Goals as goal
+use Rattle.installer.proofs.comparing.content_at.Goals as goal
 
 pub returns : goal.returns
 returns c =

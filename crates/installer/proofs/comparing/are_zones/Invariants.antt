@@ -3,7 +3,7 @@ use Rattle.catalogue.specs.Holdings.{release_held}
 use Rattle.zone_meaning.specs.ZoneHistories.{zone_bytes}
 use Rattle.installer.proofs.Stated.{AreFrom}
 use Rattle.installer.proofs.Whether.{LeavesToFind}
-use Rattle.installer.proofs.serving.are_zones.Given as goal
+use Rattle.installer.proofs.comparing.are_zones.Given as goal
 
 abbrev pub invariant-loop-at : goal.invariant-loop-at
 invariant-loop-at g l = LeavesToFind (g.S.Store.seen l.fn.store) (g.S.Store.seen l.store)

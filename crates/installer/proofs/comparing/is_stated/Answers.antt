@@ -4,7 +4,7 @@ use Rattle.catalogue.specs.Order.{rising_by}
 use Rattle.zone_meaning.specs.ZoneHistories.{zone_bytes}
 use Rattle.installer.proofs.Stated.{stated_head}
 use Rattle.installer.proofs.Whether.{known_not, release_found}
-use Rattle.installer.proofs.serving.is_stated.Goals as goal
+use Rattle.installer.proofs.comparing.is_stated.Goals as goal
 
 pub returns-then-not-has_head : goal.returns-then-not-has_head
 returns-then-not-has_head g c =

@@ -18,8 +18,8 @@ use std::alloc::Global;
 use td_base::{Bytes, FileRead, NoMemory, Store};
 use zone_meaning::Zone;
 
-/// Whether the release that a catalogue holds is the one that a manifest and its files state. What
-/// needs no file is compared first.
+/// Whether the release that a catalogue holds is the one that a manifest and its files state.
+/// Everything that needs no file is compared first.
 pub fn is_stated<S: Store>(
     alloc: Global,
     manifest: &Manifest,
@@ -82,7 +82,7 @@ fn content_at(last: &Catalogue<Zone>, at: usize) -> &Content<Zone>
     &last.entry(at).content
 }
 
-/// Whether a zone of a manifest, with its file, is this one, whose aliases rise.
+/// Whether a zone of a manifest, with its file, is this one, whose aliases are in rising order.
 fn is_zone<S: Store>(
     alloc: Global,
     zone: &ManifestZone,
@@ -110,7 +110,7 @@ fn has_names(alloc: Global, zone: &ManifestZone, held: &Content<Zone>) -> Result
     Ok(is_text(&zone.tzid, &held.tzid) && same_aliases)
 }
 
-/// Whether texts that are lent are these, one for one.
+/// Whether borrowed texts equal these, one for one.
 fn are_texts(lent: &[&Bytes], texts: &[Bytes]) -> bool
     ensures { IsTrue result ↔ (map (λ a. a.now) lent.now ≡ texts.now) }
 {
@@ -125,14 +125,14 @@ fn are_texts(lent: &[&Bytes], texts: &[Bytes]) -> bool
     true
 }
 
-/// Whether two texts are one.
+/// Whether two texts are equal.
 fn is_text(a: &Bytes, b: &Bytes) -> bool
     ensures { IsTrue result ↔ (a.now ≡ b.now) }
 {
     a.as_slice() == b.as_slice()
 }
 
-/// Whether the file at a path has these bytes.
+/// Whether the file at a path has exactly these bytes.
 fn is_file<S: Store>(
     alloc: Global,
     path: &[u8],

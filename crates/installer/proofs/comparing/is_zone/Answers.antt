@@ -2,7 +2,7 @@ use Rattle.catalogue.specs.Releases.{content_as_is}
 use Rattle.zone_meaning.specs.ZoneHistories.{zone_bytes}
 use Rattle.installer.proofs.Stated.{zone_is, zone_names}
 use Rattle.installer.proofs.Whether.{known_not, whether_as}
-use Rattle.installer.proofs.serving.is_zone.Goals as goal
+use Rattle.installer.proofs.comparing.is_zone.Goals as goal
 
 pub returns-then-not-same : goal.returns-then-not-same
 returns-then-not-same g c =

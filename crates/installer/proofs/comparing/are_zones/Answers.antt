@@ -6,7 +6,7 @@ use Rattle.catalogue.specs.Holdings.{release_held}
 use Rattle.zone_meaning.specs.ZoneHistories.{zone_bytes}
 use Rattle.installer.proofs.Stated.{from_end, from_parts, lent_at, zones_differ}
 use Rattle.installer.proofs.Whether.{fault_left, known_not, less_left, none_left, not_left, whether_is}
-use Rattle.installer.proofs.serving.are_zones.Goals as goal
+use Rattle.installer.proofs.comparing.are_zones.Goals as goal
 
 pub returns-in_err-same : goal.returns-in_err-same
 returns-in_err-same g c =
