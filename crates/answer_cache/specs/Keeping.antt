@@ -8,8 +8,8 @@ use Rattle.answer_cache.specs.declared.key.Key.{Key}
 -- ---- pairs of a key and an answer to it
 
 -- an answer to this key is among them
-abbrev pub IsAmong : List (Key × Answer) → Key → Type 0
-IsAmong pairs key = (answer : Answer) × Contains pairs (key, answer)
+abbrev pub IsKeyAmong : List (Key × Answer) → Key → Type 0
+IsKeyAmong pairs key = (answer : Answer) × Contains pairs (key, answer)
 
 -- the first answer is one to this key
 abbrev pub IsFirst : List (Key × Answer) → Key → Type 0

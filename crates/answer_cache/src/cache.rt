@@ -1,7 +1,7 @@
 ghost use Rattle.std.specs.Prelude.{◌≡◌, ◌<◌, ◌≤◌, ◌↔◌, IfOk, IsTrue, Some, length, option_map};
 ghost use Rattle.std.specs.Prelude.{slice_get};
 ghost use Rattle.answer_cache.specs.Computing.{RoseByOne};
-ghost use Rattle.answer_cache.specs.Keeping.{AreRight, IsAmong, IsFirst, KeepsNoOther};
+ghost use Rattle.answer_cache.specs.Keeping.{AreRight, IsKeyAmong, IsFirst, KeepsNoOther};
 ghost use Rattle.answer_cache.specs.Keeping.{KeepsOneMore, new_cache};
 ghost use Rattle.answer_cache.specs.declared.key.Key.{Key as AnyKey};
 
@@ -15,13 +15,13 @@ use std::marker::Model;
 use std::num::NonZeroUsize;
 use td_base::NoMemory;
 
-/// The most answers that a cache keeps.
+/// The most answers that a cache holds.
 pub const MOST_ANSWERS: usize = 64;
 
-/// The most bytes of a body that is kept, where no other bound is given.
+/// The longest body that is kept, in bytes, where no other bound is given.
 pub const MOST_BODY: usize = 65_536;
 
-/// Answers that are kept by their keys, those that were used last.
+/// The answers to the most recently used keys (an LRU cache).
 #[derive(Drop)]
 pub struct AnswerCache {
     alloc: Global,
@@ -42,7 +42,7 @@ impl Model for AnswerCache {
 }
 
 impl AnswerCache {
-    /// A cache of so many answers that keeps nothing yet, and never a body over 65,536 bytes.
+    /// An empty cache of this capacity, which never keeps a body over 65,536 bytes.
     pub fn new(alloc: Global, capacity: usize) -> Result<AnswerCache, NoMemory>
         requires some { 1 ≤ capacity }
         requires few { capacity ≤ MOST_ANSWERS }
@@ -72,7 +72,7 @@ impl AnswerCache {
         })
     }
 
-    /// A cache without room, which never keeps anything. It takes no memory.
+    /// A cache without capacity, which never keeps anything. It allocates nothing.
     pub fn without_room(alloc: Global) -> AnswerCache
         ensures { result ≡ new_cache 0 0 }
     {
@@ -83,16 +83,16 @@ impl AnswerCache {
         }
     }
 
-    /// Whether an answer to the key is kept. If so, it is the one used last from now on.
+    /// Whether an answer to the key is kept. If so, it becomes the most recently used.
     pub fn promote(&mut self, key: &Key) -> bool
-        ensures found { IsTrue result ↔ IsAmong self.old.kept key.now }
+        ensures found { IsTrue result ↔ IsKeyAmong self.old.kept key.now }
         ensures first { IsTrue result → IsFirst self.new.kept key.now }
         ensures kept { KeepsNoOther self.old self.new }
     {
         promote(&mut self.table, key)
     }
 
-    /// The kept answer that was used last, as it is kept.
+    /// Borrows the most recently used answer.
     pub fn newest(&self) -> &Answer
         requires { 0 < length self.now.kept }
         ensures { option_map (λ pair. pair.1) (slice_get self.now.kept 0) ≡ Some result.now }
@@ -106,8 +106,8 @@ impl AnswerCache {
         answer
     }
 
-    /// Keeps the answer to the key as the one used last, unless its body is too long. Where the
-    /// cache is full, the answer used longest ago is given up. Without memory nothing changes.
+    /// Keeps the answer to the key as the most recently used, unless its body is too long. A full
+    /// cache evicts the least recently used answer. If memory runs out, nothing changes.
     pub fn keep(&mut self, key: Key, answer: Answer)
         ensures { KeepsOneMore self.old self.new key answer }
     {
@@ -116,16 +116,17 @@ impl AnswerCache {
         }
     }
 
-    /// The answer to the key: a copy of the kept one, or computed, and a copy of that is kept.
+    /// The answer to the key: a copy of the kept one, or else a computed one, of which a copy is
+    /// kept.
     pub fn get<C: Compute>(&mut self, compute: &mut C, key: &Key) -> Result<Answer, NoMemory>
         requires can { C.can compute.old key.now }
         requires right { AreRight (C.answer compute.old) self.old }
         ensures answer { IfOk result (λ answer. answer ≡ C.answer compute.old key.now) }
         ensures right { AreRight (C.answer compute.new) self.new }
         ensures kept { KeepsOneMore self.old self.new key.now (C.answer compute.old key.now) }
-        ensures hit { IsAmong self.old.kept key.now
+        ensures hit { IsKeyAmong self.old.kept key.now
             → C.calls compute.new ≡ C.calls compute.old }
-        ensures miss { (IsAmong self.old.kept key.now → ⊥)
+        ensures miss { (IsKeyAmong self.old.kept key.now → ⊥)
             → RoseByOne (C.calls compute.old) (C.calls compute.new) }
         ensures same_answers { C.answer compute.new ≡ C.answer compute.old }
         ensures same_keys { (other : AnyKey) → C.can compute.old other ↔ C.can compute.new other }

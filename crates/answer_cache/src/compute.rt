@@ -7,15 +7,15 @@ use crate::Key;
 use http_answer::Answer;
 use td_base::NoMemory;
 
-/// What computes answers, and counts how often it was asked to.
+/// Computes answers, and counts how often it did.
 pub trait Compute {
-    /// The answer to a key, for what the value holds. The count has no part in it.
+    /// The answer to a key, given what the value holds. It does not depend on the count.
     ghost answer: { Self → TheKey → TheAnswer };
 
     /// The keys that it can answer.
     ghost can: { Self → TheKey → Type 0 };
 
-    /// How often it was asked, up to 18446744073709551615.
+    /// How often `compute` was called, up to 18446744073709551615.
     ghost calls: { Self → ℕ };
 
     /// Computes the answer to the key.

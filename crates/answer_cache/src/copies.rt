@@ -4,7 +4,7 @@ use http_answer::Answer;
 use std::alloc::Global;
 use td_base::{Bytes, NoMemory};
 
-/// A copy of the text, where there is one.
+/// A copy of the text, if there is one.
 pub fn copy_of_field(alloc: Global, field: &Option<Bytes>) -> Result<Option<Bytes>, NoMemory>
     ensures { IfOk result (λ copy. copy ≡ field.now) }
 {

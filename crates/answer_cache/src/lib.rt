@@ -1,13 +1,16 @@
-//! Answers that are kept: what was answered to a key is answered again without being computed.
+//! A cache of answers: a key that was answered before is answered again without computing.
 //!
-//! What computes answers is a [`Compute`]: it names the answer to each key. An [`AnswerCache`]
-//! keeps the answers of the keys that were used last, and [`AnswerCache::get`] gives a copy of one.
-//! Whoever only reads an answer is lent it: [`AnswerCache::promote`] tells whether it is kept,
-//! [`AnswerCache::newest`] lends it, and [`AnswerCache::keep`] takes one that was computed.
-//! `specs/Keeping.antt` says what a cache keeps.
+//! A [`Compute`] defines the answer to each key. An [`AnswerCache`] keeps the answers to the most
+//! recently used keys, and [`AnswerCache::get`] returns a copy of one. A caller that only reads an
+//! answer can borrow it: [`AnswerCache::promote`] reports whether it is kept, and
+//! [`AnswerCache::newest`] borrows it. [`AnswerCache::keep`] takes an answer that was computed.
+//! `specs/Keeping.antt` defines what a cache keeps.
+//!
+//! Answers are those of `http_answer`, and the table is that of `lru`. `connection` keeps its
+//! answers in such caches (`KeptAnswers`).
 #![tactic(auto)]
 
-// What is asked, and what computes the answer.
+// The key of a request, and what computes its answer.
 mod compute;
 mod key;
 

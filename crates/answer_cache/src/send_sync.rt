@@ -1,4 +1,4 @@
-//! A key is plain data, and a cache may go to another thread.
+//! A key is plain data, and a cache may be sent to another thread.
 use crate::{AnswerCache, Key};
 
 fn is_shared<T: Send + Sync>() {}

@@ -1,15 +1,15 @@
-//! Tables, of which there may be none: then nothing is kept.
+//! The LRU table of a cache. Without a table nothing is kept.
 ghost use Rattle.std.specs.Prelude.{◌≡◌, ◌↔◌, IsTrue};
-ghost use Rattle.answer_cache.specs.Keeping.{AddsNone, AddsOne, IsAmong, IsFirst, kept_in};
+ghost use Rattle.answer_cache.specs.Keeping.{AddsNone, AddsOne, IsKeyAmong, IsFirst, kept_in};
 ghost use Rattle.answer_cache.specs.Keeping.{room_of};
 
 use crate::Key;
 use http_answer::Answer;
 use lru::LruCache;
 
-/// Whether an answer to the key is kept. If so, it is the first from now on.
+/// Whether an answer to the key is kept. If so, it becomes the most recently used.
 pub fn promote(table: &mut Option<LruCache<Key, Answer>>, key: &Key) -> bool
-    ensures found { IsTrue result ↔ IsAmong (kept_in table.old) key.now }
+    ensures found { IsTrue result ↔ IsKeyAmong (kept_in table.old) key.now }
     ensures first { IsTrue result → IsFirst (kept_in table.new) key.now }
     ensures pairs { AddsNone (kept_in table.old) (kept_in table.new) }
     ensures room { room_of table.new ≡ room_of table.old }

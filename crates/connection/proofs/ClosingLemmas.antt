@@ -11,7 +11,7 @@ use Rattle.connection.proofs.ServedLemmas.{both_false}
 use Rattle.td_base.specs.declared.report.TheConstants.{MOST_PLACES}
 use Rattle.connection.specs.FaultCounts.{FaultCounts}
 use Rattle.connection.specs.Replies.{is_last, replies}
-use Rattle.connection.specs.Served.{ByInput, ByRefusal, ByRequest, Finish, FinishesBy, IsClosed, Session, farewell}
+use Rattle.connection.specs.Served.{ByInput, ByRefusal, ByRequest, Finish, FinishesBy, IsClosed, Transcript, farewell}
 
 -- the requests, each of which closes the connection or leaves it open, and what comes after them; so many came before
 abbrev pub Goes : ℕ → List ℕ → List Head → Finish → Type 0
@@ -106,7 +106,7 @@ goes_input n read (h ∷ hs) held g a few = (
   ),
 )
 
-goes : (s : Session) (heads : List Head) (f : Finish) → FinishesBy s heads f → Goes 0 s.read heads f
+goes : (s : Transcript) (heads : List Head) (f : Finish) → FinishesBy s heads f → Goes 0 s.read heads f
 goes s heads ByRequest c =
     subst (λ l. Goes 0 s.read l ByRequest) (sym c.heads_are)
     (goes_request 0 s.read c.before c.last c.held (subst (λ l. Gives s.read l c.held) c.heads_are c.gives) c.open_before.kept
@@ -114,7 +114,7 @@ goes s heads ByRequest c =
 goes s heads (ByRefusal status) c = goes_refusal 0 s.read heads status c.0 c.1.kept (omega (arith, c.1.few))
 goes s heads ByInput c = goes_input 0 s.read heads c.0 c.1 c.2.kept (omega (arith, c.2.few))
 
-pub one_closing_lem : (answer : ℕ → Head → Answer) (s t : Session) (m n m' n' : FaultCounts) → s.read ≡ t.read → s.places ≡ t.places
+pub one_closing_lem : (answer : ℕ → Head → Answer) (s t : Transcript) (m n m' n' : FaultCounts) → s.read ≡ t.read → s.places ≡ t.places
     → IsClosed answer s m n → IsClosed answer t m' n' → s.written ≡ t.written
 one_closing_lem answer s t m n m' n' e p a b =
     let r : (a.heads ≡ b.heads) × (a.finish ≡ b.finish) =

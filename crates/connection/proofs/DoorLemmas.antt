@@ -19,7 +19,7 @@ use Rattle.connection.specs.DoorWorks.{places_of, starved}
 use Rattle.connection.specs.Entering.{GoesOn, HasCounted}
 use Rattle.connection.specs.FaultCounts.{faults_of, no_faults}
 use Rattle.connection.specs.Served.{NeverFall, Served}
-use Rattle.connection.specs.Serving.{ServedOver, Serves, answer_at, session_of}
+use Rattle.connection.specs.Serving.{ServedOver, ServesConn, answer_at, session_of}
 use Rattle.connection.specs.Traffic.{Traffic}
 use Rattle.catalogue.specs.Holdings.{history_of}
 use Rattle.connection.proofs.PlaceLemmas.{all_append, all_weaker, fall_append}
@@ -154,7 +154,7 @@ served_conn H role input conn now report read written new unfailed e s =
 
 -- a connection was given, served and handed back
 pub one : (role : Role) (a b c : DoorContent) (conn now : ConnView) (report : Report) (x y : DeskView (Catalogue (List ℕ))) → GivesNext a b conn
-    → IsUnfailed conn → Serves y role conn now report.places report.end → AllByRecursion (λ p. length x.seen ≤ p) report.places
+    → IsUnfailed conn → ServesConn y role conn now report.places report.end → AllByRecursion (λ p. length x.seen ≤ p) report.places
     → HasCounted x.enters report.places y.enters report.end → c ≡ handed_back now report b → ServesConns role a c x y
 one role a b c conn now report x y gives unfailed serves first enters back =
     let f : Finished = record { conn = now; report = report } in

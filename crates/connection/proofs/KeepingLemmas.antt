@@ -21,8 +21,8 @@ use Rattle.td_base.specs.declared.no_memory.NoMemory.{NoMemory}
 use Rattle.td_base.specs.declared.report.Role.{Role}
 use Rattle.zone_meaning.specs.Sound.{IsSound}
 use Rattle.zone_meaning.specs.ZoneHistories.{ForEachZoneHistory}
-use Rattle.connection.specs.Keeping.{AreAnswers, IsAnswerTo, IsReplyNow, KeepsAnswers, KeepsNothing}
-use Rattle.connection.specs.Keeping.{KeepsOneOf, RepliesFrom, RepliesTo, answer_to, head_of, key_of}
+use Rattle.connection.specs.Keeping.{AreAnswers, IsAnswerToKey, IsReplyNow, KeepsAnswers, KeepsNothing}
+use Rattle.connection.specs.Keeping.{KeepsOneOf, RepliesFrom, RepliesTo, answer_to, head_of_key, key_of}
 use Rattle.connection.specs.Serving.{answer_at}
 use Rattle.connection.specs.declared.kept_answers.KeptAnswers.{KeptAnswers}
 
@@ -41,7 +41,7 @@ whole_place seen H role head place p e =
 -- ---- an answer depends on its key alone
 
 of_asked : (H : List ReleaseData) (role : Role) (place : ℕ) (head : Head) (x : Asked)
-    → answer_for H role (head_of (key_of place head)) x ≡ answer_for H role head x
+    → answer_for H role (head_of_key (key_of place head)) x ≡ answer_for H role head x
 of_asked H role place head ask.Capabilities = refl
 of_asked H role place head (ask.List since) = refl
 of_asked H role place head (ask.Find pattern) = refl
@@ -51,7 +51,7 @@ of_asked H role place head ask.LeapSeconds = refl
 of_asked H role place head ask.WellKnown = refl
 of_asked H role place head ask.Unknown = refl
 
-by_key : (H : List ReleaseData) (role : Role) (place : ℕ) (head : Head) → action H role (head_of (key_of place head)) ≡ action H role head
+by_key : (H : List ReleaseData) (role : Role) (place : ℕ) (head : Head) → action H role (head_of_key (key_of place head)) ≡ action H role head
 unfolding action
 by_key H role place head = of_asked H role place head (asks head.target)
 
@@ -60,21 +60,21 @@ by_key H role place head = of_asked H role place head (asks head.target)
 -- what was computed over the catalogue that the desk holds
 pub computed_now : (desk : DeskView (Catalogue (List ℕ))) (role : Role) (key : Key) (answer : Answer) (catalogue : Catalogue (List ℕ))
     → StandsFor (λ f. f) IsSound catalogue (history_of desk.seen) → key.place ≡ length desk.seen
-    → ForEachZoneHistory catalogue (λ H. answer ≡ action H role (head_of key)) → IsAnswerStatus answer.status → IsAnswerTo desk role key answer
+    → ForEachZoneHistory catalogue (λ H. answer ≡ action H role (head_of_key key)) → IsAnswerStatus answer.status → IsAnswerToKey desk role key answer
 computed_now desk role key answer catalogue stands e each status = record {
   is = λ H st.
       each (history_of desk.seen) stands
-      ∙ sym (whole_place (history_of desk.seen) H role (head_of key) key.place st (e ∙ sym (history_length desk.seen)));
+      ∙ sym (whole_place (history_of desk.seen) H role (head_of_key key) key.place st (e ∙ sym (history_length desk.seen)));
   status = status;
 }
 
 -- an answer is right over what the desk has seen itself
-right_now : (desk : DeskView (Catalogue (List ℕ))) (role : Role) (key : Key) (answer : Answer) → IsAnswerTo desk role key answer
+right_now : (desk : DeskView (Catalogue (List ℕ))) (role : Role) (key : Key) (answer : Answer) → IsAnswerToKey desk role key answer
     → answer ≡ answer_to (history_of desk.seen) role key
 right_now desk role key answer x = x.is (history_of desk.seen) (prefix_self (history_of desk.seen))
 
 pub right_now_if : (desk : DeskView (Catalogue (List ℕ))) (role : Role) (key : Key) (r : Result Answer NoMemory)
-    → IfOk r (IsAnswerTo desk role key) → IfOk r (λ answer. answer ≡ answer_to (history_of desk.seen) role key)
+    → IfOk r (IsAnswerToKey desk role key) → IfOk r (λ answer. answer ≡ answer_to (history_of desk.seen) role key)
 right_now_if desk role key (Ok answer) x = right_now desk role key answer x
 right_now_if desk role key (Err fault) x = tt
 
@@ -101,7 +101,7 @@ module _ (desk : DeskView (Catalogue (List ℕ))) (role : Role) (head : Head) (p
 
   replied : (close : Bool) (bytes : List ℕ) → RepliesTo desk role key head.head_only close bytes → IsReplyNow desk role head close bytes
   replied close bytes r =
-      let x : IsAnswerTo desk role (key_of (length desk.seen) head) r.answer = subst (λ o. IsAnswerTo desk role o r.answer) key_now r.right in
+      let x : IsAnswerToKey desk role (key_of (length desk.seen) head) r.answer = subst (λ o. IsAnswerToKey desk role o r.answer) key_now r.right in
       λ H st.
       r.is ∙ ap (λ a. reply a head.head_only close) (x.is H st ∙ by_key (take (length desk.seen) H) role (length desk.seen) head)
 
@@ -141,15 +141,15 @@ fewer desk role before now many large x = record {
 }
 
 added_in : (desk : DeskView (Catalogue (List ℕ))) (role : Role) (before now : List (Key × Answer)) (key : Key) (answer : Answer)
-    → AddsOne before now key answer → IsAnswerTo desk role key answer → AreAnswers desk role before → AreAnswers desk role now
+    → AddsOne before now key answer → IsAnswerToKey desk role key answer → AreAnswers desk role before → AreAnswers desk role now
 added_in desk role before now key answer adds x all = λ other kept keeps. elim (adds other kept keeps) [
   | inl was ↦ all other kept was
-  | inr is ↦ subst (λ k. IsAnswerTo desk role k kept) (sym is.0) (subst (λ a. IsAnswerTo desk role key a) (sym is.1) x)
+  | inr is ↦ subst (λ k. IsAnswerToKey desk role k kept) (sym is.0) (subst (λ a. IsAnswerToKey desk role key a) (sym is.1) x)
 ]
 
 -- one more answer is kept
 pub added : (desk : DeskView (Catalogue (List ℕ))) (role : Role) (before now : KeptAnswers) (key : Key) (answer : Answer)
-    → KeepsOneOf before now key answer → IsAnswerTo desk role key answer → KeepsAnswers desk role before → KeepsAnswers desk role now
+    → KeepsOneOf before now key answer → IsAnswerToKey desk role key answer → KeepsAnswers desk role before → KeepsAnswers desk role now
 added desk role before now key answer adds x all = record {
   many = added_in desk role before.many.kept now.many.kept key answer adds.many x all.many;
   large = added_in desk role before.large.kept now.large.kept key answer adds.large x all.large;

@@ -14,7 +14,7 @@ use Rattle.td_base.specs.declared.report.Report.{Report}
 use Rattle.td_base.specs.declared.report.Role.{Role}
 use Rattle.connection.specs.DoorWorks.{DoesDoor, NoneOut, ServesTold, at_end, at_flag, by_faults}
 use Rattle.connection.specs.Entering.{GoesOn, HasCounted}
-use Rattle.connection.specs.Serving.{Serves}
+use Rattle.connection.specs.Serving.{ServesConn}
 use Rattle.connection.specs.FaultCounts.{RoseTimes}
 use Rattle.connection.specs.Rounds.{HasServed, RoundTells, ServesNext}
 use Rattle.connection.specs.declared.door_work.TheConstants.{MOST_FAILURES}
@@ -137,7 +137,7 @@ module _ (role : Role) where
         record { served = kept a b x same.0; tells = (h.last, same.1, h.steady refl); flag = refl }
 
     told_one : (o n m : Option DoorContent) (conn : C) (now : ConnView) (report : Report) (x y : DeskView (Catalogue (List ℕ)))
-        → AcceptTold seen o n (accepted.Given conn) → IsUnfailed (seen conn) → Serves y role (seen conn) now report.places report.end
+        → AcceptTold seen o n (accepted.Given conn) → IsUnfailed (seen conn) → ServesConn y role (seen conn) now report.places report.end
         → AllByRecursion (λ p. length x.seen ≤ p) report.places → HasCounted x.enters report.places y.enters report.end
         → FinishTold n m now report → ServesTold role o m x y
     told_one (Some a) (Some b) (Some c) conn now report x y h u s first enters f =
@@ -150,7 +150,7 @@ module _ (role : Role) where
 
     -- a connection was given, served and handed back
     pub given : (a b c : DoorView) (conn : C) (now : ConnView) (report : Report) (x y : DeskView (Catalogue (List ℕ))) (s : Sight)
-        → Accepts seen a b (accepted.Given conn) → Serves y role (seen conn) now report.places report.end → GoesOn x y
+        → Accepts seen a b (accepted.Given conn) → ServesConn y role (seen conn) now report.places report.end → GoesOn x y
         → AllByRecursion (λ p. length x.seen ≤ p) report.places → HasCounted x.enters report.places y.enters report.end
         → Finishes b c now report → ServesNext role a c x y s s round.GoesOn
     given a b c conn now report x y s h serves longer first enters f = record {

@@ -18,7 +18,7 @@ use Rattle.td_base.specs.declared.report.TheConstants.{MOST_PLACES}
 use Rattle.connection.specs.Answering.{HasReplied}
 use Rattle.connection.specs.Replies.{IsOpen, is_last, replies, replies_after, reply_at}
 use Rattle.connection.specs.FaultCounts.{AreLater, FaultCounts, ReadFailed, WriteFailed}
-use Rattle.connection.specs.Served.{ArePlaces, ByInput, ByRefusal, ByRequest, IsNeeded, IsStarved, IsTold, NeverFall, Served, Session}
+use Rattle.connection.specs.Served.{ArePlaces, ByInput, ByRefusal, ByRequest, IsNeeded, IsStarved, IsTold, NeverFall, Served, Transcript}
 
 -- ---- places
 
@@ -283,7 +283,7 @@ told_later replied written a b (inl t) = same_later a b t.1
 told_later replied written a b (inr t) = write_later a b t.2
 
 -- whatever the end, no count fell
-pub later : (answer : ℕ → Head → Answer) (count : ℕ) (s : Session) (a b : FaultCounts) (e : End) → Served answer count s a b e → AreLater a b
+pub later : (answer : ℕ → Head → Answer) (count : ℕ) (s : Transcript) (a b : FaultCounts) (e : End) → Served answer count s a b e → AreLater a b
 later answer count s a b end.Closed h = same_later a b h.ends.steady
 later answer count s a b end.ReadFault h = read_later a b h.ends.cause
 later answer count s a b end.WriteFault h = write_later a b h.ends.cause

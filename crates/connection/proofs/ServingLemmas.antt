@@ -22,12 +22,12 @@ use Rattle.td_base.specs.declared.transfer.Written.{Written}
 use Rattle.td_base.specs.declared.transfer.Written.TheVariants as written
 use Rattle.connection.specs.Answering.{AnswersOne, HasReplied, IsAnswered, IsAnsweredInPart, IsReplyAt, IsServing, IsUnanswered, ServesOn, TakesPlace}
 use Rattle.connection.specs.FaultCounts.{AreLater, ReadFailed, WriteFailed, faults_of}
-use Rattle.connection.specs.Hearing.{Hears, joined}
+use Rattle.connection.specs.Hearing.{Hears, joined_reads}
 use Rattle.connection.specs.Keeping.{IsReplyNow}
 use Rattle.connection.specs.Replies.{is_last, reply_at}
-use Rattle.connection.specs.Served.{ArePlaces, IsStarved, Session}
+use Rattle.connection.specs.Served.{ArePlaces, IsStarved, Transcript}
 use Rattle.connection.specs.Sending.{GivesUp, IsCutOff, IsSent, Refuses, SendsReply}
-use Rattle.connection.specs.Serving.{Serves, ServesPart, answer_at}
+use Rattle.connection.specs.Serving.{ServesConn, ServesPart, answer_at}
 use Rattle.connection.specs.Traffic.{Passes, Traffic}
 use Rattle.connection.specs.declared.hearing.Arrival.{Arrival}
 use Rattle.connection.specs.declared.hearing.Arrival.TheVariants as arrival
@@ -157,54 +157,54 @@ module _ (desk : DeskView (Catalogue (List ℕ))) (role : Role) (a b c : ConnVie
   are_over H st = served.wider (length desk.seen) (length H) places (size desk H st) s.are
 
   -- the input ended
-  pub closed_by_input : (new : List ℕ) → Hears b c held new (Ok arrival.Ended) → Serves desk role a c places end.Closed
+  pub closed_by_input : (new : List ℕ) → Hears b c held new (Ok arrival.Ended) → ServesConn desk role a c places end.Closed
   closed_by_input new h =
-      let asks : Asks (s.read ++ joined h.pieces) s.given (Rest new) × IsAtEnd c.left = h.comes s.read s.given s.gives in
-      let p = heard_passes (joined h.pieces) h.traffic h.fails in
+      let asks : Asks (s.read ++ joined_reads h.pieces) s.given (Rest new) × IsAtEnd c.left = h.comes s.read s.given s.gives in
+      let p = heard_passes (joined_reads h.pieces) h.traffic h.fails in
       record {
-        read = s.read ++ joined h.pieces;
+        read = s.read ++ joined_reads h.pieces;
         written = s.written;
         traffic = p.traffic;
         served = λ H st.
-            served.closed_by_input (answer_at H role) (length H) (s.read ++ joined h.pieces) c.left (faults_of a) (faults_of c)
+            served.closed_by_input (answer_at H role) (length H) (s.read ++ joined_reads h.pieces) c.left (faults_of a) (faults_of c)
             (h.needed s.read s.given s.gives s.open_after s.needed) s.written places s.given new (are_over H st) (s.replied H st) asks.0 s.open_after
             asks.1 p.steady;
       }
 
   -- a read failed
-  pub read_failed : (new : List ℕ) → Hears b c held new (Ok arrival.ReadFault) → Serves desk role a c places end.ReadFault
+  pub read_failed : (new : List ℕ) → Hears b c held new (Ok arrival.ReadFault) → ServesConn desk role a c places end.ReadFault
   read_failed new h = record {
-    read = s.read ++ joined h.pieces;
+    read = s.read ++ joined_reads h.pieces;
     written = s.written;
-    traffic = read_on a b c s.read (joined h.pieces) s.written s.passes.traffic h.traffic;
+    traffic = read_on a b c s.read (joined_reads h.pieces) s.written s.passes.traffic h.traffic;
     served = λ H st.
-        served.read_failed (answer_at H role) (length H) (s.read ++ joined h.pieces) c.left (faults_of a) (faults_of c)
+        served.read_failed (answer_at H role) (length H) (s.read ++ joined_reads h.pieces) c.left (faults_of a) (faults_of c)
         (h.needed s.read s.given s.gives s.open_after s.needed) s.written places s.given new (are_over H st) (s.replied H st)
         (h.comes s.read s.given s.gives) s.open_after (subst (λ n. ReadFailed n (faults_of c)) s.passes.steady h.fails);
   }
 
   -- a head was refused
   pub refused : (d : ConnView) (new : List ℕ) (status : ℕ) (e : End) → Hears b c held new (Ok (arrival.Refused status)) → Refuses c d status e
-      → Serves desk role a d places e
+      → ServesConn desk role a d places e
   refused d new status end.Closed h p =
-      let q = passes_written a c d (s.read ++ joined h.pieces) s.written (fixed status) (heard_passes (joined h.pieces) h.traffic h.fails) p in
+      let q = passes_written a c d (s.read ++ joined_reads h.pieces) s.written (fixed status) (heard_passes (joined_reads h.pieces) h.traffic h.fails) p in
       record {
-        read = s.read ++ joined h.pieces;
+        read = s.read ++ joined_reads h.pieces;
         written = s.written ++ fixed status;
         traffic = q.traffic;
         served = λ H st.
-            served.closed_by_refusal (answer_at H role) (length H) (s.read ++ joined h.pieces) d.left (faults_of a) (faults_of d)
+            served.closed_by_refusal (answer_at H role) (length H) (s.read ++ joined_reads h.pieces) d.left (faults_of a) (faults_of d)
             (h.needed s.read s.given s.gives s.open_after s.needed) s.written places s.given status (are_over H st) (s.replied H st)
             (h.comes s.read s.given s.gives) s.open_after q.steady;
       }
   refused d new status end.WriteFault h p =
-      let q = heard_passes (joined h.pieces) h.traffic h.fails in
+      let q = heard_passes (joined_reads h.pieces) h.traffic h.fails in
       record {
-        read = s.read ++ joined h.pieces;
+        read = s.read ++ joined_reads h.pieces;
         written = s.written ++ take p.sent (fixed status);
-        traffic = wrote_on a c d (s.read ++ joined h.pieces) s.written (take p.sent (fixed status)) q.traffic p.traffic;
+        traffic = wrote_on a c d (s.read ++ joined_reads h.pieces) s.written (take p.sent (fixed status)) q.traffic p.traffic;
         served = λ H st.
-            served.refusal_cut (answer_at H role) (length H) (s.read ++ joined h.pieces) d.left (faults_of a) (faults_of d)
+            served.refusal_cut (answer_at H role) (length H) (s.read ++ joined_reads h.pieces) d.left (faults_of a) (faults_of d)
             (h.needed s.read s.given s.gives s.open_after s.needed) s.written places s.given status p.sent (are_over H st) (s.replied H st)
             (h.comes s.read s.given s.gives) s.open_after (subst (λ n. WriteFailed n (faults_of d)) q.steady p.cause);
       }
@@ -214,15 +214,15 @@ module _ (desk : DeskView (Catalogue (List ℕ))) (role : Role) (a b c : ConnVie
   -- there was no memory for a head
   pub no_memory : (new : List ℕ) (fault : NoMemory) → Hears b c held new (Err fault) → ServesPart desk role a c places
   no_memory new fault h =
-      let given : (rest : List ℕ) × Gives (s.read ++ joined h.pieces) s.given rest = h.comes s.read s.given s.gives in
+      let given : (rest : List ℕ) × Gives (s.read ++ joined_reads h.pieces) s.given rest = h.comes s.read s.given s.gives in
       record {
-        read = s.read ++ joined h.pieces;
+        read = s.read ++ joined_reads h.pieces;
         written = s.written;
-        passes = heard_passes (joined h.pieces) h.traffic h.fails;
+        passes = heard_passes (joined_reads h.pieces) h.traffic h.fails;
         needed = h.needed s.read s.given s.gives s.open_after s.needed;
         are = s.are;
         starved = λ H st.
-            served.starved (answer_at H role) (s.read ++ joined h.pieces) c.left s.written places s.given given.0 (s.replied H st) given.1
+            served.starved (answer_at H role) (s.read ++ joined_reads h.pieces) c.left s.written places s.given given.0 (s.replied H st) given.1
             s.open_after;
       }
 
@@ -230,16 +230,16 @@ module _ (desk : DeskView (Catalogue (List ℕ))) (role : Role) (a b c : ConnVie
     -- the enter for a request was refused
     pub enter_refused : ServesPart desk role a c places
     enter_refused =
-        let given : (rest : List ℕ) × Gives (s.read ++ joined h.pieces) s.given rest =
-        gives_before (s.read ++ joined h.pieces) s.given head new (h.comes s.read s.given s.gives) in
+        let given : (rest : List ℕ) × Gives (s.read ++ joined_reads h.pieces) s.given rest =
+        gives_before (s.read ++ joined_reads h.pieces) s.given head new (h.comes s.read s.given s.gives) in
         record {
-          read = s.read ++ joined h.pieces;
+          read = s.read ++ joined_reads h.pieces;
           written = s.written;
-          passes = heard_passes (joined h.pieces) h.traffic h.fails;
+          passes = heard_passes (joined_reads h.pieces) h.traffic h.fails;
           needed = h.needed s.read s.given s.gives s.open_after s.needed;
           are = s.are;
           starved = λ H st.
-              served.starved (answer_at H role) (s.read ++ joined h.pieces) c.left s.written places s.given given.0 (s.replied H st) given.1
+              served.starved (answer_at H role) (s.read ++ joined_reads h.pieces) c.left s.written places s.given given.0 (s.replied H st) given.1
               s.open_after;
         }
 
@@ -254,13 +254,13 @@ module _ (desk : DeskView (Catalogue (List ℕ))) (role : Role) (a b c : ConnVie
       -- there was no memory for the reply
       pub no_reply : ServesPart desk role a c (places ++ place ∷ [])
       no_reply = record {
-        read = s.read ++ joined h.pieces;
+        read = s.read ++ joined_reads h.pieces;
         written = s.written;
-        passes = heard_passes (joined h.pieces) h.traffic h.fails;
+        passes = heard_passes (joined_reads h.pieces) h.traffic h.fails;
         needed = h.needed s.read s.given s.gives s.open_after s.needed;
         are = one_more;
         starved = λ H st.
-            served.starved_begun (answer_at H role) (s.read ++ joined h.pieces) c.left s.written places s.given head new place (s.replied H st)
+            served.starved_begun (answer_at H role) (s.read ++ joined_reads h.pieces) c.left s.written places s.given head new place (s.replied H st)
             (h.comes s.read s.given s.gives) s.open_after;
       }
 
@@ -269,9 +269,9 @@ module _ (desk : DeskView (Catalogue (List ℕ))) (role : Role) (a b c : ConnVie
       told_at H st bytes r = r H st ∙ ap (λ n. reply_at (answer_at H role) n head place) s.placed
 
       module _ (d : ConnView) (p : IsSent c d (IsReplyAt desk role (length places) head place)) where
-        passes_reply : Passes a d (s.read ++ joined h.pieces) (s.written ++ p.reply)
+        passes_reply : Passes a d (s.read ++ joined_reads h.pieces) (s.written ++ p.reply)
         passes_reply =
-            passes_written a c d (s.read ++ joined h.pieces) s.written p.reply (heard_passes (joined h.pieces) h.traffic h.fails) p.passes
+            passes_written a c d (s.read ++ joined_reads h.pieces) s.written p.reply (heard_passes (joined_reads h.pieces) h.traffic h.fails) p.passes
 
         replied_more : (H : List ReleaseData) → IsPrefix (history_of desk.seen) H
             → HasReplied (answer_at H role) (s.given ++ head ∷ []) (places ++ place ∷ []) (s.written ++ p.reply)
@@ -281,7 +281,7 @@ module _ (desk : DeskView (Catalogue (List ℕ))) (role : Role) (a b c : ConnVie
         -- a request was replied to, and the connection stays open
         pub replied : is_last (length places) head ≡ false → IsServing desk role a d new (places ++ place ∷ [])
         replied stays = record {
-          read = s.read ++ joined h.pieces;
+          read = s.read ++ joined_reads h.pieces;
           written = s.written ++ p.reply;
           given = s.given ++ head ∷ [];
           passes = passes_reply;
@@ -294,13 +294,13 @@ module _ (desk : DeskView (Catalogue (List ℕ))) (role : Role) (a b c : ConnVie
         }
 
         -- a request was replied to that closes the connection
-        pub closed_by_request : is_last (length places) head ≡ true → Serves desk role a d (places ++ place ∷ []) end.Closed
+        pub closed_by_request : is_last (length places) head ≡ true → ServesConn desk role a d (places ++ place ∷ []) end.Closed
         closed_by_request closes = record {
-          read = s.read ++ joined h.pieces;
+          read = s.read ++ joined_reads h.pieces;
           written = s.written ++ p.reply;
           traffic = passes_reply.traffic;
           served = λ H st.
-              served.closed_by_request (answer_at H role) (length H) (s.read ++ joined h.pieces) d.left (faults_of a) (faults_of d)
+              served.closed_by_request (answer_at H role) (length H) (s.read ++ joined_reads h.pieces) d.left (faults_of a) (faults_of d)
               (h.needed s.read s.given s.gives s.open_after s.needed) (s.written ++ p.reply) (places ++ place ∷ []) s.given head new
               (are_more H st) (replied_more H st) (h.comes s.read s.given s.gives) s.open_after
               (ap (λ n. is_last n head) (sym s.placed) ∙ closes) passes_reply.steady;
@@ -308,15 +308,15 @@ module _ (desk : DeskView (Catalogue (List ℕ))) (role : Role) (a b c : ConnVie
 
       -- a write of the reply failed
       pub cut_in_reply : (d : ConnView) → IsCutOff c d (IsReplyAt desk role (length places) head place)
-          → Serves desk role a d (places ++ place ∷ []) end.WriteFault
+          → ServesConn desk role a d (places ++ place ∷ []) end.WriteFault
       cut_in_reply d p =
-          let q = heard_passes (joined h.pieces) h.traffic h.fails in
+          let q = heard_passes (joined_reads h.pieces) h.traffic h.fails in
           record {
-            read = s.read ++ joined h.pieces;
+            read = s.read ++ joined_reads h.pieces;
             written = s.written ++ take p.cut.sent p.reply;
-            traffic = wrote_on a c d (s.read ++ joined h.pieces) s.written (take p.cut.sent p.reply) q.traffic p.cut.traffic;
+            traffic = wrote_on a c d (s.read ++ joined_reads h.pieces) s.written (take p.cut.sent p.reply) q.traffic p.cut.traffic;
             served = λ H st.
-                served.reply_cut (answer_at H role) (length H) (s.read ++ joined h.pieces) d.left (faults_of a) (faults_of d)
+                served.reply_cut (answer_at H role) (length H) (s.read ++ joined_reads h.pieces) d.left (faults_of a) (faults_of d)
                 (h.needed s.read s.given s.gives s.open_after s.needed) s.written places s.given head new place p.reply p.cut.sent
                 (are_more H st) (s.replied H st) (h.comes s.read s.given s.gives) s.open_after (told_at H st p.reply p.is)
                 (subst (λ n. WriteFailed n (faults_of d)) q.steady p.cut.cause);
@@ -351,11 +351,11 @@ module _ (desk later : DeskView (Catalogue (List ℕ))) (role : Role) (a b c d :
       (replied later role a b c held places (longer t) new head h t.place t.enters.place_is t.some d x.0.sent x.1)
   answered (Ok (Some end.Closed)) x =
       let t = x.0.takes in
-      at_more (λ ps. Serves later role a d ps end.Closed) t
+      at_more (λ ps. ServesConn later role a d ps end.Closed) t
       (closed_by_request later role a b c held places (longer t) new head h t.place t.enters.place_is t.some d x.0.sent x.1)
   answered (Ok (Some end.WriteFault)) x =
       let t = x.takes in
-      at_more (λ ps. Serves later role a d ps end.WriteFault) t
+      at_more (λ ps. ServesConn later role a d ps end.WriteFault) t
       (cut_in_reply later role a b c held places (longer t) new head h t.place t.enters.place_is t.some d x.cut)
   answered (Ok (Some end.ReadFault)) x = absurd x
   answered (Ok (Some end.NoMemory)) x = absurd x
@@ -363,13 +363,13 @@ module _ (desk later : DeskView (Catalogue (List ℕ))) (role : Role) (a b c d :
 
 -- served to an end, by what one step came to
 pub ended : (desk : DeskView (Catalogue (List ℕ))) (role : Role) (a b : ConnView) (held places : List ℕ) (r : Option End) (e : End)
-    → r ≡ Some e → ServesOn desk role a b held places (Ok r) → Serves desk role a b places e
+    → r ≡ Some e → ServesOn desk role a b held places (Ok r) → ServesConn desk role a b places e
 ended desk role a b held places r e i s =
     let on : ServesOn desk role a b held places (Ok (Some e)) = subst (λ x. ServesOn desk role a b held places (Ok x)) i s in on
 
 -- ---- memory ran out, and that is told
 
-other_end : (answer : ℕ → Head → Answer) (s t : Session) → s.read ≡ t.read → s.written ≡ t.written → s.places ≡ t.places → IsStarved answer s
+other_end : (answer : ℕ → Head → Answer) (s t : Transcript) → s.read ≡ t.read → s.written ≡ t.written → s.places ≡ t.places → IsStarved answer s
     → IsStarved answer t
 other_end answer s t r w p x = record {
   heads = x.heads;
@@ -382,7 +382,7 @@ other_end answer s t r w p x = record {
 }
 
 pub gave_up : (desk : DeskView (Catalogue (List ℕ))) (role : Role) (a c d : ConnView) (places : List ℕ) → ServesPart desk role a c places → GivesUp c d
-    → Serves desk role a d places end.NoMemory
+    → ServesConn desk role a d places end.NoMemory
 gave_up desk role a c d places s (inl p) =
     let q = passes_written a c d s.read s.written (fixed 503) s.passes p in
     record {
@@ -406,7 +406,7 @@ gave_up desk role a c d places s (inr p) = record {
 }
 
 -- no count of a connection that was served fell
-pub counts_later : (desk : DeskView (Catalogue (List ℕ))) (role : Role) (a b : ConnView) (places : List ℕ) (e : End) → Serves desk role a b places e
+pub counts_later : (desk : DeskView (Catalogue (List ℕ))) (role : Role) (a b : ConnView) (places : List ℕ) (e : End) → ServesConn desk role a b places e
     → AreLater (faults_of a) (faults_of b)
 counts_later desk role a b places e s =
     served.later _ _ _ _ _ e (s.served (history_of desk.seen) (prefix_self (history_of desk.seen)))

@@ -5,7 +5,7 @@ use Rattle.td_base.specs.Transfer.{Sends}
 use Rattle.td_base.specs.Views.{ConnView}
 use Rattle.connection.specs.FaultCounts.{faults_of}
 use Rattle.connection.specs.Traffic.{Passes, Traffic}
-use Rattle.connection.specs.Sending.{GivesUp, IsCut, SendsReply}
+use Rattle.connection.specs.Sending.{GivesUp, IsReplyCut, SendsReply}
 use Rattle.http_answer.specs.Replies.{fixed}
 use Rattle.td_base.specs.declared.transfer.Written.{Written}
 use Rattle.td_base.specs.declared.transfer.Written.TheVariants as written
@@ -61,7 +61,7 @@ sent_whole a b bytes p = record {
 }
 
 -- a prefix was written of what was cut
-pub sent_cut : (a b : ConnView) (bytes : List ℕ) → Sends a b bytes written.Cut → IsCut a b bytes
+pub sent_cut : (a b : ConnView) (bytes : List ℕ) → Sends a b bytes written.Cut → IsReplyCut a b bytes
 sent_cut a b bytes p = record {
   sent = p.writes.told.0;
   traffic = record {

@@ -16,7 +16,7 @@ use Rattle.connection.specs.Entering.{EntersAt, EntersEach, EntersFor, IsRefused
 use Rattle.connection.specs.Replies.{IsOpen, is_last, replies, reply_at}
 use Rattle.connection.specs.Sending.{IsCutOff, IsSent}
 use Rattle.connection.specs.Served.{ArePlaces, IsNeeded}
-use Rattle.connection.specs.Serving.{ForEachLonger, Serves, ServesPart, answer_at}
+use Rattle.connection.specs.Serving.{ForEachLonger, ServesConn, ServesPart, answer_at}
 use Rattle.connection.specs.Traffic.{Passes}
 
 -- each request so far was replied to
@@ -87,7 +87,7 @@ abbrev pub ServesOn : DeskView (Catalogue (List ℕ)) → Role → ConnView → 
     → (held places : List ℕ) → Result (Option End) NoMemory → Type 0
 ServesOn desk role before now held places (Ok None) =
     IsServing desk role before now held places
-ServesOn desk role before now held places (Ok (Some e)) = Serves desk role before now places e
+ServesOn desk role before now held places (Ok (Some e)) = ServesConn desk role before now places e
 ServesOn desk role before now held places (Err fault) = ServesPart desk role before now places
 
 -- one enter for each place, and perhaps one more where memory ran out

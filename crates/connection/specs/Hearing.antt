@@ -4,7 +4,7 @@ use Rattle.std.specs.Prelude.{flat_map, Result, Ok, Err}
 use Rattle.std.specs.Io.KnownBytes.{IsAtEnd}
 use Rattle.http_request.specs.Asks.{Asks, Bad, Gives, Rest}
 use Rattle.http_request.specs.Steps.{IsStep, Waiting}
-use Rattle.http_request.specs.Taking.{IsRefusal}
+use Rattle.http_request.specs.Taking.{IsRefusalStatus}
 use Rattle.http_request.specs.declared.head.Head.{Head}
 use Rattle.http_request.specs.declared.limits.TheConstants.{MOST_HEAD_BYTES}
 use Rattle.td_base.specs.Views.{ConnView}
@@ -16,8 +16,8 @@ use Rattle.connection.specs.Served.{IsNeeded}
 use Rattle.connection.specs.Traffic.{Passes, Traffic}
 use Rattle.connection.specs.declared.hearing.Arrival.{Arrival}
 use Rattle.connection.specs.declared.hearing.Arrival.TheVariants as arrival
-use Rattle.connection.specs.declared.hearing.Piece.{Piece}
-use Rattle.connection.specs.declared.hearing.Piece.TheVariants as piece
+use Rattle.connection.specs.declared.hearing.ReadPiece.{ReadPiece}
+use Rattle.connection.specs.declared.hearing.ReadPiece.TheVariants as piece
 use Rattle.connection.specs.declared.hearing.TheConstants.{PIECE}
 
 -- how many bytes are held at most: a piece is read only while fewer are held than a head may have
@@ -48,7 +48,7 @@ pub record IsLost (before now : ConnView) (held : List ℕ) : Type 0 where
   pub gives : (all : List ℕ) (given : List Head)
       → Gives all given held → Gives (all ++ bytes) given (held ++ bytes)
 
-abbrev pub Feeds : ConnView → ConnView → List ℕ → List ℕ → Piece → Type 0
+abbrev pub Feeds : ConnView → ConnView → List ℕ → List ℕ → ReadPiece → Type 0
 Feeds before now held new piece.Fed = IsFed before now held new
 Feeds before now held new piece.Ended =
     IsKept before now held new × IsAtEnd now.left × (faults_of now ≡ faults_of before)
@@ -75,7 +75,7 @@ Fails before now (Err fault) = now ≡ before
 -- a request has a target that is served, and a refusal one of three statuses
 abbrev pub IsFit : Result Arrival NoMemory → Type 0
 IsFit (Ok (arrival.Request head)) = IsTrue (has_form head.target)
-IsFit (Ok (arrival.Refused status)) = IsRefusal status
+IsFit (Ok (arrival.Refused status)) = IsRefusalStatus status
 IsFit (Ok arrival.Ended) = ⊤
 IsFit (Ok arrival.ReadFault) = ⊤
 IsFit (Err fault) = ⊤
@@ -86,18 +86,18 @@ NeedsEach held [] = ⊤
 NeedsEach held (p ∷ ps) =
     IsStep held Waiting × (0 < length p) × (length p ≤ PIECE) × NeedsEach (held ++ p) ps
 
-abbrev pub joined : List (List ℕ) → List ℕ
-joined pieces = flat_map (λ p. p) pieces
+abbrev pub joined_reads : List (List ℕ) → List ℕ
+joined_reads pieces = flat_map (λ p. p) pieces
 
 -- some pieces were read, and this came
 pub record Hears (before now : ConnView) (held new : List ℕ) (result : Result Arrival NoMemory)
     : Type 0 where
   pub pieces : List (List ℕ)
-  pub traffic : Traffic before now (joined pieces) []
+  pub traffic : Traffic before now (joined_reads pieces) []
   pub needs : NeedsEach held pieces
   pub comes : (all : List ℕ) (given : List Head) → Gives all given held
-      → Comes now (all ++ joined pieces) given new result
+      → Comes now (all ++ joined_reads pieces) given new result
   pub needed : (all : List ℕ) (given : List Head) → Gives all given held → IsOpen given
-      → IsNeeded all → IsNeeded (all ++ joined pieces)
+      → IsNeeded all → IsNeeded (all ++ joined_reads pieces)
   pub fails : Fails (faults_of before) (faults_of now) result
   pub fit : IsFit result

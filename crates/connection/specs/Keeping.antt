@@ -1,7 +1,8 @@
 -- The answers that are kept from one request to the next, whichever connection asks.
-use Rattle.std.specs.Prelude.{◌≡◌, ℕ, ◌+◌, ◌≤◌, ◌⊎◌, List, [], length, Contains, Bool, false, IsTrue}
+use Rattle.std.specs.Prelude.{◌≡◌, ℕ, ◌+◌, ◌≤◌, ◌⊎◌, List, [], length, Contains, Bool, false}
+use Rattle.std.specs.Prelude.{IsTrue}
 use Rattle.answer_cache.specs.Computing.{RoseByOne}
-use Rattle.answer_cache.specs.Keeping.{AddsOne, IsAmong}
+use Rattle.answer_cache.specs.Keeping.{AddsOne, IsKeyAmong}
 use Rattle.answer_cache.specs.declared.key.Key.{Key}
 use Rattle.catalogue.specs.Holdings.{history_of}
 use Rattle.catalogue.specs.Releases.{ReleaseData}
@@ -26,8 +27,8 @@ key_of place head = record {
 }
 
 -- a request that asks for what the key does
-abbrev pub head_of : Key → Head
-head_of key = record {
+abbrev pub head_of_key : Key → Head
+head_of_key key = record {
   head_only = false;
   target = key.target;
   accept = key.accept;
@@ -37,11 +38,11 @@ head_of key = record {
 
 -- the answer to a key: over the releases of a history up to its place
 abbrev pub answer_to : List ReleaseData → Role → Key → Answer
-answer_to H role key = answer_at H role key.place (head_of key)
+answer_to H role key = answer_at H role key.place (head_of_key key)
 
 -- it is the answer to the key over the history that the desk has seen, and over each that begins
 -- with it
-pub record IsAnswerTo (desk : DeskView (Catalogue (List ℕ))) (role : Role) (key : Key)
+pub record IsAnswerToKey (desk : DeskView (Catalogue (List ℕ))) (role : Role) (key : Key)
     (answer : Answer) : Type 0 where
   pub is : ForEachLonger (history_of desk.seen) (λ H. answer ≡ answer_to H role key)
   pub status : IsAnswerStatus answer.status
@@ -56,7 +57,7 @@ pub record IsKeyNow (desk : DeskView (Catalogue (List ℕ))) (role : Role) (key 
 -- each of these answers is that to its key
 abbrev pub AreAnswers : DeskView (Catalogue (List ℕ)) → Role → List (Key × Answer) → Type 0
 AreAnswers desk role pairs =
-    (key : Key) (answer : Answer) → Contains pairs (key, answer) → IsAnswerTo desk role key answer
+    (key : Key) (answer : Answer) → Contains pairs (key, answer) → IsAnswerToKey desk role key answer
 
 -- each kept answer is that to its key
 pub record KeepsAnswers (desk : DeskView (Catalogue (List ℕ))) (role : Role) (k : KeptAnswers)
@@ -86,7 +87,7 @@ IsReplyNow desk role head close bytes = ForEachLonger (history_of desk.seen)
 pub record RepliesTo (desk : DeskView (Catalogue (List ℕ))) (role : Role) (key : Key)
     (head_only close : Bool) (bytes : List ℕ) : Type 0 where
   pub answer : Answer
-  pub right : IsAnswerTo desk role key answer
+  pub right : IsAnswerToKey desk role key answer
   pub is : bytes ≡ reply answer head_only close
 
 -- the reply with one of these answers, which is to the key
@@ -98,7 +99,7 @@ pub record RepliesFrom (pairs : List (Key × Answer)) (key : Key) (head_only clo
 
 -- an answer to the key is kept
 abbrev pub IsKept : KeptAnswers → Key → Type 0
-IsKept k key = IsAmong k.many.kept key ⊎ IsAmong k.large.kept key
+IsKept k key = IsKeyAmong k.many.kept key ⊎ IsKeyAmong k.large.kept key
 
 -- what is kept to the key is not computed, and what is not is computed once
 pub record ComputesUnlessKept (before now : KeptAnswers) (key : Key) : Type 0 where

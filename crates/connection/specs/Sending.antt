@@ -10,14 +10,14 @@ use Rattle.connection.specs.FaultCounts.{WriteFailed, faults_of}
 use Rattle.connection.specs.Traffic.{Passes, Traffic}
 
 -- a prefix was taken, since a write failed
-pub record IsCut (before now : ConnView) (bytes : List ℕ) : Type 0 where
+pub record IsReplyCut (before now : ConnView) (bytes : List ℕ) : Type 0 where
   pub sent : ℕ
   pub traffic : Traffic before now [] (take sent bytes)
   pub cause : WriteFailed (faults_of before) (faults_of now)
 
 -- the reply that tells that memory ran out, or a prefix of it where a write failed
 abbrev pub GivesUp : ConnView → ConnView → Type 0
-GivesUp before now = Passes before now [] (fixed 503) ⊎ IsCut before now (fixed 503)
+GivesUp before now = Passes before now [] (fixed 503) ⊎ IsReplyCut before now (fixed 503)
 
 -- a reply was sent, of which this is said
 pub record IsSent (before now : ConnView) (P : List ℕ → Type 0) : Type 0 where
@@ -27,7 +27,7 @@ pub record IsSent (before now : ConnView) (P : List ℕ → Type 0) : Type 0 whe
 
 pub record IsCutOff (before now : ConnView) (P : List ℕ → Type 0) : Type 0 where
   pub reply : List ℕ
-  pub cut : IsCut before now reply
+  pub cut : IsReplyCut before now reply
   pub is : P reply
 
 abbrev pub SendsReply : (P : List ℕ → Type 0) → ConnView → ConnView → Written → Type 0
@@ -37,6 +37,6 @@ SendsReply P before now written.Cut = IsCutOff before now P
 -- a refusal was sent, whole or cut
 abbrev pub Refuses : ConnView → ConnView → ℕ → End → Type 0
 Refuses before now status end.Closed = Passes before now [] (fixed status)
-Refuses before now status end.WriteFault = IsCut before now (fixed status)
+Refuses before now status end.WriteFault = IsReplyCut before now (fixed status)
 Refuses before now status end.ReadFault = ⊥
 Refuses before now status end.NoMemory = ⊥

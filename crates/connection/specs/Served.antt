@@ -16,7 +16,7 @@ use Rattle.connection.specs.declared.hearing.TheConstants.{PIECE}
 
 -- what is seen of a connection that was served: the bytes that its reads gave, those left where
 -- it tells them, the bytes written, and the place of each request
-pub record Session : Type 0 where
+pub record Transcript : Type 0 where
   pub read : List ℕ
   pub left : Option (List ℕ)
   pub written : List ℕ
@@ -60,7 +60,7 @@ pub record ClosesLast (read : List ℕ) (heads : List Head) : Type 0 where
   pub open_before : IsOpen before
   pub closes : is_last (length before) last ≡ true
 
-abbrev pub FinishesBy : Session → List Head → Finish → Type 0
+abbrev pub FinishesBy : Transcript → List Head → Finish → Type 0
 FinishesBy s heads ByRequest = ClosesLast s.read heads
 FinishesBy s heads (ByRefusal status) = Asks s.read heads (Bad status) × IsOpen heads
 FinishesBy s heads ByInput =
@@ -74,7 +74,7 @@ farewell ByInput = []
 
 -- The connection was closed: each request of the bytes was replied to, up to the one that closes
 -- it, a refusal follows where one comes, and no read and no write failed.
-pub record IsClosed (answer : ℕ → Head → Answer) (s : Session) (before now : FaultCounts)
+pub record IsClosed (answer : ℕ → Head → Answer) (s : Transcript) (before now : FaultCounts)
     : Type 0 where
   pub heads : List Head
   pub finish : Finish
@@ -84,7 +84,7 @@ pub record IsClosed (answer : ℕ → Head → Answer) (s : Session) (before now
   pub steady : now ≡ before
 
 -- A read failed: each request that had come was replied to, and none closed the connection.
-pub record IsReadFault (answer : ℕ → Head → Answer) (s : Session) (before now : FaultCounts)
+pub record IsReadFault (answer : ℕ → Head → Answer) (s : Transcript) (before now : FaultCounts)
     : Type 0 where
   pub heads : List Head
   pub held : List ℕ
@@ -95,7 +95,7 @@ pub record IsReadFault (answer : ℕ → Head → Answer) (s : Session) (before 
   pub cause : ReadFailed before now
 
 -- a reply was cut: those before it are whole
-pub record CutsReply (answer : ℕ → Head → Answer) (s : Session) : Type 0 where
+pub record CutsReply (answer : ℕ → Head → Answer) (s : Transcript) : Type 0 where
   pub before : List Head
   pub last : Head
   pub held : List ℕ
@@ -109,7 +109,7 @@ pub record CutsReply (answer : ℕ → Head → Answer) (s : Session) : Type 0 w
       ≡ replies answer before places ++ take sent (reply_at answer (length before) last place)
 
 -- a refusal was cut: all replies before it are whole
-pub record CutsRefusal (answer : ℕ → Head → Answer) (s : Session) : Type 0 where
+pub record CutsRefusal (answer : ℕ → Head → Answer) (s : Transcript) : Type 0 where
   pub heads : List Head
   pub status : ℕ
   pub asks : Asks s.read heads (Bad status)
@@ -119,7 +119,7 @@ pub record CutsRefusal (answer : ℕ → Head → Answer) (s : Session) : Type 0
   pub written : s.written ≡ replies answer heads s.places ++ take sent (fixed status)
 
 -- A write failed: what it wrote of is cut, and all before that is whole.
-pub record IsWriteFault (answer : ℕ → Head → Answer) (s : Session) (before now : FaultCounts)
+pub record IsWriteFault (answer : ℕ → Head → Answer) (s : Transcript) (before now : FaultCounts)
     : Type 0 where
   pub cut : CutsReply answer s ⊎ CutsRefusal answer s
   pub cause : WriteFailed before now
@@ -132,7 +132,7 @@ Begins read heads (place ∷ []) =
 Begins read heads (place ∷ other ∷ places) = ⊥
 
 -- Memory ran out: requests were replied to, none of which closed the connection.
-pub record IsStarved (answer : ℕ → Head → Answer) (s : Session) : Type 0 where
+pub record IsStarved (answer : ℕ → Head → Answer) (s : Transcript) : Type 0 where
   pub heads : List Head
   pub places : List ℕ
   pub begun : List ℕ
@@ -148,13 +148,13 @@ IsTold replied written before now =
     ⊎ ((sent : ℕ) × (written ≡ replied ++ take sent (fixed 503)) × WriteFailed before now)
 
 -- memory ran out, and that was told
-pub record IsOutOfMemory (answer : ℕ → Head → Answer) (s : Session) (before now : FaultCounts)
+pub record IsOutOfMemory (answer : ℕ → Head → Answer) (s : Transcript) (before now : FaultCounts)
     : Type 0 where
   pub replied : List ℕ
   pub starved : IsStarved answer (record s { written = replied })
   pub told : IsTold replied s.written before now
 
-abbrev pub EndsSo : (answer : ℕ → Head → Answer) → Session → (before now : FaultCounts) → End
+abbrev pub EndsSo : (answer : ℕ → Head → Answer) → Transcript → (before now : FaultCounts) → End
     → Type 0
 EndsSo answer s before now end.Closed = IsClosed answer s before now
 EndsSo answer s before now end.ReadFault = IsReadFault answer s before now
@@ -163,7 +163,7 @@ EndsSo answer s before now end.NoMemory = IsOutOfMemory answer s before now
 
 -- The connection was served over a history of so many releases, while its counts of failed reads
 -- and failed writes went from the first to the second.
-pub record Served (answer : ℕ → Head → Answer) (count : ℕ) (s : Session) (before now : FaultCounts)
+pub record Served (answer : ℕ → Head → Answer) (count : ℕ) (s : Transcript) (before now : FaultCounts)
     (e : End) : Type 0 where
   pub needed : IsNeeded s.read
   pub places : ArePlaces count s.places

@@ -13,7 +13,7 @@ use Rattle.td_base.specs.declared.no_memory.NoMemory.{NoMemory}
 use Rattle.td_base.specs.declared.report.End.{End}
 use Rattle.td_base.specs.declared.report.Role.{Role}
 use Rattle.connection.specs.FaultCounts.{faults_of}
-use Rattle.connection.specs.Served.{ArePlaces, IsNeeded, IsStarved, Served, Session}
+use Rattle.connection.specs.Served.{ArePlaces, IsNeeded, IsStarved, Served, Transcript}
 use Rattle.connection.specs.Traffic.{Passes, Traffic}
 
 -- a fact of each history that begins with this one
@@ -25,18 +25,18 @@ abbrev pub answer_at : List ReleaseData → Role → ℕ → Head → Answer
 answer_at H role place head = action (take place H) role head
 
 -- what is seen of a connection of which these bytes were read and written
-abbrev pub session_of : ConnView → (read written places : List ℕ) → Session
+abbrev pub session_of : ConnView → (read written places : List ℕ) → Transcript
 session_of now read written places =
     record { read = read; left = now.left; written = written; places = places }
 
 -- the connection was served over a history
-abbrev pub ServedOver : List ReleaseData → Role → ConnView → ConnView → Session → End → Type 0
+abbrev pub ServedOver : List ReleaseData → Role → ConnView → ConnView → Transcript → End → Type 0
 ServedOver H role before now s end =
     Served (answer_at H role) (length H) s (faults_of before) (faults_of now) end
 
 -- what was read and written meanwhile is that of a served connection, over the history that the
 -- desk has seen at the end, and over each that begins with it
-pub record Serves (desk : DeskView (Catalogue (List ℕ))) (role : Role)
+pub record ServesConn (desk : DeskView (Catalogue (List ℕ))) (role : Role)
     (before now : ConnView) (places : List ℕ) (end : End) : Type 0 where
   pub read : List ℕ
   pub written : List ℕ
@@ -57,5 +57,5 @@ pub record ServesPart (desk : DeskView (Catalogue (List ℕ))) (role : Role)
 
 abbrev pub ServesUpTo : DeskView (Catalogue (List ℕ)) → Role → ConnView → ConnView → List ℕ
     → Result End NoMemory → Type 0
-ServesUpTo desk role before now places (Ok end) = Serves desk role before now places end
+ServesUpTo desk role before now places (Ok end) = ServesConn desk role before now places end
 ServesUpTo desk role before now places (Err fault) = ServesPart desk role before now places

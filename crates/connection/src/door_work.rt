@@ -13,13 +13,14 @@ use std::sync::Wait;
 use td_base::{Door, Role, Work};
 use zone_meaning::Zone;
 
-/// How many failures of a door wear it out.
+/// After how many failures a door is worn, that is, given up.
 pub const MOST_FAILURES: u32 = 16;
 
-/// The work of one worker: it serves the connections of its door one after the other, over a desk
-/// of its own, and hands each back. What it answered to one it keeps for all. It ends where the door answers that no connection is still to
-/// come, where none waits and the flag of its sign was raised, and where the door fails for the
-/// 16th time.
+/// The work of one worker: it serves the connections of its door one after the other, over its own
+/// desk, and hands each back. Answers that it computed for one connection are kept for all.
+///
+/// It ends when the door reports that no connection is still to come, or fails for the 16th time.
+/// It also ends when no connection waits and the flag of its sign was raised.
 #[derive(Drop)]
 pub struct DoorWork<D: Door> {
     alloc: Global,
@@ -46,7 +47,7 @@ impl<D: Door> Model for DoorWork<D> {
 }
 
 impl<D: Door> DoorWork<D> {
-    /// The work for a door of which no connection is out. It takes no memory.
+    /// The work for a door that has handed out no connection. It allocates no memory.
     pub fn new(
         alloc: Global,
         role: Role,
@@ -68,8 +69,8 @@ impl<D: Door> DoorWork<D> {
     }
 }
 
-/// What a worker gives back: its door, its desk, its sign, and whether the door is worn, which it
-/// is by its 16th failure.
+/// What a worker returns: its door, its desk, its sign, and whether the door is worn, which it is
+/// at its 16th failure.
 #[derive(Drop)]
 pub struct DoorDone<D: Door> {
     pub door: D,
@@ -109,7 +110,7 @@ impl<D: Door> Work for DoorWork<D> {
     }
 }
 
-/// Goes from round to round until one is the last, and tells whether the door is worn.
+/// Serves round after round until one is the last, and returns whether the door is worn.
 fn serve_door<R: Wait, D: Door>(
     rt: &R,
     alloc: Global,

@@ -6,15 +6,15 @@ use http_request::{Head, Heads, Next, gives};
 use std::alloc::Global;
 use td_base::{Conn, NoMemory, ReadStep};
 
-/// How many bytes are asked of a connection at a time.
+/// How many bytes one read of a connection requests.
 pub const PIECE: usize = 4_096;
 
-/// What came of a connection.
+/// What was received from a connection.
 #[derive(Drop)]
 pub enum Arrival {
     /// A request.
     Request(Head),
-    /// A head that is refused, with this status.
+    /// A head that is refused, with this HTTP status.
     Refused(u16),
     /// The input ended.
     Ended,
@@ -22,10 +22,10 @@ pub enum Arrival {
     ReadFault,
 }
 
-/// What came of one read.
+/// The result of one read.
 #[derive(Clone, Copy, PartialEq, Eq)]
-pub enum Piece {
-    /// At least one byte, which is held.
+pub enum ReadPiece {
+    /// At least one byte, which is now held.
     Fed,
     /// The input ended.
     Ended,
@@ -35,7 +35,7 @@ pub enum Piece {
     NoMemory,
 }
 
-/// The next head. Pieces are read only while none stands whole in what is held.
+/// The next head. Reads pieces only while the held bytes contain no whole head.
 pub fn hear<C: Conn>(alloc: Global, heads: &mut Heads, conn: &mut C) -> Result<Arrival, NoMemory>
     requires { heads.old.size ≤ most_held }
     ensures hears { Hears (C.seen conn.old) (C.seen conn.new) heads.old.rest heads.new.rest
@@ -47,17 +47,17 @@ pub fn hear<C: Conn>(alloc: Global, heads: &mut Heads, conn: &mut C) -> Result<A
             Next::Request(head) => return Ok(Arrival::Request(head)),
             Next::Bad(status) => return Ok(Arrival::Refused(status)),
             Next::More => match feed(heads, conn) {
-                Piece::Fed => {}
-                Piece::Ended => return Ok(Arrival::Ended),
-                Piece::Failed => return Ok(Arrival::ReadFault),
-                Piece::NoMemory => return Err(NoMemory),
+                ReadPiece::Fed => {}
+                ReadPiece::Ended => return Ok(Arrival::Ended),
+                ReadPiece::Failed => return Ok(Arrival::ReadFault),
+                ReadPiece::NoMemory => return Err(NoMemory),
             },
         }
     }
 }
 
 /// Reads one piece and holds it.
-fn feed<C: Conn>(heads: &mut Heads, conn: &mut C) -> Piece
+fn feed<C: Conn>(heads: &mut Heads, conn: &mut C) -> ReadPiece
     requires room { length heads.old.rest < MOST_HEAD_BYTES }
     requires held { heads.old.size ≤ most_held }
     ensures feeds { Feeds (C.seen conn.old) (C.seen conn.new) heads.old.rest heads.new.rest
@@ -67,13 +67,13 @@ fn feed<C: Conn>(heads: &mut Heads, conn: &mut C) -> Piece
     let mut room = [0; PIECE];
     match conn.read(&mut room) {
         ReadStep::Got(count) => match heads.feed(&room[..count]) {
-            Ok(()) => Piece::Fed,
+            Ok(()) => ReadPiece::Fed,
             Err(_) => {
                 gives();
-                Piece::NoMemory
+                ReadPiece::NoMemory
             }
         },
-        ReadStep::End => Piece::Ended,
-        ReadStep::Failed => Piece::Failed,
+        ReadStep::End => ReadPiece::Ended,
+        ReadStep::Failed => ReadPiece::Failed,
     }
 }

@@ -5,15 +5,15 @@ use answer_cache::{AnswerCache, Key, MOST_ANSWERS, MOST_BODY};
 use http_answer::Answer;
 use std::alloc::Global;
 
-/// The most bytes of a body that is kept at all.
+/// The longest body that is kept, in bytes.
 pub const MOST_LARGE_BODY: usize = 8_388_608;
 
-/// The answers that a server keeps from one request to the next.
+/// The response cache of a worker, kept from one request to the next.
 #[derive(Drop)]
 pub struct KeptAnswers {
-    /// Those used last, with bodies of at most 65,536 bytes.
+    /// The most recently used answers, with bodies of at most 65,536 bytes.
     pub many: AnswerCache,
-    /// The last of those with larger bodies, of at most 8,388,608 bytes.
+    /// The last answer with a larger body, of at most 8,388,608 bytes.
     pub large: AnswerCache,
     /// How often an answer was computed.
     pub computed: u64,
@@ -22,8 +22,8 @@ pub struct KeptAnswers {
 impl KeptAnswers {
     ghost use Rattle.connection.specs.Keeping.{KeepsNothing, KeepsOneOf};
 
-    /// Room for 64 answers, and for a large one. Without memory for the one or the other, no answer
-    /// will be kept in its place.
+    /// A cache of 64 answers, and a cache of one large answer. When there is no memory for one of
+    /// them, that one will never keep an answer.
     pub fn new(alloc: Global) -> KeptAnswers
         ensures { KeepsNothing result }
     {
@@ -34,7 +34,8 @@ impl KeptAnswers {
         }
     }
 
-    /// Keeps the answer to the key, by the size of its body. Without memory nothing changes.
+    /// Keeps the answer to the key in the cache for the size of its body. Without memory nothing
+    /// changes.
     pub fn keep(&mut self, key: Key, answer: Answer)
         ensures { KeepsOneOf self.old self.new key answer }
     {
@@ -46,7 +47,7 @@ impl KeptAnswers {
     }
 }
 
-/// A cache that keeps nothing yet, or, without memory for it, one that never does.
+/// A cache that keeps nothing yet. Without memory for it, one that never keeps an answer.
 fn room_or_none(alloc: Global, capacity: usize, most_body: usize) -> AnswerCache
     requires some { 1 ≤ capacity }
     requires few { capacity ≤ MOST_ANSWERS }

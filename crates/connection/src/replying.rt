@@ -1,6 +1,6 @@
 ghost use Rattle.std.specs.Prelude.{◌≡◌, ◌↔◌, IfOk, IfSome, IsSome, IsTrue, OnErr, Contains};
 ghost use Rattle.std.specs.Prelude.{length};
-ghost use Rattle.answer_cache.specs.Keeping.{IsAmong, KeepsNoOther};
+ghost use Rattle.answer_cache.specs.Keeping.{IsKeyAmong, KeepsNoOther};
 ghost use Rattle.answer_cache.specs.Computing.{RoseByOne};
 ghost use Rattle.connection.specs.Keeping.{ComputesOnce, ComputesUnlessKept, IsKeyNow};
 ghost use Rattle.connection.specs.Keeping.{IsReplyNow, KeepsAnswers, RepliesFrom, RepliesTo};
@@ -11,7 +11,7 @@ ghost use Rattle.http_answer.specs.declared.answer.Answer.{Answer};
 ghost use Rattle.json_forms.specs.PlainTexts.{IsPlainRole};
 ghost use Rattle.td_base.specs.TargetForm.{has_form};
 
-use crate::asking::compute_answer;
+use crate::computing::compute_answer;
 use crate::kept_answers::KeptAnswers;
 use crate::places::place_of;
 use answer_cache::{AnswerCache, Key};
@@ -23,8 +23,8 @@ use std::alloc::Global;
 use td_base::{Bytes, Conn, NoMemory, Role, Written, send_whole};
 use zone_meaning::Zone;
 
-/// Sends the reply to a request at the place of what the desk holds. Where there is no memory for
-/// it nothing is sent.
+/// Sends the reply to a request, at the place of the catalogue that the desk holds. When there is
+/// no memory for the reply, nothing is sent.
 pub fn reply_to<C: Conn>(
     alloc: Global,
     role: &Role,
@@ -49,7 +49,7 @@ pub fn reply_to<C: Conn>(
     Ok(send_whole(conn, reply.as_slice()))
 }
 
-/// The reply to a request, head and body in one.
+/// The reply to a request, head and body in one buffer.
 fn reply_bytes(
     alloc: Global,
     role: &Role,
@@ -72,7 +72,7 @@ fn reply_bytes(
     reply_by_key(alloc, role, desk, kept, key, head_only, close)
 }
 
-/// The reply with the answer that is kept to a key, or else with one that is computed.
+/// The reply with the cached answer to a key, or else with one that is computed now.
 fn reply_by_key(
     alloc: Global,
     role: &Role,
@@ -98,7 +98,8 @@ fn reply_by_key(
     }
 }
 
-/// The reply with an answer that is computed. Once it is made the answer is kept, without a copy.
+/// The reply with a newly computed answer. Once the reply is made, the answer is cached, without a
+/// copy.
 fn new_reply(
     alloc: Global,
     role: &Role,
@@ -120,7 +121,7 @@ fn new_reply(
     Ok(reply)
 }
 
-/// The key of a request at a place. It takes the texts of the head.
+/// The cache key of a request at a place. It takes over the texts of the head.
 fn key_of(place: u32, head: Head) -> Key
     ensures { result ≡ key_of place head }
 {
@@ -132,7 +133,7 @@ fn key_of(place: u32, head: Head) -> Key
     }
 }
 
-/// The reply with the answer that a cache keeps to the key, if it does. Nothing is computed.
+/// The reply with the answer that a cache keeps for the key, if it keeps one. Nothing is computed.
 fn kept_reply(
     alloc: Global,
     cache: &mut AnswerCache,
@@ -144,7 +145,7 @@ fn kept_reply(
         → IsAnswerStatus answer.status }
     ensures reply { IfSome result (λ made.
         IfOk made (RepliesFrom cache.old.kept key.now head_only close)) }
-    ensures found { IsSome result ↔ IsAmong cache.old.kept key.now }
+    ensures found { IsSome result ↔ IsKeyAmong cache.old.kept key.now }
     ensures kept { KeepsNoOther cache.old cache.new }
 {
     if cache.promote(key) {

@@ -12,7 +12,7 @@ use std::alloc::Global;
 use td_base::{Accepted, Door, Role};
 use zone_meaning::Zone;
 
-/// What came of one round.
+/// The result of one round.
 #[derive(Clone, Copy, PartialEq, Eq)]
 pub enum Round {
     /// A connection was served, or none waited.
@@ -25,7 +25,7 @@ pub enum Round {
     Stopped,
 }
 
-/// Asks the door for a connection and serves it. Only where none waits it looks at the sign.
+/// Requests a connection from the door and serves it. It looks at the sign only when none waits.
 pub fn serve_next<D: Door>(
     alloc: Global,
     role: &Role,

@@ -1,8 +1,8 @@
-//! The work of a worker and what it gives back may go to other threads, wherever its door may.
+//! The work of a worker, and what it returns, may move to other threads whenever its door may.
 use crate::{DoorDone, DoorWork};
 use td_base::Door;
 
-/// Only a value that may go to another thread is lent to it.
+/// Accepts only a value that may move to another thread.
 fn sends<T: Send>(_value: &T) {}
 
 fn sends_all<D: Door + Send>(work: &DoorWork<D>, done: &DoorDone<D>) {

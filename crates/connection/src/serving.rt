@@ -9,7 +9,7 @@ ghost use Rattle.connection.specs.FaultCounts.{AreLater, faults_of};
 ghost use Rattle.connection.specs.Hearing.{most_held};
 ghost use Rattle.connection.specs.Keeping.{ComputesFew, KeepsAnswers};
 ghost use Rattle.connection.specs.Replies.{is_last};
-ghost use Rattle.connection.specs.Serving.{Serves, ServesUpTo};
+ghost use Rattle.connection.specs.Serving.{ServesConn, ServesUpTo};
 ghost use Rattle.json_forms.specs.PlainTexts.{IsPlainRole};
 ghost use Rattle.publication.specs.Views.{DeskView};
 ghost use Rattle.td_base.specs.TargetForm.{has_form};
@@ -29,12 +29,12 @@ use std::alloc::Global;
 use td_base::{Conn, End, MOST_PLACES, NoMemory, Places, Report, Role, Written};
 use zone_meaning::Zone;
 
-/// Serves a connection over a desk, until its input ends, a request closes it, a head is refused,
-/// the 1,000th request was answered, or a fault ends it. Nothing is read or answered after that.
+/// Serves a connection over a desk. It ends at the end of the input, at a closing request, at a
+/// refused head, after the 1,000th request, or at a fault. Nothing is read or answered after that.
 ///
-/// The desk enters once for each request, before it is answered; the place of the request is the
-/// count of the catalogue that the desk then holds. An enter that is refused ends the connection as
-/// one without memory.
+/// The desk enters once for each request, before it is answered. The place of the request is the
+/// number of releases in the catalogue that the desk then holds. An enter that is refused ends the
+/// connection as out of memory does.
 pub fn serve<C: Conn>(
     alloc: Global,
     role: &Role,
@@ -42,7 +42,7 @@ pub fn serve<C: Conn>(
     conn: &mut C,
 ) -> Report
     requires role { IsPlainRole role.now }
-    ensures served { Serves desk.new role.now (C.seen conn.old) (C.seen conn.new)
+    ensures served { ServesConn desk.new role.now (C.seen conn.old) (C.seen conn.new)
         result.places result.end }
     ensures enters { EntersFor desk.old result.places desk.new result.end }
     ensures later { AreLater (faults_of (C.seen conn.old)) (faults_of (C.seen conn.new)) }
@@ -59,8 +59,8 @@ pub fn serve<C: Conn>(
     serve_over(alloc, role, desk, &mut kept, conn)
 }
 
-/// The same over answers that are lent to it: one that is kept is not computed, and one that was
-/// computed is kept. They have to be right for the desk and the role, and they stay so.
+/// Like [`serve`], with a response cache that it borrows: a cached answer is not computed, and a
+/// computed one is cached. The cached answers must be right for the desk and the role, and stay so.
 pub fn serve_over<C: Conn>(
     alloc: Global,
     role: &Role,
@@ -70,7 +70,7 @@ pub fn serve_over<C: Conn>(
 ) -> Report
     requires role { IsPlainRole role.now }
     requires kept { KeepsAnswers desk.old role.now kept.old }
-    ensures served { Serves desk.new role.now (C.seen conn.old) (C.seen conn.new)
+    ensures served { ServesConn desk.new role.now (C.seen conn.old) (C.seen conn.new)
         result.places result.end }
     ensures enters { EntersFor desk.old result.places desk.new result.end }
     ensures later { AreLater (faults_of (C.seen conn.old)) (faults_of (C.seen conn.new)) }
@@ -94,7 +94,7 @@ pub fn serve_over<C: Conn>(
     }
 }
 
-/// Answers request by request, and tells the places. Where memory runs out that is told.
+/// Answers request by request, and records the places. When memory runs out, the client gets a 503.
 fn serve_requests<C: Conn>(
     alloc: Global,
     role: &Role,
@@ -106,7 +106,7 @@ fn serve_requests<C: Conn>(
     requires role { IsPlainRole role.now }
     requires kept { KeepsAnswers desk.old role.now kept.old }
     requires none { places.old ≡ [] }
-    ensures served { Serves desk.new role.now (C.seen conn.old) (C.seen conn.new)
+    ensures served { ServesConn desk.new role.now (C.seen conn.old) (C.seen conn.new)
         places.new result }
     ensures enters { EntersFor desk.old places.new desk.new result }
     ensures kept { KeepsAnswers desk.new role.now kept.new }
@@ -121,8 +121,8 @@ fn serve_requests<C: Conn>(
     }
 }
 
-/// Answers request by request, and tells the places. Where memory runs out nothing of it is told
-/// yet.
+/// Answers request by request, and records the places. When memory runs out, nothing was sent about
+/// it yet.
 fn answer_requests<C: Conn>(
     alloc: Global,
     role: &Role,
@@ -148,7 +148,7 @@ fn answer_requests<C: Conn>(
     }
 }
 
-/// Hears once and answers what came. `None` where the connection stays open.
+/// Receives one head and answers it. `None` when the connection stays open.
 fn answer_next<C: Conn>(
     alloc: Global,
     role: &Role,
@@ -180,7 +180,7 @@ fn answer_next<C: Conn>(
     }
 }
 
-/// Lets the desk enter, tells the place and replies. `None` where the connection stays open.
+/// Lets the desk enter, records the place and replies. `None` when the connection stays open.
 fn answer_one<C: Conn>(
     alloc: Global,
     role: &Role,
@@ -208,7 +208,7 @@ fn answer_one<C: Conn>(
     }
 }
 
-/// How the connection ends after a whole reply, if it does.
+/// How the connection ends after a whole reply, if it ends.
 fn ended_by(close: bool) -> Option<End>
     ensures { result ≡ if close then Some end.Closed else None }
 {

@@ -2,7 +2,7 @@ ghost use Rattle.std.specs.Prelude.{◌≡◌, ◌↔◌, IfOk};
 ghost use Rattle.answer_cache.specs.Computing.{RoseByOne};
 ghost use Rattle.answer_cache.specs.declared.key.Key.{Key as AnyKey};
 ghost use Rattle.catalogue.specs.Holdings.{history_of};
-ghost use Rattle.connection.specs.Keeping.{IsAnswerTo, IsKeyNow, answer_to, head_of};
+ghost use Rattle.connection.specs.Keeping.{IsAnswerToKey, IsKeyNow, answer_to, head_of_key};
 
 use actions::answer;
 use answer_cache::{Compute, Key};
@@ -14,7 +14,7 @@ use std::alloc::Global;
 use td_base::{NoMemory, Role};
 use zone_meaning::Zone;
 
-/// Computes answers over what a desk holds, and counts them.
+/// Computes answers over the catalogue that a desk holds, and counts them.
 #[derive(Drop)]
 pub struct Asking<'a> {
     pub alloc: Global,
@@ -32,7 +32,7 @@ impl Compute for Asking<'_> {
 
     fn compute(&mut self, key: &Key) -> Result<Answer, NoMemory>
         requires { IsKeyNow self.old.desk.now self.old.role.now key.now }
-        ensures is { IfOk result (IsAnswerTo self.old.desk.now self.old.role.now key.now) }
+        ensures is { IfOk result (IsAnswerToKey self.old.desk.now self.old.role.now key.now) }
         ensures answer { IfOk result (λ answer. answer
             ≡ answer_to (history_of self.old.desk.now.seen) self.old.role.now key.now) }
         ensures counted { RoseByOne self.old.calls self.new.calls }
@@ -45,7 +45,7 @@ impl Compute for Asking<'_> {
     }
 }
 
-/// The answer to a key, over what a desk holds.
+/// The answer to a key, over the catalogue that a desk holds.
 fn answer_over(
     alloc: Global,
     role: &Role,
@@ -53,15 +53,15 @@ fn answer_over(
     key: &Key,
 ) -> Result<Answer, NoMemory>
     requires { IsKeyNow desk.now role.now key.now }
-    ensures { IfOk result (IsAnswerTo desk.now role.now key.now) }
+    ensures { IfOk result (IsAnswerToKey desk.now role.now key.now) }
 {
     let head = head_of(alloc, key)?;
     answer(alloc, desk.value(), role, &head)
 }
 
-/// A request that asks for what the key does.
+/// A request that requests what the key names.
 fn head_of(alloc: Global, key: &Key) -> Result<Head, NoMemory>
-    ensures { IfOk result (λ head. head ≡ head_of key.now) }
+    ensures { IfOk result (λ head. head ≡ head_of_key key.now) }
 {
     let key = key.clone_in(alloc)?;
     Ok(Head {
@@ -73,7 +73,7 @@ fn head_of(alloc: Global, key: &Key) -> Result<Head, NoMemory>
     })
 }
 
-/// The answer to a key, computed over what the desk holds; it is counted.
+/// Computes the answer to a key over the catalogue that the desk holds, and counts it.
 pub fn compute_answer(
     alloc: Global,
     role: &Role,
@@ -82,7 +82,7 @@ pub fn compute_answer(
     key: &Key,
 ) -> Result<Answer, NoMemory>
     requires { IsKeyNow desk.now role.now key.now }
-    ensures is { IfOk result (IsAnswerTo desk.now role.now key.now) }
+    ensures is { IfOk result (IsAnswerToKey desk.now role.now key.now) }
     ensures counted { RoseByOne computed.old computed.new }
 {
     let mut asking = Asking {
