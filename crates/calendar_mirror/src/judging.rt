@@ -10,7 +10,7 @@ use sync_core::Heard;
 use td_base::{Ask, Bytes, NoMemory};
 use vtimezone_reader::{CalendarFault, read};
 
-/// What the bytes of an answer are to what was asked.
+/// Decodes the bytes of an answer, for what was requested.
 pub fn judge(alloc: Global, ask: &Ask, answer: &[u8]) -> Result<Judged, NoMemory>
     ensures { IfOk result (judging.IsJudged ask.now answer.now) }
 {
@@ -21,7 +21,7 @@ pub fn judge(alloc: Global, ask: &Ask, answer: &[u8]) -> Result<Judged, NoMemory
     }
 }
 
-/// What is heard: the data of a zone are judged.
+/// Judges a decoded answer: the data of a zone are checked as a calendar.
 fn judge_heard(alloc: Global, ask: &Ask, heard: Heard) -> Result<Judged, NoMemory>
     ensures { IfOk result (λ j. j ≡ judging.judged_heard ask.now heard) }
 {
@@ -31,7 +31,7 @@ fn judge_heard(alloc: Global, ask: &Ask, heard: Heard) -> Result<Judged, NoMemor
     }
 }
 
-/// What is heard where the zone with this name was asked for.
+/// Judges a decoded answer to the request for the zone with this name.
 fn judge_data(alloc: Global, name: &[u8], heard: Heard) -> Result<Judged, NoMemory>
     ensures { IfOk result (λ j. j ≡ judging.judged_data name.now heard) }
 {
@@ -42,7 +42,7 @@ fn judge_data(alloc: Global, name: &[u8], heard: Heard) -> Result<Judged, NoMemo
     }
 }
 
-/// The text that was got for the zone with this name.
+/// Judges the text that was received for the zone with this name.
 fn judge_text(alloc: Global, name: &[u8], text: Bytes) -> Result<Judged, NoMemory>
     ensures { IfOk result (λ j. j ≡ judging.judged_text name.now text) }
 {
@@ -57,7 +57,7 @@ fn judge_text(alloc: Global, name: &[u8], text: Bytes) -> Result<Judged, NoMemor
     }
 }
 
-/// A text that is no calendar.
+/// The result for a text that is not a calendar.
 fn bad_calendar(fault: CalendarFault) -> Result<Judged, NoMemory>
     ensures judged { IfOk result (λ j. j ≡ judged.BadCalendar fault) }
     ensures memory { OnOk result (fault ≢ bad.NoMemory) }

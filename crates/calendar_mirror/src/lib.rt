@@ -1,13 +1,15 @@
-//! A mirror that follows a server of calendars (RFC 7808, section 4.2.2): [`sync`] asks it until a
-//! list of changes comes back empty, as `mirror::sync` does, and keeps a calendar (RFC 5545) in the
-//! place of each zone's file.
+//! A mirror that follows a server of calendars (RFC 7808, section 4.2.2). [`sync`] sends requests
+//! until a list of changes comes back empty, as `mirror::sync` does, but keeps a calendar (RFC
+//! 5545) instead of each zone's file.
 //!
-//! What the bytes of an answer are to what was asked is `IsJudged` of `specs/Judging.antt`, and
-//! [`one_judgement`] is the law that this is one thing alone. The exchanges of a sync, and how it
-//! ends, are `CalendarSyncs` of `specs/CalendarShares.antt`.
+//! What the bytes of an answer are to its request is `IsJudged` of `specs/Judging.antt`.
+//! [`one_judgement`] is the law that an answer has at most one such meaning. The exchanges of a
+//! sync, and how it ends, are `CalendarSyncs` of `specs/CalendarShares.antt`.
+//!
+//! The crate stands on `mirror`, `sync_core` and `vtimezone_reader`. `td_top` calls it.
 #![tactic(auto)]
 
-// What an answer is to what was asked.
+// What an answer is to its request.
 mod judged_type;
 mod judging;
 

@@ -9,7 +9,7 @@ use vtimezone_reader::CalendarFault;
 pub enum CalendarSyncFault {
     /// One of the faults of any sync.
     Sync(SyncFault),
-    /// The answer of the exchange of this number has status 200, but its text is no calendar.
+    /// The answer of the exchange of this number has status 200, but its text is not a calendar.
     BadCalendar(u64, CalendarFault),
     /// The answer of the exchange of this number is a calendar of another zone.
     WrongName(u64),

@@ -9,9 +9,9 @@ use std::alloc::Global;
 use sync_core::Mirror;
 use td_base::Upstream;
 
-/// Asks the upstream, as this host, for what the mirror asks, and takes the answers, until a list
-/// of changes comes back empty. After a fault the mirror is as after the last answer that was
-/// taken.
+/// Sends the mirror's requests to the upstream under this host name, and applies the answers, until
+/// a list of changes comes back empty. After 16 lists it gives up as not settled. After a fault the
+/// mirror is as after the last answer that was applied.
 #[tactic(auto, using(mirror::proofs::lemmas::Walks::begins, mirror::proofs::lemmas::Walks::list_goes_on, mirror::proofs::lemmas::Walks::file_goes_on))]
 pub fn sync<U: Upstream>(
     alloc: Global,

@@ -12,7 +12,7 @@ use std::alloc::Global;
 use sync_core::Mirror;
 use td_base::{Ask, Bytes, Exchanged, NoMemory, Upstream};
 
-/// The exchange of this number: what the mirror asks is asked, and the answer taken.
+/// The exchange of this number: sends the request that the mirror needs, and applies the answer.
 #[tactic(auto, using(crate::proofs::Walks::got_turn, mirror::proofs::lemmas::Walks::failed_turn, mirror::proofs::lemmas::Walks::starved_turn, mirror::proofs::lemmas::Walks::no_turn))]
 pub fn turn<U: Upstream>(
     alloc: Global,
@@ -33,7 +33,7 @@ pub fn turn<U: Upstream>(
     }
 }
 
-/// The request for what is asked.
+/// The bytes of the request for what the mirror needs.
 fn written(alloc: Global, ask: &Ask, host: &[u8]) -> Result<Bytes, NoMemory>
     ensures { IfOk result (λ text. text ≡ calendar_request_text host.now ask.now) }
 {
@@ -42,7 +42,7 @@ fn written(alloc: Global, ask: &Ask, host: &[u8]) -> Result<Bytes, NoMemory>
     Ok(text)
 }
 
-/// Takes the answer of this number to what the mirror asks.
+/// Applies the answer of this number to what the mirror needs.
 fn take_answer(
     alloc: Global,
     mirror: &mut Mirror,
@@ -60,7 +60,7 @@ fn take_answer(
     }
 }
 
-/// Takes the answer of this number, which is this to any mirror.
+/// Applies the answer of this number, which any mirror would decode to this.
 fn take_sound(
     mirror: &mut Mirror,
     ask: &Ask,

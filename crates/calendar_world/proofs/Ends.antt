@@ -18,7 +18,7 @@ use Rattle.calendar_mirror.specs.declared.judged_type.Judged.{Judged}
 use Rattle.calendar_mirror.specs.declared.judged_type.Judged.TheVariants as judged
 use Rattle.calendar_mirror.specs.declared.sync_fault.CalendarSyncFault.{CalendarSyncFault}
 use Rattle.sync_world.specs.Calendars.{IsCalendarHeardOver}
-use Rattle.calendar_world.specs.Endings.{IsUnderstood}
+use Rattle.calendar_world.specs.Endings.{IsCalendarUnderstood}
 use Rattle.calendar_world.proofs.Sound.{AreHeard, OneMeaning, judged_is}
 use Rattle.calendar_world.proofs.Told.{Fits, IsRead, IsTold}
 
@@ -53,22 +53,22 @@ module _ (fits : Fits) (read : IsRead) (told : IsTold) (heard_so : AreHeard) (on
   judged_so x k j judged = judged_is fits read told heard_so one k.over (ask_of t) k.heard x.answer j k.history k.some k.is_heard k.is_meant judged
 
   any_sync : (taken untaken : List Exchange) (r : Result (Unit {0}) SyncFault) → SyncEnds written MeansSound s t taken untaken r → LastIsAnswered taken untaken
-      → IsUnderstood (of_sync r)
+      → IsCalendarUnderstood (of_sync r)
   any_sync taken untaken r (settled first last u h asks says is parts none ok) all =
-      subst (λ (z : Result (Unit {0}) SyncFault). IsUnderstood (of_sync z)) (sym ok) tt
+      subst (λ (z : Result (Unit {0}) SyncFault). IsCalendarUnderstood (of_sync z)) (sym ok) tt
   any_sync taken untaken r (unreadable x place asks parts is) all =
       let k = all x asks.lists parts asks.walks in
       absurd (not_unreadable place k.heard (judged_so x k (judged.Sound (understood.Unreadable place)) asks.is_for.is_meant))
   any_sync taken untaken r (refused x status asks parts is) all =
       let k = all x asks.lists parts asks.walks in
       absurd (not_refused status k.heard (judged_so x k (judged.Sound (understood.Refuses status)) asks.is_for.is_meant))
-  any_sync taken untaken r (not_settled walks none is) all = subst (λ (z : Result (Unit {0}) SyncFault). IsUnderstood (of_sync z)) (sym is) tt
-  any_sync taken untaken r (failed lists walks few none is) all = subst (λ (z : Result (Unit {0}) SyncFault). IsUnderstood (of_sync z)) (sym is) tt
-  any_sync taken untaken r (starved lists walks few parts is) all = subst (λ (z : Result (Unit {0}) SyncFault). IsUnderstood (of_sync z)) (sym is) tt
+  any_sync taken untaken r (not_settled walks none is) all = subst (λ (z : Result (Unit {0}) SyncFault). IsCalendarUnderstood (of_sync z)) (sym is) tt
+  any_sync taken untaken r (failed lists walks few none is) all = subst (λ (z : Result (Unit {0}) SyncFault). IsCalendarUnderstood (of_sync z)) (sym is) tt
+  any_sync taken untaken r (starved lists walks few parts is) all = subst (λ (z : Result (Unit {0}) SyncFault). IsCalendarUnderstood (of_sync z)) (sym is) tt
 
   pub ends_understood : (taken untaken : List Exchange) (result : Result (Unit {0}) CalendarSyncFault)
-      → CalendarSyncEnds written s t taken untaken result → LastIsAnswered taken untaken → IsUnderstood result
-  ends_understood taken untaken result (ended r ends is) all = subst IsUnderstood (sym is) (any_sync taken untaken r ends all)
+      → CalendarSyncEnds written s t taken untaken result → LastIsAnswered taken untaken → IsCalendarUnderstood result
+  ends_understood taken untaken result (ended r ends is) all = subst IsCalendarUnderstood (sym is) (any_sync taken untaken r ends all)
   ends_understood taken untaken result (bad_calendar x f judges parts is) all =
       let k = all x judges.lists parts judges.walks in absurd (not_bad f k.heard (judged_so x k (judged.BadCalendar f) judges.is_judged))
   ends_understood taken untaken result (wrong_name x judges parts is) all =

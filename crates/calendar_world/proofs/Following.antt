@@ -47,7 +47,7 @@ use Rattle.mirror_world.specs.Logs.{Logs}
 use Rattle.mirror_world.proofs.lemmas.Following.{followed}
 use Rattle.mirror_world.proofs.lemmas.Syncing.{ends_at, share_holds}
 use Rattle.mirror_world.proofs.lemmas.Worlds.{SentStands, begins, grows, led, stood_on}
-use Rattle.calendar_world.specs.Endings.{AreAnswered, HoldsAt, IsCalendarAnsweredOver, IsUnderstood}
+use Rattle.calendar_world.specs.Endings.{AreCalendarsAnswered, HoldsAt, IsCalendarAnsweredOver, IsCalendarUnderstood}
 use Rattle.calendar_world.proofs.Ends.{IsAnsweredBy, ends_understood}
 use Rattle.calendar_world.proofs.Sound.{AreHeard, OneMeaning}
 use Rattle.calendar_world.proofs.Told.{Fits, IsRead, IsTold}
@@ -181,10 +181,10 @@ module _ (law : WorldsHold) (one : OneJudgement) (heard_so : HeardInBytes) (writ
       ends_at written IsCalendarAnsweredOver MeansSound (one_sound one) calendar_service w.history taken (length H) lists empty_mirror t w.mirror longer follows
       walks
 
-  module _ (requests : RequestsAnswered) (meant_so : MeantInBytes) (t : MirrorState) (untaken : List Exchange) (answered : AreAnswered w untaken) where
+  module _ (requests : RequestsAnswered) (meant_so : MeantInBytes) (t : MirrorState) (untaken : List Exchange) (answered : AreCalendarsAnswered w untaken) where
     last_answered : (x : Exchange) (lists : ℕ) → untaken ≡ x ∷ [] → WalksOn written MeansSound empty_mirror taken 0 lists t → IsAnsweredBy (ask_of t) x
     last_answered x lists parts walks =
-        let k : AreAnswered w (x ∷ []) = subst (AreAnswered w) parts answered in
+        let k : AreCalendarsAnswered w (x ∷ []) = subst (AreCalendarsAnswered w) parts answered in
         let n = k.0 in
         let sent = k.1 in
         let is = k.2 in
@@ -207,7 +207,7 @@ module _ (law : WorldsHold) (one : OneJudgement) (heard_so : HeardInBytes) (writ
         }
 
     pub all_understood : Fits → IsRead → IsTold → AreHeard → OneMeaning → (result : Result (Unit {0}) CalendarSyncFault)
-        → CalendarSyncEnds written empty_mirror t taken untaken result → IsUnderstood result
+        → CalendarSyncEnds written empty_mirror t taken untaken result → IsCalendarUnderstood result
     all_understood fits read told are_heard one_meaning result ends =
         ends_understood fits read told are_heard one_meaning written empty_mirror t taken untaken result ends last_answered
 

@@ -8,7 +8,7 @@ use Rattle.td_civil.specs.declared.local_time.Observance.{Observance}
 use Rattle.recurrence.specs.declared.part_types.Part.{Part}
 use Rattle.zone_meaning.specs.Observed.{change_at, changes_after, changes_between, first_at, is_change, observed}
 use Rattle.vtimezone.specs.CalendarText.{part_lines}
-use Rattle.vtimezone.specs.Gathering.{is_of, joined, part_alone, with_date}
+use Rattle.vtimezone.specs.Gathering.{is_of, parts_joined, part_alone, with_date}
 use Rattle.vtimezone.specs.Grouping.{first_ones, grouped}
 use Rattle.vtimezone.proofs.lemmas.Gathered.{grouped_push}
 use Rattle.calendar_world.proofs.LineSizes.{cost, cost_both}
@@ -45,16 +45,16 @@ pub fewer : (ps : List Part) (n m : ℕ) → n ≤ m → AreFew ps n → AreFew 
 fewer ps n m le k = let size : parts_cost ps ≤ n = k.size in record { size = omega (arith, size, le); names = k.names }
 
 -- it joins a part, as a date, or is a part of its own
-join_few : (ps : List Part) (o : Observance) (most : ℕ) → IsToldShort o → AreFew ps most → AreFew (joined ps o) (most + 10_978)
-unfolding joined part_alone with_date
+join_few : (ps : List Part) (o : Observance) (most : ℕ) → IsToldShort o → AreFew ps most → AreFew (parts_joined ps o) (most + 10_978)
+unfolding parts_joined part_alone with_date
 join_few [] o most short k = record { size = omega arith; names = (short, tt) }
 join_few (p ∷ ps) o most short k =
     let size : part_cost p + parts_cost ps ≤ most = k.size in
-    cond_both (is_of p o) (with_date p o.onset ∷ ps) (p ∷ joined ps o) (λ (qs : List Part). AreFew qs (most + 10_978))
+    cond_both (is_of p o) (with_date p o.onset ∷ ps) (p ∷ parts_joined ps o) (λ (qs : List Part). AreFew qs (most + 10_978))
     (λ same. record { size = omega (arith, size, length-append p.dates (o.onset ∷ [])); names = (k.names.0, k.names.1) })
     (λ other.
     let rest = join_few ps o (parts_cost ps) short (record { size = omega arith; names = k.names.1 }) in
-    let more : parts_cost (joined ps o) ≤ parts_cost ps + 10_978 = rest.size in
+    let more : parts_cost (parts_joined ps o) ≤ parts_cost ps + 10_978 = rest.size in
     record { size = omega (arith, size, more); names = (k.names.0, rest.names) })
 
 groups_few : (before os : List Observance) (most : ℕ) → AllByRecursion IsToldShort os → AreFew (grouped before) most

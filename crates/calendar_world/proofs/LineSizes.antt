@@ -1,7 +1,7 @@
 -- How long lines are when they are written: a line of n octets is folded with three more for each 73.
 use Rattle.std.proofs.Common.{◌≡◌, ℕ, zero, suc, ◌+◌, ◌-◌, ◌*◌, ◌≤◌, ◌==◌, false, List, [], ◌∷◌, ◌++◌, length, arith, length-append}
 use Rattle.std.proofs.Math.Dec.{eqb-suc-zero}
-use Rattle.ical_lines.specs.Lines.{content_line, folded, most_octets, written}
+use Rattle.ical_lines.specs.Lines.{content_line, folded, most_octets, lines_written}
 
 folded_size : (room : ℕ) (bs : List ℕ) → room ≤ 75 → 73 * length (folded room bs) + 3 * room ≤ 76 * length bs + 225
 unfolding folded
@@ -27,12 +27,12 @@ line_size line =
     let size = folded_size most_octets line (omega arith) in
     omega (arith, size, length-append (folded most_octets line) (13 ∷ 10 ∷ []))
 
-pub written_size : (lines : List (List ℕ)) → 73 * length (written lines) ≤ cost lines
+pub written_size : (lines : List (List ℕ)) → 73 * length (lines_written lines) ≤ cost lines
 written_size [] = omega arith
 written_size (line ∷ lines) =
     let one = line_size line in
     let rest = written_size lines in
-    omega (arith, one, rest, length-append (content_line line) (written lines))
+    omega (arith, one, rest, length-append (content_line line) (lines_written lines))
 
 pub cost_both : (xs ys : List (List ℕ)) → cost (xs ++ ys) ≡ cost xs + cost ys
 cost_both [] ys = omega arith

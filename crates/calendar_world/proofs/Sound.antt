@@ -26,7 +26,7 @@ use Rattle.calendar_mirror.specs.declared.judged_type.Judged.{Judged}
 use Rattle.sync_world.specs.Calendars.{IsCalendarHeadOf, IsCalendarHeardOver, calendar_service}
 use Rattle.sync_world.specs.Hearing.{IsHeardIn, whole_data}
 use Rattle.sync_world.specs.Primaries.{file_told, told_by}
-use Rattle.calendar_world.specs.Reading.{IsCalendarAnswer, IsCalendarOf}
+use Rattle.calendar_world.specs.Reading.{IsCalendarAnswer, IsZoneCalendar}
 use Rattle.calendar_world.proofs.Named.{zone_named}
 use Rattle.calendar_world.proofs.Told.{Fits, IsRead, IsTold, reads_so}
 
@@ -71,7 +71,7 @@ module _ (fits : Fits) (read : IsRead) (told : IsTold) (heard_so : AreHeard) whe
 
   -- ---- how it is judged
 
-  judged_so : (name file text : List ℕ) → IsCalendarOf name file text → judged_data name (heard.Zone text) ≡ hears (heard.Zone text)
+  judged_so : (name file text : List ℕ) → IsZoneCalendar name file text → judged_data name (heard.Zone text) ≡ hears (heard.Zone text)
   judged_so name file text k =
       let P : List ℕ → Type 0 = λ tzid. bytes_eq tzid name ≡ true in
       let same : bytes_eq k.calendar.tzid name ≡ true = subst P (sym k.is_named) (same_bytes name) in

@@ -21,7 +21,7 @@ use Rattle.vtimezone_reader.specs.Onsets.{has_onset}
 use Rattle.vtimezone_reader.specs.ReadLines.{calendar_in}
 use Rattle.vtimezone_reader.specs.Written.{parts_after, written_calendar}
 use Rattle.vtimezone_reader.specs.declared.calendar_type.TheConstants.{MOST_BYTES}
-use Rattle.calendar_world.specs.Reading.{IsCalendarOf}
+use Rattle.calendar_world.specs.Reading.{IsZoneCalendar}
 
 -- the laws of the reader
 abbrev pub IsRead : Type 0
@@ -59,7 +59,7 @@ whole_range file first a is low =
     omega (arith, signed_arith, early, low, int_max_is a first)
 
 pub reads_so : Fits → IsRead → IsTold → (file name : List ℕ) (alias_of : Option (List ℕ)) → IsSoundFile file → is_identifier name ≡ true
-    → IfSome alias_of (λ t. is_identifier t ≡ true) → IsCalendarOf name file (calendar name alias_of (parts_after file lowest) None)
+    → IfSome alias_of (λ t. is_identifier t ≡ true) → IsZoneCalendar name file (calendar name alias_of (parts_after file lowest) None)
 reads_so fits read told file name alias_of sound is also = record {
   calendar = written_calendar name alias_of (parts_after file lowest) None;
   reads = read file lowest name alias_of sound meant is also (fits file lowest name alias_of sound meant is also);

@@ -22,19 +22,19 @@ abbrev pub IsCalendarAnsweredOver : List ReleaseData → Ask → Exchange → Ty
 IsCalendarAnsweredOver G a x = IsDataAnsweredOver Calendar G a x
 
 -- each of the exchanges answers what is outstanding in a world, and is not cut
-abbrev pub AreAnswered : SyncWorld → List Exchange → Type 0
-AreAnswered w [] = ⊤
-AreAnswered w (x ∷ xs) =
+abbrev pub AreCalendarsAnswered : SyncWorld → List Exchange → Type 0
+AreCalendarsAnswered w [] = ⊤
+AreCalendarsAnswered w (x ∷ xs) =
     (n : ℕ) × (sent : Sent) × IsAnswered IsCalendarAnsweredOver w n sent x
-    × (length x.answer < MOST_ANSWER) × AreAnswered w xs
+    × (length x.answer < MOST_ANSWER) × AreCalendarsAnswered w xs
 
 -- a sync of calendars did not end with a fault of an answer
-abbrev pub IsUnderstood : Result (Unit {0}) CalendarSyncFault → Type 0
-IsUnderstood (Err (fault.Sync (sync.BadAnswer exchange place answer))) = ⊥
-IsUnderstood (Err (fault.Sync (sync.Refused exchange status))) = ⊥
-IsUnderstood (Err (fault.BadCalendar exchange why)) = ⊥
-IsUnderstood (Err (fault.WrongName exchange)) = ⊥
-IsUnderstood result = ⊤
+abbrev pub IsCalendarUnderstood : Result (Unit {0}) CalendarSyncFault → Type 0
+IsCalendarUnderstood (Err (fault.Sync (sync.BadAnswer exchange place answer))) = ⊥
+IsCalendarUnderstood (Err (fault.Sync (sync.Refused exchange status))) = ⊥
+IsCalendarUnderstood (Err (fault.BadCalendar exchange why)) = ⊥
+IsCalendarUnderstood (Err (fault.WrongName exchange)) = ⊥
+IsCalendarUnderstood result = ⊤
 
 -- a sync of calendars ended well, or for the network or for memory alone
 abbrev pub IsSettled : Result (Unit {0}) CalendarSyncFault → Type 0

@@ -15,7 +15,7 @@ use Rattle.vtimezone_reader.specs.declared.calendar_type.Calendar.{Calendar}
 
 -- A text reads as a calendar of the name, without an end, and what it tells of each range from its
 -- first onset on are the observances of the zone with this file. No range begins before that onset.
-pub record IsCalendarOf (name file text : List ℕ) : Type 0 where
+pub record IsZoneCalendar (name file text : List ℕ) : Type 0 where
   pub calendar : Calendar
   pub reads : calendar_in text ≡ Ok calendar
   pub is_named : calendar.tzid ≡ name
@@ -29,10 +29,10 @@ pub record IsCalendarAnswer (G : List ReleaseData) (name : List ℕ) (h : Heard)
   pub has_name : named (zones_of G) name ≡ Some zone
   pub text : List ℕ
   pub is_heard : h ≡ heard.Zone text
-  pub is_calendar : IsCalendarOf name zone.file text
+  pub is_calendar : IsZoneCalendar name zone.file text
 
 -- a text is kept under the name: the calendar of the zone with this file
-pub record KeepsCalendar (texts : List ZoneFile) (name file : List ℕ) : Type 0 where
+pub record KeepsCalendarText (texts : List ZoneFile) (name file : List ℕ) : Type 0 where
   pub text : List ℕ
   pub kept : at_text file_name texts name ≡ Some (record { tzid = name; bytes = text })
-  pub is_calendar : IsCalendarOf name file text
+  pub is_calendar : IsZoneCalendar name file text

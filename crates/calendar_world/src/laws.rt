@@ -1,5 +1,6 @@
 //! The laws, each the contract of a function that does nothing.
-ghost use Rattle.std.specs.Prelude.{◌≡◌, ◌≤◌, ◌++◌, ℕ, List, Option, None, Some, IfSome, length, true};
+ghost use Rattle.std.specs.Prelude.{◌≡◌, ◌≤◌, ◌++◌, ℕ, List, Option, None, Some, IfSome, length};
+ghost use Rattle.std.specs.Prelude.{true};
 ghost use Rattle.std.specs.Prelude.{Result, Ok};
 ghost use Rattle.td_base.specs.Names.{is_identifier};
 ghost use Rattle.td_base.specs.declared.report.Ask.{Ask};
@@ -27,9 +28,10 @@ ghost use Rattle.sync_world.specs.Calendars.{HoldsCalendars, IsCalendarHeardOver
 ghost use Rattle.sync_world.specs.Worlds.{IsAnswer, Leads, Sent, SyncWorld, WorldStep, world_begun};
 ghost use Rattle.mirror_world.specs.Logs.{Logs};
 ghost use Rattle.mirror_world.specs.Settling.{SettlesSecond};
-ghost use Rattle.calendar_world.specs.Endings.{AreAnswered, HoldsAt, IsCalendarAnsweredOver};
-ghost use Rattle.calendar_world.specs.Endings.{IsSettled, IsUnderstood};
-ghost use Rattle.calendar_world.specs.Reading.{IsCalendarAnswer, KeepsCalendar};
+ghost use Rattle.calendar_world.specs.Endings.{AreCalendarsAnswered, HoldsAt};
+ghost use Rattle.calendar_world.specs.Endings.{IsCalendarAnsweredOver};
+ghost use Rattle.calendar_world.specs.Endings.{IsSettled, IsCalendarUnderstood};
+ghost use Rattle.calendar_world.specs.Reading.{IsCalendarAnswer, KeepsCalendarText};
 
 use calendar_mirror::one_judgement;
 use mirror::one_meaning;
@@ -38,8 +40,8 @@ use sync_world::{calendar_requests_are_answered, calendars_are_heard, mirrors_ho
 use vtimezone::zone_parts_are_spellable;
 use vtimezone_reader::{zone_is_read, zone_is_told};
 
-/// The calendar of a sound zone from a moment on, without an end, is no longer than one that is
-/// read: its file has 4,096 transitions at the most, and each makes a part or a date.
+/// The calendar of a sound zone, from a moment on and without an end, is short enough to be read.
+/// Its file has at most 4,096 transitions, and each makes a part or a date.
 pub fn calendars_fit()
     ensures { (file : List ℕ) (from : Moment) (tzid : List ℕ) (alias_of : Option (List ℕ))
         → IsSoundFile file → HasMeaning from.seconds → is_identifier tzid ≡ true
@@ -49,8 +51,8 @@ pub fn calendars_fit()
     zone_parts_are_spellable();
 }
 
-/// What is heard where a zone is asked for as a calendar is a calendar of that name, which tells
-/// the zone that has the name in the last release.
+/// What a mirror decodes when a zone is requested as a calendar is a calendar of that name. It
+/// gives the observances of the zone that has the name in the last release.
 pub fn calendars_are_read()
     ensures { (G : List ReleaseData) (name : List ℕ) (h : Heard) → IsHistory IsSound G
         → 1 ≤ length G → IsCalendarHeardOver G (ask.Get name) h → IsCalendarAnswer G name h }
@@ -61,8 +63,8 @@ pub fn calendars_are_read()
     zone_is_told();
 }
 
-/// So an answer that is heard in any world is taken as it is: it is never judged to be no calendar,
-/// or the calendar of another zone.
+/// So an answer that is decoded in any world is applied as it is. It is never judged to be no
+/// calendar, or the calendar of another zone.
 pub fn answers_are_sound()
     ensures { (H : List ReleaseData) (steps : List WorldStep) (w v : SyncWorld) (n : ℕ)
         (sent : Sent) (h : Heard) (answer : List ℕ) (j : Judged)
@@ -78,9 +80,9 @@ pub fn answers_are_sound()
     one_meaning();
 }
 
-/// Wherever a world brings answers to a mirror that begins with nothing, and these are the answers
-/// that a sync took: the sync does not end with a fault of an answer, if the exchange whose answer
-/// was not taken, where there is one, answers what is outstanding and is not cut.
+/// Takes a world that brings answers to an empty mirror, where these are the answers that a sync
+/// applied. The sync does not end with a fault of an answer. This holds if the exchange whose
+/// answer was not applied, if one exists, answers what is outstanding and is not cut.
 pub fn syncs_are_understood()
     ensures { (H : List ReleaseData) (steps : List WorldStep) (w : SyncWorld) (host : List ℕ)
         (t : MirrorState) (taken untaken : List Exchange)
@@ -88,7 +90,7 @@ pub fn syncs_are_understood()
         → IsHistory IsSound H → 1 ≤ length H
         → Logs IsSound IsCalendarAnsweredOver MeansSound (world_begun H) steps taken w
         → CalendarSyncEnds (calendar_request_text host) empty_mirror t taken untaken result
-        → AreAnswered w untaken → IsUnderstood result }
+        → AreCalendarsAnswered w untaken → IsCalendarUnderstood result }
 {
     mirrors_hold_calendars();
     calendar_requests_are_answered();
@@ -102,9 +104,9 @@ pub fn syncs_are_understood()
     one_judgement();
 }
 
-/// Where the second answer to a list among the exchanges of a primary is an empty list of changes,
-/// a sync over them ends well, but for the network or for memory: whatever calendars they bring are
-/// taken, and no further list is asked for.
+/// Takes exchanges of a primary in which the second answer to a list is an empty list of changes. A
+/// sync over them ends well, except for faults of the network or of memory. Whatever calendars they
+/// bring are applied, and no further list is requested.
 pub fn syncs_settle()
     ensures { (host : List ℕ) (t : MirrorState) (taken untaken xs more : List Exchange)
         (result : Result (Unit {0}) CalendarSyncFault)
@@ -119,8 +121,8 @@ pub fn syncs_settle()
     one_judgement();
 }
 
-/// And where it ended well, its last exchange was answered over the first n releases of the
-/// primary, and the mirror holds exactly the calendars of the last of them.
+/// And when it ended well, its last exchange was answered over the first n releases of the primary.
+/// The mirror then holds exactly the calendars of the last of them.
 pub fn syncs_hold()
     ensures { (H : List ReleaseData) (steps : List WorldStep) (w : SyncWorld) (host : List ℕ)
         (t : MirrorState) (taken untaken : List Exchange)
@@ -136,12 +138,12 @@ pub fn syncs_hold()
 }
 
 /// A mirror that holds the calendars of a release keeps, for each of its zones, a text that reads
-/// as the calendar of its name, and what is printed of it in a range are the observances of the
+/// as the calendar of its name. What is printed of the text in a range are the observances of the
 /// zone.
 pub fn calendars_are_told()
     ensures { (G : List ReleaseData) (s : MirrorState) (tzid : List ℕ) (c : ContentData)
         → IsHistory IsSound G → HoldsCalendars s G → zone_at (zones_of G) tzid ≡ Some c
-        → KeepsCalendar s.files tzid c.file }
+        → KeepsCalendarText s.files tzid c.file }
 {
     calendars_fit();
     zone_is_read();

@@ -4,7 +4,7 @@ use Rattle.std.proofs.Common.{append-nil, append_assoc}
 use Rattle.std.specs.List.{filter, range_with_len}
 use Rattle.td_base.specs.Views.{File, file_at}
 use Rattle.release_manifest.specs.declared.manifest_type.ManifestZone.{ManifestZone}
-use Rattle.made_load.specs.Releases.{HasFiles, made_file, made_zone, zone_numbers}
+use Rattle.made_load.specs.Releases.{HasMadeFiles, made_file, made_zone, zone_numbers}
 
 -- ---- moves
 
@@ -48,7 +48,7 @@ all_named zones zone most h =
 
 -- the files of all zones
 pub all_files : (r zone : ℕ) (files : List File) → zone ≡ 0
-    → ((path : List ℕ) → file_at files path ≡ file_at (map (made_file r) (range_with_len zone (50 - zone))) path) → HasFiles r files
+    → ((path : List ℕ) → file_at files path ≡ file_at (map (made_file r) (range_with_len zone (50 - zone))) path) → HasMadeFiles r files
 unfolding zone_numbers
 all_files r zone files none h = λ path.
     subst (λ z. file_at files path ≡ file_at (map (made_file r) (range_with_len z (50 - z))) path) none (h path)

@@ -1,6 +1,7 @@
 -- The releases of the load, by their numbers from 1: fifty zones, each at a whole hour east of UTC.
 -- From one release to the next, one of them moves on by an hour.
-use Rattle.std.specs.Prelude.{◌≡◌, ℕ, ◌+◌, ◌-◌, ◌*◌, ◌/◌, ◌%◌, ◌==◌, List, [], ◌∷◌, ◌++◌, length, map}
+use Rattle.std.specs.Prelude.{◌≡◌, ℕ, ◌+◌, ◌-◌, ◌*◌, ◌/◌, ◌%◌, ◌==◌, List, [], ◌∷◌, ◌++◌, length}
+use Rattle.std.specs.Prelude.{map}
 use Rattle.std.specs.Prelude.{codes, decimal, pos, None}
 use Rattle.std.specs.List.{filter, range_with_len}
 use Rattle.td_base.specs.Views.{File, file_at}
@@ -14,11 +15,11 @@ use Rattle.release_manifest.specs.declared.manifest_type.ManifestZone.{ManifestZ
 unfoldable pub zone_numbers : List ℕ
 zone_numbers = range_with_len 0 50
 
-abbrev pub two_digits : ℕ → List ℕ
-two_digits n = (48 + n / 10) ∷ (48 + n % 10) ∷ []
+abbrev pub two_digit_text : ℕ → List ℕ
+two_digit_text n = (48 + n / 10) ∷ (48 + n % 10) ∷ []
 
 unfoldable pub tzid_of : ℕ → List ℕ
-tzid_of z = codes "Load/Z" ++ two_digits z
+tzid_of z = codes "Load/Z" ++ two_digit_text z
 
 -- in how many of the releases after the first, up to this one, a zone moved
 unfoldable pub moves : ℕ → ℕ → ℕ
@@ -31,7 +32,7 @@ hour_of r z = (z + moves r z) % 24
 -- ---- files
 
 abbrev pub hour_name : ℕ → List ℕ
-hour_name h = 43 ∷ two_digits h
+hour_name h = 43 ∷ two_digit_text h
 
 -- the TZ string of an hour: the name between angle brackets, and the hours with the sign of POSIX
 unfoldable pub hour_footer : ℕ → List ℕ
@@ -61,8 +62,8 @@ abbrev pub made_files : ℕ → List File
 made_files r = map (made_file r) zone_numbers
 
 -- files among which those of a release are found, and no other
-abbrev pub HasFiles : ℕ → List File → Type 0
-HasFiles r files = (path : List ℕ) → file_at files path ≡ file_at (made_files r) path
+abbrev pub HasMadeFiles : ℕ → List File → Type 0
+HasMadeFiles r files = (path : List ℕ) → file_at files path ≡ file_at (made_files r) path
 
 -- ---- the manifest
 

@@ -19,18 +19,18 @@ head_text target lines =
 
 -- ---- targets
 
-abbrev pub list_target : List ℕ
-list_target = codes "/tzdist/zones"
+abbrev pub made_list_target : List ℕ
+made_list_target = codes "/tzdist/zones"
 
 unfoldable pub since_target : List ℕ → List ℕ
 since_target token = codes "/tzdist/zones?changedsince=" ++ percent_encode ESCAPED token
 
-unfoldable pub zone_target : List ℕ → List ℕ
-zone_target tzid = codes "/tzdist/zones/" ++ percent_encode ESCAPED tzid
+unfoldable pub made_zone_target : List ℕ → List ℕ
+made_zone_target tzid = codes "/tzdist/zones/" ++ percent_encode ESCAPED tzid
 
 unfoldable pub year_target : List ℕ → List ℕ
 year_target tzid =
-    zone_target tzid ++ codes "/observances?start=2020-01-01T00:00:00Z&end=2021-01-01T00:00:00Z"
+    made_zone_target tzid ++ codes "/observances?start=2020-01-01T00:00:00Z&end=2021-01-01T00:00:00Z"
 
 -- ---- lines
 
@@ -64,13 +64,13 @@ token_before H = token_of H (place_before (length H))
 
 -- those for lists, by a token
 unfoldable pub list_requests : List ℕ → List ℕ
-list_requests token = head_text list_target [] ++ head_text (since_target token) []
+list_requests token = head_text made_list_target [] ++ head_text (since_target token) []
 
 -- those for a zone, by its identifier and the line that tells that its file is held
 unfoldable pub zone_requests : List ℕ → List ℕ → List ℕ
 zone_requests tzid held =
-    head_text (zone_target tzid) accept_line
-    ++ (head_text (year_target tzid) [] ++ head_text (zone_target tzid) (accept_line ++ held))
+    head_text (made_zone_target tzid) accept_line
+    ++ (head_text (year_target tzid) [] ++ head_text (made_zone_target tzid) (accept_line ++ held))
 
 unfoldable pub requests_with : List ℕ → List ℕ → List ℕ → List ℕ
 requests_with token tzid held = list_requests token ++ zone_requests tzid held

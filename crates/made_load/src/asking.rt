@@ -9,12 +9,11 @@ use std::alloc::Global;
 use td_base::{Bytes, NoMemory, Token};
 use zone_meaning::Zone;
 
-/// The line of a request for a TZif file.
+/// The header line of a request for a TZif file.
 const ACCEPT: &[u8] = b"Accept: application/tzif\r\n";
 
-/// The bytes of the requests that are served after release `r`, which is the last of the
-/// catalogue. Where it has no zone of the name that is asked for, the last of them says nothing of
-/// a tag.
+/// The bytes of the requests that are served after release `r`, the last one of the catalogue. If
+/// the requested zone is not in the catalogue, the last request has no If-None-Match line.
 pub fn requests(alloc: Global, catalogue: &Catalogue<Zone>, r: u32) -> Result<Bytes, NoMemory>
     requires { ForEachZoneHistory catalogue.now (λ H. r ≡ length H) }
     ensures { ForEachZoneHistory catalogue.now (λ H.
@@ -26,14 +25,14 @@ pub fn requests(alloc: Global, catalogue: &Catalogue<Zone>, r: u32) -> Result<By
     requests_with(alloc, &token, &tzid, &held)
 }
 
-/// The token of the place before the last, where there is one.
+/// The token of the place before the last, or of the only place.
 fn token_before(catalogue: &Catalogue<Zone>) -> Token
     ensures { ForEachZoneHistory catalogue.now (λ H. result ≡ requests.token_before H) }
 {
     catalogue.token(place_before(catalogue.count()))
 }
 
-/// The place before this one, where there is one.
+/// The place before this one, or 1 for the first.
 fn place_before(place: u32) -> u32
     requires { 1 ≤ place }
     ensures before { result ≡ requests.place_before place }
@@ -43,7 +42,7 @@ fn place_before(place: u32) -> u32
     if place == 1 { 1 } else { place - 1 }
 }
 
-/// The line that tells that the file of a zone is held.
+/// The If-None-Match line with the tag of a zone, or nothing if the zone does not exist.
 fn held_line(alloc: Global, catalogue: &Catalogue<Zone>, tzid: &Bytes) -> Result<Bytes, NoMemory>
     ensures { ForEachZoneHistory catalogue.now (λ H. IfOk result (λ line.
         line ≡ requests.held_line (requests.tag_named H tzid.now))) }
@@ -54,7 +53,7 @@ fn held_line(alloc: Global, catalogue: &Catalogue<Zone>, tzid: &Bytes) -> Result
     }
 }
 
-/// The line that tells that a file is held, by the tag of its zone's content.
+/// The If-None-Match line for a file, with the tag of its zone's content.
 fn tag_line(alloc: Global, tag: &[u8]) -> Result<Bytes, NoMemory>
     ensures { IfOk result (λ line. line ≡ requests.held_line (Some tag.now)) }
 {
@@ -64,7 +63,7 @@ fn tag_line(alloc: Global, tag: &[u8]) -> Result<Bytes, NoMemory>
     Ok(line)
 }
 
-/// The requests by the token, the zone and the line that tells of its tag.
+/// The requests for a token, a zone and its If-None-Match line.
 #[tactic(auto, unfolding(crate::specs::Requests::requests_with))]
 fn requests_with(
     alloc: Global,
@@ -110,7 +109,7 @@ fn put_zone_requests(
     Ok(())
 }
 
-/// The lines of the last request.
+/// The header lines of the last request.
 #[tactic(auto, unfolding(crate::specs::Requests::accept_line))]
 fn again_lines(alloc: Global, held: &Bytes) -> Result<Bytes, NoMemory>
     ensures { IfOk result (λ lines. lines ≡ requests.accept_line ++ held.now) }
@@ -120,7 +119,7 @@ fn again_lines(alloc: Global, held: &Bytes) -> Result<Bytes, NoMemory>
     Ok(lines)
 }
 
-/// Appends the head of a GET of a target, with further lines.
+/// Appends the head of a GET of a target, with further header lines.
 #[tactic(auto, unfolding(crate::specs::Requests::head_text))]
 fn put_head(out: &mut Bytes, target: &[u8], lines: &[u8]) -> Result<(), NoMemory>
     ensures { OnOk result (out.new ≡ out.old ++ requests.head_text target.now lines.now) }

@@ -9,7 +9,7 @@ use json_forms::{BadList, read_list};
 use std::alloc::Global;
 use td_base::NoMemory;
 
-/// What is counted of a load. Each count stands still at the last value of its type.
+/// The counts of a load. Each count stops at the largest value of its type.
 #[derive(Clone, Copy, PartialEq, Eq)]
 pub struct LoadCounts {
     /// Releases that were served.
@@ -25,7 +25,7 @@ pub struct LoadCounts {
 }
 
 impl LoadCounts {
-    /// Of nothing.
+    /// All counts zero.
     pub fn none() -> LoadCounts
         ensures { result ≡ counts.no_counts }
     {
@@ -45,7 +45,8 @@ impl LoadCounts {
         self.releases = self.releases.saturating_add(1);
     }
 
-    /// Counts the one reply that the bytes are (RFC 9112). Where they are none, nothing is counted.
+    /// Counts a reply, given as the bytes of exactly one (RFC 9112). After a fault nothing is
+    /// counted.
     pub fn add_reply(&mut self, alloc: Global, bytes: &[u8]) -> Result<(), BadReply>
         ensures ok { OnOk result (counts.CountsReply bytes.now self.old self.new) }
         ensures err { OnErr result (self.new ≡ self.old) }
@@ -57,7 +58,7 @@ impl LoadCounts {
         Ok(())
     }
 
-    /// Counts a reply with this status, whose list has so many entries.
+    /// Counts a reply with this status and this number of list entries.
     fn count(&mut self, status: u16, entries: usize)
         ensures { self.new ≡ counts.with_entries self.old status entries }
     {
@@ -73,9 +74,9 @@ impl LoadCounts {
     }
 }
 
-/// How many entries the list has that the body of a reply is; 0 where it is none.
+/// The number of entries of the list in the body of a reply; 0 where the body is not a list.
 fn entry_count(alloc: Global, reply: &Reply) -> Result<usize, NoMemory>
-    ensures { IfOk result (λ n. n ≡ counts.entries_of (list_read reply.now.body)) }
+    ensures { IfOk result (λ n. n ≡ counts.counted_entries (list_read reply.now.body)) }
 {
     match read_list(alloc, reply.body.as_slice()) {
         Ok(list) => Ok(list.zones.len()),

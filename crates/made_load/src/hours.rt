@@ -5,18 +5,18 @@ use std::alloc::Global;
 use td_base::{Bytes, NoMemory, put_decimal};
 use tzif_reader::{Plan, slim};
 
-/// How many seconds an hour has.
+/// The seconds of an hour.
 const SECONDS: u32 = 3_600;
 
 /// A number below 100 in two digits.
 pub fn two_digits(n: u32) -> [u8; 2]
     requires { n < 100 }
-    ensures { result ≡ releases.two_digits n }
+    ensures { result ≡ releases.two_digit_text n }
 {
     [b'0' + (n / 10) as u8, b'0' + (n % 10) as u8]
 }
 
-/// The TZif file of a zone that is at an hour east of UTC for good (RFC 9636).
+/// The TZif file of a zone that is always this number of hours east of UTC (RFC 9636).
 #[tactic(auto, unfolding(crate::specs::Releases::hour_file))]
 pub fn hour_file(alloc: Global, hour: u32) -> Result<Bytes, NoMemory>
     requires { hour < 24 }
@@ -40,7 +40,7 @@ pub fn hour_file(alloc: Global, hour: u32) -> Result<Bytes, NoMemory>
     )
 }
 
-/// What the time of an hour is called.
+/// The name of the time of an hour, such as `+05`.
 fn hour_name(alloc: Global, hour: u32) -> Result<Bytes, NoMemory>
     requires { hour < 24 }
     ensures { IfOk result (λ name. name ≡ releases.hour_name hour) }
@@ -50,7 +50,7 @@ fn hour_name(alloc: Global, hour: u32) -> Result<Bytes, NoMemory>
     Ok(name)
 }
 
-/// A name as it stands among designations.
+/// A name with the zero byte that ends it among designations.
 fn ended_name(alloc: Global, name: &Bytes) -> Result<Bytes, NoMemory>
     ensures { IfOk result (λ ended. ended ≡ name.now ++ 0 ∷ []) }
 {
@@ -59,7 +59,7 @@ fn ended_name(alloc: Global, name: &Bytes) -> Result<Bytes, NoMemory>
     Ok(ended)
 }
 
-/// The TZ string of an hour that is called so (POSIX, section 8.3).
+/// The TZ string of a zone at this hour with this name (POSIX, section 8.3).
 #[tactic(auto, unfolding(crate::specs::Releases::hour_footer))]
 fn hour_footer(alloc: Global, name: &Bytes, hour: u32) -> Result<Bytes, NoMemory>
     requires { name.now ≡ releases.hour_name hour }

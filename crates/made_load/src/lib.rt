@@ -1,9 +1,12 @@
-//! A load that is made: releases by their numbers, the requests that are served after each, and the
-//! counts of what was answered.
+//! A generated load: releases by their numbers, the requests that are served after each, and the
+//! counts of the replies.
 //!
-//! [`release`] gives `made_manifest` and `made_files` of `specs/Releases.antt`, [`requests`] the
-//! bytes of `specs/Requests.antt`, and [`summary`] writes the line of `specs/Counts.antt`.
-//! [`LoadCounts`] counts replies from their bytes.
+//! [`release`] gives `made_manifest` and `made_files` of `specs/Releases.antt`. [`requests`] gives
+//! the bytes of `specs/Requests.antt`. [`LoadCounts`] counts replies from their bytes, and
+//! [`summary`] writes the line of `specs/Counts.antt`.
+//!
+//! Files are built by `tzif_reader`, and replies are read by `http_client` and `json_forms`.
+//! `td_top` runs the load.
 #![tactic(auto)]
 
 // The releases: their zones, the files of these, and the manifest.
@@ -15,7 +18,7 @@ mod zones;
 mod asking;
 mod targets;
 
-// What was answered.
+// The counts of the replies.
 mod counts;
 mod summing;
 

@@ -7,19 +7,19 @@ use std::alloc::Global;
 use td_base::{Bytes, MemoryStore, NoMemory, put_decimal};
 use td_civil::Moment;
 
-/// The moment of the release before the first, in seconds since 1970-01-01T00:00:00Z.
+/// The stamp before that of the first release, in seconds since 1970-01-01T00:00:00Z.
 const BEGIN: i64 = 1_577_836_800;
 
-/// How many seconds lie between two releases.
+/// The seconds between two releases.
 const DAY: i64 = 86_400;
 
-/// The release `r` of a load of so many releases: its manifest, and a store of its files.
+/// The release `r` of a load of `n` releases: its manifest, and a store of its files.
 pub fn release(alloc: Global, n: u32, r: u32) -> Result<(Manifest, MemoryStore), NoMemory>
     requires some { 1 ≤ r }
     requires within { r ≤ n }
     requires most { n ≤ 1_000 }
     ensures manifest { IfOk result (λ p. p.0 ≡ releases.made_manifest r) }
-    ensures files { IfOk result (λ p. releases.HasFiles r p.1) }
+    ensures files { IfOk result (λ p. releases.HasMadeFiles r p.1) }
 {
     let manifest = made_manifest(alloc, r)?;
     let store = made_store(alloc, r)?;
@@ -44,7 +44,7 @@ fn made_manifest(alloc: Global, release: u32) -> Result<Manifest, NoMemory>
     })
 }
 
-/// When a release was made.
+/// The stamp of a release.
 fn stamp_of(release: u32) -> Moment
     requires { release ≤ 1_000 }
     ensures { result ≡ (releases.made_manifest release).stamp }

@@ -5,10 +5,10 @@ use crate::LoadCounts;
 use itoa::Buffer;
 use td_base::{Bytes, NoMemory, ShortText};
 
-/// A summary, in which no number has more than ten digits.
+/// The line of a summary, at most 128 bytes. No number in it has more than ten digits.
 type SummaryLine = ShortText<128>;
 
-/// Appends the line that tells the counts. Where memory runs out nothing is appended.
+/// Appends the line with the counts. If memory runs out, nothing is appended.
 pub fn summary(out: &mut Bytes, counts: &LoadCounts) -> Result<(), NoMemory>
     ensures ok { OnOk result (out.new ≡ out.old ++ summary_text counts.now) }
     ensures err { OnErr result (out.new ≡ out.old) }
@@ -16,7 +16,7 @@ pub fn summary(out: &mut Bytes, counts: &LoadCounts) -> Result<(), NoMemory>
     out.append(summary_line(counts).as_slice())
 }
 
-/// The line that tells the counts.
+/// The line with the counts.
 #[tactic(auto, unfolding(crate::specs::Counts::summary_text))]
 fn summary_line(counts: &LoadCounts) -> SummaryLine
     ensures { result ≡ summary_text counts.now }

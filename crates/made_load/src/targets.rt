@@ -8,7 +8,7 @@ use percent_encoding::percent_encode;
 use std::alloc::Global;
 use td_base::{Bytes, NoMemory};
 
-/// The target of the list since a token.
+/// The request target of the list of changes since a token.
 #[tactic(auto, unfolding(crate::specs::Requests::since_target))]
 pub fn since_target(alloc: Global, token: &[u8]) -> Result<Bytes, NoMemory>
     ensures { IfOk result (λ target. target ≡ requests.since_target token.now) }
@@ -16,15 +16,15 @@ pub fn since_target(alloc: Global, token: &[u8]) -> Result<Bytes, NoMemory>
     named(alloc, b"/tzdist/zones?changedsince=", token)
 }
 
-/// The target of a zone.
-#[tactic(auto, unfolding(crate::specs::Requests::zone_target))]
+/// The request target of a zone.
+#[tactic(auto, unfolding(crate::specs::Requests::made_zone_target))]
 pub fn zone_target(alloc: Global, tzid: &[u8]) -> Result<Bytes, NoMemory>
-    ensures { IfOk result (λ target. target ≡ requests.zone_target tzid.now) }
+    ensures { IfOk result (λ target. target ≡ requests.made_zone_target tzid.now) }
 {
     named(alloc, b"/tzdist/zones/", tzid)
 }
 
-/// The target of the observances of a zone in the year 2020.
+/// The request target of the observances of a zone in the year 2020.
 #[tactic(auto, unfolding(crate::specs::Requests::year_target))]
 pub fn year_target(alloc: Global, tzid: &[u8]) -> Result<Bytes, NoMemory>
     ensures { IfOk result (λ target. target ≡ requests.year_target tzid.now) }
@@ -34,7 +34,7 @@ pub fn year_target(alloc: Global, tzid: &[u8]) -> Result<Bytes, NoMemory>
     Ok(target)
 }
 
-/// A path, and a text as it stands in targets.
+/// A path, followed by a percent-encoded text.
 fn named(alloc: Global, path: &[u8], text: &[u8]) -> Result<Bytes, NoMemory>
     ensures { IfOk result (λ target. target ≡ path.now ++ percent_encode ESCAPED text.now) }
 {

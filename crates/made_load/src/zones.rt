@@ -6,7 +6,7 @@ use release_manifest::ManifestZone;
 use std::alloc::Global;
 use td_base::{Bytes, Items, MemoryStore, NoMemory};
 
-/// How many zones each release has.
+/// The number of zones of each release.
 pub const ZONES: u32 = 50;
 
 /// The identifier of a zone.
@@ -20,7 +20,7 @@ pub fn tzid_of(alloc: Global, zone: u32) -> Result<Bytes, NoMemory>
     Ok(tzid)
 }
 
-/// The zones as a manifest names them.
+/// The zones as entries of a manifest.
 #[tactic(auto, unfolding(crate::specs::Releases::zone_numbers))]
 pub fn manifest_zones(alloc: Global) -> Result<Items<ManifestZone>, NoMemory>
     ensures { IfOk result (λ zones. zones ≡ map releases.made_zone releases.zone_numbers) }
@@ -32,7 +32,7 @@ pub fn manifest_zones(alloc: Global) -> Result<Items<ManifestZone>, NoMemory>
     Ok(zones)
 }
 
-/// A zone as a manifest names it.
+/// A zone as an entry of a manifest.
 fn made_zone(alloc: Global, zone: u32) -> Result<ManifestZone, NoMemory>
     requires { zone < 100 }
     ensures { IfOk result (λ made. made ≡ releases.made_zone zone) }
@@ -49,7 +49,7 @@ fn made_zone(alloc: Global, zone: u32) -> Result<ManifestZone, NoMemory>
 /// A store of the files of a release.
 pub fn made_store(alloc: Global, release: u32) -> Result<MemoryStore, NoMemory>
     requires { release ≤ 1_000 }
-    ensures { IfOk result (releases.HasFiles release) }
+    ensures { IfOk result (releases.HasMadeFiles release) }
 {
     let mut store = MemoryStore::new(alloc);
     let mut zone = ZONES;

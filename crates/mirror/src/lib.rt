@@ -1,12 +1,15 @@
-//! A mirror that follows another server of time zones (RFC 7808, section 4.2.2): [`sync`] asks it
-//! until a list of changes comes back empty.
+//! A mirror that follows another server of time zones (RFC 7808, section 4.2.2). [`sync`] sends
+//! requests to it until a list of changes comes back empty.
 //!
-//! What the bytes of an answer are to what was asked is `Means` of `specs/Understanding.antt`, and
-//! [`one_meaning`] is the law that this is one thing alone. The exchanges of a sync, and how it
+//! What the bytes of an answer mean for a request is `Means` of `specs/Understanding.antt`, and
+//! [`one_meaning`] is the law that an answer has one meaning. The exchanges of a sync, and how it
 //! ends, are `Syncs` of `specs/Shares.antt`.
+//!
+//! The state of the mirror is that of `sync_core`, and requests and replies are those of
+//! `http_client`. `td_top` runs syncs, and `calendar_mirror` does the same for calendars.
 #![tactic(auto)]
 
-// What an answer is to what was asked.
+// The meaning of an answer to a request.
 mod understanding;
 mod understood_type;
 

@@ -1,5 +1,5 @@
-/// How many bytes of an answer are taken at the most. An answer of as many is too long.
+/// The most bytes of an answer that are read. An answer with this many or more is too long.
 pub const MOST_ANSWER: usize = 8_388_608;
 
-/// How many answers to lists a sync takes at the most.
+/// The most answers to list requests in one sync.
 pub const MOST_LISTS: usize = 16;

@@ -2,20 +2,21 @@ use std::error::Error;
 use std::fmt;
 use td_base::{Bytes, NoMemory};
 
-/// Why a sync ended before the mirror was settled. Exchanges are counted from 1 in the sync.
+/// Why a sync ended before the mirror was in sync. Exchanges are counted from 1 in the sync.
 #[derive(Debug, Drop)]
 pub enum SyncFault {
     NoMemory,
-    /// The upstream failed.
+    /// The exchange with the upstream failed.
     UpstreamFault,
-    /// The answer of the exchange of this number is not of the form, from this place on: the most
-    /// bytes that are taken, where it has as many; the place of a `BadReply`; or, of a list, that
-    /// of a `BadList`. And the answer.
+    /// The answer of the exchange of this number is malformed. The second value is
+    /// [`MOST_ANSWER`](crate::MOST_ANSWER) if the answer has that many bytes or more. Otherwise it
+    /// is the place of a `BadReply` or, for a list, that of a `BadList`. The third value is the
+    /// answer.
     BadAnswer(u64, usize, Bytes),
-    /// The answer of the exchange of this number has this status, which is not 200, and it is no
-    /// refusal of a token that was asked with.
+    /// The answer of the exchange of this number has this status. It is not 200, and the answer is
+    /// not the refusal of the token in the request.
     Refused(u64, u16),
-    /// So many lists did not settle the mirror.
+    /// This many lists did not bring the mirror in sync.
     NotSettled(usize),
 }
 

@@ -11,9 +11,9 @@ use std::alloc::Global;
 use sync_core::Mirror;
 use td_base::Upstream;
 
-/// Asks the upstream, as this host, for what the mirror asks, and takes the answers, until a list
-/// of changes comes back empty. After a fault the mirror is as after the last answer that was
-/// taken.
+/// Sends the requests of the mirror to the upstream, with `host` as their Host field, and takes the
+/// answers. It ends when a list of changes comes back empty. After a fault the mirror is in the
+/// state after the last answer taken.
 #[tactic(auto, using(crate::proofs::lemmas::Walks::begins, crate::proofs::lemmas::Walks::settled_syncs, crate::proofs::lemmas::Walks::fault_syncs, crate::proofs::lemmas::Walks::list_goes_on, crate::proofs::lemmas::Walks::file_goes_on, crate::proofs::lemmas::Walks::unsettled))]
 pub fn sync<U: Upstream>(
     alloc: Global,

@@ -1,9 +1,9 @@
-/// What was taken of an answer.
+/// What an answer brought.
 #[derive(Clone, Copy, PartialEq, Eq)]
 pub enum Taken {
-    /// It shows that the mirror holds what the upstream has.
+    /// It shows that the mirror holds the release of the upstream.
     Settled,
-    /// Another list, or that a token is refused.
+    /// Another list, or the refusal of a token.
     List,
     /// A file.
     File,

@@ -13,7 +13,7 @@ use std::alloc::Global;
 use sync_core::{Mirror, Settled};
 use td_base::{Ask, Bytes, Exchanged, NoMemory, Upstream};
 
-/// The exchange of this number: what the mirror asks is asked, and the answer taken.
+/// The exchange of this number: it sends the next request of the mirror and takes the answer.
 #[tactic(auto, using(crate::proofs::lemmas::Walks::got_turn, crate::proofs::lemmas::Walks::failed_turn, crate::proofs::lemmas::Walks::starved_turn, crate::proofs::lemmas::Walks::no_turn))]
 pub fn turn<U: Upstream>(
     alloc: Global,
@@ -34,7 +34,7 @@ pub fn turn<U: Upstream>(
     }
 }
 
-/// The request for what is asked.
+/// The bytes of a request.
 fn written(alloc: Global, ask: &Ask, host: &[u8]) -> Result<Bytes, NoMemory>
     ensures { IfOk result (λ text. text ≡ request_text host.now ask.now) }
 {
@@ -43,7 +43,7 @@ fn written(alloc: Global, ask: &Ask, host: &[u8]) -> Result<Bytes, NoMemory>
     Ok(text)
 }
 
-/// Takes the answer of this number to what the mirror asks.
+/// Takes the answer of this number to the request of the mirror.
 fn take_answer(
     alloc: Global,
     mirror: &mut Mirror,
@@ -64,7 +64,7 @@ fn take_answer(
     }
 }
 
-/// What was taken of the answer to what was asked.
+/// What the answer to a request brought.
 pub fn taken_by(ask: &Ask, settled: Settled) -> Taken
     ensures { result ≡ turns.taken_by ask.now settled }
 {

@@ -12,7 +12,7 @@ use std::alloc::Global;
 use sync_core::Heard;
 use td_base::{Ask, Bytes, NoMemory};
 
-/// What the bytes of an answer are to what was asked.
+/// The meaning of the bytes of an answer to a request.
 pub fn understand(alloc: Global, ask: &Ask, answer: &[u8]) -> Result<Understood, NoMemory>
     ensures { IfOk result (means.Means ask.now answer.now) }
 {
@@ -25,7 +25,7 @@ pub fn understand(alloc: Global, ask: &Ask, answer: &[u8]) -> Result<Understood,
     }
 }
 
-/// What bytes are that are no reply.
+/// The meaning of bytes that are not a reply.
 fn unreadable(fault: BadReply) -> Result<Understood, NoMemory>
     ensures heard { IfOk result (λ u. u ≡ means.fault_heard fault) }
     ensures memory { OnOk result (fault ≢ bad_reply.NoMemory) }
@@ -68,7 +68,7 @@ fn hear_list(alloc: Global, body: &[u8]) -> Result<Understood, NoMemory>
     }
 }
 
-/// Whether a token that was asked with is refused (RFC 7808, section 5.2).
+/// Whether the reply refuses the token of the request (RFC 7808, section 5.2).
 fn refuses_token(alloc: Global, ask: &Ask, reply: &Reply) -> Result<bool, NoMemory>
     ensures { IfOk result (λ refuses. refuses ≡ means.refuses_token ask.now reply.now) }
 {
@@ -78,7 +78,7 @@ fn refuses_token(alloc: Global, ask: &Ask, reply: &Reply) -> Result<bool, NoMemo
     }
 }
 
-/// Whether a body tells that a token is refused.
+/// Whether a body reports that a token is refused.
 fn is_token_problem(alloc: Global, body: &[u8]) -> Result<bool, NoMemory>
     ensures { IfOk result (λ is. is ≡ means.names_changedsince (problem_in body.now)) }
 {

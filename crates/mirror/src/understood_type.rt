@@ -1,12 +1,12 @@
 use sync_core::Heard;
 
-/// What an answer is to what was asked.
+/// The meaning of an answer to a request.
 #[derive(Drop)]
 pub enum Understood {
-    /// It says this.
+    /// The decoded response.
     Hears(Heard),
-    /// It is not of the form, from this place on.
+    /// It is malformed from this place on.
     Unreadable(usize),
-    /// It refuses, with this status.
+    /// It refuses the request, with this status.
     Refuses(u16),
 }

@@ -19,7 +19,7 @@ use Rattle.http_answer.specs.Replies.{tag_lines, type_lines}
 use Rattle.http_answer.specs.declared.answer.Answer.{Answer}
 use Rattle.http_answer.specs.declared.answer.Kind.{Kind}
 use Rattle.http_answer.specs.declared.answer.Kind.TheVariants as kind
-use Rattle.http_client.specs.Replies.{IsReading, Sized, Unread, fault_place, framing, headed, reply_of, reply_unless, sized}
+use Rattle.http_client.specs.Replies.{IsReading, Sized, Unread, fault_place, framing, headed, reply_of, reply_unless, framed_by_size}
 use Rattle.http_client.specs.declared.reply.Reply.{Reply}
 use Rattle.mirror_world.proofs.Values.{digits_pass, number_digits, number_is, trimmed}
 
@@ -182,7 +182,7 @@ few media size (Some tag) true = omega arith
 few media size (Some tag) false = omega arith
 
 framed : (media size : List ℕ) (tag : Option (List ℕ)) (close : Bool)
-    → framing (map name_and_value (map field_of (pairs_of media tag size close))) ≡ sized (trim_ows (32 ∷ size))
+    → framing (map name_and_value (map field_of (pairs_of media tag size close))) ≡ framed_by_size (trim_ows (32 ∷ size))
 unfolding framing
 framed media size None true = refl
 framed media size None false = refl
@@ -251,7 +251,7 @@ module _ (status : ℕ) (k : Kind) (tag : Option (List ℕ)) (body : List ℕ) (
 
   sized_is : framing (map name_and_value (map field_of parts_of)) ≡ Sized (length body)
   sized_is =
-      framed (media_type k) (decimal (length body)) tag close ∙ ap sized (trimmed (decimal (length body)) (number_digits (length body) small))
+      framed (media_type k) (decimal (length body)) tag close ∙ ap framed_by_size (trimmed (decimal (length body)) (number_digits (length body) small))
       ∙ ap (λ t. cond t (Sized (digits_value 10 (decimal (length body)))) Unread) (number_is (length body) small)
       ∙ ap Sized (decimal_is_IsNumeral (length body) small).1
 

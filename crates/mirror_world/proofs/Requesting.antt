@@ -10,7 +10,7 @@ use Rattle.td_base.specs.declared.report.Ask.{Ask}
 use Rattle.td_base.specs.declared.report.Ask.TheVariants as ask
 use Rattle.http_client.specs.CalendarRequests.{calendar_accepted, calendar_request_text}
 use Rattle.http_client.specs.Requests.{accepted, request_text, target_of, text_with}
-use Rattle.http_client.specs.SentHeads.{IsSentCalendarHead, IsSentHead, IsSentHeadOf, fields_sent, is_visible, is_visible_text}
+use Rattle.http_client.specs.SentHeads.{IsSentCalendarHead, IsSentHead, IsSentHeadOf, fields_sent, is_visible_byte, is_visible_text}
 use Rattle.http_request.specs.Asks.{Asks, Rest}
 use Rattle.http_request.specs.Ends.{end_among, head_lines_from, window}
 use Rattle.http_request.specs.Judging.{asked, asked_by, is_host, is_host_byte, refusal, refusal_of}
@@ -25,13 +25,13 @@ use Rattle.mirror_world.proofs.Lines.{FitsInLine, accepted_fits, calendar_accept
 use Rattle.mirror_world.proofs.Targets.{AsksByName, target_asks}
 use Rattle.mirror_world.proofs.Values.{both, first, second}
 
-host_byte_visible : (b : ℕ) → is_host_byte b ≡ true → is_visible b ≡ true
+host_byte_visible : (b : ℕ) → is_host_byte b ≡ true → is_visible_byte b ≡ true
 host_byte_visible b h = grind (arith, nat_tests)
 
 pub host_visible : (host : List ℕ) → is_host host ≡ true → is_visible_text host ≡ true
 host_visible [] h = refl
 host_visible (b ∷ bs) h =
-    both (is_visible b) (is_visible_text bs) (host_byte_visible b (first (is_host_byte b) (is_host bs) h))
+    both (is_visible_byte b) (is_visible_text bs) (host_byte_visible b (first (is_host_byte b) (is_host bs) h))
     (host_visible bs (second (is_host_byte b) (is_host bs) h))
 
 form_so : (a : Ask) → has_form (target_of a) ≡ true

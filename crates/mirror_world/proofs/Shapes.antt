@@ -32,7 +32,7 @@ use Rattle.actions.specs.Bounds.{bounds_in, end_bound, start_bound}
 use Rattle.actions.specs.Documents.{with_document, with_problem}
 use Rattle.actions.specs.Getting.{format_answer, get_answer, zone_answer}
 use Rattle.actions.specs.Listing.{changes_since, change_list, list_answer, list_body}
-use Rattle.sync_world.specs.Hearing.{IsDataHeadOf, action_asked, media_type, whole_data}
+use Rattle.sync_world.specs.Hearing.{IsDataHeadOf, action_asked, type_of_format, whole_data}
 use Rattle.mirror_world.proofs.Replying.{IsPlainStatus, TagPasses, plain}
 use Rattle.mirror_world.proofs.Values.{both, first, second}
 
@@ -124,7 +124,7 @@ list_plain H head (Some since) = changes_plain H (place_of H since)
 
 -- ---- the data of zones
 
-format_chosen : (f : Format) → chosen_format (Some (media_type f)) ≡ Some f
+format_chosen : (f : Format) → chosen_format (Some (type_of_format f)) ≡ Some f
 unfolding chosen_format quality_of largest_for pieces trim quality_in quality_value
 format_chosen format.Calendar = refl
 format_chosen format.Tzif = refl
@@ -161,19 +161,19 @@ data_plain format.CalendarJson name e tag = record {
 }
 
 zone_plain : (f : Format) (name : List ℕ) (o : Option EntryData) → ((e : EntryData) → o ≡ Some e → IsPlain e.tag)
-    → IsPlainAnswer (zone_answer name o (Some (media_type f)) None param.Absent param.Absent)
+    → IsPlainAnswer (zone_answer name o (Some (type_of_format f)) None param.Absent param.Absent)
 zone_plain f name None tags = refusal problem.TzidNotFound
 zone_plain f name (Some e) tags =
     subst (λ (g : Option Format). IsPlainAnswer (format_answer g name e None param.Absent param.Absent)) (sym (format_chosen f))
     (data_plain f name e (tags e refl))
 
-got_plain : (f : Format) (H : List ReleaseData) (head : Head) (name : List ℕ) → head.accept ≡ Some (media_type f) → head.none_match ≡ None
+got_plain : (f : Format) (H : List ReleaseData) (head : Head) (name : List ℕ) → head.accept ≡ Some (type_of_format f) → head.none_match ≡ None
     → IsPlainAnswer (answer_for H Primary head (action_asked (ask.Get name)))
 unfolding get_answer
 got_plain f H head name accept held =
     let o = option_and_then (slice_get (meta H)) (place_named H name) in
     let two = zone_plain f name o (tag_found H name) in
-    let one = subst (λ l. IsPlainAnswer (zone_answer name o (Some (media_type f)) l param.Absent param.Absent)) (sym held) two in
+    let one = subst (λ l. IsPlainAnswer (zone_answer name o (Some (type_of_format f)) l param.Absent param.Absent)) (sym held) two in
     subst (λ a. IsPlainAnswer (zone_answer name o a head.none_match param.Absent param.Absent)) (sym accept) one
 
 answer_plain : (f : Format) (H : List ReleaseData) (a : Ask) (head : Head) → IsDataHeadOf f a head

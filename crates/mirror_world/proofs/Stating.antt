@@ -7,7 +7,7 @@ use Rattle.td_base.specs.FirstFault.{◌>>=◌}
 use Rattle.td_base.specs.Views.{File, file_at}
 use Rattle.catalogue.specs.Histories.{IsHistory, entries_of, entry_of, last_release, meta}
 use Rattle.catalogue.specs.Lookups.{contents_of, zones_of}
-use Rattle.catalogue.specs.Order.{IsRising, is_before, put_by, rising_by}
+use Rattle.catalogue.specs.Order.{IsRising, is_before, rising_by}
 use Rattle.catalogue.specs.Releases.{ContentData, IsInOrder, ReleaseData}
 use Rattle.catalogue.specs.declared.release.Leaps.{Leaps}
 use Rattle.catalogue.proofs.lemmas.LastRelease.{last_of}
@@ -26,7 +26,8 @@ use Rattle.sync_core.proofs.lemmas.Puts.{bytes_same, same_bytes}
 use Rattle.sync_world.specs.Hearing.{action_service}
 use Rattle.sync_world.specs.Holding.{HoldsLast, file_of}
 use Rattle.sync_world.specs.Primaries.{list_told}
-use Rattle.mirror_world.specs.Contents.{content_stated, content_with, contents_of_state, contents_stated, joined}
+use Rattle.mirror_world.proofs.lemmas.Rising.{stays}
+use Rattle.mirror_world.specs.Contents.{content_stated, content_with, contents_of_state, contents_stated, joined_contents}
 
 -- ---- order
 
@@ -40,16 +41,6 @@ not_same x y h = by (bytes_eq y x) refl
         let itself : is_before x x ≡ true = subst (λ z. is_before x z ≡ true) same h in
         let other = not_before_itself x x itself in
         absurd (cc)
-
--- what rises is in rising order
-put_front : {X : Type 0} (text : X → List ℕ) (x : X) (ys : List X) → AllByRecursion (λ y. is_before (text x) y ≡ true) (map text ys)
-    → put_by text x ys ≡ x ∷ ys
-put_front text x [] h = refl
-put_front text x (y ∷ ys) h = ap (λ b. cond b (y ∷ put_by text x ys) (x ∷ y ∷ ys)) (not_before_itself (text y) (text x) h.0)
-
-pub stays : {X : Type 0} (text : X → List ℕ) (xs : List X) → IsRising (map text xs) → rising_by text xs ≡ xs
-stays text [] h = refl
-stays text (x ∷ xs) h = ap (put_by text x) (stays text xs h.1) ∙ put_front text x xs h.0
 
 map_same : (xs : List (List ℕ)) → map (λ x. x) xs ≡ xs
 map_same [] = refl
@@ -98,12 +89,12 @@ each_stated G last front (c ∷ cs) h rise =
     subst (λ all. contents_stated (files_of all) (map list_zone (map (entry_of G last) cs)) ≡ Some cs) (sym same)
     (each_stated G last (front ++ c ∷ []) cs (subst (λ all. IsRising (map tzid_of all)) same h) rise.1)
     in
-    ap (λ o. joined o (contents_stated (files_of (front ++ c ∷ cs)) (map list_zone (map (entry_of G last) cs))))
+    ap (λ o. joined_contents o (contents_stated (files_of (front ++ c ∷ cs)) (map list_zone (map (entry_of G last) cs))))
     (content_is (files_of (front ++ c ∷ cs)) G last c rise.0 (found_after front c cs h))
-    ∙ ap (joined (Some c)) rest
+    ∙ ap (joined_contents (Some c)) rest
 
 -- contents that are stated are those of the first and of the others
-pub stated_parts : (o : Option ContentData) (os : Option (List ContentData)) (all : List ContentData) → joined o os ≡ Some all
+pub stated_parts : (o : Option ContentData) (os : Option (List ContentData)) (all : List ContentData) → joined_contents o os ≡ Some all
     → (c : ContentData) × (cs : List ContentData) × (o ≡ Some c) × (os ≡ Some cs) × (all ≡ c ∷ cs)
 stated_parts None os all e = absurd (cc)
 stated_parts (Some c) None all e = absurd (cc)

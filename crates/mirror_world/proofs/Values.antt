@@ -10,7 +10,7 @@ use Rattle.std.proofs.lemmas.List.{reverse-append}
 use Rattle.std.proofs.lemmas.List.Folds.{list_all-append}
 use Rattle.httparse.specs.Grammar.{is_ows, is_value_byte, skip_ows, trim_ows}
 use Rattle.httparse.proofs.TrimLemmas.{trim_ows_space}
-use Rattle.http_client.specs.Replies.{is_number}
+use Rattle.http_client.specs.Replies.{is_digit_text}
 
 abbrev pub AreDigits : List ℕ → Type 0
 AreDigits text = list_all is_ascii_digit text ≡ true
@@ -66,7 +66,7 @@ number_digits =
 some_digits : (n : ℕ) → 0 < n → n ≡ 0 → ⊥
 some_digits n some none = omega (arith, some, none)
 
-pub number_is : (n : ℕ) → n < 2 ^ 64 → is_number (decimal n) ≡ true
+pub number_is : (n : ℕ) → n < 2 ^ 64 → is_digit_text (decimal n) ≡ true
 number_is n small =
     ap (λ t. not t && list_all is_ascii_digit (decimal n)) (ne_eqb (length (decimal n)) 0 (some_digits (length (decimal n)) (decimal_nonempty n small)))
     ∙ number_digits n small

@@ -4,3 +4,4 @@ pub mod Following
 pub mod Syncing
 pub mod Settling
 pub mod Histories
+pub mod Rising

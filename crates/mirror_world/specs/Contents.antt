@@ -19,14 +19,14 @@ abbrev pub content_stated : List ZoneFile → ListZone → Option ContentData
 content_stated files z =
     option_map (content_with z) (option_map bytes_of (at_text file_name files z.tzid))
 
-abbrev pub joined : Option ContentData → Option (List ContentData) → Option (List ContentData)
-joined (Some c) (Some cs) = Some (c ∷ cs)
-joined c cs = None
+abbrev pub joined_contents : Option ContentData → Option (List ContentData) → Option (List ContentData)
+joined_contents (Some c) (Some cs) = Some (c ∷ cs)
+joined_contents c cs = None
 
 -- the zones that are stated, each over its file, if all have one
 abbrev pub contents_stated : List ZoneFile → List ListZone → Option (List ContentData)
 contents_stated files [] = Some []
-contents_stated files (z ∷ zs) = joined (content_stated files z) (contents_stated files zs)
+contents_stated files (z ∷ zs) = joined_contents (content_stated files z) (contents_stated files zs)
 
 -- the zones of the release that a mirror states
 abbrev pub contents_of_state : MirrorState → Option (List ContentData)

@@ -47,7 +47,7 @@ use mirror::one_meaning;
 use sync_world::{mirrors_hold_releases, requests_are_answered};
 use target::asks_by_name;
 
-/// A request that a mirror writes is one head, which asks what the mirror asks.
+/// A request that a mirror writes is one request head, for exactly what the mirror needs.
 pub fn requests_ask()
     ensures { (host : List ℕ) (a : Ask) → IsAskable host a
         → (head : Head) × IsRequestFor a (request_text host a) head }
@@ -56,7 +56,7 @@ pub fn requests_ask()
     asks_by_name();
 }
 
-/// The same of a request of a mirror that keeps calendars, which asks for zones as calendars.
+/// The same for a mirror that keeps calendars, whose requests are for zones as calendars.
 pub fn calendar_requests_ask()
     ensures { (host : List ℕ) (a : Ask) → IsAskable host a
         → (head : Head) × IsDataRequestFor Calendar a (calendar_request_text host a) head }
@@ -65,30 +65,31 @@ pub fn calendar_requests_ask()
     asks_by_name();
 }
 
-/// What an exchange with a primary means, where it is heard, is heard in the answer of the action.
+/// What a mirror decodes from an exchange with a primary is what the answer of the action contains.
 pub fn answers_are_heard_in_bytes()
     ensures { (G : List ReleaseData) (a : Ask) (x : Exchange) (h : Heard) → IsAnsweredOver G a x
         → Means a x.answer (understood.Hears h) → IsHeardOver G a h }
 {}
 
-/// The same where zones are asked for in any format.
+/// The same when zones are requested in any format.
 pub fn data_is_heard_in_bytes()
     ensures { (f : Format) (G : List ReleaseData) (a : Ask) (x : Exchange) (h : Heard)
         → IsDataAnsweredOver f G a x → Means a x.answer (understood.Hears h)
         → IsDataHeardOver f G a h }
 {}
 
-/// And what is heard in the answer of the action is what an exchange means that is not cut.
+/// Conversely, what the answer of the action contains is decoded from each exchange that is not
+/// cut.
 pub fn data_is_meant_in_bytes()
     ensures { (f : Format) (G : List ReleaseData) (a : Ask) (x : Exchange) (h : Heard)
         → (o : IsDataAnsweredOver f G a x) → length x.answer < MOST_ANSWER
         → IsHeardIn a (action G Primary o.head) h → Means a x.answer (understood.Hears h) }
 {}
 
-/// The answers that a world brings to its mirror, which begins with nothing, are those of a primary
-/// with the world's history at the end, each over a part of it that begins with the history at the
-/// start. Wherever one lets the mirror say that it holds what the primary has, it holds exactly the
-/// last release of that part.
+/// The answers that a world brings to its mirror, which begins empty, are those of a primary. Its
+/// history is the world's at the end, and each answer is over a part of it that begins with the
+/// history at the start. Whenever an answer makes the mirror claim that it is in sync, it holds
+/// exactly the last release of that part.
 pub fn mirrors_follow()
     ensures { (H : List ReleaseData) (steps : List WorldStep) (xs : List Exchange) (v : SyncWorld)
         → IsHistory IsSound H → 1 ≤ length H
@@ -99,7 +100,7 @@ pub fn mirrors_follow()
     mirrors_hold_releases();
 }
 
-/// The history of a world goes on, and each of its first releases are a history.
+/// The history of a world only grows, and each beginning of it is a history.
 pub fn histories_go_on()
     ensures { (H : List ReleaseData) (steps : List WorldStep) (xs : List Exchange) (v : SyncWorld)
         (n : ℕ) → IsHistory IsSound H
@@ -107,8 +108,8 @@ pub fn histories_go_on()
         → (length H ≤ length v.history) × IsHistory IsSound (take n v.history) }
 {}
 
-/// A sync over the first of these answers: where it ends well, its last exchange was answered over
-/// the first n releases, the mirror holds exactly the last of them, and the other answers follow
+/// A sync over the first of these answers. When it ends well, its last exchange was answered over
+/// the first n releases and the mirror holds exactly the last of them. The other answers continue
 /// from there.
 pub fn syncs_hold()
     ensures { (G : List ReleaseData) (least : ℕ) (host : List ℕ) (s t v : MirrorState)
@@ -122,10 +123,10 @@ pub fn syncs_hold()
     one_meaning();
 }
 
-/// Wherever a world brings answers to a mirror, and these are the answers that its syncs took, one
-/// sync after another from a mirror that holds nothing: after each sync that ended well, the mirror
-/// holds exactly the release of the primary over which the last exchange of the sync was answered,
-/// and never an earlier one than before.
+/// Takes a world that brings answers to an empty mirror, where these are the answers that its syncs
+/// applied, one sync after another. After each sync that ended well, the mirror holds exactly the
+/// release over which the primary answered the last exchange of the sync. It is never an earlier
+/// release than before.
 pub fn mirrors_hold_in_turn()
     ensures { (H : List ReleaseData) (steps : List WorldStep) (v : SyncWorld) (host : List ℕ)
         (shares : List Share) (t : MirrorState)
@@ -138,7 +139,7 @@ pub fn mirrors_hold_in_turn()
     one_meaning();
 }
 
-/// The same of one walk whose last answer settles the mirror.
+/// The same for one walk whose last answer puts the mirror in sync.
 pub fn walks_hold()
     ensures { (H : List ReleaseData) (steps : List WorldStep) (v : SyncWorld) (host : List ℕ)
         (xs : List Exchange) (x : Exchange) (lists : ℕ) (t : MirrorState) (h : Heard)
@@ -153,8 +154,8 @@ pub fn walks_hold()
     one_meaning();
 }
 
-/// An exchange that answers what is outstanding in a world, if it is not cut, means something that
-/// the mirror takes, and does not refuse the token of one of the last places.
+/// An exchange that answers what is outstanding in a world, and is not cut, decodes to something
+/// that the mirror applies. It does not refuse the token of one of the last places.
 pub fn answers_are_understood()
     ensures { (H : List ReleaseData) (steps : List WorldStep) (xs : List Exchange) (w : SyncWorld)
         (n : ℕ) (sent : Sent) (x : Exchange)
@@ -167,8 +168,8 @@ pub fn answers_are_understood()
     requests_are_answered();
 }
 
-/// So after these syncs no sync ends with a fault of an answer, if the exchange whose answer was
-/// not taken, where there is one, answers what is outstanding and is not cut.
+/// So after these syncs no sync ends with a fault of an answer. This holds if the exchange whose
+/// answer was not applied, if one exists, answers what is outstanding and is not cut.
 pub fn syncs_are_understood()
     ensures { (H : List ReleaseData) (steps : List WorldStep) (w : SyncWorld) (host : List ℕ)
         (shares : List Share) (s t : MirrorState) (taken untaken : List Exchange)
@@ -184,9 +185,9 @@ pub fn syncs_are_understood()
     one_meaning();
 }
 
-/// A sync of a mirror that holds nothing, over exchanges of which the second answer to a list is an
-/// empty list of changes, ends well, but for the network or for memory; and where it ends well, it
-/// took no more than these.
+/// Takes a sync of an empty mirror, over exchanges in which the second answer to a list is an empty
+/// list of changes. It ends well, except for faults of the network or of memory. When it ends well,
+/// it used no more exchanges than these.
 pub fn syncs_settle()
     ensures ends { (host : List ℕ) (t : MirrorState) (taken untaken xs more : List Exchange)
         (result : Result (Unit {0}) SyncFault) → SecondListIsEmpty Means xs
@@ -202,7 +203,7 @@ pub fn syncs_settle()
     one_meaning();
 }
 
-/// So what the mirror states after a sync that ended well over the exchanges of a primary passes
+/// So what the mirror states after a sync that ended well, over the exchanges of a primary, passes
 /// the check of a first release.
 pub fn settled_mirrors_pass()
     ensures { (host : List ℕ) (t : MirrorState) (taken untaken xs more : List Exchange)
@@ -218,13 +219,13 @@ pub fn settled_mirrors_pass()
     held_releases_pass();
 }
 
-/// A mirror that holds a release exactly states the contents of it.
+/// A mirror that holds exactly a release of the primary states the contents of that release.
 pub fn contents_are_held()
     ensures { (G : List ReleaseData) (s : MirrorState) → IsHistory IsSound G → 1 ≤ length G
         → HoldsLast action_service s G → contents_of_state s ≡ Some (zones_of G) }
 {}
 
-/// So does its manifest over its files, if it passes the check of a release.
+/// So does its manifest with its files, if it passes the check of a release.
 pub fn releases_are_held()
     ensures { (G : List ReleaseData) (s : MirrorState) (files : List File) (before : Before)
         (r : ReleaseData) → IsHistory IsSound G → 1 ≤ length G → HoldsLast action_service s G
@@ -232,8 +233,8 @@ pub fn releases_are_held()
         → r.contents ≡ zones_of G }
 {}
 
-/// And it passes that check wherever a release with its stamp and its names may come; so the first
-/// one always does.
+/// It passes that check whenever a release with its stamp and its names may follow; so the first
+/// one always passes.
 pub fn held_releases_pass()
     ensures follows { (G : List ReleaseData) (s : MirrorState) (files : List File)
         (before : Before) → IsHistory IsSound G → 1 ≤ length G → HoldsLast action_service s G

@@ -1,10 +1,13 @@
-//! The law of a secondary over bytes (RFC 7808, section 4.2.2): where the exchanges that a mirror
-//! told are those of a primary, each sync that ended well left the mirror with exactly one release
-//! of that primary, whose contents it serves. No program calls anything here.
+//! The law of a secondary over bytes (RFC 7808, section 4.2.2). It applies when the exchanges that
+//! a mirror recorded are those of a primary. Each sync that ended well then left the mirror with
+//! exactly one release of that primary, whose contents it serves. No program calls anything here.
 //!
-//! Which exchanges are those of a primary is `IsAnsweredOver` of `specs/Answers.antt`, and the
-//! steps of a world that bring them to the mirror are `Logs` of `specs/Logs.antt`. The law is the
-//! contract of [`mirrors_hold_in_turn`], and [`contents_are_held`] says what is served.
+//! Which exchanges are those of a primary is `IsAnsweredOver` of `specs/Answers.antt`. The steps of
+//! a world that bring them to the mirror are `Logs` of `specs/Logs.antt`. The law is the contract
+//! of [`mirrors_hold_in_turn`], and [`contents_are_held`] states what is served.
+//!
+//! The crate stands on `sync_world` (the law over decoded answers), `mirror`, `actions` and
+//! `http_client`.
 #![tactic(auto)]
 
 mod laws;

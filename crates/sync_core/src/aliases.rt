@@ -9,7 +9,7 @@ use std::alloc::Global;
 use std::collections::{BTreeMap, BTreeSet};
 use td_base::{Bytes, NoMemory};
 
-/// The names that are aliases in a list.
+/// The names that occur as aliases in a list.
 pub fn aliases_in(alloc: Global, zones: &[ListZone]) -> Result<BTreeSet<Bytes>, NoMemory>
     ensures { IfOk result (λ names. (name : List ℕ)
         → has_listed_name names.keys name ≡ is_alias zones.now name) }
@@ -21,7 +21,7 @@ pub fn aliases_in(alloc: Global, zones: &[ListZone]) -> Result<BTreeSet<Bytes>, 
     Ok(names)
 }
 
-/// Puts aliases among the names.
+/// Adds aliases to the names.
 fn put_aliases(
     alloc: Global,
     names: &mut BTreeSet<Bytes>,

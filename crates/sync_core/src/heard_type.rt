@@ -1,14 +1,14 @@
 use json_forms::ListDoc;
 use td_base::Bytes;
 
-/// What answers an ask.
+/// The decoded response to an ask.
 #[derive(Drop)]
 pub enum Heard {
-    /// The list that was asked for, of all zones or of those that changed since a token.
+    /// The list that was requested, of all zones or of those that changed since a token.
     List(ListDoc),
-    /// The bytes of the TZif file that was asked for.
+    /// The bytes of the TZif file that was requested.
     Zone(Bytes),
-    /// The token of the ask is not known, or no more (RFC 7808, section 5.2).
+    /// The primary does not know the token, or no longer does (RFC 7808, section 5.2).
     BadToken,
 }
 
@@ -17,6 +17,6 @@ pub enum Heard {
 pub enum Settled {
     /// It holds exactly that release.
     Holds,
-    /// It is to ask on.
+    /// It has to request more.
     More,
 }

@@ -1,16 +1,19 @@
-//! What a secondary holds while it follows a primary (RFC 7808, section 4.2.2), what it asks next,
-//! and what each thing that it hears does to it. No byte is exchanged here.
+//! The state of a secondary while it follows a primary (RFC 7808, section 4.2.2). It gives the next
+//! request, and takes each decoded response. No bytes are exchanged here.
 //!
-//! A [`Mirror`] is seen as its state, `MirrorState` of `specs/Mirrors.antt`. `ask` gives `ask_of`
-//! of it, `take` makes the step `sync_step` of `specs/Steps.antt`, and `manifest` gives the release
-//! that it serves, which is `manifest_of` of `specs/Published.antt`.
+//! A [`Mirror`] is seen as its state, `MirrorState` of `specs/Mirrors.antt`. `ask` gives the next
+//! request, `ask_of` of that state. `take` makes the step `sync_step` of `specs/Steps.antt`.
+//! `manifest` gives the release to be served, `manifest_of` of `specs/Published.antt`.
+//!
+//! Lists are those of `json_forms`, and manifests those of `release_manifest`. `mirror` drives this
+//! state over the network, and `sync_world` states the laws of a whole sync.
 #![tactic(auto)]
 
-// A mirror, and what it hears.
+// A mirror, and the responses that it takes.
 mod heard_type;
 mod mirror;
 
-// The list that it takes, and what it keeps of the names it knew.
+// Merges the list that it takes, and drops names that became aliases.
 mod aliases;
 mod listed;
 mod merging;

@@ -15,7 +15,7 @@ pub struct Listed {
     pub names: VecDeque<Bytes>,
 }
 
-/// The zones of a list in rising order. Of two with one identifier the later one stands.
+/// The zones of a list in rising order. If an identifier repeats, the later zone counts.
 pub fn in_order(alloc: Global, zones: Items<ListZone>) -> Result<Listed, NoMemory>
     ensures zones { IfOk result (λ r. r.zones.items ≡ rising_zones zones) }
     ensures names { IfOk result (λ r. r.names.items ≡ map entry_name (rising_zones zones)) }

@@ -9,8 +9,8 @@ use json_forms::ListZone;
 use std::cmp::Ordering;
 use std::collections::VecDeque;
 
-/// The known zones with the listed ones put in, in a room that holds them all. Where both have a
-/// zone, the listed one stands.
+/// Merges the listed zones into the known ones, in a vector with room for all. If both have a zone,
+/// the listed one is taken.
 pub fn merged(known: Vec<ListZone>, listed: Vec<ListZone>, room: Vec<ListZone>) -> Vec<ListZone>
     requires known { IsRising (map entry_name known.items) }
     requires listed { IsRising (map entry_name listed.items) }
@@ -27,7 +27,7 @@ pub fn merged(known: Vec<ListZone>, listed: Vec<ListZone>, room: Vec<ListZone>) 
     merged
 }
 
-/// Takes the zone that comes first.
+/// Takes the zone with the lower identifier.
 fn lower(known: &mut VecDeque<ListZone>, listed: &mut VecDeque<ListZone>) -> Option<ListZone>
     requires known { IsRising (map entry_name known.old.items) }
     requires listed { IsRising (map entry_name listed.old.items) }
@@ -51,7 +51,7 @@ fn lower(known: &mut VecDeque<ListZone>, listed: &mut VecDeque<ListZone>) -> Opt
     }
 }
 
-/// Which of two lists has the zone that comes first. Where one has none, the other does.
+/// Which of two lists has the lower first zone. An empty list has none, so the other one does.
 fn order(known: &VecDeque<ListZone>, listed: &VecDeque<ListZone>) -> Ordering
     ensures { result ≡ order_of known.now.items listed.now.items }
 {

@@ -20,7 +20,7 @@ use std::marker::Model;
 use std::mem::replace;
 use td_base::{Ask, Bytes, MemoryStore, NoMemory};
 
-/// What a secondary holds of the primary that it follows.
+/// The state of a secondary that follows a primary.
 #[derive(Drop)]
 pub struct Mirror {
     token: Option<Bytes>,
@@ -49,7 +49,8 @@ impl Model for Mirror {
 }
 
 impl Mirror {
-    /// A mirror that has heard nothing yet. It takes no memory, and grows by the allocator.
+    /// A mirror that has received nothing yet. It allocates nothing; later growth uses the
+    /// allocator.
     pub fn empty(alloc: Global) -> Mirror
         ensures { result ≡ empty_mirror }
     {
@@ -62,8 +63,8 @@ impl Mirror {
         }
     }
 
-    /// What is to be asked next. It stays the same until something is heard. A list that is asked
-    /// for without a token takes no memory.
+    /// The next request. It stays the same until a response is taken. A request for a list without
+    /// a token allocates nothing.
     pub fn ask(&self, alloc: Global) -> Result<Ask, NoMemory>
         ensures asked { IfOk result (λ asked. asked ≡ ask_of self.now) }
         ensures memory { ask_of self.now ≡ ask.List None → IsOk result }
@@ -74,8 +75,8 @@ impl Mirror {
         }
     }
 
-    /// Takes what answers the present ask. A token that is refused, and a list of changes without
-    /// any, take no memory.
+    /// Takes the response to the present request. Taking a refused token, or a list without
+    /// changes, allocates nothing. If memory runs out, the state does not change.
     #[tactic(auto, unfolding(crate::specs::Steps::sync_step))]
     pub fn take(&mut self, heard: Heard) -> Result<Settled, NoMemory>
         requires { steps.IsAnswerTo (ask_of self.old) heard }
@@ -91,12 +92,12 @@ impl Mirror {
         Ok(settled)
     }
 
-    /// What was asked brought no answer. It is to be asked again.
+    /// The request brought no response and is to be repeated. The state does not change.
     pub fn lose(&mut self)
         ensures { self.new ≡ self.old }
     {}
 
-    /// The zones that are known, rising by identifier.
+    /// The zones that are known, in rising order of identifiers.
     pub fn entries(&self) -> &[ListZone]
         ensures entries { result.now ≡ self.now.entries }
         ensures rising { IsRising (map entry_name result.now) }
@@ -104,7 +105,7 @@ impl Mirror {
         self.entries.as_slice()
     }
 
-    /// What is kept as the file of the zone with this identifier.
+    /// The TZif file that is kept for the zone with this identifier.
     #[tactic(auto, using(crate::proofs::Kept::file_found))]
     pub fn file(&self, tzid: &Bytes) -> Option<&Bytes>
         ensures { option_copied result ≡ file_bytes self.now.files tzid.now }
@@ -112,8 +113,8 @@ impl Mirror {
         self.files.get(tzid)
     }
 
-    /// The release that is held: its manifest, and a store that has each zone's file by the zone's
-    /// identifier.
+    /// The release that is held: its manifest, and a store that has each zone's file under the
+    /// zone's identifier.
     pub fn manifest(&self, alloc: Global) -> Result<(Manifest, MemoryStore), NoMemory>
         requires { self.now.pending ≡ [] }
         ensures manifest { IfOk result (λ r. r.0 ≡ manifest_of self.now) }
@@ -123,7 +124,7 @@ impl Mirror {
         Ok((told, store(alloc, &self.files)?))
     }
 
-    /// Whether the list shows that the mirror holds what the primary has.
+    /// Whether the list shows that the mirror holds the release of the primary.
     fn settles(&self, heard: &Heard) -> Settled
         ensures { result ≡ steps.settles self.now heard.now }
     {
@@ -206,7 +207,7 @@ impl Mirror {
         Ok(())
     }
 
-    /// Where nothing is pending, the coming token becomes the token.
+    /// If no file is pending, the coming token becomes the token.
     fn settle(&mut self)
         ensures { self.new ≡ steps.settled self.old }
     {

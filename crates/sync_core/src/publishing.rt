@@ -45,7 +45,7 @@ fn newest(zones: &[ListZone]) -> Option<&ListZone>
     newest
 }
 
-/// The second zone where its stamp is later than that of the first.
+/// The second zone if its stamp is later than that of the first, else the first.
 fn later<'a>(first: Option<&'a ListZone>, second: &'a ListZone) -> &'a ListZone
     ensures { result.now ≡ later_of (option_copied first.entry) second.now }
 {
@@ -80,7 +80,7 @@ fn copies(alloc: Global, texts: &[Bytes]) -> Result<Items<Bytes>, NoMemory>
     Ok(copies)
 }
 
-/// A store with the files, by their names.
+/// A store with the files, under their names.
 pub fn store(alloc: Global, files: &BTreeMap<Bytes, Bytes>) -> Result<MemoryStore, NoMemory>
     ensures { IfOk result (λ stored. HasFiles stored (files_kept files.now.entries)) }
 {

@@ -20,7 +20,7 @@ use Rattle.actions.specs.Action.{action, answer_for}
 use Rattle.actions.specs.Getting.{get_answer, zone_answer}
 use Rattle.actions.specs.Listing.{list_zone, list_body, change_list, changes_since, list_answer}
 use Rattle.sync_core.specs.declared.heard_type.Heard.{Heard}
-use Rattle.sync_world.specs.Hearing.{IsDataHeadOf, IsHeardIn, action_asked, data_service, media_type, whole_data}
+use Rattle.sync_world.specs.Hearing.{IsDataHeadOf, IsHeardIn, action_asked, data_service, type_of_format, whole_data}
 use Rattle.sync_world.specs.Primaries.{file_told, told_by, list_at, list_told, changes_at, changes_of}
 use Rattle.sync_world.proofs.Names.{content_at, entry_named}
 use Rattle.sync_world.proofs.SoundLists.{part_is_read}
@@ -51,19 +51,19 @@ module _ (f : Format) (H : List ReleaseData) (history : IsHistory IsSound H) (so
 
 got_heard : (f : Format) (name : List ℕ) (o : Option EntryData) (h : Heard)
     → option_map file_told (option_map (whole_data f name) (option_map content_at o)) ≡ Some h
-    → IsHeardIn (ask.Get name) (zone_answer name o (Some (media_type f)) None param.Absent param.Absent) h
+    → IsHeardIn (ask.Get name) (zone_answer name o (Some (type_of_format f)) None param.Absent param.Absent) h
 got_heard f name None h e = absurd (cc)
 got_heard f name (Some e) h is =
     let one : file_told (whole_data f name e.content) ≡ h = cc in
     subst (λ a. IsHeardIn (ask.Get name) a h) (sym (zone_told f name e)) (subst (IsHeardIn (ask.Get name) (whole_answer f name e)) one (refl, refl))
 
-file_heard : (f : Format) (H : List ReleaseData) (name : List ℕ) (head : Head) (h : Heard) → head.accept ≡ Some (media_type f) → head.none_match ≡ None
+file_heard : (f : Format) (H : List ReleaseData) (name : List ℕ) (head : Head) (h : Heard) → head.accept ≡ Some (type_of_format f) → head.none_match ≡ None
     → told_by (data_service f) H (ask.Get name) ≡ Some h → IsHeardIn (ask.Get name) (answer_for H Primary head (action_asked (ask.Get name))) h
 unfolding get_answer
 file_heard f H name head h accept held e =
     let o = option_and_then (slice_get (meta H)) (place_named H name) in
     let two = got_heard f name o h (ap (λ z. option_map file_told (option_map (whole_data f name) z)) (entry_named H name) ∙ e) in
-    let one = subst (λ l. IsHeardIn (ask.Get name) (zone_answer name o (Some (media_type f)) l param.Absent param.Absent) h) (sym held) two in
+    let one = subst (λ l. IsHeardIn (ask.Get name) (zone_answer name o (Some (type_of_format f)) l param.Absent param.Absent) h) (sym held) two in
     subst (λ a. IsHeardIn (ask.Get name) (zone_answer name o a head.none_match param.Absent param.Absent) h) (sym accept) one
 
 answer_heard : (f : Format) (H : List ReleaseData) (a : Ask) (head : Head) (h : Heard) → IsHistory IsSound H → 1 ≤ length H → IsDataHeadOf f a head

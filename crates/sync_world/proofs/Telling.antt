@@ -22,7 +22,7 @@ use Rattle.zone_meaning.specs.Sound.{IsSound}
 use Rattle.actions.specs.Action.{action, answer_for}
 use Rattle.actions.specs.Bounds.{bounds_in, start_bound, end_bound}
 use Rattle.actions.specs.Documents.{with_data}
-use Rattle.actions.specs.Formats.{form_of}
+use Rattle.actions.specs.Formats.{format_data}
 use Rattle.actions.specs.Getting.{form_answer, format_answer, get_answer, zone_answer}
 use Rattle.actions.specs.Listing.{list_zone, list_body, change_list, changes_since, list_answer}
 use Rattle.actions.specs.Tags.{data_tag}
@@ -30,12 +30,12 @@ use Rattle.actions.specs.declared.bounds.Bound.TheVariants.{Open}
 use Rattle.actions.specs.declared.bounds.Bounds.{Bounds}
 use Rattle.sync_core.specs.declared.heard_type.Heard.{Heard}
 use Rattle.sync_core.specs.declared.heard_type.Heard.TheVariants as heard
-use Rattle.sync_world.specs.Hearing.{IsDataHeadOf, IsDataHeardOver, IsHeardIn, action_asked, data_service, media_type, whole_data}
+use Rattle.sync_world.specs.Hearing.{IsDataHeadOf, IsDataHeardOver, IsHeardIn, action_asked, data_service, type_of_format, whole_data}
 use Rattle.sync_world.specs.Primaries.{file_told, told_by, list_at, list_told, changes_at, changes_of}
 use Rattle.sync_world.proofs.Names.{content_at, entry_named}
 use Rattle.sync_world.proofs.SoundLists.{part_is_read, part_told}
 
-format_chosen : (f : Format) → chosen_format (Some (media_type f)) ≡ Some f
+format_chosen : (f : Format) → chosen_format (Some (type_of_format f)) ≡ Some f
 unfolding chosen_format quality_of largest_for pieces trim quality_in quality_value
 format_chosen format.Calendar = refl
 format_chosen format.Tzif = refl
@@ -44,7 +44,7 @@ format_chosen format.CalendarJson = refl
 abbrev unbounded : Bounds
 unbounded = record { start = Open; end = Open }
 
-no_bounds : (f : Format) → bounds_in (form_of f).bounds param.Absent param.Absent ≡ Ok unbounded
+no_bounds : (f : Format) → bounds_in (format_data f).bounds param.Absent param.Absent ≡ Ok unbounded
 unfolding bounds_in start_bound end_bound
 no_bounds format.Calendar = refl
 no_bounds format.Tzif = refl
@@ -52,13 +52,13 @@ no_bounds format.CalendarJson = refl
 
 -- what a get of a zone is answered, where its format is asked for alone
 abbrev pub whole_answer : Format → List ℕ → EntryData → Answer
-whole_answer f name e = with_data (form_of f).kind (data_tag e.tag (form_of f).mark unbounded) (whole_data f name e.content)
+whole_answer f name e = with_data (format_data f).kind (data_tag e.tag (format_data f).mark unbounded) (whole_data f name e.content)
 
 pub zone_told : (f : Format) (name : List ℕ) (e : EntryData)
-    → zone_answer name (Some e) (Some (media_type f)) None param.Absent param.Absent ≡ whole_answer f name e
+    → zone_answer name (Some e) (Some (type_of_format f)) None param.Absent param.Absent ≡ whole_answer f name e
 zone_told f name e =
     ap (λ chosen. format_answer chosen name e None param.Absent param.Absent) (format_chosen f)
-    ∙ ap (form_answer (form_of f) name e None) (no_bounds f)
+    ∙ ap (form_answer (format_data f) name e None) (no_bounds f)
 
 -- the status of a refusal is not 200
 not_refused : (ok refused : ℕ) → ok ≡ 200 → refused ≡ 400 → ok ≡ refused → ⊥
@@ -103,7 +103,7 @@ module _ (f : Format) (H : List ReleaseData) (history : IsHistory IsSound H) (so
   list_so (Some since) head h k = since_so since (place_of H since) h k
 
 got_so : (f : Format) (name : List ℕ) (o : Option EntryData) (h : Heard)
-    → IsHeardIn (ask.Get name) (zone_answer name o (Some (media_type f)) None param.Absent param.Absent) h
+    → IsHeardIn (ask.Get name) (zone_answer name o (Some (type_of_format f)) None param.Absent param.Absent) h
     → option_map file_told (option_map (whole_data f name) (option_map content_at o)) ≡ Some h
 got_so f name o (heard.List doc) k = absurd k
 got_so f name o heard.BadToken k = absurd k
@@ -111,13 +111,13 @@ got_so f name None (heard.Zone bytes) k = absurd (not_missing 200 404 refl refl 
 got_so f name (Some e) (heard.Zone bytes) k =
     let file = subst (λ a. IsHeardIn (ask.Get name) a (heard.Zone bytes)) (zone_told f name e) k in ap (λ (b : List ℕ). Some (heard.Zone b)) file.1
 
-file_so : (f : Format) (H : List ReleaseData) (name : List ℕ) (head : Head) (h : Heard) → head.accept ≡ Some (media_type f) → head.none_match ≡ None
+file_so : (f : Format) (H : List ReleaseData) (name : List ℕ) (head : Head) (h : Heard) → head.accept ≡ Some (type_of_format f) → head.none_match ≡ None
     → IsHeardIn (ask.Get name) (answer_for H Primary head (action_asked (ask.Get name))) h → told_by (data_service f) H (ask.Get name) ≡ Some h
 unfolding get_answer
 file_so f H name head h accept held k =
     let o = option_and_then (slice_get (meta H)) (place_named H name) in
     let one = subst (λ a. IsHeardIn (ask.Get name) (zone_answer name o a head.none_match param.Absent param.Absent) h) accept k in
-    let two = subst (λ l. IsHeardIn (ask.Get name) (zone_answer name o (Some (media_type f)) l param.Absent param.Absent) h) held one in
+    let two = subst (λ l. IsHeardIn (ask.Get name) (zone_answer name o (Some (type_of_format f)) l param.Absent param.Absent) h) held one in
     ap (λ z. option_map file_told (option_map (whole_data f name) z)) (sym (entry_named H name)) ∙ got_so f name o h two
 
 answer_so : (f : Format) (H : List ReleaseData) (a : Ask) (head : Head) (h : Heard) → IsHistory IsSound H → 1 ≤ length H → IsDataHeadOf f a head

@@ -18,7 +18,7 @@ use Rattle.target.specs.declared.asked_types.Asked.{Asked}
 use Rattle.target.specs.declared.asked_types.Asked.TheVariants as asked
 use Rattle.target.specs.declared.asked_types.Param.TheVariants as param
 use Rattle.actions.specs.Action.{action}
-use Rattle.actions.specs.Formats.{form_of}
+use Rattle.actions.specs.Formats.{format_data}
 use Rattle.actions.specs.declared.bounds.Bound.TheVariants.{Open}
 use Rattle.sync_core.specs.declared.heard_type.Heard.{Heard}
 use Rattle.sync_core.specs.declared.heard_type.Heard.TheVariants as heard
@@ -32,15 +32,15 @@ action_asked (ask.Get name) = asked.Get name param.Absent param.Absent
 
 -- the media type of a zone's data in a format (RFC 5545, section 8.1; RFC 9636, section 9; RFC
 -- 7265, section 7)
-abbrev pub media_type : Format → List ℕ
-media_type format.Calendar = codes "text/calendar"
-media_type format.Tzif = codes "application/tzif"
-media_type format.CalendarJson = codes "application/calendar+json"
+abbrev pub type_of_format : Format → List ℕ
+type_of_format format.Calendar = codes "text/calendar"
+type_of_format format.Tzif = codes "application/tzif"
+type_of_format format.CalendarJson = codes "application/calendar+json"
 
 -- lists are JSON, and zones of the format
 abbrev pub data_accepted : Format → Ask → List ℕ
 data_accepted f (ask.List token) = codes "application/json"
-data_accepted f (ask.Get name) = media_type f
+data_accepted f (ask.Get name) = type_of_format f
 
 -- the head is one of a request that asks so
 pub record IsDataHeadOf (f : Format) (a : Ask) (head : Head) : Type 0 where
@@ -69,7 +69,7 @@ pub record IsDataHeardOver (f : Format) (H : List ReleaseData) (a : Ask) (h : He
 
 -- a zone's data without bounds, under one of its names
 abbrev pub whole_data : Format → List ℕ → ContentData → List ℕ
-whole_data f name c = (form_of f).text name c (record { start = Open; end = Open })
+whole_data f name c = (format_data f).text name c (record { start = Open; end = Open })
 
 -- a primary that answers so knows the tokens of its last places, and has a zone's data under each
 -- of its names
@@ -77,8 +77,8 @@ abbrev pub data_service : Format → Service
 data_service f = record { kept = KEPT_TOKENS; place = place_of; served = whole_data f }
 
 -- the same of TZif files: a zone has its own file under each of its names
-abbrev pub accepted : Ask → List ℕ
-accepted a = data_accepted format.Tzif a
+abbrev pub accepted_by_ask : Ask → List ℕ
+accepted_by_ask a = data_accepted format.Tzif a
 
 abbrev pub IsHeadOf : Ask → Head → Type 0
 IsHeadOf a head = IsDataHeadOf format.Tzif a head
@@ -86,8 +86,8 @@ IsHeadOf a head = IsDataHeadOf format.Tzif a head
 abbrev pub IsHeardOver : List ReleaseData → Ask → Heard → Type 0
 IsHeardOver H a h = IsDataHeardOver format.Tzif H a h
 
-abbrev pub file_bytes : List ℕ → ContentData → List ℕ
-file_bytes name c = c.file
+abbrev pub told_file : List ℕ → ContentData → List ℕ
+told_file name c = c.file
 
 abbrev pub action_service : Service
-action_service = record { kept = KEPT_TOKENS; place = place_of; served = file_bytes }
+action_service = record { kept = KEPT_TOKENS; place = place_of; served = told_file }

@@ -26,16 +26,16 @@ ghost use Rattle.sync_world.specs.Worlds.{Sent, WorldStep, SyncWorld, IsAnswer, 
 use crate::Primary;
 use catalogue::ZoneData;
 
-/// What is heard in the answer to a request is what there is to be told, no more and no less: lists
-/// that are written read back.
+/// What a mirror receives in the answer to a request is exactly what the primary has to report.
+/// Lists that are written read back as the same lists.
 pub fn answers_are_heard()
     ensures { (H : List ReleaseData) (a : Ask) (head : Head) (h : Heard) → IsHistory IsSound H
         → 1 ≤ length H → IsHeadOf a head
         → (told_by action_service H a ≡ Some h) ↔ IsHeardIn a (action H Primary head) h }
 {}
 
-/// Each request for what is outstanding is answered, at each place from the one on at which it was
-/// first sent, and the answer does not refuse the token of one of the last places.
+/// Each request for what is outstanding is answered, at each place from the one at which it was
+/// first sent. The answer does not refuse the token of one of the last places.
 pub fn requests_are_answered()
     ensures { (H : List ReleaseData) (steps : List WorldStep) (w : SyncWorld) (sent : Sent)
         (n : ℕ) (head : Head)
@@ -45,16 +45,16 @@ pub fn requests_are_answered()
         × (AsksSinceKept action_service w.history n sent.ask → h ≢ heard.BadToken) }
 {}
 
-/// What is heard in the answers of the actions is what there is to be told, and a token finds its
-/// place.
+/// What a mirror receives in the answers of the actions is what the primary has to report. Each
+/// token is recognised as that of its place.
 pub fn actions_serve()
     ensures { ServesSo IsSound IsHeardOver action_service }
 {}
 
-/// Wherever any steps lead from a history and an empty mirror: where the answer over the first n
-/// releases lets the mirror say that it holds what the primary has, it holds exactly the last of
-/// these n releases. The answers are those of the actions, and releases are sound as they are for
-/// this service.
+/// The law for this service. Take any steps from a history and an empty mirror. Suppose the answer
+/// over the first n releases makes the mirror claim that it is in sync. Then it holds exactly the
+/// last of these n releases. The answers are those of the actions, and the releases are sound as
+/// this service defines it.
 pub fn mirrors_hold_releases()
     ensures { (H : List ReleaseData) (steps : List WorldStep) (w v : SyncWorld) (n : ℕ)
         (sent : Sent) (h : Heard)
@@ -63,8 +63,8 @@ pub fn mirrors_hold_releases()
         → HoldsLast action_service v.mirror (take n w.history) }
 {}
 
-/// The same of a mirror that asks for calendars in the place of files: it holds exactly the
-/// calendars of the zones of the last of these n releases.
+/// The same for a mirror that requests calendars instead of files. It holds exactly the calendars
+/// of the zones of the last of these n releases.
 pub fn mirrors_hold_calendars()
     ensures { (H : List ReleaseData) (steps : List WorldStep) (w v : SyncWorld) (n : ℕ)
         (sent : Sent) (h : Heard)
@@ -74,15 +74,15 @@ pub fn mirrors_hold_calendars()
         → HoldsCalendars v.mirror (take n w.history) }
 {}
 
-/// What is heard in the answer to a request for calendars is what there is to be told, no more and
-/// no less.
+/// What a mirror receives in the answer to a request for calendars is exactly what the primary has
+/// to report.
 pub fn calendars_are_heard()
     ensures { (H : List ReleaseData) (a : Ask) (head : Head) (h : Heard) → IsHistory IsSound H
         → 1 ≤ length H → IsCalendarHeadOf a head
         → (told_by calendar_service H a ≡ Some h) ↔ IsHeardIn a (action H Primary head) h }
 {}
 
-/// Each such request for what is outstanding is answered, as one for files is.
+/// Each such request for what is outstanding is answered, as a request for files is.
 pub fn calendar_requests_are_answered()
     ensures { (H : List ReleaseData) (steps : List WorldStep) (w : SyncWorld) (sent : Sent)
         (n : ℕ) (head : Head)
@@ -94,7 +94,7 @@ pub fn calendar_requests_are_answered()
         × (AsksSinceKept calendar_service w.history n sent.ask → h ≢ heard.BadToken) }
 {}
 
-/// The law of any primary, as it serves.
+/// The law of any primary that serves as the definition `ServesSo` requires.
 pub fn mirrors_hold<P: Primary>()
     ensures { (H : List ReleaseData) (steps : List WorldStep) (w v : SyncWorld) (n : ℕ)
         (sent : Sent) (h : Heard)
@@ -104,9 +104,9 @@ pub fn mirrors_hold<P: Primary>()
         → HoldsLast P.service v.mirror (take n w.history) }
 {}
 
-/// Wherever steps lead, asks and answers lead on from there to where the mirror says that it holds
-/// what the primary has, if all that there is to be told is heard, and the primary knows the token
-/// of its last place.
+/// From each reachable state, further requests and answers lead to one in which the mirror claims
+/// that it is in sync. This needs that all that the primary has to report is received, and that the
+/// primary recognises the token of its last place.
 pub fn holds_comes<P: Primary>()
     ensures { (H : List ReleaseData) (steps : List WorldStep) (w : SyncWorld)
         → ServesSo P.sound P.hears P.service → ToldIsHeard P.sound P.hears P.service
@@ -114,8 +114,8 @@ pub fn holds_comes<P: Primary>()
         → Leads P.sound P.hears (world_begun H) steps w → ComesToHold P.sound P.hears w }
 {}
 
-/// An ask that is outstanding has an answer at each place from the one on at which it was first
-/// sent, and no answer refuses its token while no token is retired.
+/// An outstanding request has an answer at each place from the one at which it was first sent. No
+/// answer refuses its token while no token is retired.
 pub fn asks_are_answered<P: Primary>()
     ensures { (H : List ReleaseData) (steps : List WorldStep) (w : SyncWorld) (sent : Sent) (n : ℕ)
         → ServesSo P.sound P.hears P.service → IsHistory P.sound H → 1 ≤ length H
@@ -125,8 +125,8 @@ pub fn asks_are_answered<P: Primary>()
         (λ h. length w.history ≤ P.service.kept → h ≢ heard.BadToken) }
 {}
 
-/// The token of an outstanding ask is that of a place, and no answer refuses it until that place is
-/// retired.
+/// The token of an outstanding request is that of a place, and no answer refuses it until that
+/// place is retired.
 pub fn tokens_are_refused_late<P: Primary>()
     ensures { (H : List ReleaseData) (steps : List WorldStep) (w : SyncWorld) (since : ℕ)
         (token : List ℕ)
@@ -136,8 +136,8 @@ pub fn tokens_are_refused_late<P: Primary>()
         → IsTokenOf P.service w.history since token }
 {}
 
-/// The list of an earlier place, changed by the list of changes since, is the list of the last
-/// place. What became an alias goes with the change of the zone whose alias it became.
+/// The list of an earlier place, updated by the list of changes since, is the list of the last
+/// place. A name that became an alias is removed by the change of the zone that it now belongs to.
 pub fn aliases_follow<Z: ZoneData>()
     ensures { (H : List ReleaseData) (n : ℕ) → IsHistory Z.sound H → IsPlace H n
         → put_all entry_name (changes_of H n) (kept_entries (changes_of H n) (list_told (take n H)))

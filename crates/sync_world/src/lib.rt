@@ -1,12 +1,15 @@
-//! The law of a secondary (RFC 7808, section 4.2.2): through any losses, repeats, restarts and
-//! installs, a mirror that says that it holds what the primary has holds exactly the release that
-//! answered. No program calls anything here.
+//! The law of a secondary (RFC 7808, section 4.2.2). Through any losses, repeats, restarts and
+//! installs, a mirror that claims to be in sync holds exactly the release that the answer was made
+//! from. The crate holds theorems only: no program calls anything here.
 //!
-//! The world of a primary and a mirror, and its steps, are in `specs/Worlds.antt`; what a mirror
-//! hears in the answers of the actions in `specs/Hearing.antt`; that it holds a release in
+//! The world of a primary and a mirror, and its steps, are in `specs/Worlds.antt`. What a mirror
+//! receives in the answers of the actions is in `specs/Hearing.antt`; that it holds a release is in
 //! `specs/Holding.antt`. The law is the contract of [`mirrors_hold_releases`], and [`mirrors_hold`]
-//! says the same of any [`Primary`]. A mirror that asks for calendars in the place of files holds
+//! states the same of any [`Primary`]. A mirror that requests calendars instead of files holds
 //! those of `specs/Calendars.antt`, by [`mirrors_hold_calendars`].
+//!
+//! The crate stands on `sync_core` (the mirror) and `actions` (the answers). `mirror_world` and
+//! `calendar_world` carry its law over to bytes.
 #![tactic(auto)]
 
 // The servers that a mirror may follow.

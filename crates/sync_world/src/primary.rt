@@ -4,8 +4,8 @@ ghost use Rattle.catalogue.specs.Releases.{ReleaseData};
 ghost use Rattle.sync_core.specs.declared.heard_type.Heard.{Heard};
 ghost use Rattle.sync_world.specs.Primaries.{Service};
 
-/// A server whose releases are followed: which of them are sound, what is heard of it over a
-/// history of them, and what it serves.
+/// A server whose releases are followed: which releases are sound, what a mirror receives from it
+/// over a history of them, and what it serves.
 pub trait Primary {
     ghost sound: { ReleaseData → Type 0 };
 
@@ -14,7 +14,7 @@ pub trait Primary {
     ghost service: { Service };
 }
 
-/// The one that answers by the actions of this service.
+/// The primary that answers by the actions of this service.
 pub struct Actions;
 
 impl Primary for Actions {

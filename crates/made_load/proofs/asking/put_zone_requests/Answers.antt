@@ -1,5 +1,5 @@
 use Rattle.std.proofs.Common.{◌++◌, []}
-use Rattle.made_load.specs.Requests.{accept_line, head_text, year_target, zone_requests, zone_target}
+use Rattle.made_load.specs.Requests.{accept_line, head_text, year_target, zone_requests, made_zone_target}
 use Rattle.made_load.proofs.AskLemmas.{three_parts}
 use Rattle.made_load.proofs.asking.put_zone_requests.Goals as goal
 
@@ -20,5 +20,5 @@ returns c =
       c.as_slice-2.ensures,
       c.as_slice.ensures,
     )
-    (three_parts c.args.out.now (head_text (zone_target c.args.tzid.now) accept_line) (head_text (year_target c.args.tzid.now) [])
-    (head_text (zone_target c.args.tzid.now) (accept_line ++ c.args.held.now)))
+    (three_parts c.args.out.now (head_text (made_zone_target c.args.tzid.now) accept_line) (head_text (year_target c.args.tzid.now) [])
+    (head_text (made_zone_target c.args.tzid.now) (accept_line ++ c.args.held.now)))
