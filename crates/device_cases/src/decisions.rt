@@ -1,17 +1,17 @@
-//! What a door decides of the connections that it keeps.
+//! What a door decides about the connections that it keeps.
 use case_lines::{Answer, CaseFault, Row, Told, shown};
 use std::alloc::Global;
-use stretches::{FailureWindow, Life, Phase, Queue, Roll, Shared, Waiting, WorkerTurn};
+use stretches::{FailureWindow, Life, Phase, Queue, Roll, Shared, Waiting, WorkerTurn, is_costly};
 
-/// How many words of a row say what a connection waits for, and since when.
+/// How many words of a row describe what a connection waits for, and since when.
 const LIFE_WORDS: usize = 5;
 
-/// How many connections a row has at most.
+/// The most connections of a row.
 const MOST_LIVES: usize = 16;
 
-/// `roll NOW (PHASE MOVED TURNED HELD SINCE)..`: the connection that is the first to give way to a
-/// new one, the one that has held most memory for the longest time, and the first to be given up.
-/// They are counted from 0.
+/// `roll NOW (PHASE MOVED TURNED HELD SINCE)..`: the connection that is the first to be evicted for
+/// a new one, and the one that has held most memory for the longest time. Then the first over its
+/// time limit. They are counted from 0.
 pub fn roll(alloc: Global, row: &Row) -> Answer {
     let now = row.number(0)?;
     let mut roll = Roll::new(alloc);
@@ -31,7 +31,7 @@ pub fn roll(alloc: Global, row: &Row) -> Answer {
     )
 }
 
-/// What a connection waits for, by the words from a place on.
+/// What a connection waits for, from the words from a position on.
 fn life(row: &Row, at: usize) -> Result<Life, CaseFault> {
     let since = row.number(at.saturating_add(4))?;
     Ok(Life {
@@ -56,8 +56,9 @@ fn phase(name: &str, since: u64) -> Result<Phase, CaseFault> {
     }
 }
 
-/// `queues MICROS TURNS QUEUE..`: of so many turns, each of which takes so long, those that each
-/// queue had where one always waits in these, and none in the others until half of the turns.
+/// `queues MICROS TURNS QUEUE..`: runs TURNS turns, each of MICROS microseconds, and prints how
+/// many turns each queue had. In the named queues a connection always waits. In the others none
+/// waits until half of the turns are over.
 pub fn queues(alloc: Global, row: &Row) -> Answer {
     let (micros, turns) = (row.number(0)?, row.number(1)?);
     let (half, named) = (turns - turns / 2, waiting(row));
@@ -75,14 +76,14 @@ pub fn queues(alloc: Global, row: &Row) -> Answer {
     shown(alloc, &counts)
 }
 
-/// In each queue one waits.
+/// A connection waits in each queue.
 const ALL_WAIT: Waiting = Waiting {
     fresh: true,
     light: true,
     heavy: true,
 };
 
-/// In which queues one waits, by their names.
+/// The queues in which a connection waits, by their names.
 fn waiting(row: &Row) -> Waiting {
     Waiting {
         fresh: names(row, b"fresh"),
@@ -101,7 +102,7 @@ fn names(row: &Row, name: &[u8]) -> bool {
     false
 }
 
-/// One more turn of a queue.
+/// Counts one more turn of a queue.
 fn count(counts: &mut (u64, u64, u64), queue: Queue) {
     match queue {
         Queue::Fresh => counts.0 = counts.0.saturating_add(1),
@@ -110,14 +111,19 @@ fn count(counts: &mut (u64, u64, u64), queue: Queue) {
     }
 }
 
-/// `turn BEGAN LIMIT SEEN RAN`: whether a turn is spent by what the clock shows, and what it cost
-/// of so long as its thread ran.
+/// `turn BEGAN LIMIT SEEN RAN`: whether a turn is over by the clock, and what it cost when its
+/// thread ran for RAN.
 pub fn turn(alloc: Global, row: &Row) -> Answer {
     let (began, limit) = (row.number(0)?, row.number(1)?);
     let (seen, ran) = (row.number(2)?, row.number(3)?);
     let mut turn = WorkerTurn::new(began, limit);
     turn.see(seen);
     shown(alloc, &(turn.is_spent(), turn.cost(seen, ran)))
+}
+
+/// `costly BYTES`: whether received bytes request something costly.
+pub fn costly(alloc: Global, row: &Row) -> Answer {
+    shown(alloc, &is_costly(row.word(0)?))
 }
 
 /// `failures MILLIS..`: how many of the failures at these times are counted after each, and whether

@@ -1,4 +1,4 @@
-//! The words of a command line, and what is said on standard error of a run that failed.
+//! The arguments of a command line, and the message on standard error for a run that failed.
 ghost use Rattle.std.specs.Prelude.{◌≤◌, IfOk, length};
 
 use case_lines::{Answer, CaseFault, Row, Told, printed};
@@ -36,7 +36,7 @@ impl Env for CommandLine<'_> {
     }
 }
 
-/// Puts a word at the front of the room, if there is enough.
+/// Copies a word to the front of the buffer, if it fits.
 fn fill(word: &[u8], buf: &mut [u8]) -> Result<usize, FillError>
     ensures { IfOk result (λ count. count ≤ length buf.new) }
 {
@@ -47,7 +47,7 @@ fn fill(word: &[u8], buf: &mut [u8]) -> Result<usize, FillError>
     Ok(word.len())
 }
 
-/// `words WORD..`: the words that are collected of a command line of these, each in `<` and `>`.
+/// `words WORD..`: the arguments that are collected from this command line, each in `<` and `>`.
 pub fn words(alloc: Global, row: &Row) -> Answer {
     let line = CommandLine { words: row.words() };
     let words = collect(alloc, &line)?;
@@ -60,7 +60,7 @@ pub fn words(alloc: Global, row: &Row) -> Answer {
     told.answer()
 }
 
-/// `complaint STATUS OBJECT..`: what is said for a status where these objects failed, or `nothing`.
+/// `complaint STATUS OBJECT..`: the message for a status when these objects failed, or `nothing`.
 pub fn complaint(alloc: Global, row: &Row) -> Answer {
     let status = u8::try_from(row.number(0)?).ok().ok_or(CaseFault::Strange)?;
     let listener = listener(alloc, row)?;
@@ -68,7 +68,7 @@ pub fn complaint(alloc: Global, row: &Row) -> Answer {
     said(alloc, status, failures(row, &file, &listener))
 }
 
-/// A file that is not read.
+/// The failure of a file that cannot be read.
 fn file(alloc: Global) -> Result<LookFailure, CaseFault> {
     Ok(LookFailure {
         path: Some(Bytes::from_slice(alloc, b"a/utc")?),
@@ -76,8 +76,8 @@ fn file(alloc: Global) -> Result<LookFailure, CaseFault> {
     })
 }
 
-/// A listener that is refused, whose address is known where the row does not say `nameless`, and
-/// has no name that resolves where it says `nowhere`.
+/// The failure of a listener. Its address is known unless the row says `nameless`, and does not
+/// resolve if the row says `nowhere`.
 fn listener(alloc: Global, row: &Row) -> Result<ListenFailure, CaseFault> {
     let address = if fails(row, b"nameless") {
         None
@@ -92,7 +92,7 @@ fn listener(alloc: Global, row: &Row) -> Result<ListenFailure, CaseFault> {
     Ok(ListenFailure { address, kind })
 }
 
-/// What failed of the objects that the row names.
+/// The failures of the objects that the row names.
 fn failures<'a>(row: &Row, file: &'a LookFailure, listener: &'a ListenFailure) -> Failures<'a> {
     Failures {
         store: named(row, b"store", file),
@@ -104,7 +104,7 @@ fn failures<'a>(row: &Row, file: &'a LookFailure, listener: &'a ListenFailure) -
     }
 }
 
-/// Why the input failed, where the row names it: as `closed` for a reason that has no word.
+/// Why the input failed, if the row names it. For `closed` it is a reason without a word.
 fn input(row: &Row) -> Option<ErrorKind> {
     if fails(row, b"closed") {
         Some(ErrorKind::Uncategorized)
@@ -113,7 +113,7 @@ fn input(row: &Row) -> Option<ErrorKind> {
     }
 }
 
-/// The failure of an object, where the row names it.
+/// The failure of an object, if the row names it.
 fn named<T: Copy>(row: &Row, object: &[u8], failure: T) -> Option<T> {
     if fails(row, object) {
         Some(failure)
@@ -132,7 +132,7 @@ fn fails(row: &Row, object: &[u8]) -> bool {
     false
 }
 
-/// What is said for a status.
+/// The message for a status.
 fn said(alloc: Global, status: u8, failures: Failures<'_>) -> Answer {
     match Complaint::of(status, failures) {
         Some(complaint) => printed(alloc, &complaint),

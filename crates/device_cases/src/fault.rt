@@ -1,8 +1,8 @@
-//! What the system refused.
+//! Refusals by the system.
 use case_lines::CaseFault;
 use std::io::{Error, ErrorKind};
 
-/// A call that a case needs was refused: the case says nothing.
+/// A call that a case needs was refused: the case has no result.
 pub fn refused(error: Error) -> CaseFault {
     match error.kind() {
         ErrorKind::OutOfMemory => CaseFault::NoMemory,

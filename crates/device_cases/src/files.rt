@@ -5,8 +5,8 @@ use std::alloc::Global;
 use std::rt::Files;
 use td_base::{FileRead, Store};
 
-/// `file MOST PATH`: how many bytes the store found of the file, of which that many are wanted, or
-/// how it refused; and why the look that failed did so.
+/// `file MOST PATH`: how many bytes of the file the store found, of at most MOST, or how it
+/// refused. Then why the look failed, if it did.
 pub fn file<R: Files>(rt: &R, alloc: Global, row: &Row) -> Answer {
     let (most, path) = (row.number(0)?, row.word(1)?);
     let mut store = RealStore::new(rt);
@@ -17,7 +17,7 @@ pub fn file<R: Files>(rt: &R, alloc: Global, row: &Row) -> Answer {
     told.answer()
 }
 
-/// Tells how many bytes were found, or how the store refused.
+/// Appends how many bytes were found, or how the store refused.
 fn tell_found(told: &mut Told, found: FileRead) {
     match found {
         FileRead::Found(bytes) => {

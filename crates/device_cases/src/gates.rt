@@ -1,4 +1,4 @@
-//! Two doors of which each waits for the other.
+//! Two doors, each of which waits for the other.
 use crate::small::small;
 use case_lines::{Answer, CaseFault, Row, Told};
 use devices::{GateDoor, gate_pair};
@@ -6,15 +6,15 @@ use std::alloc::Global;
 use std::thread::{Threads, join};
 use td_base::{Accepted, Conn, Door, End, Places, ReadStep, Report, WriteStep};
 
-/// `gates TURNS`: how the connections of two doors ended and what each took, where two threads
-/// serve them and a read waits for at most so many turns.
+/// `gates TURNS`: how the connections of two doors ended and what each took. Two threads serve
+/// them, and a read waits for at most TURNS turns.
 pub fn beside<R: Threads>(rt: &R, alloc: Global, row: &Row) -> Answer {
     let (left, right) = gate_pair(alloc, small(row, 0)?)?;
     let (left, right) = join(rt, move || serve(left), move || serve(right));
     told(alloc, &left, &right)
 }
 
-/// `gates-alone TURNS`: the same where one thread serves them one after the other.
+/// `gates-alone TURNS`: the same when one thread serves them one after the other.
 pub fn alone(alloc: Global, row: &Row) -> Answer {
     let (left, right) = gate_pair(alloc, small(row, 0)?)?;
     let left = serve(left);
@@ -22,7 +22,7 @@ pub fn alone(alloc: Global, row: &Row) -> Answer {
     told(alloc, &left, &right)
 }
 
-/// `gates-turned TURNS`: the same where the second is served first.
+/// `gates-turned TURNS`: the same when the second is served first.
 pub fn turned(alloc: Global, row: &Row) -> Answer {
     let (left, right) = gate_pair(alloc, small(row, 0)?)?;
     let right = serve(right);
@@ -30,7 +30,7 @@ pub fn turned(alloc: Global, row: &Row) -> Answer {
     told(alloc, &left, &right)
 }
 
-/// Answers the requests of the door's connection, each by two bytes, and hands it back.
+/// Answers the requests of the door's connection, each with two bytes, and hands it back.
 fn serve(mut door: GateDoor) -> GateDoor {
     if let Accepted::Given(mut conn) = door.accept() {
         let end = answer_each(&mut conn);
@@ -70,7 +70,7 @@ fn told(alloc: Global, left: &GateDoor, right: &GateDoor) -> Answer {
     told.answer()
 }
 
-/// Tells how the connection of a door ended, and what it took.
+/// Appends how the connection of a door ended, and what it took.
 fn tell_served(told: &mut Told, door: &GateDoor) {
     match door.served() {
         Some((conn, report)) => {

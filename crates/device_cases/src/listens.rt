@@ -1,4 +1,4 @@
-//! Addresses at which a network does not listen.
+//! Addresses at which a network cannot listen.
 use crate::fault::refused;
 use case_lines::{Answer, CaseFault, Row, Told, printed};
 use devices::{RealDoor, RealNetwork};
@@ -8,8 +8,8 @@ use std::net::{Net, TcpListener, TcpStream};
 use std::time::Clock;
 use td_base::{Made, Network};
 
-/// `listen ADDRESS`: why a network did not listen before it was asked to, and why not at this
-/// address. `taken` stands for the address of a door that is open.
+/// `listen ADDRESS`: the listen failure of a network, before and after it was to listen at this
+/// address. `taken` means the address of an open door.
 pub fn listen<R>(rt: &R, alloc: Global, row: &Row) -> Answer
 where
     R: Net<Listener = TcpListener, Stream = TcpStream> + Clock + Eprint + Copy,

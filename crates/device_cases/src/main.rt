@@ -1,5 +1,5 @@
-//! Tries what `devices` offers over the cases of a table on standard input, and tells of each whose
-//! answer is not the expected one. The table explains its own lines.
+//! Tests `devices` over the cases of a table on standard input, and reports each case whose answer
+//! is not the expected one. The table explains its own lines.
 #![tactic(auto)]
 
 // Streams and files.
@@ -11,10 +11,10 @@ mod gates;
 mod small;
 mod squares;
 
-// The words of a command line, and what is said of a failure.
+// The arguments of a command line, and the message for a failure.
 mod edge;
 
-// What a door decides of its connections.
+// What a door decides about its connections.
 mod decisions;
 
 // A TCP listener, a door at it, and clients.
@@ -44,7 +44,7 @@ fn main(rt: HostRuntime) -> io::Result<()> {
     println!(rt; "{tally}")
 }
 
-/// Tries the next line, and tells of it if its answer is not the expected one.
+/// Runs the next line, and reports it if its answer is not the expected one.
 fn try_line<R>(rt: &R, alloc: Global, table: &mut Table, line: &str) -> io::Result<()>
 where
     R: Net<Listener = TcpListener, Stream = TcpStream>
@@ -68,7 +68,7 @@ where
     Ok(())
 }
 
-/// What is answered to a row.
+/// The answer to a row.
 fn answer<R>(rt: &R, alloc: Global, row: &Row) -> Answer
 where
     R: Net<Listener = TcpListener, Stream = TcpStream>
@@ -91,7 +91,7 @@ where
     }
 }
 
-/// What is answered to a row that needs nothing of the system.
+/// The answer to a row that needs nothing of the system.
 fn alone(alloc: Global, row: &Row) -> Answer {
     match row.kind() {
         "reads" => streams::reads(alloc, row),
@@ -102,6 +102,7 @@ fn alone(alloc: Global, row: &Row) -> Answer {
         "roll" => decisions::roll(alloc, row),
         "queues" => decisions::queues(alloc, row),
         "turn" => decisions::turn(alloc, row),
+        "costly" => decisions::costly(alloc, row),
         "failures" => decisions::failures(alloc, row),
         "words" => edge::words(alloc, row),
         "complaint" => edge::complaint(alloc, row),

@@ -23,7 +23,7 @@ impl Work for Square {
     }
 }
 
-/// `squares A B`: the squares of two numbers, each found in a thread of its own.
+/// `squares A B`: the squares of two numbers, each computed in a separate thread.
 pub fn squares<R>(rt: &R, alloc: Global, row: &Row) -> Answer
 where
     R: Threads + Wait + Copy + Send + 'static,

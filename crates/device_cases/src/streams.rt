@@ -6,7 +6,7 @@ use std::io;
 use std::io::{Error, ErrorKind, Read};
 use td_base::{ReadStep, Sink, Source};
 
-/// A stream of which each read fails.
+/// A stream in which each read fails.
 #[derive(Drop)]
 struct BrokenStream;
 
@@ -16,15 +16,15 @@ impl Read for BrokenStream {
     }
 }
 
-/// `reads ROOM CALLS TEXT`: what so many reads of a stream give, into this room, and why the last
-/// that failed did so.
+/// `reads ROOM CALLS TEXT`: the results of CALLS reads of a stream, each into ROOM bytes, and why
+/// the last failed read failed.
 pub fn reads(alloc: Global, row: &Row) -> Answer {
     let (room, calls) = (row.number(0)? as usize, row.number(1)?);
     let mut source = RealSource::new(row.word(2)?);
     each_read(alloc, &mut source, room, calls)
 }
 
-/// `broken`: the same for one read of a stream of which each read fails.
+/// `broken`: the same for one read of a stream in which each read fails.
 pub fn broken(alloc: Global) -> Answer {
     let mut source = RealSource::new(BrokenStream);
     each_read(alloc, &mut source, 2, 1)
@@ -44,7 +44,7 @@ fn each_read<R: Read>(
     told.answer()
 }
 
-/// What one read gives, and the bytes of it.
+/// The result of one read, and its bytes.
 fn one_read<S: Source>(alloc: Global, source: &mut S, room: usize) -> Answer {
     let mut bytes = vec![in alloc; 0; room.max(1)]?;
     let step = source.read(&mut bytes);
@@ -57,8 +57,8 @@ fn one_read<S: Source>(alloc: Global, source: &mut S, room: usize) -> Answer {
     told.answer()
 }
 
-/// `writes ROOM PIECE ..`: what the writes of the pieces to a stream of this room give, with the
-/// failure that the stream had until then; and the room.
+/// `writes ROOM PIECE ..`: the results of writing the pieces to a stream with ROOM bytes, each with
+/// the failure of the stream so far; and the buffer.
 pub fn writes(alloc: Global, row: &Row) -> Answer {
     let mut room = vec![in alloc; b'-'; row.number(0)? as usize]?;
     let mut told = Told::new(alloc);

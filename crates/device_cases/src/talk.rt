@@ -1,4 +1,4 @@
-//! A door at a socket of this machine, its clients, and the connection that it gave.
+//! A door at a socket of this machine, its clients, and the connection that it handed out.
 use crate::fault::refused;
 use case_lines::CaseFault;
 use devices::{RealConn, RealDoor};
@@ -9,21 +9,21 @@ use std::net::{Net, Shutdown, TcpStream};
 use std::time::Clock;
 use td_base::{Accepted, Conn, Door, DoorAnswer, End, Places, ReadStep, Report, WriteStep};
 
-/// How often a loop goes on at most.
+/// The most turns of a loop.
 const TURNS: u64 = 1_000;
 
-/// A door and what came of it.
+/// A door and its clients.
 #[derive(Drop)]
 pub struct Talk<R> {
     pub door: RealDoor<R>,
-    /// The clients, the latest last. A step of a client is one of the last.
+    /// The clients, the latest last. A step of a client is one of the last client.
     pub clients: Vec<TcpStream>,
-    /// The connection that the door gave and that is not handed back.
+    /// The connection that the door handed out and that is not handed back yet.
     pub conn: Option<RealConn<TcpStream, R>>,
 }
 
 impl<R: Clock + Eprint + Copy> Talk<R> {
-    /// Nothing but the door.
+    /// Only the door.
     pub fn new(alloc: Global, door: RealDoor<R>) -> Talk<R> {
         Talk {
             door,
@@ -32,7 +32,7 @@ impl<R: Clock + Eprint + Copy> Talk<R> {
         }
     }
 
-    /// Asks the door once for a connection, which is kept.
+    /// Requests a connection from the door once, and keeps it.
     fn ask(&mut self) -> DoorAnswer {
         match self.door.accept() {
             Accepted::Given(conn) => {
@@ -45,13 +45,13 @@ impl<R: Clock + Eprint + Copy> Talk<R> {
         }
     }
 
-    /// What the door answers twice.
+    /// The answers of the door to two requests.
     pub fn twice(&mut self) -> (DoorAnswer, DoorAnswer) {
         let first = self.ask();
         (first, self.ask())
     }
 
-    /// Asks the door until it does not answer that none waits, twenty times at most.
+    /// Requests a connection until the door does not answer that none waits, at most twenty times.
     pub fn next(&mut self) -> DoorAnswer {
         for _ in 0..20 {
             let answer = self.ask();
@@ -76,7 +76,7 @@ impl<R: Clock + Eprint + Copy> Talk<R> {
         Ok(())
     }
 
-    /// Reads of the connection into this room.
+    /// Reads from the connection into this buffer.
     pub fn read(&mut self, room: &mut [u8]) -> Result<ReadStep, CaseFault> {
         match &mut self.conn {
             Some(conn) if !room.is_empty() => Ok(conn.read(room)),
@@ -92,7 +92,7 @@ impl<R: Clock + Eprint + Copy> Talk<R> {
         }
     }
 
-    /// Writes until all is taken or a write fails, and gives how many bytes were taken.
+    /// Writes until all is taken or a write fails, and returns how many bytes were taken.
     pub fn write_all(&mut self, bytes: &[u8]) -> Result<usize, CaseFault> {
         let mut left = bytes;
         for _ in 0..TURNS {
@@ -107,7 +107,7 @@ impl<R: Clock + Eprint + Copy> Talk<R> {
         Ok(bytes.len().saturating_sub(left.len()))
     }
 
-    /// Sends what the last client says.
+    /// Sends bytes from the last client.
     pub fn send(&mut self, bytes: &[u8]) -> Result<(), CaseFault> {
         match self.clients.last_mut() {
             Some(client) => client.write_all(bytes).map_err(refused),
@@ -115,7 +115,7 @@ impl<R: Clock + Eprint + Copy> Talk<R> {
         }
     }
 
-    /// Lets the last client send no more.
+    /// Closes the sending side of the last client.
     pub fn shut(&mut self) -> Result<(), CaseFault> {
         match self.clients.last() {
             Some(client) => client.shutdown(Shutdown::Write).map_err(refused),
@@ -123,7 +123,7 @@ impl<R: Clock + Eprint + Copy> Talk<R> {
         }
     }
 
-    /// What the last client gets to its end.
+    /// What the last client receives until the end.
     pub fn text(&mut self, alloc: Global) -> Result<String, CaseFault> {
         match self.clients.pop() {
             Some(client) => io::read_to_string(alloc, client).map_err(refused),
@@ -131,8 +131,8 @@ impl<R: Clock + Eprint + Copy> Talk<R> {
         }
     }
 
-    /// Lets the last client read, and asks the door between two reads until it gives a connection,
-    /// and gives how many bytes were read: so many, where they come.
+    /// Lets the last client read until it has `most` bytes, and returns how many it has. Between
+    /// two reads it requests a connection from the door, until one is handed out.
     pub fn pump(&mut self, room: &mut [u8], most: usize) -> Result<usize, CaseFault> {
         let mut got = 0usize;
         for _ in 0..TURNS {
@@ -148,7 +148,7 @@ impl<R: Clock + Eprint + Copy> Talk<R> {
         Ok(got)
     }
 
-    /// Reads what comes to the last client.
+    /// Reads what arrives at the last client.
     fn get(&mut self, room: &mut [u8]) -> Result<usize, CaseFault> {
         match self.clients.last_mut() {
             Some(client) => client.read(room).map_err(refused),

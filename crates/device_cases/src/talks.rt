@@ -1,4 +1,4 @@
-//! Talks at a door, step by step.
+//! Conversations at a door, step by step.
 use crate::listens::open;
 use crate::talk::{Talk, client};
 use case_lines::{Answer, CaseFault, Row, Told, number, shown};
@@ -8,8 +8,8 @@ use std::net::{Net, TcpListener, TcpStream};
 use std::time::Clock;
 use td_base::{ReadStep, texts};
 
-/// `talk STEP STEP ..`: what is told of the steps at a door at a free port, with a bar after each
-/// that tells something. A step is a name, and may have a number or a text after a colon.
+/// `talk STEP STEP ..`: the output of the steps at a door at a free port, with a bar after each
+/// step that has output. A step is a name, and may have a number or a text after a colon.
 pub fn talk<R>(rt: &R, alloc: Global, row: &Row) -> Answer
 where
     R: Net<Listener = TcpListener, Stream = TcpStream> + Clock + Eprint + Copy,
@@ -25,7 +25,7 @@ where
     told.answer()
 }
 
-/// Takes a step.
+/// Performs a step.
 fn step<R>(
     rt: &R,
     alloc: Global,
@@ -55,7 +55,7 @@ where
     }
 }
 
-/// What is told of a step that tells something.
+/// The output of a step that has output.
 fn telling<R: Clock + Eprint + Copy>(
     alloc: Global,
     talk: &mut Talk<R>,
@@ -72,7 +72,7 @@ fn telling<R: Clock + Eprint + Copy>(
     }
 }
 
-/// What is told of a step that tells how the door stands.
+/// The output of a step that shows the state of the door.
 fn looking<R: Clock + Eprint + Copy>(alloc: Global, talk: &mut Talk<R>, name: &[u8]) -> Answer {
     match name {
         b"twice" => shown(alloc, &talk.twice()),
@@ -83,7 +83,7 @@ fn looking<R: Clock + Eprint + Copy>(alloc: Global, talk: &mut Talk<R>, name: &[
     }
 }
 
-/// A read of the connection into a room of this size, and what it gave.
+/// A read of the connection into a buffer of this size, and its result.
 fn read<R: Clock + Eprint + Copy>(alloc: Global, talk: &mut Talk<R>, size: u64) -> Answer {
     let mut room = vec![in alloc; 0; size as usize]?;
     let step = talk.read(room.as_mut_slice())?;
@@ -96,14 +96,14 @@ fn read<R: Clock + Eprint + Copy>(alloc: Global, talk: &mut Talk<R>, size: u64) 
     told.answer()
 }
 
-/// How many of so many bytes the connection took.
+/// How many of this many bytes the connection took.
 fn write_all<R: Clock + Eprint + Copy>(alloc: Global, talk: &mut Talk<R>, size: u64) -> Answer {
     let bytes = vec![in alloc; b'y'; size as usize]?;
     let took = talk.write_all(bytes.as_slice())?;
     shown(alloc, &took)
 }
 
-/// How many bytes the last client read, of so many.
+/// How many bytes the last client read, of at most this many.
 fn pump<R: Clock + Eprint + Copy>(alloc: Global, talk: &mut Talk<R>, most: u64) -> Answer {
     let mut room = vec![in alloc; 0; 2_000_000]?;
     let got = talk.pump(room.as_mut_slice(), most as usize)?;

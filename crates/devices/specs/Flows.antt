@@ -27,8 +27,8 @@ written outgoing contents = append_known contents outgoing.unsent.rest
 abbrev pub is_open : Outgoing → Bool
 is_open outgoing = (length outgoing.unsent.rest == 0) && nat_lt outgoing.count STRETCH_BYTES
 
--- a stretch ends only where it may not go on, between two heads where by the clock its turn is spent,
--- or where of what came a server could only wait
+-- a stretch ends only if it may not go on, between two heads if by the clock its turn is spent, or
+-- if a server could only wait for more bytes
 abbrev pub EndsStretch : Outgoing → WorkerTurn → Incoming → Type 0
 EndsStretch outgoing turn incoming = (is_open outgoing ≡ false)
     ⊎ ((is_spent turn ≡ true) × (incoming.intake.ready ≡ 0))
@@ -41,7 +41,7 @@ Gives old new (given.Bytes n) room = (0 < n) × (n ≤ length room) × Consumes 
 Gives old new given.End room = Keeps old new
 Gives old new given.Broken room = ⊤
 
--- the same, of what is held alone
+-- the same, only of what is held
 abbrev pub GivesHeld : Incoming → Incoming → Given → List ℕ → Type 0
 GivesHeld old new (given.Bytes n) room = (0 < n) × (n ≤ length room)
     × (take n room ++ new.intake.bytes ≡ old.intake.bytes) × (old.broken ≡ false)

@@ -1,4 +1,4 @@
--- What one call of a stream that does not block gave or took. Of a stream that does not tell its
+-- What one call of a stream that does not block gave or took. Of a stream that does not state its
 -- bytes only the counts are said.
 use Rattle.std.specs.Prelude.{◌≡◌, ℕ, ◌<◌, ◌≤◌, List, ◌++◌, length, take, Option}
 use Rattle.std.specs.Io.KnownBytes.{Appends, Consumes, IsAtEnd, Keeps}
@@ -7,8 +7,8 @@ use Rattle.devices.specs.declared.socket.Received.TheVariants as received
 use Rattle.devices.specs.declared.socket.Sent.{Sent}
 use Rattle.devices.specs.declared.socket.Sent.TheVariants as sent
 
--- the bytes left begin with those that were received, and lose them; the end comes only where none
--- are left
+-- the bytes left begin with those that were received, and lose them; the end comes only if none are
+-- left
 abbrev pub Receives : Option (List ℕ) → Option (List ℕ) → Received → List ℕ → Type 0
 Receives old new (received.Bytes n) room =
     (0 < n) × (n ≤ length room) × Consumes old new (take n room)

@@ -1,4 +1,4 @@
-//! One exchange with another server over a connection of its own.
+//! One exchange with another server over a new connection.
 ghost use Rattle.std.specs.Prelude.{◌≤◌, length, IfOk};
 ghost use Rattle.std.specs.Io.{ReadsAtMost, WritesAtMost};
 
@@ -10,16 +10,16 @@ use std::time::Clock;
 use std::{io, str};
 use td_base::{Bytes, NoMemory};
 
-/// How many bytes are asked of a stream at a time.
+/// How many bytes are read from a stream at a time.
 const ROOM: usize = 16_384;
 
-/// How often a call that a signal interrupted is made.
+/// How often a call that a signal interrupted is repeated.
 const MOST_CALLS: u32 = 64;
 
 /// Why an exchange gave no answer.
 #[derive(Drop)]
 pub enum AskFault {
-    /// There is no memory for the answer.
+    /// Out of memory for the answer.
     NoMemory,
     /// The system or the peer failed.
     System(ErrorKind),
@@ -43,7 +43,7 @@ impl From<NoMemory> for AskFault {
     }
 }
 
-/// Sends a request to the server at an address, and gives the first bytes that it answers.
+/// Sends a request to the server at an address, and returns the first bytes of its answer.
 pub fn ask<R: Net<Stream = TcpStream> + Clock>(
     rt: &R,
     alloc: Global,
@@ -63,7 +63,7 @@ pub fn ask<R: Net<Stream = TcpStream> + Clock>(
     receive(rt, alloc, &mut stream, most, &patience)
 }
 
-/// A connection to the first address of a name at which there is one.
+/// A connection to the first address of a name that accepts one.
 fn connect<R: Net<Stream = TcpStream> + Clock>(
     rt: &R,
     address: &str,
@@ -98,7 +98,7 @@ fn send<R: Clock>(
     Ok(())
 }
 
-/// Takes bytes until the peer sends no more, or so many came.
+/// Receives bytes until the peer ends its side, or until so many came.
 fn receive<R: Clock>(
     rt: &R,
     alloc: Global,
@@ -122,7 +122,7 @@ fn receive<R: Clock>(
     Ok(held)
 }
 
-/// Reads, again where a signal came.
+/// Reads, and repeats the call after a signal.
 fn read_once(stream: &mut TcpStream, room: &mut [u8]) -> io::Result<usize>
     ensures { ReadsAtMost result room.new }
 {
@@ -135,7 +135,7 @@ fn read_once(stream: &mut TcpStream, room: &mut [u8]) -> io::Result<usize>
     Err(Error::from(ErrorKind::Interrupted))
 }
 
-/// Writes, again where a signal came.
+/// Writes, and repeats the call after a signal.
 fn write_once(stream: &mut TcpStream, piece: &[u8]) -> io::Result<usize>
     ensures { WritesAtMost result piece.now }
 {

@@ -6,8 +6,8 @@ use std::io;
 use std::io::{ErrorKind, Read, Write};
 use std::os::fd::RawFd;
 
-/// A stream of a descriptor that may be set not to block, as a pipe is that was left so. A call that
-/// it cannot serve at once waits until it can.
+/// A stream whose descriptor may be set not to block, such as a pipe that another process left so.
+/// A call that it cannot serve at once waits until it can.
 #[derive(Drop)]
 pub struct Blocking<S> {
     stream: S,

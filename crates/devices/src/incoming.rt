@@ -2,6 +2,7 @@ ghost use Rattle.std.specs.Prelude.{◌≡◌, ◌<◌, ◌≤◌, ◌⊎◌, �
 ghost use Rattle.std.specs.Prelude.{◌↔◌, IsTrue, true, false};
 ghost use Rattle.std.specs.Io.KnownBytes.{IsAtEnd, Keeps};
 ghost use Rattle.devices.specs.Flows.{Gives, GivesHeld, to_give};
+ghost use Rattle.stretches.specs.Costs.{is_costly};
 ghost use Rattle.stretches.specs.Fronts.{front_length};
 
 use crate::socket::{Received, receive};
@@ -12,7 +13,7 @@ use stretches::Intake;
 /// How many bytes are received at a time.
 const PIECE: usize = 4_096;
 
-/// How many pieces are received before others have their turn.
+/// How many pieces are received before other connections have their turn.
 const MOST_PIECES: u32 = 16;
 
 /// What a read in a stretch gave.
@@ -20,19 +21,19 @@ const MOST_PIECES: u32 = 16;
 pub enum Given {
     /// So many bytes, at least one.
     Bytes(usize),
-    /// No further head has come, which ends the stretch.
+    /// No further head is whole, which ends the stretch.
     End,
-    /// The stream failed, or there is no memory for what it gave.
+    /// The stream failed, or memory ran out for what it gave.
     Broken,
 }
 
-/// The bytes that came of a stream and were not given yet, and what is known of those to come.
+/// The bytes that a stream gave and that were not handed on, and what is known of those to come.
 #[derive(Drop)]
 pub struct Incoming {
     intake: Intake,
-    /// How many bytes its memory has had to hold at most.
+    /// The most bytes that its memory had to hold.
     peak: usize,
-    /// Whether nothing more had come when bytes were received last.
+    /// Whether the last call received all that had come.
     drained: bool,
     /// Whether its peer is known to have ended its side, so that the end is still to be received.
     ending: bool,
@@ -61,7 +62,7 @@ impl Incoming {
         self.ended
     }
 
-    /// Whether no more can be received, so that what cannot be given by now never can.
+    /// Whether no more can be received, so that no further head can become whole.
     pub fn is_over(&self) -> bool {
         self.ended || self.broken
     }
@@ -78,12 +79,12 @@ impl Incoming {
         self.intake.is_between()
     }
 
-    /// How many bytes of memory are taken by what is held, at most: memory grows to twice its size.
+    /// The most bytes of memory that the held bytes take: memory grows by doubling.
     pub fn room(&self) -> usize {
         self.peak.saturating_mul(2)
     }
 
-    /// More may have come; `ending` tells that the peer has ended its side.
+    /// More may have come; with `ending` the peer has ended its side.
     pub fn wake(&mut self, ending: bool)
         ensures { self.new.intake ≡ self.old.intake }
     {
@@ -91,7 +92,14 @@ impl Incoming {
         self.ending |= ending;
     }
 
-    /// Gives memory back that nothing needs.
+    /// Whether what is held requests something costly.
+    pub fn is_costly(&self) -> bool
+        ensures { result ≡ is_costly self.now.intake.bytes }
+    {
+        self.intake.is_costly()
+    }
+
+    /// Frees memory that is not needed.
     pub fn let_go(&mut self, alloc: Global)
         ensures { self.new.intake.bytes ≡ self.old.intake.bytes }
     {
@@ -104,7 +112,7 @@ impl Incoming {
         }
     }
 
-    /// Receives until a head can be given, or nothing more is there. It tells whether bytes came.
+    /// Receives until a head can be given or nothing more has come. Returns whether bytes came.
     pub fn hear<R: Read>(&mut self, stream: &mut R) -> bool
         ensures kept { self.new.broken ≡ false
             → Keeps (to_give self.old (R.remaining stream.old))
@@ -122,14 +130,16 @@ impl Incoming {
 
     /// Whether something can be given.
     pub fn is_ready(&mut self) -> bool
-        ensures { self.new.intake.bytes ≡ self.old.intake.bytes }
+        ensures kept { self.new.intake.bytes ≡ self.old.intake.bytes }
+        ensures waits { result ≡ false → front_length self.new.intake.bytes ≡ 0 }
+        ensures broken { self.new.broken ≡ self.old.broken }
     {
         self.intake.look()
     }
 
-    /// Receives a piece, where one may be there, and tells whether bytes came. After a piece that
-    /// did not fill its room there is nothing more, unless an event came since; of an end that
-    /// came with it no other event tells.
+    /// Receives a piece, if one may have come, and returns whether bytes came. A piece that did not
+    /// fill its room was the last, unless an event came since. An end that came with it causes no
+    /// other event.
     fn hear_more<R: Read>(&mut self, stream: &mut R) -> bool
         ensures kept { self.new.broken ≡ false
             → Keeps (to_give self.old (R.remaining stream.old))
@@ -147,7 +157,7 @@ impl Incoming {
         self.receive(stream)
     }
 
-    /// Receives a piece, and tells whether bytes came.
+    /// Receives a piece, and returns whether bytes came.
     fn receive<R: Read>(&mut self, stream: &mut R) -> bool
         requires { self.old.broken ≡ false }
         ensures kept { self.new.broken ≡ false
@@ -178,7 +188,7 @@ impl Incoming {
         }
     }
 
-    /// Holds a piece, or breaks where there is no memory for it.
+    /// Holds a piece. Out of memory the connection is broken.
     fn hold(&mut self, piece: &[u8]) -> bool
         ensures held { self.new.broken ≡ false
             → self.new.intake.bytes ≡ self.old.intake.bytes ++ piece.now }
@@ -193,7 +203,7 @@ impl Incoming {
         true
     }
 
-    /// Gives bytes of heads that have come whole, where there are any.
+    /// Gives bytes of whole heads, if there is one.
     fn give(&mut self, room: &mut [u8]) -> Option<usize>
         requires { 0 < length room.old }
         ensures some { IfSome result (λ count. (0 < count) × (count ≤ length room.new)
@@ -209,7 +219,7 @@ impl Incoming {
         }
     }
 
-    /// Gives bytes of heads that have come whole. Where there are none it looks whether more came.
+    /// Gives bytes of whole heads. If there is none, it receives what came since.
     pub fn read<R: Read>(&mut self, stream: &mut R, room: &mut [u8]) -> Given
         requires { 0 < length room.old }
         ensures gives { Gives (to_give self.old (R.remaining stream.old))
@@ -225,7 +235,7 @@ impl Incoming {
         }
     }
 
-    /// Gives what there is.
+    /// Gives what is held.
     fn give_now(&mut self, room: &mut [u8]) -> Given
         requires { 0 < length room.old }
         ensures bytes { GivesHeld self.old self.new result room.new }

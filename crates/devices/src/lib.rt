@@ -1,11 +1,12 @@
-//! The real objects of the outside, each over one of the traits of `td_base`, and a pair of doors
-//! in memory for tests of two threads. [`RealSource`] and [`RealSink`] are streams, [`RealStore`]
-//! the files of the system, [`RealNetwork`], [`RealDoor`] and [`RealConn`] a TCP listener with its
-//! connections, [`RealUpstream`] another server, [`RealSpawner`] threads. They tell what the system
-//! tells, which is nothing beyond the count of what failed (`specs/Opened.antt`,
-//! `specs/RealDoors.antt`). A door keeps the connections that no worker serves; what it decides of
-//! them is `stretches`, and that no byte of one is lost or moved is `specs/Flows.antt`.
-//! [`gate_pair`] makes the two doors in memory (`specs/Gates.antt`).
+//! The real objects behind the traits of `td_base`, and a pair of listeners in memory for tests of
+//! two threads. [`RealSource`] and [`RealSink`] are streams, [`RealStore`] the files of the system.
+//! [`RealNetwork`], [`RealDoor`] and [`RealConn`] are a TCP listener with its connections,
+//! [`RealUpstream`] is another server, [`RealSpawner`] starts threads. Contracts see only how many
+//! of their calls failed (`specs/Opened.antt`, `specs/RealDoors.antt`).
+//!
+//! A listener keeps the connections that no worker serves. `stretches` decides about them, and
+//! `specs/Flows.antt` says that no byte of one is lost or moved. [`gate_pair`] makes the listeners
+//! in memory (`specs/Gates.antt`). `process_edge` and the program `tzdistd` call this crate.
 #![tactic(auto)]
 
 // Streams and files.
@@ -26,7 +27,7 @@ mod socket;
 mod unsent;
 mod wire;
 
-// A TCP listener, its doors, and the connections that rest at them.
+// The listeners at a TCP socket, and the connections that rest at them.
 mod hall;
 mod listening;
 mod passing;
@@ -40,13 +41,13 @@ mod asking;
 mod patience;
 mod real_upstream;
 
-// Two doors in memory, for tests of two threads.
+// Two listeners in memory, for tests of two threads.
 mod gate_conn;
 mod gate_door;
 mod gate_state;
 mod gates;
 
-// What may cross threads.
+// What may move to another thread.
 mod send_sync;
 
 pub use blocking::Blocking;

@@ -1,16 +1,15 @@
 use std::time::Duration;
 
-/// A moment of a door: the time by its clock, in milliseconds, and the number of the turn that a
-/// connection has which turns now. Numbers rise from one look at events, one accept or one
-/// connection that comes back to the next, so that it is known who turned first, however little
-/// time lies between.
+/// A moment of a listener: the time by its clock in milliseconds, and the number of a turn. Each
+/// poll, accept and returned connection has the next number, so that turns within one millisecond
+/// have an order.
 #[derive(Clone, Copy)]
 pub struct Now {
     pub millis: u64,
     pub turn: u64,
 }
 
-/// For how many microseconds this thread has run, or none where the system does not tell.
+/// The processor time of this thread in microseconds, if the system reports it.
 pub fn thread_micros() -> Option<u64> {
     let mut time = libc::types::timespec {
         tv_sec: 0,

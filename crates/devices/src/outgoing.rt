@@ -8,7 +8,7 @@ use crate::unsent::Unsent;
 use std::alloc::Global;
 use std::io::Write;
 
-/// How many bytes that a peer has not taken are held of one connection at most.
+/// The most bytes of one connection that are held because its peer has not taken them.
 pub const MOST_UNSENT: usize = 8_388_608;
 
 /// After how many bytes of replies a stretch ends, so that others have their turn.
@@ -53,14 +53,14 @@ impl Outgoing {
         self.unsent.room()
     }
 
-    /// Whether all that was written went out, and the stretch may go on.
+    /// Whether all that was written has been sent, and the stretch may go on.
     pub fn is_open(&self) -> bool
         ensures { result ≡ is_open self.now }
     {
         self.len() == 0 && self.count < STRETCH_BYTES
     }
 
-    /// Gives memory back that nothing needs.
+    /// Frees memory that is not needed.
     pub fn let_go(&mut self, alloc: Global)
         ensures { self.new.unsent.rest ≡ self.old.unsent.rest }
     {
@@ -69,8 +69,8 @@ impl Outgoing {
         }
     }
 
-    /// Sends the piece, or holds it where the stream does not take it at once. It fails where the
-    /// stream does, and where no more may be held.
+    /// Sends the piece, or holds it if the stream does not take it at once. It fails if the stream
+    /// does, or if no more may be held.
     pub fn write<W: Write>(&mut self, stream: &mut W, piece: &[u8]) -> Sent
         requires { 0 < length piece.now }
         ensures { Sends (written self.old (W.contents stream.old))
@@ -89,7 +89,7 @@ impl Outgoing {
         }
     }
 
-    /// Holds the piece, if it may be held and there is memory for it.
+    /// Holds the piece, if it may be held and memory suffices.
     fn hold(&mut self, piece: &[u8]) -> Sent
         requires { 0 < length piece.now }
         ensures { Holds self.old.unsent.rest self.new.unsent.rest result piece.now }
@@ -102,7 +102,7 @@ impl Outgoing {
         Sent::Bytes(piece.len())
     }
 
-    /// Sends what is held, of which there is some, as much as there is room for.
+    /// Sends what is held, as much as the stream takes.
     pub fn flush<W: Write>(&mut self, stream: &mut W) -> Sent
         requires { 0 < length self.old.unsent.rest }
         ensures { Keeps (written self.old (W.contents stream.old))

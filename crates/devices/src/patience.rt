@@ -1,4 +1,4 @@
-//! How long an exchange with another server is waited for.
+//! How long an exchange with another server may take.
 use std::io;
 use std::io::{Error, ErrorKind};
 use std::time::{Clock, Duration, Instant};
@@ -6,7 +6,7 @@ use std::time::{Clock, Duration, Instant};
 /// For how many seconds an exchange waits for its peer to take or to send a byte.
 pub const PROGRESS_WAIT_SECONDS: u64 = 10;
 
-/// For how many seconds an exchange goes on in all.
+/// For how many seconds an exchange lasts at most.
 pub const EXCHANGE_SECONDS: u64 = 60;
 
 /// The time since an exchange began.
@@ -22,7 +22,7 @@ impl Patience {
         Ok(Patience { since })
     }
 
-    /// For how long the next call may wait. It fails where the exchange took all its time.
+    /// For how long the next call may wait. It fails once the exchange took all its time.
     pub fn left<R: Clock>(&self, rt: &R) -> io::Result<Duration> {
         let whole = Duration::from_secs(EXCHANGE_SECONDS);
         match whole.checked_sub(self.since.elapsed(rt)?) {

@@ -12,11 +12,10 @@ use std::io::{Read, Write};
 use std::time::Clock;
 use td_base::{Conn, ReadStep, WriteStep};
 
-/// A connection over a stream that does not block, as those of TCP, for a stretch of whole heads.
-/// It reads the clock before each read but the first, so that the stretch ends once its turn is
-/// spent, and not before something was served in it. To the contract of [`Conn`] it says nothing of
-/// its bytes, since the end of a stretch is not that of its stream. Its counts are those of the
-/// stretch's failed reads and failed writes.
+/// A connection over a stream that does not block, for a stretch of whole heads. It reads the clock
+/// before each read but the first, so that something is served before its turn is spent. To the
+/// contract of [`Conn`] it states no bytes, since the end of a stretch is not that of its stream.
+/// Its counts are the failed reads and writes of the stretch.
 #[derive(Drop)]
 pub struct RealConn<S, R> {
     wire: Wire<S>,
@@ -51,7 +50,7 @@ impl<S, R: Drop> RealConn<S, R> {
 }
 
 impl<S, R: Clock> RealConn<S, R> {
-    /// Reads the clock for its turn, where it was read before in this stretch.
+    /// Reads the clock for its turn, unless this is the first read of the stretch.
     fn look_at_clock(&mut self)
         ensures incoming { self.new.wire.incoming ≡ self.old.wire.incoming }
         ensures outgoing { self.new.wire.outgoing ≡ self.old.wire.outgoing }
@@ -92,7 +91,7 @@ impl<S: Read + Write, R: Clock> Conn for RealConn<S, R> {
         }
     }
 
-    /// A write fails where the stream does, or where no more may be held.
+    /// A write fails if the stream does, or if no more may be held.
     fn write(&mut self, piece: &[u8]) -> WriteStep
         requires { 0 < length piece.now }
         ensures write { ConnWrites (conn_view self.old) (conn_view self.new) result piece.now }

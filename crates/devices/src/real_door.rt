@@ -10,13 +10,12 @@ use std::net::{SocketAddr, TcpStream};
 use std::time::Clock;
 use td_base::{Accepted, Door, DoorAnswer, Report};
 
-/// How often doors send on at the end.
+/// How often each listener sends at the end, at most.
 const MOST_TURNS: u32 = 65_536;
 
-/// One of the doors at a listening socket. It keeps the connections that no worker serves, any
-/// number of them, and gives one only where a whole head has come of it, or bytes of which no head
-/// can come. It tells nothing of its connections. What is handed back it keeps until the next head
-/// has come, or closes.
+/// One of the listeners at a socket. It keeps the connections that no worker serves, and returns
+/// one only once a whole head has come, or bytes that can begin no head. It states nothing of its
+/// connections. One that is handed back it keeps until its next head has come, or closes.
 #[derive(Drop)]
 pub struct RealDoor<R> {
     hall: Hall<R>,
@@ -26,7 +25,7 @@ pub struct RealDoor<R> {
 }
 
 impl<R: Clock + Eprint + Copy> RealDoor<R> {
-    /// A door that was not asked yet.
+    /// A listener that was not called yet.
     pub(crate) fn new(hall: Hall<R>) -> RealDoor<R>
         ensures { IsNewDoor (door_view result) }
     {
@@ -43,7 +42,7 @@ impl<R: Clock + Eprint + Copy> RealDoor<R> {
         self.hall.local_addr()
     }
 
-    /// Why the accept that failed last did so.
+    /// Why the last failed accept failed.
     pub fn failure(&self) -> Option<ErrorKind>
         ensures { result ≡ self.now.failure }
     {
@@ -63,8 +62,8 @@ impl<R: Clock + Eprint + Copy> RealDoor<R> {
     }
 }
 
-/// Closes the connections of doors that are asked no more, each once what was written to it has
-/// gone out. Where peers do not take that, it waits for them for so many milliseconds at most.
+/// Closes the connections of listeners that are not called any more, each once what was written has
+/// been sent. It waits for peers for so many milliseconds at most.
 pub fn drain<R: Clock + Eprint + Copy>(doors: &mut [RealDoor<R>], millis: u64) {
     let Some(first) = doors.first_mut() else {
         return;
@@ -85,7 +84,7 @@ fn leave<R: Clock + Eprint + Copy>(doors: &mut [RealDoor<R>]) {
     }
 }
 
-/// Has each door send on for a moment, so that none waits for the peers of another. It tells
+/// Lets each listener send for a moment, so that none waits for the peers of another. It returns
 /// whether one has more to send.
 fn drain_in_turn<R: Clock + Eprint + Copy>(doors: &mut [RealDoor<R>], end: u64) -> bool {
     let mut owes = false;

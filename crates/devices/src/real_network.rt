@@ -16,7 +16,7 @@ use std::time::Clock;
 use std::{io, str};
 use td_base::{Bytes, Door, Made, Network, NoMemory};
 
-/// At which address no door was opened last, if there was memory to keep it, and why.
+/// The address at which opening a listener last failed, if memory sufficed to keep it, and why.
 #[derive(Drop)]
 pub struct ListenFailure {
     pub address: Option<Bytes>,
@@ -24,8 +24,8 @@ pub struct ListenFailure {
 }
 
 /// The network of the system. An address is `HOST:PORT`: an IPv4 address, an IPv6 address in
-/// brackets, or a host's name, of which the system's resolver knows an address. Port 0 is any free
-/// one. It tells nothing. Its faults count the calls that failed.
+/// brackets, or a host's name that the system's resolver knows. Port 0 is any free one. It states
+/// nothing. Its faults count the failed calls.
 #[derive(Drop)]
 pub struct RealNetwork<'a, R> {
     rt: &'a R,
@@ -33,7 +33,7 @@ pub struct RealNetwork<'a, R> {
     failure: Option<ListenFailure>,
 }
 
-/// Why no doors were opened.
+/// Why no listeners were opened.
 #[derive(Drop)]
 enum OpenFault {
     NoMemory,
@@ -59,7 +59,7 @@ impl<T: Drop> From<AllocFailed<T>> for OpenFault {
 }
 
 impl<'a, R> RealNetwork<'a, R> {
-    /// The network that the runtime reaches, of which no call failed yet.
+    /// The network that the runtime reaches. No call has failed yet.
     pub fn new(rt: &'a R) -> RealNetwork<'a, R>
         ensures faults { result.faults ≡ 0 }
         ensures failure { result.failure ≡ None }
@@ -71,12 +71,12 @@ impl<'a, R> RealNetwork<'a, R> {
         }
     }
 
-    /// The address at which it did not listen last.
+    /// The address at which opening a listener last failed.
     pub fn failure(&self) -> Option<&ListenFailure> {
         self.failure.as_ref()
     }
 
-    /// Counts a call that failed.
+    /// Counts a failed call.
     fn fail(&mut self, alloc: Global, address: &[u8], kind: ErrorKind)
         ensures later { self.old.faults ≤ self.new.faults }
         ensures once { self.new.faults ≤ self.old.faults + 1 }
@@ -96,8 +96,8 @@ impl<'a, R: Net<Listener = TcpListener, Stream = TcpStream> + Clock + Eprint + C
 
     ghost seen = { λ n. record { content = None; faults = n.faults } };
 
-    /// Binds one socket, at which each of the doors accepts. An address without a port, one that is
-    /// in use and one that no name server knows are failed calls.
+    /// Binds one socket, at which each of the listeners accepts. An address without a port, one in
+    /// use and one that no name server knows are failed calls.
     fn doors(&mut self, alloc: Global, address: &[u8], number: u32) -> Made<Vec<RealDoor<R>>> {
         match open(self.rt, alloc, address, number) {
             Ok(doors) => Made::Given(doors),
@@ -109,7 +109,7 @@ impl<'a, R: Net<Listener = TcpListener, Stream = TcpStream> + Clock + Eprint + C
         }
     }
 
-    /// The server at the address, which is reached by each exchange anew; so this call never fails.
+    /// The server at the address. Each exchange connects again, so this call never fails.
     fn upstream(&mut self, alloc: Global, address: &[u8]) -> Made<RealUpstream<'a, R>> {
         match Bytes::from_slice(alloc, address) {
             Ok(address) => Made::Given(RealUpstream::new(self.rt, address)),

@@ -10,8 +10,8 @@ use std::time::Clock;
 use td_base::{Bytes, Exchanged, Upstream};
 
 /// Another server, at an address as that of [`RealNetwork`](crate::RealNetwork). Each exchange
-/// opens a connection of its own, of which it takes what comes until the peer sends no more or so
-/// many bytes as are wanted came. It tells nothing. Its faults count the exchanges that failed.
+/// opens a new connection and receives until the peer ends its side, or until as many bytes came as
+/// were requested. It states nothing. Its faults count the failed exchanges.
 #[derive(Drop)]
 pub struct RealUpstream<'a, R> {
     rt: &'a R,
@@ -33,7 +33,7 @@ impl<'a, R> RealUpstream<'a, R> {
         }
     }
 
-    /// Why the exchange that failed last did so.
+    /// Why the last failed exchange failed.
     pub fn failure(&self) -> Option<ErrorKind>
         ensures { result ≡ self.now.failure }
     {

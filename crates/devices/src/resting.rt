@@ -1,4 +1,4 @@
-//! The connections of a door that no worker serves.
+//! The connections of a listener that no worker serves.
 use crate::now::Now;
 use crate::outgoing::MOST_UNSENT;
 use crate::wire::{Rest, Wire};
@@ -11,22 +11,22 @@ use std::collections::VecDeque;
 use std::net::TcpStream;
 use stretches::{Queue, Roll, Waiting};
 
-/// How many bytes of memory the connections of a door hold at most, the one that is served among
-/// them.
+/// The most bytes of memory that the connections of a listener hold, the one that is served
+/// included.
 pub const MOST_HELD_OF_ALL: usize = 67_108_864;
 
-/// How many of them those hold that rest, so that there is room for any reply.
+/// The most bytes that those hold that are not served. It leaves room for any reply.
 const MOST_HELD_AT_REST: usize = MOST_HELD_OF_ALL - MOST_UNSENT;
 
-/// How many keys of connections that are gone are taken out of a queue at a time.
+/// How many keys of closed connections are taken out of a queue at a time.
 const MOST_STALE: u32 = 1_024;
 
 /// The token of the listening socket. Those of connections are one more than their keys.
 pub const LISTENS: Token = Token(0);
 
-/// The connections of a door that rest. Those that can be served wait in two queues, and of all the
-/// roll says what they wait for, and since when. A key in a queue counts only while its connection
-/// says that it waits there.
+/// The connections that no worker serves. Those that can be served wait in two queues, first come
+/// first served. The roll says what each waits for, and since when. A key in a queue counts only
+/// while its connection says that it waits there.
 #[derive(Drop)]
 pub struct Resting {
     wires: Slab<Wire<TcpStream>>,
@@ -39,7 +39,7 @@ pub struct Resting {
 }
 
 impl Resting {
-    /// None rests. It takes no memory, and grows by the allocator.
+    /// No connections. It takes no memory, and grows by the allocator.
     pub fn new(alloc: Global) -> Resting {
         Resting {
             wires: Slab::new(alloc),
@@ -56,7 +56,7 @@ impl Resting {
         self.wires.len()
     }
 
-    /// In which queues one may wait, beside new connections.
+    /// In which queues a connection may wait.
     pub fn waiting(&self, fresh: bool) -> Waiting {
         Waiting {
             fresh,
@@ -65,18 +65,23 @@ impl Resting {
         }
     }
 
-    /// How many bytes of a reply a connection may hold that is served now.
+    /// How many keys are in the queue of costly requests.
+    pub fn heavy(&self) -> usize {
+        self.heavy.len()
+    }
+
+    /// How many bytes of a reply the connection that is served may hold.
     pub fn allowance(&self) -> usize {
         MOST_HELD_OF_ALL.saturating_sub(self.held)
     }
 
-    /// Whether a reply waits to go out.
+    /// Whether a part of a reply is not sent yet.
     pub fn owes(&self) -> bool {
         self.unsent > 0
     }
 
-    /// Takes a connection that is not served, and asks for its events. Where there is no memory or
-    /// no room for that it is closed.
+    /// Keeps a connection that is not served, and registers for its events. If memory or room runs
+    /// out, it is closed.
     pub fn keep(&mut self, registry: &Registry, wire: Wire<TcpStream>, rest: Rest, now: Now) {
         if rest == Rest::Gone {
             return;
@@ -96,7 +101,7 @@ impl Resting {
         self.make_memory(now);
     }
 
-    /// Asks for the events of a connection under its key.
+    /// Registers for the events of a connection under its key.
     fn ask_for(&mut self, registry: &Registry, key: usize, again: bool) -> bool {
         let Some(wire) = self.wires.get_mut(key) else {
             return false;
@@ -122,7 +127,7 @@ impl Resting {
         }
     }
 
-    /// Says in the roll what the connection at a key waits for.
+    /// Enters into the roll what the connection at a key waits for.
     fn enroll(&mut self, key: usize) {
         let Some(wire) = self.wires.get(key) else {
             return;
@@ -150,7 +155,7 @@ impl Resting {
         }
     }
 
-    /// Events came. It tells whether one of them was that of the listening socket.
+    /// Handles events. It returns whether one was that of the listening socket.
     pub fn stir_all(&mut self, events: &Events<Global>, now: Now) -> bool {
         let mut listens = false;
         for event in events.iter() {
@@ -163,7 +168,7 @@ impl Resting {
         listens
     }
 
-    /// Something happened to a connection.
+    /// Handles an event of a connection.
     fn stir(&mut self, event: &Event, now: Now) {
         let Token(place) = event.token();
         let key = place.saturating_sub(1);
@@ -173,7 +178,7 @@ impl Resting {
         self.advance(key, now);
     }
 
-    /// Does what can be done for a connection that is not in the row.
+    /// Does what can be done for a connection that waits in no queue.
     fn advance(&mut self, key: usize, now: Now) {
         let Some(wire) = self.wires.get_mut(key) else {
             return;
@@ -229,8 +234,7 @@ impl Resting {
         let _ = self.remove(key);
     }
 
-    /// Closes the connection that is the first to give way to a new one, and tells whether there
-    /// was one.
+    /// Closes the connection that is the first to yield to a new one, and returns whether one did.
     pub fn make_room(&mut self, now: Now) -> bool {
         match self.roll.first_to_yield(now.millis) {
             Some(key) => {
@@ -241,7 +245,7 @@ impl Resting {
         }
     }
 
-    /// Closes those that have held most memory for the longest time, while all hold too much.
+    /// While all hold too much, closes the one that has held most memory for the longest time.
     fn make_memory(&mut self, now: Now) {
         for _ in 0..self.wires.len() {
             if self.held <= MOST_HELD_AT_REST {
@@ -254,7 +258,7 @@ impl Resting {
         }
     }
 
-    /// No connection is served any more: each is closed once what was written to it has gone out.
+    /// No connection is served any more: each is closed once what was written has been sent.
     pub fn leave(&mut self, now: Now) {
         for key in 0..self.wires.capacity() {
             if let Some(wire) = self.wires.get_mut(key) {
@@ -264,7 +268,7 @@ impl Resting {
         }
     }
 
-    /// Gives up the connections whose time is over.
+    /// Closes the connections that rested for too long.
     pub fn sweep(&mut self, now: Now) {
         let mut from = 0;
         for _ in 0..self.roll.len() {
@@ -278,8 +282,8 @@ impl Resting {
         }
     }
 
-    /// Closes a connection, if it makes no progress now: the system tells of room in a socket only
-    /// once much of it is free.
+    /// Closes a connection that makes no progress now. It is tried once more, since the system
+    /// reports room in a socket only once much of it is free.
     fn give_up(&mut self, key: usize, now: Now) {
         self.advance(key, now);
         let is_over = match self.wires.get(key) {

@@ -4,34 +4,34 @@ ghost use Rattle.devices.specs.Sockets.{Receives, Sends};
 
 use std::io::{ErrorKind, Read, Write};
 
-/// How often a call that a signal interrupted is made.
+/// How often a call that a signal interrupted is repeated.
 const MOST_CALLS: u32 = 64;
 
-/// What a stream that does not block gave at this moment.
+/// What a call of a stream that does not block received.
 #[derive(Clone, Copy, PartialEq, Eq)]
 pub enum Received {
     /// So many bytes, at least one.
     Bytes(usize),
     /// Nothing so far.
     Nothing,
-    /// Its peer sends no more.
+    /// Its peer has ended its side.
     End,
     /// It failed.
     Broken,
 }
 
-/// What a stream that does not block took at this moment.
+/// What a call of a stream that does not block sent.
 #[derive(Clone, Copy, PartialEq, Eq)]
 pub enum Sent {
     /// So many bytes, at least one.
     Bytes(usize),
-    /// Nothing, since there is no room.
+    /// Nothing, since its buffer is full.
     Nothing,
     /// It failed.
     Broken,
 }
 
-/// Receives what is there, again where a signal came.
+/// Receives what has come, and repeats the call after a signal.
 pub fn receive<R: Read>(stream: &mut R, room: &mut [u8]) -> Received
     requires { 0 < length room.old }
     ensures { Receives (R.remaining stream.old) (R.remaining stream.new) result room.new }
@@ -50,7 +50,7 @@ pub fn receive<R: Read>(stream: &mut R, room: &mut [u8]) -> Received
     Received::Broken
 }
 
-/// Sends what there is room for, again where a signal came.
+/// Sends as much as the stream takes, and repeats the call after a signal.
 pub fn send<W: Write>(stream: &mut W, piece: &[u8]) -> Sent
     requires { 0 < length piece.now }
     ensures { Sends (W.contents stream.old) (W.contents stream.new) result piece.now }

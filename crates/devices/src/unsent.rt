@@ -4,8 +4,8 @@ use std::alloc::Global;
 use std::marker::Model;
 use td_base::NoMemory;
 
-/// Bytes that were written and not sent. Contracts see these. Once half of what the buffer has was
-/// sent, that half is given back, so it never has more than twice what is left.
+/// Bytes that were written and not sent. Once half of the buffer was sent, that half is freed, so
+/// the buffer has at most twice what is left.
 #[derive(Drop)]
 pub struct Unsent {
     bytes: Vec<u8>,
@@ -44,7 +44,7 @@ impl Unsent {
         &self.bytes[self.sent..]
     }
 
-    /// How many bytes the buffer has, those that were sent among them.
+    /// How many bytes the buffer has, those that were sent included.
     pub fn size(&self) -> usize
         ensures size { result ≡ self.now.size }
         ensures half { result ≤ length self.now.rest + length self.now.rest }
@@ -57,7 +57,7 @@ impl Unsent {
         self.bytes.capacity()
     }
 
-    /// Appends the piece, in memory for no more than that and what is left.
+    /// Appends the piece, in memory for exactly that and what is left.
     pub fn append(&mut self, piece: &[u8]) -> Result<(), NoMemory>
         ensures ok { OnOk result (self.new.rest ≡ self.old.rest ++ piece.now) }
         ensures err { OnErr result (self.new.rest ≡ self.old.rest) }
@@ -84,7 +84,7 @@ impl Unsent {
     }
 }
 
-/// Removes so many bytes from the front, and gives back the memory that the others do not need.
+/// Removes so many bytes from the front, and frees the memory that the others do not need.
 fn cut_front(bytes: &mut Vec<u8>, len: usize)
     requires { len ≤ length bytes.old.items }
     ensures { bytes.new.items ≡ drop len bytes.old.items }

@@ -1,34 +1,34 @@
-ghost use Rattle.std.specs.Prelude.{◌<◌, ◌≡◌, length, max, false};
+ghost use Rattle.std.specs.Prelude.{◌<◌, ◌≡◌, length, max, false, true};
 ghost use Rattle.std.specs.Io.KnownBytes.{Keeps};
 ghost use Rattle.devices.specs.Flows.{EndsStretch, Gives, to_give, written};
 ghost use Rattle.devices.specs.Sockets.{Sends};
+ghost use Rattle.stretches.specs.Costs.{is_costly};
 ghost use Rattle.stretches.specs.Fates.{fate_of};
+ghost use Rattle.stretches.specs.Fronts.{front_length};
+ghost use Rattle.stretches.specs.Queues.{queue_for};
 
 use crate::incoming::{Given, Incoming};
 use crate::now::Now;
 use crate::outgoing::Outgoing;
-use crate::socket::{Received, Sent, receive};
+use crate::socket::Sent;
 use std::alloc::Global;
 use std::io::{Read, Write};
-use std::net::{Shutdown, TcpStream};
-use std::os::fd::{AsRawFd, RawFd};
 use stretches::{Fate, Life, Phase, Queue, WorkerTurn, fate_after};
 use td_base::End;
 
-/// How many bytes of a connection that was closed are thrown away, so that its peer gets the last
-/// reply.
+mod advancing;
+
+/// The most bytes of a closed connection that are read and thrown away, so that its peer gets the
+/// last reply.
 pub const LINGER_BYTES: usize = 1_048_576;
 
-/// How many bytes are thrown away at a time.
-const PIECE: usize = 4_096;
-
-/// How many pieces are sent or thrown away before others have their turn.
+/// How many pieces are sent or thrown away before other connections have their turn.
 const MOST_PIECES: u32 = 16;
 
-/// How many bytes of a reply a peer takes for a turn: one that takes fewer makes little progress.
+/// How many sent bytes of a reply count as a turn: a peer that takes fewer makes little progress.
 const PROGRESS_BYTES: usize = 65_536;
 
-/// What a connection that no worker serves came to.
+/// The state of a connection that no worker serves.
 #[derive(Clone, Copy, PartialEq, Eq)]
 pub enum Rest {
     /// It can be served.
@@ -39,21 +39,21 @@ pub enum Rest {
     Gone,
 }
 
-/// How far a connection is on its way out.
+/// How far the closing of a connection has come.
 #[derive(Clone, Copy, PartialEq, Eq)]
 enum Stage {
     /// It is served.
     Open,
-    /// It is to be closed once what was written has gone out.
+    /// It is closed once what was written has been sent.
     Leaving,
-    /// Its sending side is ended, and so many bytes that came since were thrown away.
+    /// Its sending side is ended, and so many bytes were thrown away since.
     Shut(usize),
 }
 
-/// A stream with what came of it and was not given yet, and what was written and not taken yet. A
-/// worker has it for a stretch of whole heads alone: a read gives what has come of them, tells the
-/// end where no further head has come, and never waits; nor does a write, which holds what its peer
-/// does not take at once.
+/// A stream, with the bytes that it gave and that were not handed on, and those that were written
+/// and not sent. A worker has it for a stretch of whole heads. A read gives what has come of them,
+/// and returns the end if no further head is whole. A write holds what its peer does not take at
+/// once. Neither waits.
 #[derive(Drop)]
 pub struct Wire<S> {
     stream: S,
@@ -61,22 +61,23 @@ pub struct Wire<S> {
     outgoing: Outgoing,
     alloc: Global,
     stage: Stage,
-    /// Whether its last read told the end of a stretch.
+    /// Whether its last read returned the end of the stretch.
     stretch_ended: bool,
-    /// The turn of the worker that serves it, or that served it last, and whether that took long.
+    /// Its present or last turn, whether that took long, and where it waits for the next.
     turn: WorkerTurn,
-    heavy: bool,
-    /// When a byte came or went last; the number of its last turn, as it was accepted or handed back,
-    /// began a head or sent a good part or the last of a reply; how much was sent since; when the
-    /// first byte was seen of a head that is not whole; and whether no byte came yet.
+    was_long: bool,
+    queue: Queue,
+    /// When a byte was last received or sent, the number of its last turn, and how much was sent
+    /// since. Then the time of the first byte of a head that is not whole, and whether no byte came
+    /// yet. Times are in milliseconds. `Life` of `stretches` says what a turn is.
     moved: u64,
     turned: u64,
     taken: usize,
     began: Option<u64>,
     silent: bool,
-    /// Since when it has held memory: since its last stretch, or since it held none.
+    /// Since when it has held memory: its last stretch, or the moment when it held none.
     since: u64,
-    /// The key under which its events come, and whether it stands among those that can be served.
+    /// The key under which its events come, and whether it waits in a queue for a worker.
     pub key: Option<usize>,
     pub queued: bool,
 }
@@ -92,7 +93,8 @@ impl<S> Wire<S> {
             stage: Stage::Open,
             stretch_ended: false,
             turn: WorkerTurn::new(0, 0),
-            heavy: false,
+            was_long: false,
+            queue: Queue::Light,
             moved: now.millis,
             turned: now.turn,
             taken: 0,
@@ -104,7 +106,7 @@ impl<S> Wire<S> {
         }
     }
 
-    /// Begins a stretch, in which so many bytes may be held, and which lasts for this turn.
+    /// Begins a stretch for this turn, in which so many bytes may be held.
     pub fn begin(&mut self, allowance: usize, turn: WorkerTurn)
         ensures incoming { self.new.incoming.intake.bytes ≡ self.old.incoming.intake.bytes }
         ensures outgoing { self.new.outgoing.unsent.rest ≡ self.old.outgoing.unsent.rest }
@@ -118,7 +120,7 @@ impl<S> Wire<S> {
         self.outgoing.begin(allowance);
     }
 
-    /// The clock shows this time, in microseconds, by which its turn may be over.
+    /// Notes a reading of the clock in microseconds, by which its turn may be over.
     pub fn see(&mut self, micros: u64)
         ensures wire { self.new ≡ record self.old {
           turn = record self.old.turn {
@@ -129,30 +131,37 @@ impl<S> Wire<S> {
         self.turn.see(micros);
     }
 
-    /// The turn of the worker that serves it, or that served it last.
+    /// Its present or last turn.
     pub fn turn(&self) -> WorkerTurn
         ensures { result ≡ self.now.turn }
     {
         self.turn
     }
 
-    /// Its last turn was a long one, or was not.
-    pub fn weigh(&mut self, heavy: bool)
-        ensures { self.new ≡ record self.old { heavy = heavy } }
+    /// Notes whether its last turn was a long one.
+    pub fn weigh(&mut self, was_long: bool)
+        ensures { self.new ≡ record self.old { was_long = was_long } }
     {
-        self.heavy = heavy;
+        self.was_long = was_long;
     }
 
     /// Where it waits for its next turn.
-    pub fn queue(&self) -> Queue {
-        if self.heavy {
-            Queue::Heavy
-        } else {
-            Queue::Light
-        }
+    pub fn queue(&self) -> Queue
+        ensures { result ≡ self.now.queue }
+    {
+        self.queue
     }
 
-    /// What becomes of it at the end of a stretch, which was served to such an end.
+    /// Chooses where it waits for its next turn, by its last one and by what it requests.
+    fn classify(&mut self)
+        ensures { self.new ≡ record self.old {
+          queue = queue_for self.old.was_long (is_costly self.old.incoming.intake.bytes);
+        } }
+    {
+        self.queue = Queue::for_next(self.was_long, self.incoming.is_costly());
+    }
+
+    /// What becomes of it after a stretch that ended so.
     pub fn finish(&mut self, end: End, now: Now) -> Fate
         ensures fate { result ≡ fate_of end self.old.stretch_ended self.old.incoming.ended }
         ensures incoming { self.new.incoming.intake.bytes ≡ self.old.incoming.intake.bytes }
@@ -169,7 +178,7 @@ impl<S> Wire<S> {
         fate
     }
 
-    /// It is not served any more, and is closed once what was written has gone out.
+    /// It is not served any more, and is closed once what was written has been sent.
     pub fn leave(&mut self)
         ensures incoming { self.new.incoming.intake.bytes ≡ self.old.incoming.intake.bytes }
         ensures outgoing { self.new.outgoing.unsent.rest ≡ self.old.outgoing.unsent.rest }
@@ -187,12 +196,12 @@ impl<S> Wire<S> {
         self.outgoing.len()
     }
 
-    /// How many bytes of memory it takes for what came and for what was written.
+    /// How many bytes of memory it takes for received and for written bytes.
     pub fn room(&self) -> usize {
         self.incoming.room().saturating_add(self.outgoing.room())
     }
 
-    /// Its peer may have sent more; `ending` tells that it has ended its side.
+    /// Its peer may have sent more; with `ending` it has ended its side.
     pub fn wake(&mut self, ending: bool)
         ensures incoming { self.new.incoming.intake.bytes ≡ self.old.incoming.intake.bytes }
         ensures outgoing { self.new.outgoing.unsent.rest ≡ self.old.outgoing.unsent.rest }
@@ -242,8 +251,7 @@ impl<S> Wire<S> {
         }
     }
 
-    /// It waits for the next head, or for the rest of one. Memory that it does not need meanwhile
-    /// is given back.
+    /// It waits for the next head, or for the rest of one. Memory that it does not need is freed.
     fn settle(&mut self, now: Now)
         ensures incoming { self.new.incoming.intake.bytes ≡ self.old.incoming.intake.bytes }
         ensures outgoing { self.new.outgoing.unsent.rest ≡ self.old.outgoing.unsent.rest }
@@ -263,9 +271,21 @@ impl<S> Wire<S> {
 }
 
 impl<S: Read + Write> Wire<S> {
-    /// Gives bytes of heads that have come whole. The stretch ends where no further head has come,
-    /// where the peer has not taken the reply before, where much was written, and between two heads
-    /// where its turn is spent.
+    /// Whether this is a quick turn, and no whole head is left of those that it began with.
+    fn is_used_up(&mut self) -> bool
+        ensures waits { result ≡ true → front_length self.new.incoming.intake.bytes ≡ 0 }
+        ensures incoming { self.new.incoming.intake.bytes ≡ self.old.incoming.intake.bytes }
+        ensures broken { self.new.incoming.broken ≡ self.old.incoming.broken }
+        ensures outgoing { self.new.outgoing ≡ self.old.outgoing }
+        ensures stream { self.new.stream ≡ self.old.stream }
+        ensures turn { self.new.turn ≡ self.old.turn }
+    {
+        self.queue != Queue::Heavy && !self.incoming.is_ready()
+    }
+
+    /// Gives bytes of whole heads. The stretch ends if no further head is whole, if the last reply
+    /// is not sent yet, if much was written, or between two heads once its turn is spent. A quick
+    /// turn receives nothing: a costly request that came since waits in its own queue.
     pub fn read(&mut self, room: &mut [u8]) -> Given
         requires { 0 < length room.old }
         ensures gives { Gives (to_give self.old.incoming (S.remaining self.old.stream))
@@ -275,6 +295,10 @@ impl<S: Read + Write> Wire<S> {
         ensures turn { self.new.turn ≡ self.old.turn }
     {
         if !self.outgoing.is_open() || (self.turn.is_spent() && self.incoming.is_between()) {
+            self.stretch_ended = true;
+            return Given::End;
+        }
+        if self.is_used_up() {
             self.stretch_ended = true;
             return Given::End;
         }
@@ -294,7 +318,7 @@ impl<S: Read + Write> Wire<S> {
         self.outgoing.write(&mut self.stream, piece)
     }
 
-    /// Sends what is held, as much as there is room for, and tells whether the stream is sound.
+    /// Sends what is held, as much as the stream takes, and returns whether the stream is sound.
     fn flush(&mut self, now: Now) -> bool
         ensures { Keeps (written self.old.outgoing (S.contents self.old.stream))
             (written self.new.outgoing (S.contents self.new.stream)) }
@@ -313,7 +337,7 @@ impl<S: Read + Write> Wire<S> {
         true
     }
 
-    /// Receives until a head is there, or nothing more.
+    /// Receives until a head is whole, or nothing more has come.
     fn hear(&mut self, millis: u64)
         ensures { self.new.incoming.broken ≡ false
             → Keeps (to_give self.old.incoming (S.remaining self.old.stream))
@@ -322,73 +346,5 @@ impl<S: Read + Write> Wire<S> {
         if self.incoming.hear(&mut self.stream) {
             self.moved = millis;
         }
-    }
-}
-
-impl Wire<TcpStream> {
-    /// The descriptor of its stream.
-    pub fn descriptor(&self) -> RawFd {
-        self.stream.as_raw_fd()
-    }
-
-    /// Does all that can be done for it at this moment without waiting: what was written goes out
-    /// first, and then bytes are received until it can be served.
-    pub fn advance(&mut self, now: Now) -> Rest {
-        if self.unsent() > 0 {
-            if !self.flush(now) {
-                return Rest::Gone;
-            }
-            if self.unsent() > 0 {
-                return Rest::Waits;
-            }
-        }
-        match self.stage {
-            Stage::Open => self.listen(now),
-            Stage::Leaving => self.shut(now.millis),
-            Stage::Shut(thrown) => self.linger(thrown),
-        }
-    }
-
-    /// Receives until it can be served.
-    fn listen(&mut self, now: Now) -> Rest {
-        self.hear(now.millis);
-        if self.incoming.is_ready() {
-            Rest::Ready
-        } else if self.incoming.is_over() {
-            Rest::Gone
-        } else {
-            self.settle(now);
-            Rest::Waits
-        }
-    }
-
-    /// Ends the sending side, and waits for the peer to end its own. A socket that is closed with
-    /// unread bytes resets its connection, and the peer may lose what it was sent last.
-    fn shut(&mut self, millis: u64) -> Rest {
-        if self.stream.shutdown(Shutdown::Write).is_err() || self.incoming.is_over() {
-            return Rest::Gone;
-        }
-        self.moved = millis;
-        self.stage = Stage::Shut(0);
-        self.incoming = Incoming::new(self.alloc);
-        self.linger(0)
-    }
-
-    /// Throws away what still comes.
-    fn linger(&mut self, thrown: usize) -> Rest {
-        let mut room = [0; PIECE];
-        let mut thrown = thrown;
-        for _ in 0..MOST_PIECES {
-            match receive(&mut self.stream, &mut room) {
-                Received::Bytes(count) => thrown = thrown.saturating_add(count),
-                Received::Nothing => break,
-                Received::End | Received::Broken => return Rest::Gone,
-            }
-            if thrown > LINGER_BYTES {
-                return Rest::Gone;
-            }
-        }
-        self.stage = Stage::Shut(thrown);
-        Rest::Waits
     }
 }

@@ -4,26 +4,26 @@ use std::io::{Eprint, ErrorKind};
 use std::{fmt, str};
 use td_base::Bytes;
 
-/// The status where memory ran out.
+/// The exit status when memory ran out.
 pub const OUT_OF_MEMORY: u8 = 70;
 
-/// The status where a file or the input was not read.
+/// The exit status when a file or the input could not be read.
 const READ_FAULT: u8 = 3;
 
-/// The status where the output was not written.
+/// The exit status when the output could not be written.
 const WRITE_FAULT: u8 = 4;
 
-/// The status where a worker was not started.
+/// The exit status when a worker could not be started.
 const NOT_STARTED: u8 = 5;
 
-/// The status where the network failed.
+/// The exit status when the network failed.
 const NO_NETWORK: u8 = 6;
 
-/// The status where the first sync of a mirror ended by a fault.
+/// The exit status when the first sync of a mirror ended by a fault.
 const NOT_SYNCED: u8 = 7;
 
-/// What an operator reads where a run ended by a failure of the outside: which file, stream or
-/// address, and the system's word for why.
+/// What an operator reads when a run ended by an external failure: which file, stream or
+/// address, and the system's message for the cause.
 #[derive(Clone, Copy)]
 pub enum Complaint<'a> {
     OutOfMemory,
@@ -37,9 +37,11 @@ pub enum Complaint<'a> {
 }
 
 impl<'a> Complaint<'a> {
-    /// The complaint for a status, from what failed. Where the input failed it is named rather than
-    /// a file: what ends by a file has not begun with the input, and a console goes on after a file
-    /// that was not read. A status that tells of no failure has none.
+    /// The complaint for an exit status, from what failed. A status that reports no failure has
+    /// none.
+    ///
+    /// If the input failed, it is named rather than a file. A run that ends by a file has not begun
+    /// to read input, and a console continues after a file that could not be read.
     pub fn of(status: u8, failures: Failures<'a>) -> Option<Complaint<'a>> {
         match status {
             OUT_OF_MEMORY => Some(Complaint::OutOfMemory),
@@ -53,7 +55,7 @@ impl<'a> Complaint<'a> {
     }
 }
 
-/// What was not read.
+/// What could not be read.
 fn of_reading(failures: Failures<'_>) -> Option<Complaint<'_>> {
     if let Some(kind) = failures.input {
         return Some(Complaint::Input(kind));
@@ -62,7 +64,7 @@ fn of_reading(failures: Failures<'_>) -> Option<Complaint<'_>> {
     Some(Complaint::File(text_of(&failure.path, "a file"), failure.kind))
 }
 
-/// Where no connection comes from.
+/// Why no connections are accepted.
 fn of_network(failures: Failures<'_>) -> Option<Complaint<'_>> {
     if let Some(kind) = failures.door {
         return Some(Complaint::Door(kind));
@@ -71,7 +73,7 @@ fn of_network(failures: Failures<'_>) -> Option<Complaint<'_>> {
     Some(Complaint::Address(text_of(&failure.address, "an address"), failure.kind))
 }
 
-/// The name of what failed, where it can be printed.
+/// The name of what failed, if it can be printed.
 fn text_of<'a>(name: &'a Option<Bytes>, otherwise: &'static str) -> &'a str {
     match name {
         Some(name) => str::from_utf8(name.as_slice()).unwrap_or("a name that is not UTF-8"),
@@ -79,7 +81,7 @@ fn text_of<'a>(name: &'a Option<Bytes>, otherwise: &'static str) -> &'a str {
     }
 }
 
-/// Says on standard error what failed, where the status tells of a failure.
+/// Reports on standard error what failed, if the exit status reports a failure.
 pub fn complain<R: Eprint>(rt: &R, status: u8, failures: Failures<'_>) {
     if let Some(complaint) = Complaint::of(status, failures) {
         let _ = eprintln!(rt; "tzdistd: {complaint}");
@@ -104,7 +106,7 @@ impl Display for Complaint<'_> {
     }
 }
 
-/// The system's word for why a file or a stream failed, where it has one.
+/// The system's message for why a file or a stream failed, if it has one.
 #[derive(Clone, Copy)]
 struct Reason(ErrorKind);
 

@@ -1,17 +1,17 @@
 use devices::{ListenFailure, LookFailure};
 use std::io::ErrorKind;
 
-/// The last failure of each object, if it failed.
+/// The last failure of each I/O object, if it failed.
 #[derive(Clone, Copy)]
 pub struct Failures<'a> {
     pub store: Option<&'a LookFailure>,
     pub input: Option<ErrorKind>,
     pub output: Option<ErrorKind>,
-    /// Of making the doors of an address.
+    /// The last failure to listen at an address.
     pub network: Option<&'a ListenFailure>,
-    /// Of accepting at one of the doors.
+    /// The last failure to accept a connection.
     pub door: Option<ErrorKind>,
-    /// Of an exchange with the server that is followed.
+    /// The last failure of an exchange with the server that is followed.
     pub upstream: Option<ErrorKind>,
 }
 

@@ -1,5 +1,5 @@
-//! The edge of a process: the words of its command line, and what it says on standard error of a
-//! run that failed.
+//! The edge of a process: it collects the command-line arguments, and reports on standard error why
+//! a run failed. The failures are those of `devices`, and the program `tzdistd` calls this crate.
 #![tactic(auto)]
 
 mod complaint;

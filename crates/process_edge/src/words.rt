@@ -3,10 +3,10 @@ use std::env::FillError;
 use std::rt::Env;
 use td_base::{Bytes, NoMemory};
 
-/// How many bytes are tried first for a word.
+/// The size of the first buffer for an argument, in bytes.
 const ROOM: usize = 1024;
 
-/// The words of the command line after the program's name, byte for byte.
+/// The command-line arguments after the program's name, byte for byte.
 pub fn collect<E: Env>(alloc: Global, env: &E) -> Result<Vec<Bytes>, NoMemory> {
     let mut words = Vec::new(alloc);
     for at in 1..usize::MAX {
@@ -18,8 +18,8 @@ pub fn collect<E: Env>(alloc: Global, env: &E) -> Result<Vec<Bytes>, NoMemory> {
     Ok(words)
 }
 
-/// The word at a place, or `None` where the words end before it. A longer word is tried in twice
-/// the room.
+/// The argument at an index, or `None` after the last one. If the argument is longer than the
+/// buffer, a buffer of twice the size is tried.
 fn read_word<E: Env>(alloc: Global, env: &E, at: usize) -> Result<Option<Bytes>, NoMemory> {
     let mut size = ROOM;
     for _ in 0..usize::BITS {

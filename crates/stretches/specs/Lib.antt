@@ -1,4 +1,5 @@
 pub mod Calls
+pub mod Costs
 pub mod Failures
 pub mod Fates
 pub mod Fronts

@@ -47,7 +47,7 @@ yields_by (phase.Hearing since) stalled = true
 yields_by phase.Sending stalled = stalled
 yields_by phase.Ready stalled = false
 
--- it may be closed for a new connection: one that takes a reply only where that has stood still, and
+-- it may be closed for a new connection: one that takes a reply only if that has stood still, and
 -- none that is to be served
 abbrev pub yields : Life → (now : ℕ) → Bool
 yields life now = yields_by life.phase (nat_le STALLED_MILLIS (now - life.moved))

@@ -1,10 +1,15 @@
 -- Which of the queues of a door is served next.
-use Rattle.std.specs.Prelude.{◌≡◌, ℕ, ◌≤◌, ◌+◌, ◌-◌, ◌^◌, min, max, Bool, true, false, ◌&&◌, not}
+use Rattle.std.specs.Prelude.{◌≡◌, ℕ, ◌≤◌, ◌+◌, ◌-◌, ◌^◌, min, max, Bool, true, false, ◌&&◌, ◌||◌}
+use Rattle.std.specs.Prelude.{not, ◌≢◌, ◌<◌, ⊤, List, [], ◌∷◌}
 use Rattle.std.specs.Prelude.{if◌then◌else◌}
 use Rattle.stretches.specs.declared.queues.Queue.{Queue}
 use Rattle.stretches.specs.declared.queues.Queue.TheVariants as queue
 use Rattle.stretches.specs.declared.queues.Shared.{Shared}
 use Rattle.stretches.specs.declared.queues.Waiting.{Waiting}
+
+-- where an accepted connection waits for its next turn
+abbrev pub queue_for : (was_long costly : Bool) → Queue
+queue_for was_long costly = if was_long || costly then queue.Heavy else queue.Light
 
 -- whether one waits in a queue
 abbrev pub waits_in : Waiting → Queue → Bool
@@ -47,3 +52,30 @@ abbrev pub charged : Shared → Queue → (micros : ℕ) → Shared
 charged shared queue.Fresh micros = record shared { fresh = more shared.fresh micros }
 charged shared queue.Light micros = record shared { light = more shared.light micros }
 charged shared queue.Heavy micros = record shared { heavy = more shared.heavy micros }
+
+-- one turn of a worker: in which queues one waited, which was served, and for how long
+pub record Served : Type 0 where
+  pub waiting : Waiting
+  pub queue : Queue
+  pub micros : ℕ
+
+-- it was the queue that is served next
+abbrev pub IsNext : Shared → Served → Type 0
+IsNext shared turn =
+    (waits_in turn.waiting turn.queue ≡ true) × AllAtLeast shared turn.waiting turn.queue
+
+-- what was spent after the turn
+abbrev pub after_turn : Shared → Served → Shared
+after_turn shared turn = charged (raised shared turn.queue turn.waiting) turn.queue turn.micros
+
+-- turns one after another, each of a microsecond at least: in a queue one waits all the time, and
+-- others are served
+abbrev pub PassOver : Queue → Shared → List Served → Type 0
+PassOver queue shared [] = ⊤
+PassOver queue shared (turn ∷ turns) = IsNext shared turn × (waits_in turn.waiting queue ≡ true)
+    × (turn.queue ≢ queue) × (0 < turn.micros) × PassOver queue (after_turn shared turn) turns
+
+-- how many turns others may have before a queue: as many as it has more microseconds than they
+abbrev pub most_before : Shared → Queue → ℕ
+most_before shared queue = (spent_on shared queue + 1 - shared.fresh)
+    + (spent_on shared queue + 1 - shared.light) + (spent_on shared queue + 1 - shared.heavy)

@@ -1,33 +1,33 @@
 ghost use Rattle.std.specs.Prelude.{◌≡◌};
 ghost use Rattle.stretches.specs.Failures.{after_failure, is_broken};
 
-/// Within how many milliseconds failures of a door are counted together.
+/// Within how many milliseconds failures of a listener are counted together.
 pub const FAILURE_WINDOW_MILLIS: u64 = 10_000;
 
-/// How many failures within that time break a door.
+/// How many failures within that time break a listener.
 pub const MOST_WINDOW_FAILURES: u32 = 16;
 
-/// The failures of a door, of which only those count that came within a short time: many that pass
-/// do it no harm, however long it serves.
+/// The failures of a listener. Only those within a short time count, so that passing ones do no
+/// harm, however long it serves.
 #[derive(Clone, Copy, PartialEq, Eq)]
 pub struct FailureWindow {
-    /// When the first of those came that are counted, in milliseconds, and how many they are.
+    /// The time of the first failure that is counted, in milliseconds, and how many are counted.
     pub since: u64,
     pub count: u32,
 }
 
 impl FailureWindow {
-    /// Nothing failed yet.
+    /// Nothing has failed yet.
     pub const NONE: FailureWindow = FailureWindow { since: 0, count: 0 };
 
-    /// Whether too many came within the time. It then stays broken.
+    /// Whether too many came within the time. The listener then stays broken.
     pub fn is_broken(self) -> bool
         ensures { result ≡ is_broken self }
     {
         self.count >= MOST_WINDOW_FAILURES
     }
 
-    /// A failure came at this time.
+    /// Counts a failure at this time, in milliseconds.
     pub fn fail(&mut self, now: u64)
         ensures { self.new ≡ after_failure self.old now }
     {

@@ -1,18 +1,20 @@
 ghost use Rattle.std.specs.Prelude.{◌≡◌, ◌<◌, ◌++◌, ◌↔◌, [], length, OnOk, OnErr, IsTrue, false};
+ghost use Rattle.stretches.specs.Costs as costs;
 ghost use Rattle.stretches.specs.Fronts.{front_length};
 ghost use Rattle.stretches.specs.Intakes.{Gives, ready_after};
 
+use crate::costs::is_costly;
 use crate::looking::{Look, look_at};
-use http_request::{Held, Scan, searches};
+use http_request::{HeldBytes, Scan, searches};
 use std::alloc::Global;
 use std::marker::Model;
 use td_base::NoMemory;
 
-/// The bytes of a connection that came and were not given yet. Whole heads alone are given, one
-/// after the other, and so who takes them never waits for the rest of one.
+/// The bytes of a connection that were received and not yet given to a worker. Only whole heads are
+/// given, one after the other, so that a worker never waits for the rest of one.
 #[derive(Drop)]
 pub struct Intake {
-    held: Held,
+    held: HeldBytes,
     ready: usize,
     scan: Scan,
 }
@@ -31,12 +33,12 @@ impl Model for Intake {
 }
 
 impl Intake {
-    /// Nothing came yet. It takes no memory, and grows by the allocator.
+    /// Nothing was received yet. It takes no memory, and grows by the allocator.
     pub fn new(alloc: Global) -> Intake
         ensures { result ≡ record { bytes = []; ready = 0 } }
     {
         Intake {
-            held: Held::new(alloc),
+            held: HeldBytes::new(alloc),
             ready: 0,
             scan: Scan::start(),
         }
@@ -49,7 +51,7 @@ impl Intake {
         self.held.as_slice().is_empty()
     }
 
-    /// Whether it stands between two heads: no part of one was given that is not given whole.
+    /// Whether it stands between two heads: no head was given in part.
     pub fn is_between(&self) -> bool
         ensures { IsTrue result ↔ (self.now.ready ≡ 0) }
     {
@@ -63,18 +65,25 @@ impl Intake {
         self.held.as_slice().len()
     }
 
-    /// Moves what is held into memory of its size, where there is some.
+    /// Whether the bytes held have a line that requests something costly.
+    pub fn is_costly(&self) -> bool
+        ensures { result ≡ costs.is_costly self.now.bytes }
+    {
+        is_costly(self.held.as_slice())
+    }
+
+    /// Moves what is held into memory of its size. Out of memory, nothing changes.
     pub fn fit(&mut self, alloc: Global)
         ensures { self.new ≡ self.old }
     {
         searches();
-        let mut held = Held::new(alloc);
+        let mut held = HeldBytes::new(alloc);
         if held.append(self.held.as_slice()).is_ok() {
             self.held = held;
         }
     }
 
-    /// Appends what came.
+    /// Appends a received piece.
     pub fn append(&mut self, piece: &[u8]) -> Result<(), NoMemory>
         ensures ok { OnOk result
             (self.new ≡ record self.old { bytes = self.old.bytes ++ piece.now }) }
@@ -85,8 +94,8 @@ impl Intake {
         Ok(())
     }
 
-    /// Whether something may be given. Where nothing could be given so far it looks once more, at
-    /// what was not searched yet.
+    /// Whether something may be given. If nothing could be given so far, it searches the bytes that
+    /// were not searched yet.
     pub fn look(&mut self) -> bool
         ensures after { self.new ≡ record self.old { ready = ready_after self.old } }
         ensures ready { IsTrue result ↔ (0 < self.new.ready) }
@@ -108,7 +117,7 @@ impl Intake {
         }
     }
 
-    /// Gives bytes that are ready, as many as there is room for.
+    /// Gives bytes that are ready, as many as fit into the room, and returns how many.
     pub fn give(&mut self, room: &mut [u8]) -> usize
         ensures { Gives self.old self.new room.new result }
     {

@@ -1,39 +1,44 @@
-//! What a door decides of connections that no worker serves. A worker is handed one for a
-//! *stretch* of whole heads, and so waits for nobody: [`Intake`] says how much of what came may be
-//! given in it, [`WorkerTurn`] when it ends by the clock, and [`fate_after`] what becomes of the
-//! connection then. [`Shared`] says which queue is served next, [`Life`] for how long a connection
-//! may rest, [`Roll`] who is given up and who gives way where descriptors or memory run short,
-//! [`FailureWindow`] when a door is broken, and [`accepts`] which of several doors takes a new
-//! connection. Nothing here waits, and nothing asks the system.
+//! What a listener decides about connections that no worker serves. A worker gets a connection for
+//! a *stretch* of whole heads, and so waits for no peer. [`Intake`] says which received bytes may
+//! be given in it, [`WorkerTurn`] when it ends by the clock, [`fate_after`] what becomes of the
+//! connection then. [`Shared`] says which queue is served next, and [`is_costly`] which requests
+//! wait in the queue of costly ones. [`Life`] says how long a connection may rest, [`Roll`] which
+//! one is closed when descriptors or memory run short. [`FailureWindow`] says when a listener is
+//! broken, [`accepts`] which of several takes a new connection.
+//!
+//! It stands on `http_request`, which finds the end of a head; `devices` calls it. Nothing here
+//! waits or calls the system.
 #![tactic(auto)]
 
-// What came, and what may be given of it.
+// What was received, and what may be given of it.
 mod intake;
 mod looking;
 
-// What becomes of a connection, for how long it rests, and who gives way.
+// What becomes of a connection, how long it rests, and which one is closed for another.
 mod fate;
 mod life;
 mod roll;
 
-// When a turn ends, and who has the next.
+// When a turn ends, and which connection has the next.
+mod costs;
 mod queues;
 mod turn;
 
-// When failures break a door.
+// When failures break a listener.
 mod failing;
 
-// Which door takes a new one.
+// Which listener takes a new connection.
 mod share;
 
 // Laws, and what may cross threads.
 mod laws;
 mod send_sync;
 
+pub use costs::{MOST_QUICK_SLASHES, is_costly};
 pub use failing::{FAILURE_WINDOW_MILLIS, FailureWindow, MOST_WINDOW_FAILURES};
 pub use fate::{Fate, fate_after};
 pub use intake::Intake;
-pub use laws::{fronts_stay, loses_nothing, ready_is_answered};
+pub use laws::{fronts_stay, loses_nothing, none_starves, ready_is_answered};
 pub use life::{
     HEAD_MILLIS, IDLE_MILLIS, LINGER_MILLIS, Life, PROGRESS_MILLIS, Phase, STALLED_MILLIS,
 };

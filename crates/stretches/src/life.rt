@@ -5,16 +5,16 @@ ghost use Rattle.stretches.specs.Lives.{yields};
 /// For how many milliseconds a connection may rest between two heads.
 pub const IDLE_MILLIS: u64 = 60_000;
 
-/// For how many milliseconds no byte of a head need come, and none of a reply be taken.
+/// For how many milliseconds a head may get no byte, and a reply send none.
 pub const PROGRESS_MILLIS: u64 = 10_000;
 
-/// How many milliseconds after its first byte a head must have come whole.
+/// How many milliseconds after its first byte a head must be whole.
 pub const HEAD_MILLIS: u64 = 30_000;
 
-/// For how many milliseconds a connection that was closed waits for its peer to end.
+/// For how many milliseconds a closed connection waits for its peer to end.
 pub const LINGER_MILLIS: u64 = 2_000;
 
-/// For how many milliseconds a reply may stand still before its connection gives way to a new one.
+/// After how many milliseconds without progress of its reply a connection yields to a new one.
 pub const STALLED_MILLIS: u64 = 2_000;
 
 /// What a connection waits for.
@@ -24,24 +24,24 @@ pub enum Phase {
     Silent,
     /// The first byte of a head, after a reply.
     Idle,
-    /// The rest of a head, of which the first byte came then.
+    /// The rest of a head, whose first byte came at this time in milliseconds.
     Hearing(u64),
-    /// Room for a reply that was written.
+    /// Its peer, which takes a reply that was written.
     Sending,
     /// The end of its peer, after its last reply.
     Leaving,
-    /// A worker. Its head has come whole.
+    /// A worker. Its head is whole.
     Ready,
 }
 
-/// A connection that rests. Times are in milliseconds, by one clock that never goes back.
+/// A connection that no worker serves. Times are in milliseconds, by one monotonic clock.
 #[derive(Clone, Copy, PartialEq, Eq)]
 pub struct Life {
     pub phase: Phase,
-    /// When it made progress last: a byte came, or went.
+    /// When it last made progress: a byte was received or sent.
     pub moved: u64,
-    /// The number of its last turn: it was accepted or handed back, began a head, or sent a good part
-    /// or the last of a reply. Turns are counted as they come.
+    /// The number of its last turn: it was accepted or handed back, began a head, or sent a good
+    /// part or the end of a reply. Turns are numbered in order.
     pub turned: u64,
     /// How many bytes of memory it holds, and since when it holds any.
     pub held: u64,
@@ -61,7 +61,7 @@ impl Phase {
         }
     }
 
-    /// In which order phases give way: the lowest first.
+    /// The order in which connections are closed for others: the lowest first.
     pub fn rank(self) -> u8
         ensures { result ≡ rank self }
     {
@@ -75,7 +75,7 @@ impl Phase {
         }
     }
 
-    /// Whether it is the rest of a head that should have come whole by now.
+    /// Whether it waits for the rest of a head that should be whole by now.
     fn is_late(self, now: u64) -> bool
         ensures { result ≡ is_late self now }
     {
@@ -87,15 +87,15 @@ impl Phase {
 }
 
 impl Life {
-    /// Whether it is to be given up.
+    /// Whether it is to be closed, since it rested for too long.
     pub fn is_over(self, now: u64) -> bool
         ensures { result ≡ is_over self now }
     {
         now.saturating_sub(self.moved) >= self.phase.patience() || self.phase.is_late(now)
     }
 
-    /// Whether it may be closed for the sake of a new connection: not one that a worker is to serve,
-    /// nor one that takes its reply.
+    /// Whether it may be closed for a new connection. One that waits for a worker may not, nor one
+    /// whose peer takes its reply.
     pub fn yields(self, now: u64) -> bool
         ensures { result ≡ yields self now }
     {
@@ -106,8 +106,8 @@ impl Life {
         }
     }
 
-    /// Whether it gives way before another: by what they wait for, and then as the one that turned
-    /// longer ago.
+    /// Whether it is closed before another: by what they wait for, and then by the older last
+    /// turn.
     pub fn comes_before(self, other: Life) -> bool
         ensures { result ≡ comes_before self other }
     {
@@ -115,8 +115,8 @@ impl Life {
         rank < others || (rank == others && self.turned < other.turned)
     }
 
-    /// How much memory it has held for how long: bytes times milliseconds, of which the first is
-    /// counted as begun.
+    /// How much memory it has held, and for how long: bytes times milliseconds. A millisecond that
+    /// has begun counts.
     pub fn weight(self, now: u64) -> u64
         ensures { result ≡ weight self now }
     {

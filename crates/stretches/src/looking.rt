@@ -3,16 +3,16 @@ ghost use Rattle.stretches.specs.Fronts.{LooksAt};
 
 use http_request::{Scan, Search, find_end, is_full, is_within, searches};
 
-/// What stands at the beginning of bytes.
+/// What received bytes begin with.
 #[derive(Clone, Copy)]
 pub enum Look {
-    /// So many bytes can be answered: a head, or bytes of which no head can come.
+    /// So many bytes can be answered: a head, or bytes that can begin no head.
     Ready(usize),
-    /// A part of a head, which was searched that far.
+    /// A part of a head, which was searched up to there.
     Waiting(Scan),
 }
 
-/// Looks at the beginning of the bytes, which were searched that far.
+/// Looks at the beginning of the bytes, which were searched up to there.
 pub fn look_at(bytes: &[u8], scan: Scan) -> Look
     requires { IsScanned bytes.now scan }
     ensures { LooksAt bytes.now result }

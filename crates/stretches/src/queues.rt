@@ -1,5 +1,5 @@
 ghost use Rattle.std.specs.Prelude.{◌≡◌, IfSome, None, true};
-ghost use Rattle.stretches.specs.Queues.{AllAtLeast, charged, none_waits, raised};
+ghost use Rattle.stretches.specs.Queues.{AllAtLeast, charged, none_waits, queue_for, raised};
 ghost use Rattle.stretches.specs.Queues.{spent_on, waits_in};
 
 /// Where a connection waits for a worker.
@@ -7,13 +7,27 @@ ghost use Rattle.stretches.specs.Queues.{spent_on, waits_in};
 pub enum Queue {
     /// At the listening socket.
     Fresh,
-    /// Among those whose last turn was short, in the order in which their heads came.
+    /// Its last turn was short, and nothing that it holds requests something costly.
     Light,
-    /// Among those whose last turn was long, in the order in which these ended.
+    /// Its last turn was long, or it requests something costly.
     Heavy,
 }
 
-/// In which queues one waits.
+impl Queue {
+    /// The queue for an accepted connection whose next request has come: by whether its last turn
+    /// was long, and by whether it requests something costly.
+    pub fn for_next(was_long: bool, costly: bool) -> Queue
+        ensures { result ≡ queue_for was_long costly }
+    {
+        if was_long || costly {
+            Queue::Heavy
+        } else {
+            Queue::Light
+        }
+    }
+}
+
+/// In which queues a connection waits.
 #[derive(Clone, Copy, PartialEq, Eq)]
 pub struct Waiting {
     pub fresh: bool,
@@ -21,8 +35,8 @@ pub struct Waiting {
     pub heavy: bool,
 }
 
-/// How many microseconds a door has spent on each queue. Where all wait they have equal shares of
-/// its time, so that none of them starves, whatever comes into the others.
+/// How many microseconds a worker has spent on each queue. While connections wait in all of them,
+/// the queues get equal shares of its time, so that none starves.
 #[derive(Clone, Copy, PartialEq, Eq)]
 pub struct Shared {
     pub fresh: u64,
@@ -31,15 +45,15 @@ pub struct Shared {
 }
 
 impl Shared {
-    /// Nothing was spent yet.
+    /// Nothing has been spent yet.
     pub const NONE: Shared = Shared {
         fresh: 0,
         light: 0,
         heavy: 0,
     };
 
-    /// The queue that is served next: of those in which one waits, the one on which least was
-    /// spent.
+    /// The queue that is served next: of those in which a connection waits, the one on which least
+    /// was spent.
     pub fn next(self, waiting: Waiting) -> Option<Queue>
         ensures waits { IfSome result (λ queue. waits_in waiting queue ≡ true) }
         ensures least { IfSome result (λ queue. AllAtLeast self waiting queue) }
@@ -59,8 +73,8 @@ impl Shared {
         }
     }
 
-    /// A queue is served next. A queue in which none waits saves nothing up for
-    /// later: when one comes it has as much as the queue that is served now.
+    /// A queue is served next. An empty queue saves no time for later: its count rises to that of
+    /// the queue that is served.
     pub fn serve(&mut self, queue: Queue, waiting: Waiting)
         ensures { self.new ≡ raised self.old queue waiting }
     {

@@ -1,4 +1,5 @@
-ghost use Rattle.std.specs.Prelude.{◌≡◌, ◌<◌, ◌+◌, ◌↔◌, ℕ, [], length, Some, None, OnOk, OnErr, IsTrue};
+ghost use Rattle.std.specs.Prelude.{◌≡◌, ◌<◌, ◌+◌, ◌↔◌, ℕ, [], length, Some, None, OnOk, OnErr};
+ghost use Rattle.std.specs.Prelude.{IsTrue};
 ghost use Rattle.stretches.specs.Rolls.{FirstAmong, IsFirstToYield, IsHeaviest, IsNextOver, Puts};
 ghost use Rattle.stretches.specs.Rolls.{is_heavier, is_sooner, life_at};
 
@@ -7,7 +8,7 @@ use std::alloc::Global;
 use std::marker::Model;
 use td_base::NoMemory;
 
-/// The lives of the connections that rest, by their keys.
+/// The states of the connections that no worker serves, by their keys.
 #[derive(Drop)]
 pub struct Roll {
     lives: Vec<Option<Life>>,
@@ -46,7 +47,7 @@ impl Roll {
         self.lives.is_empty()
     }
 
-    /// A connection rests at this key. Keys are small: there is a place for each below the largest.
+    /// A connection rests at this key. Keys are small, since each below the largest takes memory.
     pub fn set(&mut self, key: usize, life: Life) -> Result<(), NoMemory>
         ensures ok { OnOk result (Puts self.old self.new key (Some life)) }
         ensures err { OnErr result ((k : ℕ) → life_at self.new k ≡ life_at self.old k) }
@@ -67,7 +68,7 @@ impl Roll {
         }
     }
 
-    /// The first connection to give way to a new one, if one may.
+    /// The connection to close first for a new one, if one may be closed.
     pub fn first_to_yield(&self, now: u64) -> Option<usize>
         ensures { IsFirstToYield self.now (length self.now) now result }
     {
@@ -81,7 +82,7 @@ impl Roll {
         }
     }
 
-    /// The one that was found, or the next, where that gives way before it.
+    /// The connection that was found, or the one at this key, if that is closed before it.
     #[tactic(auto, using(crate::proofs::RollLemmas::step_found, crate::proofs::RollLemmas::step_kept, crate::proofs::RollLemmas::step_none))]
     fn sooner_of(&self, found: Option<(usize, Life)>, key: usize, now: u64) -> Option<(usize, Life)>
         requires key { key < length self.now }
@@ -118,7 +119,7 @@ impl Roll {
         }
     }
 
-    /// The first connection from a place on that is to be given up.
+    /// The first connection from a key on that rested for too long.
     pub fn next_over(&self, from: usize, now: u64) -> Option<usize>
         ensures { IsNextOver self.now from now result }
     {
@@ -133,7 +134,7 @@ impl Roll {
     }
 }
 
-/// Whether the life may give way, and before the one that was found, if one was.
+/// Whether a connection may be closed, and before the one that was found, if any.
 fn is_sooner(life: Life, found: Option<(usize, Life)>, now: u64) -> bool
     ensures { result ≡ is_sooner life found now }
 {
@@ -144,7 +145,7 @@ fn is_sooner(life: Life, found: Option<(usize, Life)>, now: u64) -> bool
         }
 }
 
-/// Whether the life weighs more than the one that was found, if one was.
+/// Whether a connection weighs more than the one that was found, if any.
 fn is_heavier(life: Life, found: Option<(usize, Life)>, now: u64) -> bool
     ensures { result ≡ is_heavier life found now }
 {

@@ -1,7 +1,7 @@
-//! What a door keeps of its connections may go to other threads, as the door does.
+//! What a listener keeps of its connections may move to other threads, as the listener does.
 use crate::{Intake, Roll};
 
-/// Only a value that may go to another thread is lent to it.
+/// Accepts only a value that may move to another thread.
 fn sends<T: Send>(_value: &T) {}
 
 fn sends_all(intake: &Intake, roll: &Roll) {

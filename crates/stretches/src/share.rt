@@ -1,12 +1,12 @@
 ghost use Rattle.std.specs.Prelude.{◌≡◌};
 ghost use Rattle.stretches.specs.Shares.{accepts};
 
-/// For how many milliseconds a door with more than its share leaves a new connection to the others.
+/// For how many milliseconds a listener with more than its share leaves new connections to others.
 pub const GRACE_MILLIS: u64 = 2;
 
-/// Whether a door accepts a connection that has waited for so long at the socket of so many doors:
-/// at once, where it has no more than its share of all connections, and else where no other took
-/// it.
+/// Whether a listener accepts a connection that has waited for so many milliseconds at the socket
+/// of so many listeners. With no more than its share of all connections it accepts at once, else
+/// only what no other took.
 pub fn accepts(own: u32, all: u64, doors: u32, waited: u64) -> bool
     ensures { result ≡ accepts own all doors waited }
 {

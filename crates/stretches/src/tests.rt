@@ -3,7 +3,7 @@ use std::alloc::Global;
 use std::process::Abort;
 use td_base::{Bytes, End, NoMemory};
 
-/// What is given of a stream that comes in pieces of this size, of a byte at least.
+/// What is given of a stream that comes in pieces of this size.
 fn given(rt: &impl Abort, alloc: Global, stream: &[u8], size: usize) -> Result<Bytes, NoMemory> {
     let mut intake = Intake::new(alloc);
     let mut out = Bytes::new(alloc);

@@ -1,21 +1,20 @@
 ghost use Rattle.std.specs.Prelude.{◌≡◌, max};
 ghost use Rattle.stretches.specs.Turns.{is_spent, turn_cost};
 
-/// For how many microseconds a worker serves a connection that others come after, before it may
-/// turn to these: one request, or a few.
+/// For how many microseconds a worker serves a connection before it turns to others: a request or a
+/// few.
 pub const SHORT_TURN_MICROS: u64 = 2_000;
 
-/// For how many microseconds a worker serves a connection of which a turn before took long.
+/// The same for a connection that requests something costly or whose last turn was long.
 pub const LONG_TURN_MICROS: u64 = 10_000;
 
-/// A turn of a connection at a worker. Times are in microseconds, by one clock that never goes
-/// back.
+/// A turn of a connection at a worker. Times are in microseconds, by one monotonic clock.
 #[derive(Clone, Copy, PartialEq, Eq)]
 pub struct WorkerTurn {
     pub began: u64,
     /// After how long it is spent.
     pub limit: u64,
-    /// The time when the clock was read last.
+    /// The last reading of the clock.
     pub seen: u64,
 }
 
@@ -31,22 +30,22 @@ impl WorkerTurn {
         }
     }
 
-    /// The clock shows this time.
+    /// Notes a reading of the clock.
     pub fn see(&mut self, now: u64)
         ensures { self.new ≡ record self.old { seen = max self.old.seen now } }
     {
         self.seen = self.seen.max(now);
     }
 
-    /// Whether its time is over. It then ends at the next request, however little was written.
+    /// Whether its time is over. It then ends before the next request.
     pub fn is_spent(self) -> bool
         ensures { result ≡ is_spent self }
     {
         self.seen.saturating_sub(self.began) >= self.limit
     }
 
-    /// What it cost until now, of the time that its thread ran since it began: a thread that was
-    /// stopped meanwhile did nothing for the connection.
+    /// What it cost until now, at most the processor time of its thread since it began. A thread
+    /// that was not running did nothing for the connection.
     pub fn cost(self, now: u64, ran: u64) -> u64
         ensures { result ≡ turn_cost self now ran }
     {

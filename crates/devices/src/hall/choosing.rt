@@ -1,0 +1,109 @@
+//! Which connection a worker serves next, and the events for which a listener waits.
+use crate::hall::Hall;
+use crate::hall::admitting::Admitted;
+use crate::now::thread_micros;
+use crate::wire::Wire;
+use std::io;
+use std::io::{Eprint, ErrorKind};
+use std::net::TcpStream;
+use std::time::{Clock, Duration};
+use stretches::{GRACE_MILLIS, Queue, Waiting};
+
+/// How often expired connections are closed, in milliseconds.
+const SWEEP_MILLIS: u64 = 250;
+
+/// The most passes of the loop before a listener returns that no connection waits.
+const MOST_LOOKS: u32 = 65_536;
+
+impl<R: Clock + Eprint + Copy> Hall<R> {
+    /// The next connection that can be served, if one comes before this time in milliseconds. The
+    /// loop polls at least once a millisecond, even while others can be served.
+    pub(super) fn coming(&mut self, end: u64) -> io::Result<Option<Wire<TcpStream>>> {
+        for _ in 0..MOST_LOOKS {
+            if self.time >= end {
+                break;
+            }
+            if self.time != self.polled {
+                self.wait(0)?;
+            }
+            match self.choose()? {
+                Admitted::Ready(wire) => return Ok(Some(wire)),
+                Admitted::None => self.look(end, false)?,
+                Admitted::InVain => self.look(end, true)?,
+            }
+        }
+        Ok(None)
+    }
+
+    /// A connection of the queue that is served next.
+    fn choose(&mut self) -> io::Result<Admitted> {
+        let waiting = self.waiting();
+        let Some(queue) = self.shared.next(waiting) else {
+            return Ok(Admitted::None);
+        };
+        self.shared.serve(queue, waiting);
+        self.queue = queue;
+        if queue == Queue::Fresh {
+            return self.admit_new();
+        }
+        match self.resting.take_ready(queue) {
+            Some(wire) => Ok(Admitted::Ready(wire)),
+            None => Ok(Admitted::None),
+        }
+    }
+
+    /// In which queues a connection may wait.
+    fn waiting(&mut self) -> Waiting {
+        let own = self.resting.count();
+        self.shares.report(own);
+        let fresh = self.takes();
+        self.resting.waiting(fresh)
+    }
+
+    /// Polls, and waits for events if nothing else can be done. After a failed accept it does not
+    /// retry before an event.
+    fn look(&mut self, end: u64, in_vain: bool) -> io::Result<()> {
+        let left = end.saturating_sub(self.time);
+        let waiting = self.resting.waiting(false);
+        let patience = if waiting.light || waiting.heavy {
+            0
+        } else if !self.comes || in_vain {
+            left
+        } else if self.takes() {
+            0
+        } else {
+            left.min(GRACE_MILLIS)
+        };
+        self.wait(patience)
+    }
+
+    /// Waits for events for so many milliseconds at most, or until a signal, and handles them.
+    pub(super) fn wait(&mut self, millis: u64) -> io::Result<()> {
+        let wait = Duration::from_millis(millis);
+        match self.poll.poll(&mut self.events, Some(wait)) {
+            Err(error) if error.kind() != ErrorKind::Interrupted => return Err(error),
+            _ => {}
+        }
+        self.tick();
+        self.polled = self.time;
+        self.read_ran();
+        let now = self.now();
+        if self.resting.stir_all(&self.events, now) && !self.comes {
+            self.comes = true;
+            self.came = self.time;
+        }
+        if self.time.saturating_sub(self.swept) >= SWEEP_MILLIS {
+            self.swept = self.time;
+            self.resting.sweep(now);
+        }
+        Ok(())
+    }
+
+    /// Reads the processor time of the thread, once a millisecond at most.
+    fn read_ran(&mut self) {
+        if self.time != self.ran_read {
+            self.ran_read = self.time;
+            self.ran = thread_micros().unwrap_or(self.ran);
+        }
+    }
+}

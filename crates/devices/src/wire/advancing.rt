@@ -1,0 +1,79 @@
+//! What a TCP connection does between its turns: it sends, receives, and closes.
+use crate::incoming::Incoming;
+use crate::now::Now;
+use crate::socket::{Received, receive};
+use crate::wire::{LINGER_BYTES, MOST_PIECES, Rest, Stage, Wire};
+use std::net::{Shutdown, TcpStream};
+use std::os::fd::{AsRawFd, RawFd};
+
+/// How many bytes are thrown away at a time.
+const PIECE: usize = 4_096;
+
+impl Wire<TcpStream> {
+    /// The descriptor of its stream.
+    pub fn descriptor(&self) -> RawFd {
+        self.stream.as_raw_fd()
+    }
+
+    /// Does all that can be done for it without waiting. What was written is sent first, and then
+    /// bytes are received until it can be served.
+    pub fn advance(&mut self, now: Now) -> Rest {
+        if self.unsent() > 0 {
+            if !self.flush(now) {
+                return Rest::Gone;
+            }
+            if self.unsent() > 0 {
+                return Rest::Waits;
+            }
+        }
+        match self.stage {
+            Stage::Open => self.listen(now),
+            Stage::Leaving => self.shut(now.millis),
+            Stage::Shut(thrown) => self.linger(thrown),
+        }
+    }
+
+    /// Receives until it can be served.
+    fn listen(&mut self, now: Now) -> Rest {
+        self.hear(now.millis);
+        if self.incoming.is_ready() {
+            self.classify();
+            Rest::Ready
+        } else if self.incoming.is_over() {
+            Rest::Gone
+        } else {
+            self.settle(now);
+            Rest::Waits
+        }
+    }
+
+    /// Ends the sending side, and waits for the peer to end its own. Closing a socket with unread
+    /// bytes resets its connection, and the peer may lose the end of its last reply.
+    fn shut(&mut self, millis: u64) -> Rest {
+        if self.stream.shutdown(Shutdown::Write).is_err() || self.incoming.is_over() {
+            return Rest::Gone;
+        }
+        self.moved = millis;
+        self.stage = Stage::Shut(0);
+        self.incoming = Incoming::new(self.alloc);
+        self.linger(0)
+    }
+
+    /// Throws away what still comes.
+    fn linger(&mut self, thrown: usize) -> Rest {
+        let mut room = [0; PIECE];
+        let mut thrown = thrown;
+        for _ in 0..MOST_PIECES {
+            match receive(&mut self.stream, &mut room) {
+                Received::Bytes(count) => thrown = thrown.saturating_add(count),
+                Received::Nothing => break,
+                Received::End | Received::Broken => return Rest::Gone,
+            }
+            if thrown > LINGER_BYTES {
+                return Rest::Gone;
+            }
+        }
+        self.stage = Stage::Shut(thrown);
+        Rest::Waits
+    }
+}
