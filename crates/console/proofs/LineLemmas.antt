@@ -13,18 +13,18 @@ use Rattle.console.specs.declared.line.Line.TheVariants as line
 use Rattle.console.specs.declared.line.TheConstants.{MOST_BYTES}
 use Rattle.console.specs.Steps.{most_held}
 use Rattle.td_base.specs.Names.{is_path_word}
-use Rattle.console.specs.Lines.{without_return, install_of, words_of, asked_in, is_feed, has_feed}
+use Rattle.console.specs.Lines.{without_return, install_of, words_of, asked_in, is_feed_byte, has_feed}
 use Rattle.console.specs.Lines.{is_whole_text, ended_lines, line_of, lines_from, lines_of}
 
 pub lines_none : (begun : List ℕ) → lines_from begun [] ≡ []
 unfolding lines_from
 lines_none begun = refl
 
-lines_feed : (begun : List ℕ) (b : ℕ) (bs : List ℕ) → is_feed b ≡ true → lines_from begun (b ∷ bs) ≡ line_of begun ∷ lines_from [] bs
+lines_feed : (begun : List ℕ) (b : ℕ) (bs : List ℕ) → is_feed_byte b ≡ true → lines_from begun (b ∷ bs) ≡ line_of begun ∷ lines_from [] bs
 unfolding lines_from
 lines_feed begun b bs e = rw e
 
-lines_within : (begun : List ℕ) (b : ℕ) (bs : List ℕ) → is_feed b ≡ false → lines_from begun (b ∷ bs) ≡ lines_from (begun ++ b ∷ []) bs
+lines_within : (begun : List ℕ) (b : ℕ) (bs : List ℕ) → is_feed_byte b ≡ false → lines_from begun (b ∷ bs) ≡ lines_from (begun ++ b ∷ []) bs
 unfolding lines_from
 lines_within begun b bs e = rw e
 
@@ -36,28 +36,28 @@ neither true b e = (e, absurd (cc e))
 pub all_begun : (begun bytes more : List ℕ) → has_feed bytes ≡ false → lines_from begun (bytes ++ more) ≡ lines_from (begun ++ bytes) more
 all_begun begun [] more e = ap (λ t. lines_from t more) (sym (append-nil begun))
 all_begun begun (b ∷ bs) more e =
-    let parts : (is_feed b ≡ false) × (has_feed bs ≡ false) = neither (is_feed b) (has_feed bs) e in
+    let parts : (is_feed_byte b ≡ false) × (has_feed bs ≡ false) = neither (is_feed_byte b) (has_feed bs) e in
     lines_within begun b (bs ++ more) parts.0
     ∙ (all_begun (begun ++ b ∷ []) bs more parts.1 ∙ ap (λ t. lines_from t more) (append_assoc begun (b ∷ []) bs))
 
 -- the first line
 abbrev FirstLine : List ℕ → List ℕ → List ℕ → Type 0
 FirstLine begun bytes more =
-    has_feed bytes ≡ true → lines_from begun (bytes ++ more) ≡ line_of (begun ++ before_first is_feed bytes) ∷ lines_from [] (after_first is_feed bytes ++ more)
+    has_feed bytes ≡ true → lines_from begun (bytes ++ more) ≡ line_of (begun ++ before_first is_feed_byte bytes) ∷ lines_from [] (after_first is_feed_byte bytes ++ more)
 
 pub first_line : (begun bytes more : List ℕ) → FirstLine begun bytes more
 first_line begun [] more = λ e. absurd (cc e)
-first_line begun (b ∷ bs) more = by_test (first_line (begun ++ b ∷ []) bs more) (cases_Bool (is_feed b))
+first_line begun (b ∷ bs) more = by_test (first_line (begun ++ b ∷ []) bs more) (cases_Bool (is_feed_byte b))
   where
-    by_test : FirstLine (begun ++ b ∷ []) bs more → (is_feed b ≡ true) ⊎ (is_feed b ≡ false) → FirstLine begun (b ∷ bs) more
+    by_test : FirstLine (begun ++ b ∷ []) bs more → (is_feed_byte b ≡ true) ⊎ (is_feed_byte b ≡ false) → FirstLine begun (b ∷ bs) more
     by_test later (inl f) = λ e.
-        rw (before_here is_feed b bs f, after_here is_feed b bs f)
+        rw (before_here is_feed_byte b bs f, after_here is_feed_byte b bs f)
         (lines_feed begun b (bs ++ more) f ∙ ap (λ t. line_of t ∷ lines_from [] (bs ++ more)) (sym (append-nil begun)))
     by_test later (inr f) = λ e.
         let rest : has_feed bs ≡ true = rw f at e in
-        rw (before_later is_feed b bs f, after_later is_feed b bs f)
+        rw (before_later is_feed_byte b bs f, after_later is_feed_byte b bs f)
         (lines_within begun b (bs ++ more) f
-        ∙ (later rest ∙ ap (λ t. line_of t ∷ lines_from [] (after_first is_feed bs ++ more)) (append_assoc begun (b ∷ []) (before_first is_feed bs))))
+        ∙ (later rest ∙ ap (λ t. line_of t ∷ lines_from [] (after_first is_feed_byte bs ++ more)) (append_assoc begun (b ∷ []) (before_first is_feed_byte bs))))
 
 -- a text and its end
 whole_line : (text more : List ℕ) → has_feed text ≡ false → lines_of (ended_lines text ++ more) ≡ line_of text ∷ lines_of more
@@ -78,17 +78,17 @@ longer text b h = omega (arith, h, length-append text (b ∷ []))
 -- and it does not matter which bytes it has
 pub too_long : (text other more : List ℕ) → MOST_BYTES < length text → MOST_BYTES < length other → lines_from text more ≡ lines_from other more
 too_long text other [] h k = lines_none text ∙ sym (lines_none other)
-too_long text other (b ∷ bs) h k = by_test (too_long (text ++ b ∷ []) (other ++ b ∷ []) bs (longer text b h) (longer other b k)) (cases_Bool (is_feed b))
+too_long text other (b ∷ bs) h k = by_test (too_long (text ++ b ∷ []) (other ++ b ∷ []) bs (longer text b h) (longer other b k)) (cases_Bool (is_feed_byte b))
   where
     by_test : lines_from (text ++ b ∷ []) bs ≡ lines_from (other ++ b ∷ []) bs
-        → (is_feed b ≡ true) ⊎ (is_feed b ≡ false) → lines_from text (b ∷ bs) ≡ lines_from other (b ∷ bs)
+        → (is_feed_byte b ≡ true) ⊎ (is_feed_byte b ≡ false) → lines_from text (b ∷ bs) ≡ lines_from other (b ∷ bs)
     by_test later (inl f) = lines_feed text b bs f ∙ (both_strange text other (lines_from [] bs) h k ∙ sym (lines_feed other b bs f))
     by_test later (inr f) = lines_within text b bs f ∙ (later ∙ sym (lines_within other b bs f))
 
 none_in_first : (n : ℕ) (bytes : List ℕ) → has_feed bytes ≡ false → has_feed (take n bytes) ≡ false
 none_in_first n bytes e =
     (neither (has_feed (take n bytes)) (has_feed (drop n bytes))
-    (sym (list_any-append is_feed (take n bytes) (drop n bytes)) ∙ (ap has_feed (take-append-drop n bytes) ∙ e))).0
+    (sym (list_any-append is_feed_byte (take n bytes) (drop n bytes)) ∙ (ap has_feed (take-append-drop n bytes) ∙ e))).0
 
 -- the first 1,101 bytes stand for all of a line that has not ended
 pub first_stand : (bytes more : List ℕ) → has_feed bytes ≡ false → lines_of (bytes ++ more) ≡ lines_of (take most_held bytes ++ more)
@@ -110,9 +110,9 @@ GoesOn begun bytes more = (later : List Line) × (lines_from begun (bytes ++ mor
 
 prefix_from : (begun bytes more : List ℕ) → GoesOn begun bytes more
 prefix_from begun [] more = (lines_from begun more, ap (λ l. l ++ lines_from begun more) (sym (lines_none begun)))
-prefix_from begun (b ∷ bs) more = by_test (prefix_from [] bs more) (prefix_from (begun ++ b ∷ []) bs more) (cases_Bool (is_feed b))
+prefix_from begun (b ∷ bs) more = by_test (prefix_from [] bs more) (prefix_from (begun ++ b ∷ []) bs more) (cases_Bool (is_feed_byte b))
   where
-    by_test : GoesOn [] bs more → GoesOn (begun ++ b ∷ []) bs more → (is_feed b ≡ true) ⊎ (is_feed b ≡ false) → GoesOn begun (b ∷ bs) more
+    by_test : GoesOn [] bs more → GoesOn (begun ++ b ∷ []) bs more → (is_feed_byte b ≡ true) ⊎ (is_feed_byte b ≡ false) → GoesOn begun (b ∷ bs) more
     by_test after within (inl f) =
         (after.0, lines_feed begun b (bs ++ more) f ∙ (ap (λ l. line_of begun ∷ l) after.1 ∙ ap (λ l. l ++ after.0) (sym (lines_feed begun b bs f))))
     by_test after within (inr f) =

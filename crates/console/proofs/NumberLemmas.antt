@@ -6,7 +6,7 @@ use Rattle.std.specs.Str.{bytes_eq}
 use Rattle.std.proofs.lemmas.Bool.{true≢false}
 use Rattle.std.proofs.lemmas.Fmt.{decimal_injective}
 use Rattle.std.proofs.lemmas.Slice.Eq.{bytes_eq-Decides}
-use Rattle.console.specs.Words.{number_in}
+use Rattle.console.specs.Words.{number_in_word}
 
 abbrev writes : List ℕ → ℕ → Bool
 writes word n = bytes_eq (decimal n) word
@@ -36,20 +36,20 @@ missed word a (suc n) not =
 
 -- a number from the least to the most
 pub some_number : (least most : ℕ) (word : List ℕ) (k : ℕ) → most < 2 ^ 32 → word ≡ decimal k → least ≤ k → k ≤ most
-    → number_in least most word ≡ Some k
-unfolding number_in
+    → number_in_word least most word ≡ Some k
+unfolding number_in_word
 some_number least most word k small is low within = found word k least (most + 1 - least) is low (omega (arith, within, low)) (omega (arith, small, low, within))
 
 -- another number
 pub other_number : (least most : ℕ) (word : List ℕ) (k : ℕ) → most < 2 ^ 32 → k < 2 ^ 64 → word ≡ decimal k → (least ≤ k → k ≤ most → ⊥)
-    → number_in least most word ≡ None
-unfolding number_in
+    → number_in_word least most word ≡ None
+unfolding number_in_word
 other_number least most word k small fits is not =
     missed word least (most + 1 - least) (λ m low less same.
     let one : k ≡ m = decimal_injective k m fits (omega (arith, small, low, less)) (sym is ∙ same) in
     not (omega (arith, low, one)) (omega (arith, low, less, one)))
 
 -- no number
-pub no_number : (least most : ℕ) (word : List ℕ) → most < 2 ^ 32 → ((n : ℕ) → n < 2 ^ 64 → word ≢ decimal n) → number_in least most word ≡ None
-unfolding number_in
+pub no_number : (least most : ℕ) (word : List ℕ) → most < 2 ^ 32 → ((n : ℕ) → n < 2 ^ 64 → word ≢ decimal n) → number_in_word least most word ≡ None
+unfolding number_in_word
 no_number least most word small not = missed word least (most + 1 - least) (λ m low less. not m (omega (arith, small, low, less)))

@@ -6,7 +6,7 @@ use Rattle.std.specs.Option.{IsSome}
 use Rattle.std.proofs.lemmas.Bool.{cases_Bool, lt-ltb, true≢false}
 use Rattle.std.proofs.lemmas.Bool.Decides.{nat_tests}
 use Rattle.std.proofs.lemmas.Option.{none-some, same_Some}
-use Rattle.console.specs.Lines.{is_feed, has_feed}
+use Rattle.console.specs.Lines.{is_feed_byte, has_feed}
 
 shift : (k n : ℕ) → ltb k n ≡ ltb (1 + k) (suc n)
 shift k n = grind (arith, nat_tests)
@@ -48,18 +48,18 @@ none_by true place e = absurd (none-some place (sym e))
 none_by false place e = refl
 
 -- a line ends there
-pub at_feed : (bytes : List ℕ) (at : ℕ) → position is_feed bytes ≡ Some at
-    → (has_feed bytes ≡ true) × (take at bytes ≡ before_first is_feed bytes) × (drop (at + 1) bytes ≡ after_first is_feed bytes)
+pub at_feed : (bytes : List ℕ) (at : ℕ) → position is_feed_byte bytes ≡ Some at
+    → (has_feed bytes ≡ true) × (take at bytes ≡ before_first is_feed_byte bytes) × (drop (at + 1) bytes ≡ after_first is_feed_byte bytes)
 at_feed bytes at e =
-    let parts : (ltb (position_or_len is_feed bytes) (length bytes) ≡ true) × (position_or_len is_feed bytes ≡ at) =
-    place_by (ltb (position_or_len is_feed bytes) (length bytes)) at (position_or_len is_feed bytes) e in
-    (any_place is_feed bytes ∙ parts.0, ap (λ n. take n bytes) (sym parts.1), ap (λ n. drop (n + 1) bytes) (sym parts.1))
+    let parts : (ltb (position_or_len is_feed_byte bytes) (length bytes) ≡ true) × (position_or_len is_feed_byte bytes ≡ at) =
+    place_by (ltb (position_or_len is_feed_byte bytes) (length bytes)) at (position_or_len is_feed_byte bytes) e in
+    (any_place is_feed_byte bytes ∙ parts.0, ap (λ n. take n bytes) (sym parts.1), ap (λ n. drop (n + 1) bytes) (sym parts.1))
 
 -- no line ends
-pub no_feed : (bytes : List ℕ) → position is_feed bytes ≡ None → has_feed bytes ≡ false
-no_feed bytes e = any_place is_feed bytes ∙ none_by (ltb (position_or_len is_feed bytes) (length bytes)) (position_or_len is_feed bytes) e
+pub no_feed : (bytes : List ℕ) → position is_feed_byte bytes ≡ None → has_feed bytes ≡ false
+no_feed bytes e = any_place is_feed_byte bytes ∙ none_by (ltb (position_or_len is_feed_byte bytes) (length bytes)) (position_or_len is_feed_byte bytes) e
 
 -- where a line ends, there is a place at which the first does
-pub some_place : (bytes : List ℕ) (place : Option ℕ) → place ≡ position is_feed bytes → has_feed bytes ≡ true → IsSome place
+pub some_place : (bytes : List ℕ) (place : Option ℕ) → place ≡ position is_feed_byte bytes → has_feed bytes ≡ true → IsSome place
 some_place bytes (Some at) e feed = refl
 some_place bytes None e feed = absurd (true≢false (sym feed ∙ no_feed bytes (sym e)))

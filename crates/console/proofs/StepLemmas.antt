@@ -5,7 +5,7 @@ use Rattle.std.specs.List.{before_first, after_first, position_or_len}
 use Rattle.std.proofs.lemmas.List.{append-nil, length-take}
 use Rattle.td_base.specs.declared.no_memory.NoMemory.{NoMemory}
 use Rattle.console.specs.declared.line.Line.{Line}
-use Rattle.console.specs.Lines.{is_feed, has_feed, line_of, lines_of}
+use Rattle.console.specs.Lines.{is_feed_byte, has_feed, line_of, lines_of}
 use Rattle.console.specs.Steps.{StepsLine, GivesLines, ContinuesLines, FirstHasText, LineTakesBytes, LeavesFew, most_held}
 use Rattle.console.proofs.LineLemmas.{lines_none, first_line, all_begun, first_stand}
 
@@ -22,7 +22,7 @@ pub continues : (old : List ℕ) (o : Option Line) (new : List ℕ) → StepsLin
 continues old (Some line) new s all given g = λ more.
     rw (s.1, s.2)
     (g more ∙ (ap (λ l. given ++ l) (first_line [] old more s.0)
-    ∙ sym (append_assoc given (line_of (before_first is_feed old) ∷ []) (lines_of (after_first is_feed old ++ more)))))
+    ∙ sym (append_assoc given (line_of (before_first is_feed_byte old) ∷ []) (lines_of (after_first is_feed_byte old ++ more)))))
 continues old None new s all given g = (
   λ more. g more ∙ (ap (λ l. given ++ l) (first_stand old more s.0) ∙ ap (λ l. given ++ lines_of (l ++ more)) (sym s.1)),
   given_all all given old g ∙ (ap (λ l. given ++ l) (no_lines old s.0) ∙ append-nil given),
@@ -33,9 +33,9 @@ pub continues_ok : (old new : List ℕ) (r : Result (Option Line) NoMemory) → 
 continues_ok old new (Ok o) s = continues old o new s
 continues_ok old new (Err e) s = tt
 
-fewer_after : (bytes : List ℕ) → has_feed bytes ≡ true → length (after_first is_feed bytes) < length bytes
+fewer_after : (bytes : List ℕ) → has_feed bytes ≡ true → length (after_first is_feed_byte bytes) < length bytes
 fewer_after [] e = absurd (cc e)
-fewer_after (b ∷ bs) e = omega (arith, length-drop (position_or_len is_feed (b ∷ bs) + 1) (b ∷ bs))
+fewer_after (b ∷ bs) e = omega (arith, length-drop (position_or_len is_feed_byte (b ∷ bs) + 1) (b ∷ bs))
 
 pub fewer : (old new : List ℕ) (r : Result (Option Line) NoMemory) → IfOk r (λ o. StepsLine old o new) → IfOk r (LineTakesBytes old new)
 fewer old new (Ok (Some line)) s = rw s.2 (fewer_after old s.0)

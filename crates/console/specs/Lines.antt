@@ -9,7 +9,7 @@ use Rattle.td_base.specs.Names.{is_path_word}
 use Rattle.td_civil.specs.declared.moment_type.TheConstants.{LO}
 use Rattle.subscribers.specs.declared.wish.Wish.{Wish}
 use Rattle.subscribers.specs.declared.wish.WishKind.TheVariants as kind
-use Rattle.console.specs.Words.{is_beginning, meant_moment, number_in}
+use Rattle.console.specs.Words.{is_beginning, meant_moment, number_in_word}
 use Rattle.console.specs.declared.line.Line.{Line}
 use Rattle.console.specs.declared.line.Line.TheVariants as line
 use Rattle.console.specs.declared.line.TheConstants.{MOST_BYTES}
@@ -55,7 +55,7 @@ watch_of text = option_map_or line.Watch (wish_in text) line.Strange
 
 -- `news` and a space, and then a number
 abbrev pub news_of : List ℕ → Line
-news_of text = option_map_or line.News (number_in 0 most_number text) line.Strange
+news_of text = option_map_or line.News (number_in_word 0 most_number text) line.Strange
 
 -- what a text asks for with more than one word
 unfoldable pub words_of : List ℕ → Line
@@ -78,15 +78,15 @@ unfoldable pub line_of : List ℕ → Line
 line_of bytes =
     if nat_le (length bytes) MOST_BYTES then asked_in (without_return bytes) else line.Strange
 
-abbrev pub is_feed : ℕ → Bool
-is_feed b = b == 10
+abbrev pub is_feed_byte : ℕ → Bool
+is_feed_byte b = b == 10
 
 -- The lines that are whole; `begun` is what has come of the first. Bytes after the last line feed
 -- are no line.
 unfoldable pub lines_from : List ℕ → List ℕ → List Line
 lines_from begun [] = []
 lines_from begun (b ∷ bs) =
-    if is_feed b then line_of begun ∷ lines_from [] bs else lines_from (begun ++ b ∷ []) bs
+    if is_feed_byte b then line_of begun ∷ lines_from [] bs else lines_from (begun ++ b ∷ []) bs
 
 -- the lines of a list of bytes
 abbrev pub lines_of : List ℕ → List Line
@@ -94,7 +94,7 @@ lines_of bytes = lines_from [] bytes
 
 -- a line feed is among the bytes
 abbrev pub has_feed : List ℕ → Bool
-has_feed bytes = list_any is_feed bytes
+has_feed bytes = list_any is_feed_byte bytes
 
 abbrev pub is_whole_text : List ℕ → Bool
 is_whole_text text = not (has_feed text)
@@ -105,7 +105,7 @@ ended_lines text = text ++ 10 ∷ []
 
 -- the line has a text of its own, which takes memory: the path of a folder, or the beginning of
 -- identifiers
-abbrev pub HasText : Line → Type 0
-HasText (line.Install folder) = ⊤
-HasText (line.Watch wish) = wish.kind ≡ kind.Under
-HasText asked = ⊥
+abbrev pub HasWishText : Line → Type 0
+HasWishText (line.Install folder) = ⊤
+HasWishText (line.Watch wish) = wish.kind ≡ kind.Under
+HasWishText asked = ⊥

@@ -2,7 +2,7 @@
 use Rattle.std.specs.Prelude.{◌≡◌, ℕ, ◌+◌, ◌<◌, ◌≤◌, List, [], ◌∷◌, ◌++◌, length, take, false}
 use Rattle.std.specs.Prelude.{IsTrue, Option, Some, None, ⊤}
 use Rattle.std.specs.List.{before_first, after_first}
-use Rattle.console.specs.Lines.{is_feed, has_feed, line_of, lines_of, HasText}
+use Rattle.console.specs.Lines.{is_feed_byte, has_feed, line_of, lines_of, HasWishText}
 use Rattle.console.specs.declared.line.Line.{Line}
 use Rattle.console.specs.declared.line.TheConstants.{MOST_BYTES}
 
@@ -12,18 +12,18 @@ most_held = MOST_BYTES + 1
 
 -- what the first line of the bytes asks for
 abbrev pub first_line : List ℕ → Line
-first_line held = line_of (before_first is_feed held)
+first_line held = line_of (before_first is_feed_byte held)
 
 -- what a call answers of the bytes held, and which it leaves
 abbrev pub StepsLine : List ℕ → Option Line → List ℕ → Type 0
 StepsLine old (Some line) new =
-    IsTrue (has_feed old) × (line ≡ line_of (before_first is_feed old))
-    × (new ≡ after_first is_feed old)
+    IsTrue (has_feed old) × (line ≡ line_of (before_first is_feed_byte old))
+    × (new ≡ after_first is_feed_byte old)
 StepsLine old None new = (has_feed old ≡ false) × (new ≡ take most_held old)
 
 -- the first line of the bytes held has a text of its own
 abbrev pub FirstHasText : List ℕ → Type 0
-FirstHasText held = IsTrue (has_feed held) × HasText (line_of (before_first is_feed held))
+FirstHasText held = IsTrue (has_feed held) × HasWishText (line_of (before_first is_feed_byte held))
 
 -- whatever more is fed, the lines of all bytes are those given, followed by those of what is held
 -- and of what is fed then

@@ -9,8 +9,8 @@ use Rattle.td_civil.specs.Bounds.{has_meaning}
 use Rattle.td_civil.specs.Reading.{moment_in}
 
 -- the number that a word writes in decimal, from the least to the most
-unfoldable pub number_in : ℕ → ℕ → List ℕ → Option ℕ
-number_in least most word =
+unfoldable pub number_in_word : ℕ → ℕ → List ℕ → Option ℕ
+number_in_word least most word =
     find (λ n. bytes_eq (decimal n) word) (range_with_len least (most + 1 - least))
 
 -- the moment, where it has a meaning

@@ -7,20 +7,22 @@ ghost use Rattle.console.specs.declared.line.Line.{Line};
 ghost use Rattle.console.specs.declared.line.Line.TheVariants as line;
 ghost use Rattle.td_base.specs.Names.{is_path_word};
 
-/// Texts without line feeds, each followed by one, are the lines of these texts.
+/// The lines of texts, each ended by a line feed and with no other one, are the lines of these
+/// texts.
 pub fn reads_written()
     ensures { (texts : List (List ℕ)) → IsTrue (list_all is_whole_text texts)
         → lines_of (flat_map ended_lines texts) ≡ map line_of texts }
 {}
 
-/// The folder that a line asks to install has a path as words may name one.
+/// The folder of an `install` line has a path that a command-line argument may name too.
 pub fn folders_are_named()
     ensures { (bytes folder : List ℕ) → line_of bytes ≡ line.Install folder
         → IsTrue (is_path_word folder) }
 {}
 
-/// The lines of a list are the first of those of each longer one. `GivesLines` holds at the start,
-/// and at each moment the lines given, followed by those of what is held, are those of all bytes.
+/// Feeding more bytes never changes the lines found so far: the lines of bytes are the first lines
+/// of any longer input. `GivesLines` holds at the start. At each moment the lines given, followed
+/// by those of the bytes held, are the lines of all bytes.
 pub fn goes_on()
     ensures prefix { (bytes more : List ℕ)
         → (later : List Line) × (lines_of (bytes ++ more) ≡ lines_of bytes ++ later) }

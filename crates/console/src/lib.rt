@@ -1,18 +1,20 @@
-//! The console of an operator: [`Lines`] gives the lines that stand in its bytes, however these
-//! are cut into pieces, as `specs/Lines.antt` says, and [`reply`] and [`short`] write what it is
-//! told, as `specs/Replies.antt` says. [`news_reply`] writes the notices of a subscriber.
+//! The console of an operator. [`Lines`] splits the operator's bytes into lines, however the bytes
+//! are cut into pieces, by `specs/Lines.antt`. [`reply`] and [`short`] write the replies, by
+//! `specs/Replies.antt`. [`news_reply`] writes the notices of a subscriber.
 //!
-//! Over all the bytes that were fed, the lines given so far, followed by those of what is still
-//! held, are those of `Gives`.
+//! At each moment, the lines given so far and those still held are together the lines of all bytes
+//! that were fed (`GivesLines` of specs/Steps.antt).
+//!
+//! The crate stands on `td_base`, `td_civil` and `subscribers`. `td_top` calls it.
 #![tactic(auto)]
 
-// Lines out of the operator's bytes, and what each asks for.
+// Lines out of the operator's bytes, and what each requests.
 mod line;
 mod lines;
 mod wishes;
 mod words;
 
-// What the operator is told.
+// The replies to the operator.
 mod news;
 mod replies;
 mod said;

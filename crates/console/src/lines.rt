@@ -1,7 +1,7 @@
 ghost use Rattle.std.specs.Prelude.{◌≡◌, ℕ, List, [], ◌∷◌, ◌+◌, ◌<◌, ◌≤◌, ◌++◌, drop, length, take};
 ghost use Rattle.std.specs.Prelude.{IfSome, IfOk, OnOk, OnErr, IsTrue, Some};
 ghost use Rattle.std.specs.List.{position};
-ghost use Rattle.console.specs.Lines.{has_feed, is_feed, line_of, HasText};
+ghost use Rattle.console.specs.Lines.{has_feed, is_feed_byte, line_of, HasWishText};
 ghost use Rattle.console.specs.Steps.{ContinuesLines, GivesLines, FirstHasText, LeavesFew};
 ghost use Rattle.console.specs.Steps.{LineTakesBytes, StepsLine, first_line};
 ghost use Rattle.console.specs.declared.line.Line.{Line};
@@ -12,8 +12,7 @@ use std::alloc::Global;
 use std::marker::Model;
 use td_base::NoMemory;
 
-/// The bytes that an operator has written and that no line was made of yet. Contracts see these
-/// bytes.
+/// The bytes from an operator that no line was made of yet. Contracts see these bytes.
 #[derive(Drop)]
 pub struct Lines {
     bytes: Vec<u8>,
@@ -31,7 +30,7 @@ impl Model for Lines {
 }
 
 impl Lines {
-    /// No bytes. It takes no memory, and grows by the allocator.
+    /// No bytes. It allocates no memory yet, and grows by the allocator.
     pub fn new(alloc: Global) -> Lines
         ensures { result ≡ [] }
     {
@@ -59,9 +58,9 @@ impl Lines {
         Ok(())
     }
 
-    /// The first line of what is held, which loses its bytes, or `None` exactly where no line feed
-    /// is held. Then at most 1,101 bytes stay. Only a line `install DIR` or
-    /// `watch under TEXT` takes memory.
+    /// Removes the first line from what is held and returns it, or `None` exactly when no line feed
+    /// is held. Then at most 1,101 bytes stay. Only a line `install DIR` or `watch under TEXT`
+    /// allocates memory.
     pub fn next(&mut self) -> Result<Option<Line>, NoMemory>
         ensures steps { IfOk result (λ line. StepsLine self.old line self.new) }
         ensures err { OnErr result (self.new ≡ self.old) }
@@ -78,7 +77,7 @@ impl Lines {
         self.step()
     }
 
-    /// Takes off the first line unread, for which no memory is needed.
+    /// Drops the first line without parsing it. It allocates no memory.
     pub fn pass_over(&mut self)
         requires { IsTrue (has_feed self.old) }
         ensures steps { StepsLine self.old (Some (first_line self.old)) self.new }
@@ -93,7 +92,7 @@ impl Lines {
         self.take_line(len);
     }
 
-    /// The same, by the place of the first line feed.
+    /// Like `next`, by the position of the first line feed.
     fn step(&mut self) -> Result<Option<Line>, NoMemory>
         ensures steps { IfOk result (λ line. StepsLine self.old line self.new) }
         ensures err { OnErr result (self.new ≡ self.old) }
@@ -108,19 +107,20 @@ impl Lines {
         Ok(Some(line))
     }
 
-    /// The place of the first line feed, if there is one.
+    /// The position of the first line feed, if one exists.
     fn first_feed(&self) -> Option<usize>
-        ensures place { result ≡ position is_feed self.now }
+        ensures place { result ≡ position is_feed_byte self.now }
         ensures inside { IfSome result (λ at. at < length self.now) }
     {
         self.as_slice().iter().position(|&byte| byte == b'\n')
     }
 
-    /// The line of the first `len` bytes, without memory unless it has a text of its own.
+    /// Parses the first `len` bytes as a line. It allocates memory only for a line that owns a
+    /// text.
     fn read_first(&self, len: usize) -> Result<Line, NoMemory>
         requires { len ≤ length self.now }
         ensures found { IfOk result (λ line. line ≡ line_of (take len self.now)) }
-        ensures memory { OnErr result (HasText (line_of (take len self.now))) }
+        ensures memory { OnErr result (HasWishText (line_of (take len self.now))) }
     {
         read_line(*self.bytes.allocator(), &self.as_slice()[..len])
     }
@@ -132,7 +132,7 @@ impl Lines {
         &self.bytes[self.taken..]
     }
 
-    /// Takes a line of `len` bytes and its line feed, and moves no byte.
+    /// Removes a line of `len` bytes and its line feed, and moves no byte.
     fn take_line(&mut self, len: usize)
         requires { len < length self.old }
         ensures { self.new ≡ drop (len + 1) self.old }
@@ -140,7 +140,7 @@ impl Lines {
         self.taken = self.taken + len + 1;
     }
 
-    /// Keeps the first `most` bytes of those held, and lets go of all others.
+    /// Keeps the first `most` bytes of those held, and drops all others.
     fn keep_first(&mut self, most: usize)
         ensures { self.new ≡ take most self.old }
     {

@@ -7,7 +7,7 @@ use itoa::Buffer;
 use subscribers::{Notice, Notices};
 use td_base::{Bytes, NoMemory};
 
-/// Appends a line for each notice, and the line `end`. Where memory runs out nothing is appended.
+/// Appends a line for each notice, and the line `end`. When memory runs out nothing is appended.
 pub fn news_reply(out: &mut Bytes, notices: Notices<'_>) -> Result<(), NoMemory>
     ensures ok { OnOk result (out.new ≡ out.old ++ news_text notices.now) }
     ensures err { OnErr result (out.new ≡ out.old) }
@@ -20,7 +20,7 @@ pub fn news_reply(out: &mut Bytes, notices: Notices<'_>) -> Result<(), NoMemory>
     Ok(())
 }
 
-/// Appends the reply. Where memory runs out the beginning of it stays.
+/// Appends the reply. When memory runs out, the part already appended stays.
 #[tactic(auto, unfolding(crate::specs::Replies::news_text))]
 fn put_news(out: &mut Bytes, notices: &[Notice]) -> Result<(), NoMemory>
     ensures ok { OnOk result (out.new ≡ out.old ++ news_text notices.now) }
@@ -31,7 +31,7 @@ fn put_news(out: &mut Bytes, notices: &[Notice]) -> Result<(), NoMemory>
     Ok(())
 }
 
-/// Appends a line for each notice. Where memory runs out the beginning of them stays.
+/// Appends a line for each notice. When memory runs out, the part already appended stays.
 fn put_notices(out: &mut Bytes, notices: &[Notice]) -> Result<(), NoMemory>
     ensures ok { OnOk result (out.new ≡ out.old ++ flat_map notice_text notices.now) }
     ensures kept { take (length out.old) out.new ≡ out.old }
@@ -42,7 +42,7 @@ fn put_notices(out: &mut Bytes, notices: &[Notice]) -> Result<(), NoMemory>
     Ok(())
 }
 
-/// Appends the line of a notice. Where memory runs out the beginning of it stays.
+/// Appends the line of a notice. When memory runs out, the part already appended stays.
 fn put_notice(out: &mut Bytes, notice: &Notice) -> Result<(), NoMemory>
     ensures ok { OnOk result (out.new ≡ out.old ++ notice_text notice.now) }
     ensures kept { take (length out.old) out.new ≡ out.old }
@@ -55,7 +55,7 @@ fn put_notice(out: &mut Bytes, notice: &Notice) -> Result<(), NoMemory>
     Ok(())
 }
 
-/// Appends names, each after a space. Where memory runs out the beginning of them stays.
+/// Appends names, each after a space. When memory runs out, the part already appended stays.
 fn put_names(out: &mut Bytes, names: &[Bytes]) -> Result<(), NoMemory>
     ensures ok { OnOk result (out.new ≡ out.old ++ flat_map spaced names.now) }
     ensures kept { take (length out.old) out.new ≡ out.old }

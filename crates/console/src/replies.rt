@@ -6,7 +6,7 @@ use crate::{Said, ShortLine};
 use itoa::Buffer;
 use td_base::{Bytes, NoMemory, Token};
 
-/// Appends the reply. Where memory runs out nothing is appended.
+/// Appends the reply. When memory runs out nothing is appended.
 pub fn reply(out: &mut Bytes, said: &Said) -> Result<(), NoMemory>
     ensures ok { OnOk result (out.new ≡ out.old ++ reply_text said.now) }
     ensures err { OnErr result (out.new ≡ out.old) }
@@ -17,7 +17,7 @@ pub fn reply(out: &mut Bytes, said: &Said) -> Result<(), NoMemory>
     }
 }
 
-/// Appends a refusal. Where memory runs out nothing is appended.
+/// Appends a refusal. When memory runs out nothing is appended.
 fn put_refusal(out: &mut Bytes, fault: &[u8]) -> Result<(), NoMemory>
     ensures ok { OnOk result
         (out.new ≡ out.old ++ (codes "refused " ++ (fault.now ++ codes "\n"))) }
@@ -31,7 +31,7 @@ fn put_refusal(out: &mut Bytes, fault: &[u8]) -> Result<(), NoMemory>
     Ok(())
 }
 
-/// Appends three texts. Where memory runs out the beginning of them stays.
+/// Appends three texts. When memory runs out, the part already appended stays.
 fn append_line(out: &mut Bytes, word: &[u8], text: &[u8], end: &[u8]) -> Result<(), NoMemory>
     ensures ok { OnOk result (out.new ≡ out.old ++ (word.now ++ (text.now ++ end.now))) }
     ensures kept { take (length out.old) out.new ≡ out.old }
@@ -42,7 +42,7 @@ fn append_line(out: &mut Bytes, word: &[u8], text: &[u8], end: &[u8]) -> Result<
     Ok(())
 }
 
-/// The reply, which takes no memory. A refusal may be too long for it.
+/// The reply to anything but a refusal, whose text may be too long. It allocates no memory.
 pub fn short(said: &Said) -> ShortLine
     requires { IsBoundedReply said.now }
     ensures { result ≡ reply_text said.now }
@@ -60,7 +60,7 @@ pub fn short(said: &Said) -> ShortLine
     }
 }
 
-/// A text as it stands.
+/// A text, unchanged.
 fn fixed_line(text: &[u8]) -> ShortLine
     requires { length text.now ≤ 64 }
     ensures { result ≡ text.now }

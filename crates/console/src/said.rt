@@ -1,27 +1,27 @@
 use td_base::{Bytes, ShortText, Token};
 
-/// What an operator is told.
+/// A reply to the operator.
 #[derive(Drop)]
 pub enum Said {
-    /// The workers were started, with this token of the release served.
+    /// The workers were started. The token is that of the release served.
     Ready(Token),
     /// A release was published, and has this token.
     Installed(Token),
-    /// The release of the upstream is the one served, which has this token.
+    /// The upstream's release is the one already served, which has this token.
     Unchanged(Token),
     /// A release was refused, with the text of the fault.
     Refused(Bytes),
-    /// There was no memory for what the line asked for, and nothing was done.
+    /// There was no memory for what the line requested, and nothing was done.
     NoMemory,
     /// The token of the release served, and how many zones it has.
     Serving(Token, u32),
-    /// There is a new subscriber, of this number.
+    /// A new subscriber was added, with this number.
     Watching(u32),
     /// The last reply, to `quit`.
     Bye,
-    /// The line is none that is known.
+    /// The line is not a known command.
     Unknown,
 }
 
-/// A reply other than a refusal, in fixed room.
+/// A reply other than a refusal, in a fixed buffer of 64 bytes.
 pub type ShortLine = ShortText<64>;

@@ -1,4 +1,4 @@
-//! What an operator wishes to hear of.
+//! Parsing the filter of an operator's subscription.
 ghost use Rattle.std.specs.Prelude.{◌≡◌, true, Some, None, if◌then◌else◌, IfOk, OnErr};
 ghost use Rattle.std.specs.Option.{option_map};
 ghost use Rattle.console.specs.Lines as spec;
@@ -10,11 +10,11 @@ use subscribers::{Wish, WishKind};
 use td_base::{Bytes, NoMemory};
 use td_civil::{LO, Moment};
 
-/// The wish of a text: `any`, `under TEXT` or `past MOMENT`. Only the second takes memory.
+/// Parses a wish: `any`, `under TEXT` or `past MOMENT`. Only the second allocates memory.
 #[tactic(auto, unfolding(crate::specs::Lines::wish_in))]
 pub fn read_wish(alloc: Global, text: &[u8]) -> Result<Option<Wish>, NoMemory>
     ensures found { IfOk result (λ wish. wish ≡ spec.wish_in text.now) }
-    ensures memory { OnErr result (spec.HasText (spec.watch_of text.now)) }
+    ensures memory { OnErr result (spec.HasWishText (spec.watch_of text.now)) }
 {
     if text == b"any".as_slice() {
         return Ok(Some(every_change(alloc)));
@@ -39,7 +39,7 @@ fn every_change(alloc: Global) -> Wish
     }
 }
 
-/// The wish for zones whose identifier begins with a text, if any may.
+/// The wish for zones whose identifier begins with a text, if any identifier may begin so.
 fn read_beginning(alloc: Global, text: &[u8]) -> Result<Option<Wish>, NoMemory>
     ensures found { IfOk result (λ wish. wish
         ≡ (if is_beginning text.now then Some (spec.changes_under text.now) else None)) }
@@ -56,7 +56,7 @@ fn read_beginning(alloc: Global, text: &[u8]) -> Result<Option<Wish>, NoMemory>
     Ok(Some(wish))
 }
 
-/// The wish for changes that begin before the moment that a word spells, if it spells one.
+/// The wish for changes that begin before the moment that a word encodes, if it encodes one.
 fn read_before(alloc: Global, word: &[u8]) -> Option<Wish>
     ensures { result ≡ option_map spec.changes_before (meant_moment word.now) }
 {

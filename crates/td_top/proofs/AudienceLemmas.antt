@@ -15,8 +15,8 @@ use Rattle.console.specs.declared.line.Line.TheVariants as line
 use Rattle.console.specs.declared.said.Said.TheVariants as said
 use Rattle.installer.specs.Views.{with_subscribers}
 use Rattle.subscribers.specs.FaultText.{fault_text}
-use Rattle.subscribers.specs.Hearing.{Audience, Event, after}
-use Rattle.subscribers.specs.News.{numbered}
+use Rattle.subscribers.specs.Hearing.{Audience, Event, audience_after}
+use Rattle.subscribers.specs.News.{numbered_from}
 use Rattle.subscribers.specs.Views.{SubscriberView, changed_numbered, emptied, newcomer}
 use Rattle.subscribers.specs.declared.subscribe_fault.SubscribeFault.TheVariants as fault
 use Rattle.subscribers.specs.declared.subscriber_list.TheConstants.{MOST_SUBSCRIBERS}
@@ -51,8 +51,8 @@ abbrev heard_at : Session → Audience
 heard_at a = record { history = history_of a.installer.list; subscribers = a.installer.subscribers }
 
 pub hears : (g : GrowthView) (old new : Session) (asked : Line) (answer : List ℕ) (event : Event) → LaterSession old new
-    → new.installer.list ≡ old.installer.list → (after (heard_at old) event).history ≡ history_of old.installer.list
-    → new.installer.subscribers ≡ (after (heard_at old) event).subscribers → ChangesHearing (heard_at old) asked answer event
+    → new.installer.list ≡ old.installer.list → (audience_after (heard_at old) event).history ≡ history_of old.installer.list
+    → new.installer.subscribers ≡ (audience_after (heard_at old) event).subscribers → ChangesHearing (heard_at old) asked answer event
     → AnswersLine g g old new asked answer
 unfolding AnswersLine
 hears g old new asked answer event later same history subscribers changes = record {
@@ -60,15 +60,15 @@ hears g old new asked answer event later same history subscribers changes = reco
   later = later;
   answers = λ whole talk begins stands.
       let at : heard_at old ≡ audience talk = rw (stands.published, stands.subscribers) refl in (
-        record talk { subscribers = (after (audience talk) event).subscribers },
+        record talk { subscribers = (audience_after (audience talk) event).subscribers },
         record {
           published = stands.published ∙ ap history_of (sym same);
           least = omega (arith, stands.least, prefix_length old.desk.seen new.desk.seen later.seen);
           growth = stands.growth;
-          subscribers = ap (λ a. (after a event).subscribers) (sym at) ∙ sym subscribers;
+          subscribers = ap (λ a. (audience_after a event).subscribers) (sym at) ∙ sym subscribers;
         },
         changed event (subst (λ a. ChangesHearing a asked answer event) at changes)
-            (ap (λ a. (after a event).history) (sym at) ∙ history ∙ sym stands.published) refl,
+            (ap (λ a. (audience_after a event).history) (sym at) ∙ history ∙ sym stands.published) refl,
       );
 }
 
@@ -117,28 +117,28 @@ none_by : (o : Option SubscriberView) → None ≡ option_map (λ s. news_text s
 none_by None e = refl
 none_by (Some s) e = absurd (cc e)
 
-there : (xs : List SubscriberView) (k : ℕ) (o : Option SubscriberView) → numbered xs k ≡ o → IsSome o → (0 < k) × (k ≤ length xs)
+there : (xs : List SubscriberView) (k : ℕ) (o : Option SubscriberView) → numbered_from xs k ≡ o → IsSome o → (0 < k) × (k ≤ length xs)
 there xs k None e some = absurd (cc some)
 there xs zero (Some s) e some = absurd (cc e)
 there xs (suc i) (Some s) e some = (omega arith, omega (arith, slice_get_within xs i s e))
 
-pub has_number : (xs : List SubscriberView) (k : ℕ) (text : List ℕ) → Some text ≡ option_map (λ s. news_text s.held) (numbered xs k)
+pub has_number : (xs : List SubscriberView) (k : ℕ) (text : List ℕ) → Some text ≡ option_map (λ s. news_text s.held) (numbered_from xs k)
     → (0 < k) × (k ≤ length xs)
-has_number xs k text e = there xs k (numbered xs k) refl (held_by (numbered xs k) text e).0
+has_number xs k text e = there xs k (numbered_from xs k) refl (held_by (numbered_from xs k) text e).0
 
 pub is_told : (g : GrowthView) (old new : Session) (number : ℕ) (text answer : List ℕ)
     → new.installer ≡ with_subscribers (changed_numbered emptied number old.installer.subscribers) old.installer → new.desk ≡ old.desk
-    → Some text ≡ option_map (λ s. news_text s.held) (numbered old.installer.subscribers number) → answer ≡ text
+    → Some text ≡ option_map (λ s. news_text s.held) (numbered_from old.installer.subscribers number) → answer ≡ text
     → AnswersLine g g old new (line.News number) answer
 is_told g old new number text answer is desk holds says =
-    let found = held_by (numbered old.installer.subscribers number) text holds in
+    let found = held_by (numbered_from old.installer.subscribers number) text holds in
     hears g old new (line.News number) answer (Event.Clears number) (hears_later old new _ is desk) (ap (λ i. i.list) is) refl (ap (λ i. i.subscribers) is)
     (refl, found.0, says ∙ found.1 ∙ rw (eq-eqb number number refl) refl)
 
 pub is_of_nobody : (g : GrowthView) (a : Session) (number : ℕ) (answer : List ℕ)
-    → None ≡ option_map (λ s. news_text s.held) (numbered a.installer.subscribers number) → SaysWhy nobody_text answer
+    → None ≡ option_map (λ s. news_text s.held) (numbered_from a.installer.subscribers number) → SaysWhy nobody_text answer
     → AnswersLine g g a a (line.News number) answer
 is_of_nobody g a number answer none (inl starved) = is_starved g a a (line.News number) answer refl refl tt starved
 is_of_nobody g a number answer none (inr says) =
     tells_on g a a (line.News number) answer (session_refl a) refl
-    (λ whole talk at. (ap (λ s. numbered s number) at.subscribers ∙ none_by (numbered a.installer.subscribers number) none, refl, says))
+    (λ whole talk at. (ap (λ s. numbered_from s number) at.subscribers ∙ none_by (numbered_from a.installer.subscribers number) none, refl, says))

@@ -67,9 +67,9 @@ module _ {D C : Type 0} (seen : D → DoorView) where
       → LaterSite (site before.console asked r) (site now.console n q) → OpensDoors asked n address workers given
       → AreWorks server before.session.installer.pair (length before.session.installer.list) given works → DoesEach (Does seen) works dones
       → before.session.installer.subscribers ≡ []
-      → Talked before now ended → Concludes now.session dones ended doors is
+      → Talked before now ended → q ≡ r → Concludes now.session dones ended doors is
       → ServesOpened server address workers (history_of before.session.installer.list) (site before.console asked r) (site now.console n q) (map seen doors) is
-  concluded server address workers given asked n r q before now ended works dones doors is later opens are does nobody talked (inl learnt) =
+  concluded server address workers given asked n r q before now ended works dones doors is later opens are does nobody talked started (inl learnt) =
       let opening = history_of before.session.installer.list in
       let list = now.session.installer.list in
       let worn = list_any (λ d. d.worn) dones in
@@ -85,23 +85,23 @@ module _ {D C : Type 0} (seen : D → DoorView) where
         ends = subst
             (λ e. OpenedEnds server address workers opening (site before.console asked r) (site now.console n q) (history_of list) (map seen doors) e)
             (sym learnt.ending)
-            (served (history_of list) given (map seen doors) ended worn learnt.fits (operated before now ended nobody learnt.seen talked) opens all);
+            (served (history_of list) given (map seen doors) ended worn learnt.fits (operated before now ended nobody learnt.seen talked) opens started all);
       }
-  concluded server address workers given asked n r q before now ended works dones doors is later opens are does nobody talked (inr none) =
+  concluded server address workers given asked n r q before now ended works dones doors is later opens are does nobody talked started (inr none) =
       given_up seen server address workers (history_of before.session.installer.list) (site before.console asked r) (site now.console n q) doors is
       status.NoMemory none.0 none.1 later out_of_memory
 
   pub beside_done : (before mid now : BesideView) (ended : TalkEnd) (works : List WorkView) (dones : List (DoorDone D C)) (r q : ℕ)
       (doors : List D) (is : Status)
-      → Ran before mid → Halted mid now → now.end ≡ Some ended → r ≤ q → DoesEach (Does seen) works dones
+      → Ran before mid → Halted mid now → now.end ≡ Some ended → r ≤ q → q ≡ r → DoesEach (Does seen) works dones
       → Concludes now.scene.session dones ended doors is → before.scene.session.installer.subscribers ≡ []
       → ServesBeside before.scene.session works before.scene.console now.scene.console r q (map seen doors) is
-  beside_done before mid now ended works dones r q doors is ran halted e later does so nobody =
+  beside_done before mid now ended works dones r q doors is ran halted e later started does so nobody =
       let talked : Talked before.scene now.scene ended =
       subst (λ x. ComesTo before.scene now.scene x) e (came before mid now ran halted).0 in record {
         serves = λ server address workers given asked n opens called are.
             concluded server address workers given asked n r q before.scene now.scene ended works dones doors is
-            (record { console = talked.over.later.console; network = called; spawner = later }) opens are does nobody talked so;
+            (record { console = talked.over.later.console; network = called; spawner = later }) opens are does nobody talked started so;
       }
 
   -- the desks of the workers are of the pair that the console publishes to

@@ -110,7 +110,7 @@ pub opened_complete : (role : Role) (address : List ℕ) (workers : ℕ) (openin
     → (Rose before.console.input.faults after.console.input.faults → ⊥) → (Rose before.console.output.faults after.console.output.faults → ⊥)
     → (Rose before.network.faults after.network.faults → ⊥) → (Rose before.spawner after.spawner → ⊥)
     → AllByRecursion (λ d. d.faults ≡ 0) doors → IsComplete is
-opened_complete role address workers opening before after history doors is (server.served h given ds ended worn fits answers opens serves) read wrote net work none =
+opened_complete role address workers opening before after history doors is (server.served h given ds ended worn fits answers opens started serves) read wrote net work none =
     talk_complete opening history before.console after.console ended worn answers read wrote
     (none_worn role _ history given doors worn serves none)
 opened_complete role address workers opening before after history doors is (server.no_network same called rose) read wrote net spawn none =

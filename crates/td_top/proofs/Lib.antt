@@ -27,3 +27,4 @@ pub mod KeptCalendars
 pub mod PrimaryLines
 pub mod Completing
 pub mod GivenFolders
+mod Confirmed

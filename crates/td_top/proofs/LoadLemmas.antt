@@ -22,15 +22,15 @@ use Rattle.release_manifest.specs.declared.manifest_type.Manifest.{Manifest}
 use Rattle.release_check.specs.Before.{before_of}
 use Rattle.release_check.specs.Folder.{examined_in}
 use Rattle.connection.specs.FaultCounts.{FaultCounts, faults_of, no_faults}
-use Rattle.connection.specs.Served.{IsClosed, Session}
-use Rattle.connection.specs.Serving.{ServedOver, Serves, answer_at, session_of}
+use Rattle.connection.specs.Served.{IsClosed, Transcript}
+use Rattle.connection.specs.Serving.{ServedOver, ServesConn, answer_at, session_of}
 use Rattle.made_load.specs.Counts.{CountsReply, no_counts, with_release}
-use Rattle.made_load.specs.Releases.{HasFiles, made_manifest}
+use Rattle.made_load.specs.Releases.{HasMadeFiles, made_manifest}
 use Rattle.made_load.specs.Requests.{made_requests}
 use Rattle.made_load.specs.declared.counts.LoadCounts.{LoadCounts}
 use Rattle.http_answer.specs.declared.answer.Answer.{Answer}
 use Rattle.http_request.specs.declared.head.Head.{Head}
-use Rattle.td_top.specs.Running.Loading.{AreCounted, IsAnswered, IsFirstHead, Loads, begun, more, next, none}
+use Rattle.td_top.specs.Running.Loading.{AreCounted, IsRequestAnswered, IsFirstHead, Loads, begun, more, next, none}
 use Rattle.td_top.specs.Running.Loading.LoadSteps.{AnswersCounted, ClosesOver, JoinsMade}
 
 -- ---- what a desk sees
@@ -55,17 +55,17 @@ one_place n (p ∷ q ∷ ps) all one = absurd (omega (arith, one))
 
 -- over what the desk had seen, where it has seen nothing more
 served_over : (desk : DeskView (Catalogue (List ℕ))) (seen : List (Catalogue (List ℕ))) (before now : ConnView) (places : List ℕ)
-    → desk.seen ≡ seen → (h : Serves desk role.Primary before now places end.Closed)
+    → desk.seen ≡ seen → (h : ServesConn desk role.Primary before now places end.Closed)
     → ServedOver (history_of seen) role.Primary before now (session_of now h.read h.written places) end.Closed
 served_over desk seen before now places same h =
     subst (λ (all : List (Catalogue (List ℕ))). ServedOver (history_of all) role.Primary before now (session_of now h.read h.written places) end.Closed) same
     (h.served (history_of desk.seen) ([], append-nil (history_of desk.seen)))
 
 pub closes_over : (desk : DeskView (Catalogue (List ℕ))) (seen : List (Catalogue (List ℕ))) (before now : ConnView) (places : List ℕ) (e : End)
-    → e ≡ end.Closed → desk.seen ≡ seen → length places ≡ 1 → AllByRecursion (λ p. length seen ≤ p) places → Serves desk role.Primary before now places e
+    → e ≡ end.Closed → desk.seen ≡ seen → length places ≡ 1 → AllByRecursion (λ p. length seen ≤ p) places → ServesConn desk role.Primary before now places e
     → ClosesOver (history_of seen) before now
 closes_over desk seen before now places e closed same one least h =
-    let at_close = subst (λ (x : End). Serves desk role.Primary before now places x) closed h in
+    let at_close = subst (λ (x : End). ServesConn desk role.Primary before now places x) closed h in
     let s = served_over desk seen before now places same at_close in
     let last = length (history_of seen) in
     let latest = all_latest last places (subst (λ n. AllByRecursion (λ p. n ≤ p) places) (sym (history_length seen)) least) s.places.within in
@@ -81,7 +81,7 @@ closes_over desk seen before now places e closed same one least h =
 -- ---- one request
 
 -- a close says nothing of the counts of failed calls but that they stay
-unfaulted : (answer : ℕ → Head → Answer) (s : Session) (before now : FaultCounts) → IsClosed answer s before now → IsClosed answer s no_faults no_faults
+unfaulted : (answer : ℕ → Head → Answer) (s : Transcript) (before now : FaultCounts) → IsClosed answer s before now → IsClosed answer s no_faults no_faults
 unfaulted answer s before now c = record {
   heads = c.heads;
   finish = c.finish;
@@ -93,7 +93,7 @@ unfaulted answer s before now c = record {
 
 -- what a connection took while it was served is the reply
 pub answered : (H : List ReleaseData) (request : List ℕ) (before now : MemoryConn) → before.source.left ≡ request
-    → ClosesOver H (memory_conn before) (memory_conn now) → IsAnswered H request (drop (length before.sink.taken) now.sink.taken)
+    → ClosesOver H (memory_conn before) (memory_conn now) → IsRequestAnswered H request (drop (length before.sink.taken) now.sink.taken)
 answered H request before now is c =
     let reply : drop (length before.sink.taken) now.sink.taken ≡ c.written =
     ap (drop (length before.sink.taken)) c.traffic.taken ∙ drop-append_seam before.sink.taken c.written in
@@ -135,7 +135,7 @@ counted_all H rest now is = subst (λ (l : List ℕ). AreCounted H l now now) (s
 
 -- a made release was published
 pub joins_made : (rules : List Chosen) (old told now : List (Catalogue (List ℕ))) (files : List File) (m : Manifest) (r : ℕ) → told ≡ now → r ≡ length old + 1
-    → m ≡ made_manifest r → HasFiles r files
+    → m ≡ made_manifest r → HasMadeFiles r files
     → (release : ReleaseData) × (examined_in files [] (before_of (history_of old)) m ≡ Ok release)
     × (refusal rules (history_of old) release ≡ None) × (history_of told ≡ history_of old ++ release ∷ [])
     → JoinsMade old now
@@ -145,7 +145,7 @@ joins_made rules old told now files m r same number_is is has joined =
       release = joined.0;
       made = record {
         files = files;
-        has = subst (λ n. HasFiles n files) number has;
+        has = subst (λ n. HasMadeFiles n files) number has;
         gives = subst (λ (k : Manifest). examined_in files [] (before_of (history_of old)) k ≡ Ok joined.0) (is ∙ ap made_manifest number) joined.1;
       };
       now_is = ap history_of (sym same) ∙ joined.3;

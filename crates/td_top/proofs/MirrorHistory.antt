@@ -1,5 +1,5 @@
 -- What a mirror's talk publishes comes of its syncs, and is what the primary had.
-use Rattle.std.proofs.Common.{◌≡◌, ◌≤◌, ℕ, List, [], ◌∷◌, ◌++◌, length, take, Option, None, Result, Ok, Err, refl, sym, ap, ◌∙◌, subst, arith}
+use Rattle.std.proofs.Common.{◌≡◌, ◌≤◌, ℕ, List, [], ◌∷◌, ◌++◌, length, take, Option, None, Some, Result, Ok, Err, refl, sym, ap, ◌∙◌, subst, arith}
 use Rattle.std.proofs.Common.{append_assoc, append-nil}
 use Rattle.std.proofs.lemmas.List.{length-take}
 use Rattle.td_base.specs.Upstreams.{TellsMore, UpstreamView}
@@ -17,6 +17,7 @@ use Rattle.mirror.specs.declared.sync_fault.SyncFault.{SyncFault}
 use Rattle.mirror.specs.declared.understood_type.Understood.{Understood}
 use Rattle.mirror.proofs.lemmas.Told.{tells_on}
 use Rattle.mirror_world.specs.Answers.{IsAnsweredOver}
+use Rattle.mirror_world.specs.Contents.{contents_of_state}
 use Rattle.mirror_world.specs.Logs.{Logs}
 use Rattle.mirror_world.specs.Runs.{HoldInTurn, HoldsAt, Share, SyncsInTurn, all_taken}
 use Rattle.release_check.specs.Before.{Before, before_of}
@@ -26,12 +27,13 @@ use Rattle.sync_core.specs.Published.{HasFiles, manifest_of}
 use Rattle.sync_world.specs.Hearing.{action_service}
 use Rattle.sync_world.specs.Holding.{HoldsLast}
 use Rattle.sync_world.specs.Worlds.{SyncWorld, WorldStep, world_begun}
-use Rattle.td_top.specs.Following.{SaysStated, StatesAfter, SyncsAs, SyncsMirror, faulted, faulted_starved, installed, refused, settled, starved, unchanged}
+use Rattle.td_top.specs.Following.{SaysStated, StatesAfter, StatesLast, SyncsAs, SyncsMirror, faulted, faulted_starved, installed, refused, settled, starved, unchanged}
 use Rattle.td_top.specs.Growth.{GrowthView, Handles, following}
-use Rattle.td_top.specs.MirrorHistory.{FollowsPrimary, IsOfPrimary, IsStated, Publish, PublishInTurn, all_exchanges, joined, joined_at, kept, kept_at}
-use Rattle.td_top.specs.MirrorHistory.{none, none_yet}
+use Rattle.td_top.specs.MirrorHistory.{FollowsPrimary, IsLastOfPrimary, IsOfPrimary, IsStatedByShare, Publish, PublishInTurn, all_exchanges, confirmed}
+use Rattle.td_top.specs.MirrorHistory.{confirmed_at, joined, joined_at, kept, kept_at, memory_ran_out, none, none_yet, release_refused, sync_failed}
 use Rattle.td_top.specs.Operator.{GetsAnswer, Talk, Talks, changed, handled, no_memory, only_told, talk_begun, unknown, with_joined}
 use Rattle.td_top.specs.Operator as talk
+use Rattle.td_top.proofs.Confirmed.{last_is_held}
 use Rattle.zone_meaning.specs.Sound.{IsSound}
 
 -- what is known of a mirror and its primary
@@ -44,6 +46,8 @@ pub record Laws : Type 0 where
       → (length H ≤ length v.history) × IsHistory IsSound (take n v.history)
   pub held : (G : List ReleaseData) (s : MirrorState) (files : List File) (before : Before) (r : ReleaseData) → IsHistory IsSound G → 1 ≤ length G
       → HoldsLast action_service s G → HasFiles files s.files → examined_in files [] before (manifest_of s) ≡ Ok r → r.contents ≡ zones_of G
+  pub stated : (G : List ReleaseData) (s : MirrorState) → IsHistory IsSound G → 1 ≤ length G → HoldsLast action_service s G
+      → contents_of_state s ≡ Some (zones_of G)
 
 -- ---- one more sync
 
@@ -104,15 +108,15 @@ module _ (host : List ℕ) (first : UpstreamView) where
   stated_so u v so t new answer r h (unchanged last is) growth published =
       more_so u v so t new (Ok tt) h growth
       (subst (λ H. Publish (so.shares ++ share_of host so.after t so.upstream new (Ok tt) h ∷ []) H) (sym published)
-      (kept so.shares (share_of host so.after t so.upstream new (Ok tt) h) u.published so.publish))
+      (confirmed so.shares (share_of host so.after t so.upstream new (Ok tt) h) u.published so.publish refl last))
   stated_so u v so t new answer r h (refused e other states of is) growth published =
       more_so u v so t new (Ok tt) h growth
       (subst (λ H. Publish (so.shares ++ share_of host so.after t so.upstream new (Ok tt) h ∷ []) H) (sym published)
-      (kept so.shares (share_of host so.after t so.upstream new (Ok tt) h) u.published so.publish))
+      (kept so.shares (share_of host so.after t so.upstream new (Ok tt) h) u.published so.publish (release_refused e states)))
   stated_so u v so t new answer r h (starved is) growth published =
       more_so u v so t new (Ok tt) h growth
       (subst (λ H. Publish (so.shares ++ share_of host so.after t so.upstream new (Ok tt) h ∷ []) H) (sym published)
-      (kept so.shares (share_of host so.after t so.upstream new (Ok tt) h) u.published so.publish))
+      (kept so.shares (share_of host so.after t so.upstream new (Ok tt) h) u.published so.publish memory_ran_out))
 
   -- a sync that ended by a fault published nothing
   fault_so : (u v : Talk) (so : SoFar host first u) (t : MirrorState) (new : UpstreamView) (e : SyncFault) (r : Option ReleaseData)
@@ -122,7 +126,7 @@ module _ (host : List ℕ) (first : UpstreamView) where
       more_so u v so t new (Err e) h growth
       (subst (λ H. Publish (so.shares ++ share_of host so.after t so.upstream new (Err e) h ∷ []) H)
       (sym (published ∙ ap (λ x. with_joined u.published x) isnt))
-      (kept so.shares (share_of host so.after t so.upstream new (Err e) h) u.published so.publish))
+      (kept so.shares (share_of host so.after t so.upstream new (Err e) h) u.published so.publish (sync_failed e refl)))
 
   synced_so : (u v : Talk) (so : SoFar host first u) (t : MirrorState) (new : UpstreamView) (answer : List ℕ) (r : Option ReleaseData)
       → SyncsMirror host so.after t so.upstream new u.published answer r → v.growth ≡ following host t new
@@ -202,7 +206,7 @@ module _ (laws : Laws) (H : List ReleaseData) (steps : List WorldStep) (xs : Lis
       ((h.0, h.1, after.0), after.1, after.2)
 
   one_had : (before : List ReleaseData) (share : Share) (r : ReleaseData) (from n : ℕ) → 1 ≤ from
-      → HoldsAt IsAnsweredOver action_service v.history from n share.taken share.after share.result → IsStated before share r
+      → HoldsAt IsAnsweredOver action_service v.history from n share.taken share.after share.result → IsStatedByShare before share r
       → IsOfPrimary v.history n share r
   one_had before share r from n positive at stated =
       let place : 1 ≤ n = omega (arith, positive, at.from) in
@@ -215,13 +219,31 @@ module _ (laws : Laws) (H : List ReleaseData) (steps : List WorldStep) (xs : Lis
             states.1 states.2;
       }
 
+  last_had : (before : List ReleaseData) (share : Share) (from n : ℕ) → 1 ≤ from
+      → HoldsAt IsAnsweredOver action_service v.history from n share.taken share.after share.result → share.result ≡ Ok tt
+      → StatesLast before share.after → IsLastOfPrimary v.history n share before
+  last_had before share from n positive at well states =
+      let place : 1 ≤ n = omega (arith, positive, at.from) in
+      let long : 1 ≤ length (take n v.history) = omega (arith, place, length-take n v.history, at.upto) in
+      let history = (laws.go_on H steps xs v n sound logs).1 in
+      record {
+        is_place = (place, at.upto);
+        answered = at.answered well;
+        contents = last_is_held (take n v.history) share.after before history
+            (laws.stated (take n v.history) share.after history long (at.holds well)) states;
+      }
+
   all_had : (shares : List Share) (history : List ReleaseData) → Publish shares history
       → (h : HoldInTurn IsAnsweredOver action_service v.history (length H) shares)
       → PublishInTurn v.history (length H) shares history (ends_at (length H) shares h)
   all_had shares history none h = none_yet
-  all_had shares history (kept before share past publish) h =
+  all_had shares history (kept before share past publish why) h =
       let parts = parted (length H) before share some h in
-      kept_at before share past _ _ (all_had before past publish parts.0) parts.2.from parts.2.upto
+      kept_at before share past _ _ (all_had before past publish parts.0) parts.2.from parts.2.upto why
+  all_had shares history (confirmed before share past publish well states) h =
+      let parts = parted (length H) before share some h in
+      confirmed_at before share past _ _ (all_had before past publish parts.0) parts.2.from
+      (last_had past share _ _ parts.1 parts.2 well states)
   all_had shares history (joined before share past r publish stated) h =
       let parts = parted (length H) before share some h in
       joined_at before share past r _ _ (all_had before past publish parts.0) parts.2.from stated

@@ -208,8 +208,8 @@ module _ (address : List ℕ) (workers : ℕ) (upstream : List ℕ) (store : Sto
         → OpenedEnds (role.Secondary upstream) address workers (release ∷ []) (site (console (following upstream u ready) i o) reached r)
         (site (console (following upstream t last) j p) m q) history doors is
         → Mirrors address workers upstream (world (outside store i o) n r) (world (outside store j p) m q) doors (Some last) is
-    opened_run u ready release history doors is h states (served past given ds ended worn fits operator opens over) =
-        opened reached first ready last u t release past ds (status_for ended worn) reaches h states (served past given ds ended worn fits operator opens over)
+    opened_run u ready release history doors is h states (served past given ds ended worn fits operator opens started over) =
+        opened reached first ready last u t release past ds (status_for ended worn) reaches h states (served past given ds ended worn fits operator opens started over)
         (follows_primary laws upstream first ready last u t release past operator.asked operator.told operator.last h states operator.talks operator.published
         operator.growth)
     opened_run u ready release history doors is h states (no_network left told rose) =

@@ -61,7 +61,7 @@ pub record CalendarLaws : Type 0 where
       → Logs IsSound IsCalendarAnsweredOver MeansSound (world_begun H) steps taken w
       → CalendarSyncEnds (calendar_request_text host) empty_mirror t taken untaken result → result ≡ Ok tt → (n : ℕ) × HoldsAt w.history n taken t
   pub told : (G : List ReleaseData) (s : MirrorState) (tzid : List ℕ) (c : ContentData) → IsHistory IsSound G → HoldsCalendars s G
-      → zone_at (zones_of G) tzid ≡ Some c → reading.KeepsCalendar s.files tzid c.file
+      → zone_at (zones_of G) tzid ≡ Some c → reading.KeepsCalendarText s.files tzid c.file
 
 -- ---- the lines of a zone
 
@@ -91,7 +91,7 @@ told_of file calendar start end told endless range tells h =
 
 -- a calendar that is kept of a name tells what the file does
 zone_lines : (files : List ZoneFile) (start end : ℤ) (zone : ListZone) (c : ContentData) (lines : List ℕ) → IsRange start end → zone.tzid ≡ c.tzid
-    → reading.KeepsCalendar files c.tzid c.file → ZoneTells files start end zone lines → lines ≡ lines_of_zone start end c
+    → reading.KeepsCalendarText files c.tzid c.file → ZoneTells files start end zone lines → lines ≡ lines_of_zone start end c
 zone_lines files start end zone c lines range same keeps tells =
     let is = keeps.is_calendar in
     let kept : file_bytes files c.tzid ≡ Some keeps.text = ap (option_map bytes_of) keeps.kept in

@@ -11,14 +11,14 @@ use Rattle.std.proofs.lemmas.List.Folds.{list_any-append}
 use Rattle.admission.specs.declared.rules.Chosen.{Chosen}
 use Rattle.admission.specs.declared.rules.RuleKind.{RuleKind}
 use Rattle.admission.specs.declared.rules.RuleKind.TheVariants as kind
-use Rattle.td_top.specs.Command.{are_once, has_kind, if_once, is_same_kind, next_rule, rule_of, rules_then, with_rule_if_any}
+use Rattle.td_top.specs.Command.{are_once, has_kind, if_once, is_same_kind, next_rule, rule_of_words, rules_then, with_rule_if_any}
 
 -- what words begin with by the rule that is next
 abbrev with_next : List (List ℕ) → Option (Chosen × List (List ℕ)) → List Chosen × List (List ℕ)
 with_next words None = ([], words)
 with_next words (Some p) = (p.0 ∷ (rules_then p.1).0, (rules_then p.1).1)
 
-begins : (name value : List ℕ) (words : List (List ℕ)) (rule : Option Chosen) → rule_of name value ≡ rule
+begins : (name value : List ℕ) (words : List (List ℕ)) (rule : Option Chosen) → rule_of_words name value ≡ rule
     → rules_then (name ∷ value ∷ words) ≡ with_next (name ∷ value ∷ words) (option_map (λ r. (r, words)) rule)
 unfolding rules_then
 begins name value words None is = ap (λ o. with_rule_if_any (name ∷ value ∷ words) o (rules_then words)) is
@@ -28,7 +28,7 @@ next_is : (words : List (List ℕ)) → rules_then words ≡ with_next words (ne
 unfolding rules_then
 next_is [] = refl
 next_is (name ∷ []) = refl
-next_is (name ∷ value ∷ words) = begins name value words (rule_of name value) refl
+next_is (name ∷ value ∷ words) = begins name value words (rule_of_words name value) refl
 
 then_is : (words : List (List ℕ)) (next : Option (Chosen × List (List ℕ))) → next ≡ next_rule words → rules_then words ≡ with_next words next
 then_is words next is = next_is words ∙ ap (with_next words) (sym is)

@@ -10,7 +10,7 @@ use Rattle.td_base.proofs.lemmas.LaterLemmas.{sink_refl, source_refl, store_tran
 use Rattle.catalogue.specs.Releases.{ReleaseData}
 use Rattle.catalogue.specs.declared.holding.Catalogue.{Catalogue}
 use Rattle.catalogue.specs.Holdings.{history_of}
-use Rattle.td_top.specs.Command.{Asked, serve}
+use Rattle.td_top.specs.Command.{PlainCommand, serve}
 use Rattle.td_top.specs.Growth.{folders}
 use Rattle.td_top.specs.Opening.{InstallsAll}
 use Rattle.td_top.specs.Outside.{Outside, outside, World, world}
@@ -54,13 +54,13 @@ nobody : (before after : Outside) (n : NetworkView) (r : ℕ) → ServesNobody (
 nobody before after n r = record { network = refl; spawner = refl; no_door = refl; no_server = refl }
 
 -- what a run that is asked for so comes to
-pub runs_as : (spelled : Option Asked) (before after : World) (doors : List DoorView) (up : Option UpstreamView) (is : Status)
+pub runs_as : (spelled : Option PlainCommand) (before after : World) (doors : List DoorView) (up : Option UpstreamView) (is : Status)
     → RunEndsLater spelled before after doors up is → RunsAs spelled before after doors up is
 unfolding HasRun
 runs_as spelled before after doors up is h = λ asked same. subst (λ a. RunEndsLater a before after doors up is) same h
 
 -- a run over the store, the input and the output
-pub runs_alone : (ends_so : Outside → Outside → Status → Type 0) (spelled : Option Asked) (before after : Outside) (end : Status)
+pub runs_alone : (ends_so : Outside → Outside → Status → Type 0) (spelled : Option PlainCommand) (before after : Outside) (end : Status)
     → ((n : NetworkView) (r : ℕ) → ends_so before after end → ServesNobody (world before n r) (world after n r) [] None
     → RunEnds spelled (world before n r) (world after n r) [] None end)
     → EndsLater ends_so before after end → RunsAlone spelled before after end

@@ -27,12 +27,12 @@ use Rattle.td_top.specs.Replies.{last_token}
 use Rattle.td_top.specs.Sessions.{AnswersLine, BeginsWhole, LaterSession}
 use Rattle.td_top.specs.Site.{console}
 use Rattle.td_top.specs.Operator.{KeepsTalking, more, none}
-use Rattle.td_top.specs.Talking.{ComesTo, IsAt, IsNeeded, LaterScene, Scene, TalksOver, at_ready, at_reply, begun_at, scene, talk_text}
+use Rattle.td_top.specs.Talking.{ComesTo, IsAt, IsReadNeeded, LaterScene, Scene, TalksOver, at_ready, at_reply, talk_begun_at, scene, talk_text}
 use Rattle.td_top.specs.TalkingSteps.{FeedsHeld, FeedsTalk, HasNone, IsNextLine, Reaches, SaysBye}
 use Rattle.td_top.specs.TalkingSteps.{SaysText}
 use Rattle.td_top.specs.declared.talking.TheConstants.{PIECE}
-use Rattle.td_top.specs.declared.talking.Turn.{Turn}
-use Rattle.td_top.specs.declared.talking.Turn.TheVariants as turn
+use Rattle.td_top.specs.declared.talking.TalkTurn.{TalkTurn}
+use Rattle.td_top.specs.declared.talking.TalkTurn.TheVariants as turn
 use Rattle.td_top.specs.declared.session.Session.{Session}
 use Rattle.td_top.specs.declared.talking.TalkEnd.{TalkEnd}
 use Rattle.td_top.specs.declared.talking.TalkEnd.TheVariants as end
@@ -71,15 +71,15 @@ all_more P (y ∷ ys) x h p = (h.0, all_more P ys x h.1 p)
 
 -- ---- what was read
 
-needs_none : IsNeeded [] []
+needs_none : IsReadNeeded [] []
 unfolding lines_from
 needs_none = ([], [], [], refl, omega arith, refl)
 
-needs_more : (read : List ℕ) (asked : List Line) (next : Line) → IsNeeded read asked → IsNeeded read (asked ++ next ∷ [])
+needs_more : (read : List ℕ) (asked : List Line) (next : Line) → IsReadNeeded read asked → IsReadNeeded read (asked ++ next ∷ [])
 needs_more read asked next h =
     (h.0, h.1, h.2 ++ next ∷ [], h.3, h.4, ap (λ (ls : List Line). ls ++ next ∷ []) h.5 ∙ append_assoc (lines_of h.0) h.2 (next ∷ []))
 
-needs_piece : (before piece : List ℕ) (asked : List Line) → lines_of before ≡ asked → length piece ≤ PIECE → IsNeeded (before ++ piece) asked
+needs_piece : (before piece : List ℕ) (asked : List Line) → lines_of before ≡ asked → length piece ≤ PIECE → IsReadNeeded (before ++ piece) asked
 needs_piece before piece asked all few = (before, piece, [], refl, few, sym (append-nil (lines_of before) ∙ all))
 
 -- ---- texts
@@ -103,14 +103,14 @@ nothing_asked : (s : GrowthView) (i : SourceView) (o p : SinkView) (x : Session)
 nothing_asked s i o p x knows sink = record {
   later = record { console = record { growth = growth_refl s; input = source_refl i; output = sink }; session = session_refl x };
   talks = λ whole begins. (
-    begun_at (scene (console s i o) x),
+    talk_begun_at (scene (console s i o) x),
     record {
       published = refl;
       least = omega (arith, history_length x.installer.list, knows);
       growth = refl;
       subscribers = refl;
     },
-    none (begun_at (scene (console s i o) x)),
+    none (talk_begun_at (scene (console s i o) x)),
   );
 }
 
@@ -216,7 +216,7 @@ input_failed start s i j o x held held' at whole input consumed failed once = re
 }
 
 -- a turn that reads
-pub read_turn : (start : Scene) (s : GrowthView) (i j : SourceView) (o : SinkView) (x : Session) (held held' new : List ℕ) (r : Turn)
+pub read_turn : (start : Scene) (s : GrowthView) (i j : SourceView) (o : SinkView) (x : Session) (held held' new : List ℕ) (r : TalkTurn)
     → IsAt start (scene (console s i o) x) held → HasNone held held' → LaterSource i j → FeedsTalk i j held' new r
     → Reaches start (scene (console s j o) x) new r
 read_turn start s i j o x held held' new turn.On at whole input f = fed start s i j o x held held' new at whole input f
@@ -247,7 +247,7 @@ over_more start s t i o p x y asked told next a goes sink over answers = record 
       let after = answers.answers whole before.0 begins before.1 in (
         after.0,
         after.1,
-        more (begun_at start) before.0 after.0 asked told next a before.2 goes after.2,
+        more (talk_begun_at start) before.0 after.0 asked told next a before.2 goes after.2,
       );
 }
 
@@ -291,7 +291,7 @@ answered start s t i o p x y held new next a goes at is answers h = record {
   written = said_whole start o p at.told a at.written h;
 }
 
-pub line_turn : (start : Scene) (s t : GrowthView) (i : SourceView) (o p : SinkView) (x y : Session) (held new : List ℕ) (next : Line) (a : List ℕ) (r : Turn)
+pub line_turn : (start : Scene) (s t : GrowthView) (i : SourceView) (o p : SinkView) (x y : Session) (held new : List ℕ) (next : Line) (a : List ℕ) (r : TalkTurn)
     → KeepsTalking next → IsAt start (scene (console s i o) x) held → IsNextLine held new next → AnswersLine s t x y next a → SaysText o p a r
     → Reaches start (scene (console t i p) y) new r
 line_turn start s t i o p x y held new next a turn.On goes at is answers h = answered start s t i o p x y held new next a goes at is answers h

@@ -4,7 +4,7 @@ use Rattle.std.specs.Prelude.{◌≡◌, ℕ, List, [], ◌∷◌, ◌++◌, IfS
 use Rattle.catalogue.specs.Releases.{ReleaseData}
 use Rattle.console.specs.declared.line.Line.{Line}
 use Rattle.subscribers.specs.Hearing.{Audience, Event, after_all, cleared_by_all}
-use Rattle.subscribers.specs.News.{news, numbered}
+use Rattle.subscribers.specs.News.{news, numbered_from}
 use Rattle.td_top.specs.Operator.{GetsAnswer, Talk, Talks, audience, changed, handled, more, none}
 
 -- what a line was to those who hear of installs
@@ -26,5 +26,5 @@ events_of (more t u v asked told next answer talks goes gets) =
 pub record TellsEachChange (first : Audience) (events : List Event) (last : Talk) : Type 0 where
   pub nobody : first.subscribers ≡ []
   pub audience_is : audience last ≡ after_all first events
-  pub once : (number : ℕ) → IfSome (numbered last.subscribers number)
+  pub once : (number : ℕ) → IfSome (numbered_from last.subscribers number)
       (λ s. cleared_by_all number first events ++ s.held ≡ news last.published s.from s.wish)

@@ -10,7 +10,7 @@ use Rattle.admission.specs.declared.rules.Chosen.{Chosen}
 use Rattle.admission.specs.declared.rules.RuleKind.{RuleKind}
 use Rattle.admission.specs.declared.rules.RuleKind.TheVariants as kind
 use Rattle.td_base.specs.Names.{IsPlain, is_path_word}
-use Rattle.console.specs.Words.{meant_moment, number_in}
+use Rattle.console.specs.Words.{meant_moment, number_in_word}
 use Rattle.td_civil.specs.Bounds.{HasMeaning}
 use Rattle.td_civil.specs.Reading.{moment_in}
 use Rattle.td_civil.specs.declared.moment_type.TheConstants.{LO, HI}
@@ -21,14 +21,14 @@ use Rattle.td_top.specs.declared.command.TheConstants.{MOST_RELEASES, MOST_WORKE
 use Rattle.td_top.specs.declared.command.rules.TheConstants.{MOST_CHANGED}
 
 -- what words ask for
-pub data Asked : Type 0 where
-  answer : List (List ℕ) → Asked
-  check : List (List ℕ) → Asked
-  at : List ℕ → ℤ → Asked
-  serve : List ℕ → ℕ → List Chosen → List (List ℕ) → Asked
-  mirror : List ℕ → ℕ → List ℕ → Asked
-  load : ℕ → Asked
-  calmirror : List ℕ → ℤ → ℤ → Asked
+pub data PlainCommand : Type 0 where
+  answer : List (List ℕ) → PlainCommand
+  check : List (List ℕ) → PlainCommand
+  at : List ℕ → ℤ → PlainCommand
+  serve : List ℕ → ℕ → List Chosen → List (List ℕ) → PlainCommand
+  mirror : List ℕ → ℕ → List ℕ → PlainCommand
+  load : ℕ → PlainCommand
+  calmirror : List ℕ → ℤ → ℤ → PlainCommand
 
 -- what is printed for words that are no command
 unfoldable pub usage_line : List ℕ
@@ -40,11 +40,11 @@ are_folders words =
     nat_le 1 (length words) && nat_le (length words) MOST_FOLDERS && list_all is_path_word words
 
 -- the command over folders, where the words name some
-abbrev pub over_folders : (List (List ℕ) → Asked) → List (List ℕ) → Option Asked
+abbrev pub over_folders : (List (List ℕ) → PlainCommand) → List (List ℕ) → Option PlainCommand
 over_folders asking words = if are_folders words then Some (asking words) else None
 
 -- `at FILE MOMENT`
-abbrev pub at_of : List (List ℕ) → Option Asked
+abbrev pub at_of : List (List ℕ) → Option PlainCommand
 at_of (file ∷ moment ∷ []) =
     if is_path_word file then option_map (λ m. at file m) (meant_moment moment) else None
 at_of _ = None
@@ -72,16 +72,16 @@ abbrev pub no_past_change : ℤ → Chosen
 no_past_change m = record { kind = kind.NoPastChange; number = m }
 
 -- `--max-changed N` or `--no-past-change MOMENT`
-abbrev pub rule_of : List ℕ → List ℕ → Option Chosen
-rule_of name value =
+abbrev pub rule_of_words : List ℕ → List ℕ → Option Chosen
+rule_of_words name value =
     if bytes_eq name (codes "--max-changed")
-    then option_map max_changed (number_in 0 MOST_CHANGED value)
+    then option_map max_changed (number_in_word 0 MOST_CHANGED value)
     else if bytes_eq name (codes "--no-past-change")
     then option_map no_past_change (meant_moment value) else None
 
 -- the rule with which words begin, if they begin with one, and the words after it
 abbrev pub next_rule : List (List ℕ) → Option (Chosen × List (List ℕ))
-next_rule (name ∷ value ∷ words) = option_map (λ rule. (rule, words)) (rule_of name value)
+next_rule (name ∷ value ∷ words) = option_map (λ rule. (rule, words)) (rule_of_words name value)
 next_rule words = None
 
 -- a rule in front of those with which words begin, where there is one; else these words begin with
@@ -94,7 +94,7 @@ with_rule_if_any words (Some rule) found = (rule ∷ found.0, found.1)
 -- the rules with which words begin, in their order, and the words after them
 unfoldable pub rules_then : List (List ℕ) → List Chosen × List (List ℕ)
 rules_then (name ∷ value ∷ words) =
-    with_rule_if_any (name ∷ value ∷ words) (rule_of name value) (rules_then words)
+    with_rule_if_any (name ∷ value ∷ words) (rule_of_words name value) (rules_then words)
 rules_then words = ([], words)
 
 abbrev pub is_same_kind : RuleKind → RuleKind → Bool
@@ -115,31 +115,31 @@ abbrev pub if_once : List Chosen × List (List ℕ) → Option (List Chosen × L
 if_once found = if are_once found.0 then Some found else None
 
 -- the command under rules over folders, where the words after these name some
-abbrev pub over_ruled : (List Chosen → List (List ℕ) → Asked) → List Chosen × List (List ℕ)
-    → Option Asked
+abbrev pub over_ruled : (List Chosen → List (List ℕ) → PlainCommand) → List Chosen × List (List ℕ)
+    → Option PlainCommand
 over_ruled asking found = over_folders (asking found.0) found.1
 
 -- `serve ADDRESS WORKERS RULES DIR..`
-abbrev pub serve_of : List (List ℕ) → Option Asked
+abbrev pub serve_of : List (List ℕ) → Option PlainCommand
 serve_of (address ∷ workers ∷ words) =
     if is_address address
     then option_and_then
     (λ n. option_and_then (over_ruled (serve address n)) (if_once (rules_then words)))
-    (number_in 1 MOST_WORKERS workers)
+    (number_in_word 1 MOST_WORKERS workers)
     else None
 serve_of _ = None
 
 -- `mirror ADDRESS WORKERS UPSTREAM`
-abbrev pub mirror_of : List (List ℕ) → Option Asked
+abbrev pub mirror_of : List (List ℕ) → Option PlainCommand
 mirror_of (address ∷ workers ∷ upstream ∷ []) =
     if is_address address && is_address upstream
-    then option_map (λ n. mirror address n upstream) (number_in 1 MOST_WORKERS workers)
+    then option_map (λ n. mirror address n upstream) (number_in_word 1 MOST_WORKERS workers)
     else None
 mirror_of _ = None
 
 -- `load NUMBER`
-abbrev pub load_of : List (List ℕ) → Option Asked
-load_of (number ∷ []) = option_map load (number_in 1 MOST_RELEASES number)
+abbrev pub load_of : List (List ℕ) → Option PlainCommand
+load_of (number ∷ []) = option_map load (number_in_word 1 MOST_RELEASES number)
 load_of _ = None
 
 -- a moment, if it comes after another, and not after the last one that has a text here
@@ -151,18 +151,18 @@ abbrev pub end_after : ℤ → List ℕ → Option ℤ
 end_after start word = option_and_then (if_after start) (moment_in word)
 
 -- the range that two words spell
-abbrev pub over_range : List ℕ → List ℕ → ℤ → Option Asked
+abbrev pub over_range : List ℕ → List ℕ → ℤ → Option PlainCommand
 over_range upstream end start = option_map (calmirror upstream start) (end_after start end)
 
 -- `calmirror UPSTREAM START END`
-abbrev pub calmirror_of : List (List ℕ) → Option Asked
+abbrev pub calmirror_of : List (List ℕ) → Option PlainCommand
 calmirror_of (upstream ∷ start ∷ end ∷ []) =
     if is_address upstream
     then option_and_then (over_range upstream end) (meant_moment start) else None
 calmirror_of _ = None
 
 -- the command that the words spell: its name first, and then what stands after it
-abbrev pub command_of : List (List ℕ) → Option Asked
+abbrev pub command_of : List (List ℕ) → Option PlainCommand
 command_of [] = None
 command_of (name ∷ words) =
     if bytes_eq name (codes "answer") then over_folders answer words
@@ -176,7 +176,7 @@ command_of (name ∷ words) =
 -- ---- the code's commands
 
 -- a command without where its words lie in memory
-abbrev pub plain_command : Command → Asked
+abbrev pub plain_command : Command → PlainCommand
 plain_command (command.Answer folders) = answer folders.now
 plain_command (command.Check folders) = check folders.now
 plain_command (command.At file moment) = at file.now moment.seconds
@@ -187,8 +187,8 @@ plain_command (command.MirrorCalendars plan) =
     calmirror plan.upstream.now plan.start.seconds plan.end.seconds
 
 -- a range that has a meaning
-abbrev pub IsRange : ℤ → ℤ → Type 0
-IsRange start end = (LO ≤ℤ start) × (start <ℤ end) × (end ≤ℤ HI)
+abbrev pub IsRangeAsked : ℤ → ℤ → Type 0
+IsRangeAsked start end = (LO ≤ℤ start) × (start <ℤ end) × (end ≤ℤ HI)
 
 -- a command names a folder to serve, its moment and its range have a meaning, its workers are few,
 -- the server that it follows has a plain address, and a load has some releases and not too many
@@ -199,4 +199,4 @@ IsMeantCommand (command.At file moment) = HasMeaning moment.seconds
 IsMeantCommand (command.Serve w) = (w.workers ≤ MOST_WORKERS) × (0 < length w.folders.now)
 IsMeantCommand (command.Mirror w) = (w.workers ≤ MOST_WORKERS) × IsPlain w.upstream.now
 IsMeantCommand (command.Load number) = (1 ≤ number) × (number ≤ MOST_RELEASES)
-IsMeantCommand (command.MirrorCalendars plan) = IsRange plan.start.seconds plan.end.seconds
+IsMeantCommand (command.MirrorCalendars plan) = IsRangeAsked plan.start.seconds plan.end.seconds

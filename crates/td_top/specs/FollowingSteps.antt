@@ -13,7 +13,7 @@ use Rattle.td_top.specs.Following.{SaysStated, StatesAfter}
 use Rattle.td_top.specs.Growth.{GrowthView, following}
 use Rattle.td_top.specs.Sessions.{LaterSession}
 use Rattle.td_top.specs.Operator.{heard_by, with_joined}
-use Rattle.td_top.specs.declared.following.Follow.{Follow}
+use Rattle.td_top.specs.declared.mirror_feed.Follow.{Follow}
 use Rattle.td_top.specs.declared.session.Session.{Session}
 
 -- what is seen of a mirror, and of the server that it follows

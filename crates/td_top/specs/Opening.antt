@@ -10,7 +10,7 @@ use Rattle.installer.specs.declared.install_fault.InstallFault.TheVariants as in
 use Rattle.release_check.specs.declared.check_fault.CheckFault.TheVariants as fault
 use Rattle.td_top.specs.Folders.{FoldersGive, IsRefusal, StopsAtFault}
 use Rattle.td_top.specs.Works.{HasSeen}
-use Rattle.td_top.specs.declared.opening.Opened.{Opened}
+use Rattle.td_top.specs.declared.opening.OpenedServer.{OpenedServer}
 
 -- the folders were not all installed: one of them is refused, unless memory or a read failed
 abbrev pub Refused : Option (List File) → List Chosen → List (List ℕ) → InstallFault → Type 0
@@ -41,7 +41,7 @@ pub record InstallsRest (rules : List Chosen) (dirs : List (List ℕ)) (s t : St
   pub came : RestCame s.files rules dirs (history_of old) (history_of now) result
 
 -- the catalogues that were published, where the folders were installed
-abbrev pub published_in : Result Opened InstallFault
+abbrev pub published_in : Result OpenedServer InstallFault
     → Result (List (Catalogue (List ℕ))) InstallFault
 published_in (Ok opened) = Ok opened.session.installer.list
 published_in (Err e) = Err e
@@ -62,7 +62,7 @@ pub record InstallsAll (rules : List Chosen) (dirs : List (List ℕ)) (s t : Sto
 
 -- so many further desks were made, of the same pair, which have seen all that was published, and
 -- nobody has subscribed
-pub record HasDesks (workers : ℕ) (opened : Opened) : Type 0 where
+pub record HasDesks (workers : ℕ) (opened : OpenedServer) : Type 0 where
   pub number : length opened.desks.items ≡ workers
   pub seen : All (HasSeen opened.session.installer.pair (length opened.session.installer.list))
       opened.desks.items

@@ -7,14 +7,14 @@ use Rattle.std.specs.Option.{IsSome}
 use mathlib.Core.List.{IsPrefix}
 use Rattle.catalogue.specs.Histories.{meta}
 use Rattle.catalogue.specs.Releases.{ReleaseData}
-use Rattle.console.specs.Lines.{HasText}
+use Rattle.console.specs.Lines.{HasWishText}
 use Rattle.console.specs.declared.line.Line.{Line}
 use Rattle.console.specs.declared.line.Line.TheVariants as line
 use Rattle.console.specs.Replies.{news_text, reply_text}
 use Rattle.console.specs.declared.said.Said.TheVariants as said
 use Rattle.subscribers.specs.FaultText.{fault_text}
-use Rattle.subscribers.specs.Hearing.{Audience, Event, after, all_hear, cleared_by}
-use Rattle.subscribers.specs.News.{numbered}
+use Rattle.subscribers.specs.Hearing.{Audience, Event, audience_after, all_hear, cleared_by}
+use Rattle.subscribers.specs.News.{numbered_from}
 use Rattle.subscribers.specs.Views.{SubscriberView}
 use Rattle.subscribers.specs.declared.subscribe_fault.SubscribeFault.TheVariants as fault
 use Rattle.subscribers.specs.declared.subscriber_list.TheConstants.{MOST_SUBSCRIBERS}
@@ -75,7 +75,7 @@ abbrev pub TakesMemory : Line → Type 0
 TakesMemory line.Status = ⊤
 TakesMemory (line.Watch wish) = ⊤
 TakesMemory (line.News number) = ⊤
-TakesMemory asked = HasText asked
+TakesMemory asked = HasWishText asked
 
 -- What a line gets said that changes neither the history nor who hears of it, and the least place
 -- that a status may tell after it. A status shows a place that is not before the last release
@@ -90,7 +90,7 @@ TellsOnly whole t (line.Watch wish) answer least =
     (MOST_SUBSCRIBERS ≤ length t.subscribers) × (least ≡ t.least)
     × (answer ≡ reply_text (said.Refused (fault_text fault.WatchFull)))
 TellsOnly whole t (line.News number) answer least =
-    (numbered t.subscribers number ≡ None) × (least ≡ t.least)
+    (numbered_from t.subscribers number ≡ None) × (least ≡ t.least)
     × (answer ≡ reply_text (said.Refused nobody_text))
 TellsOnly whole t line.Quit answer least = (least ≡ t.least) × (answer ≡ reply_text said.Bye)
 TellsOnly whole t asked answer least = ⊥
@@ -103,7 +103,7 @@ ChangesHearing a (line.Watch wish) answer event =
     × (answer ≡ reply_text (said.Watching (length a.subscribers + 1)))
 -- what a subscriber holds is told, and cleared
 ChangesHearing a (line.News number) answer event =
-    (event ≡ Event.Clears number) × IsSome (numbered a.subscribers number)
+    (event ≡ Event.Clears number) × IsSome (numbered_from a.subscribers number)
     × (answer ≡ news_text (cleared_by number a event))
 ChangesHearing a asked answer event = ⊥
 
@@ -115,8 +115,8 @@ pub data GetsAnswer (whole : List ReleaseData) (t : Talk) (asked : Line) (answer
       → GetsAnswer whole t asked answer u
   -- it is this to those who hear, and the history is as it was
   changed : (event : Event) → ChangesHearing (audience t) asked answer event
-      → (after (audience t) event).history ≡ t.published
-      → u ≡ record t { subscribers = (after (audience t) event).subscribers }
+      → (audience_after (audience t) event).history ≡ t.published
+      → u ≡ record t { subscribers = (audience_after (audience t) event).subscribers }
       → GetsAnswer whole t asked answer u
   only_told : (least : ℕ) → TellsOnly whole t asked answer least → u ≡ record t { least = least }
       → GetsAnswer whole t asked answer u

@@ -10,8 +10,8 @@ use Rattle.installer.specs.declared.install_fault.InstallFault.TheVariants as in
 use Rattle.mirror.specs.FaultText.{fault_text as sync_text}
 use Rattle.mirror.specs.declared.sync_fault.SyncFault.{SyncFault}
 use Rattle.mirror.specs.declared.sync_fault.SyncFault.TheVariants as sync
-use Rattle.td_top.specs.declared.replies.Reply.{Reply}
-use Rattle.td_top.specs.declared.replies.Reply.TheVariants as reply
+use Rattle.td_top.specs.declared.replies.ConsoleReply.{ConsoleReply}
+use Rattle.td_top.specs.declared.replies.ConsoleReply.TheVariants as reply
 
 -- the token of the last place
 abbrev pub last_token : List ReleaseData → List ℕ
@@ -22,7 +22,7 @@ abbrev pub nobody_text : List ℕ
 nobody_text = codes "20 NoWatch"
 
 -- a reply as it is written
-abbrev pub reply_bytes : Reply → List ℕ
+abbrev pub reply_bytes : ConsoleReply → List ℕ
 reply_bytes (reply.Short text) = text
 reply_bytes (reply.Long text) = text
 

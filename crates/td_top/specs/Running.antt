@@ -11,7 +11,7 @@ use Rattle.td_base.specs.DoorViews.{DoorView, NetworkView}
 use Rattle.td_base.specs.Upstreams.{UpstreamView}
 use Rattle.mirror_world.specs.Answers.{IsAnsweredOver}
 use Rattle.calendar_world.specs.Endings.{IsCalendarAnsweredOver}
-use Rattle.td_top.specs.Command.{Asked, answer, at, calmirror, check, load, mirror, serve}
+use Rattle.td_top.specs.Command.{PlainCommand, answer, at, calmirror, check, load, mirror, serve}
 use Rattle.td_top.specs.Command.{usage_line}
 use Rattle.td_top.specs.Completing.{FoldersAreGiven, IsComplete, NoneRose, PrimarySettles}
 use Rattle.td_top.specs.Outside.{LaterWorld, Outside, World, world}
@@ -48,7 +48,7 @@ pub record ServesNobody (before after : World) (doors : List DoorView) (up : Opt
 
 -- how a run ends: with the doors that were served, with the server that was followed, if there was
 -- one, and with a status
-abbrev pub RunEnds : Option Asked → World → World → List DoorView → Option UpstreamView → Status
+abbrev pub RunEnds : Option PlainCommand → World → World → List DoorView → Option UpstreamView → Status
     → Type 0
 RunEnds None before after doors up end =
     Printed status.Usage usage_line before.outside.output after.outside.output end
@@ -74,24 +74,24 @@ RunEnds (Some (calmirror upstream start last)) before after doors up end =
     × (after.outside.store ≡ before.outside.store) × (after.spawner ≡ before.spawner)
 
 -- a run ended, and nothing else was done to the outside than calls do
-pub record RunEndsLater (asked : Option Asked) (before after : World) (doors : List DoorView)
+pub record RunEndsLater (asked : Option PlainCommand) (before after : World) (doors : List DoorView)
     (up : Option UpstreamView) (end : Status) : Type 0 where
   pub ends : RunEnds asked before after doors up end
   pub later : LaterWorld before after
 
 -- the same as the clauses of calls tell it, which no proof by search opens
-unfoldable pub HasRun : Option Asked → World → World → List DoorView → Option UpstreamView → Status
+unfoldable pub HasRun : Option PlainCommand → World → World → List DoorView → Option UpstreamView → Status
     → Type 0
 HasRun asked before after doors up end = RunEndsLater asked before after doors up end
 
 -- a run ended as one that is asked for so does
-abbrev pub RunsAs : Option Asked → World → World → List DoorView → Option UpstreamView → Status
+abbrev pub RunsAs : Option PlainCommand → World → World → List DoorView → Option UpstreamView → Status
     → Type 0
 RunsAs spelled before after doors up end =
-    (asked : Option Asked) → spelled ≡ asked → HasRun asked before after doors up end
+    (asked : Option PlainCommand) → spelled ≡ asked → HasRun asked before after doors up end
 
 -- the same, whatever the network and the spawner are, which were left alone
-abbrev pub RunsAlone : Option Asked → Outside → Outside → Status → Type 0
+abbrev pub RunsAlone : Option PlainCommand → Outside → Outside → Status → Type 0
 RunsAlone spelled before after end =
     (network : NetworkView) (spawner : ℕ)
     → RunsAs spelled (world before network spawner) (world after network spawner) [] None end
@@ -99,7 +99,7 @@ RunsAlone spelled before after end =
 -- ---- runs that are complete
 
 -- what a command needs of the outside to do all that was asked
-abbrev pub IsGiven : Asked → World → Option UpstreamView → Type 0
+abbrev pub IsGiven : PlainCommand → World → Option UpstreamView → Type 0
 IsGiven (answer dirs) before up = FoldersAreGiven before.outside.store [] dirs
 IsGiven (check dirs) before up = FoldersAreGiven before.outside.store [] dirs
 IsGiven (at path m) before up = ZoneIsGiven before.outside.store path
@@ -110,7 +110,7 @@ IsGiven (mirror address workers upstream) before up = PrimarySettles IsAnsweredO
 IsGiven (calmirror upstream start last) before up = PrimarySettles IsCalendarAnsweredOver up
 
 -- where no count of faults rose, and that is there, all was done, or memory ran out
-abbrev pub Completes : Asked → Type 0
+abbrev pub Completes : PlainCommand → Type 0
 Completes asked =
     (before after : World) (doors : List DoorView) (up : Option UpstreamView) (end : Status)
     → RunEnds (Some asked) before after doors up end → NoneRose before after doors up

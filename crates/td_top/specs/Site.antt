@@ -5,7 +5,7 @@ use Rattle.td_base.specs.Views.{LaterSink, LaterSource, SinkView, SourceView, St
 use Rattle.td_base.specs.DoorViews.{NetworkView}
 use Rattle.td_top.specs.Growth.{GrowthView, LaterGrowth}
 use Rattle.td_top.specs.Outside.{World, outside, world}
-use Rattle.td_top.specs.declared.site.Site.{Site}
+use Rattle.td_top.specs.declared.site.RunIo.{RunIo}
 
 -- an operator's console: what the history grows by, the input and the output
 pub record ConsoleView : Type 0 where
@@ -47,19 +47,19 @@ pub record LaterSite (before after : SiteView) : Type 0 where
 
 -- what is seen of the objects that were lent, with what the history grows by
 abbrev pub site_of : {C K N W : Type 0} → GrowthView → (C → SourceView) → (K → SinkView)
-    → (N → NetworkView) → (W → ℕ) → Site C K N W → SiteView
+    → (N → NetworkView) → (W → ℕ) → RunIo C K N W → SiteView
 site_of growth input output network spawner s =
     site (console growth (input s.input.now) (output s.output.now)) (network s.net.now)
     (spawner s.spawner.now)
 
 -- with a store
 abbrev pub world_of : {C K N W : Type 0} → StoreView → (C → SourceView) → (K → SinkView)
-    → (N → NetworkView) → (W → ℕ) → Site C K N W → World
+    → (N → NetworkView) → (W → ℕ) → RunIo C K N W → World
 world_of store input output network spawner s =
     world (outside store (input s.input.now) (output s.output.now)) (network s.net.now)
     (spawner s.spawner.now)
 
 -- which objects these are
-abbrev pub site_names : {C K N W : Type 0} → Site C K N W → ℕ × ℕ × ℕ × ℕ
+abbrev pub site_names : {C K N W : Type 0} → RunIo C K N W → ℕ × ℕ × ℕ × ℕ
 site_names s =
     (s.input.ghost_name, s.output.ghost_name, s.net.ghost_name, s.spawner.ghost_name)

@@ -38,8 +38,8 @@ pub record LaterScene (before now : Scene) : Type 0 where
   pub session : LaterSession before.session now.session
 
 -- a talk that begins at a scene
-abbrev pub begun_at : Scene → Talk
-begun_at s =
+abbrev pub talk_begun_at : Scene → Talk
+talk_begun_at s =
     record (talk_begun (history_of s.session.installer.list) s.console.growth)
     { subscribers = s.session.installer.subscribers }
 
@@ -54,7 +54,7 @@ pub record TalksOver (before now : Scene) (asked : List Line) (told : List (List
   pub later : LaterScene before now
   pub talks : (whole : List ReleaseData) → BeginsWhole now.session whole
       → (t : Talk) × StandsAt now.console.growth now.session t
-      × Talks whole (begun_at before) asked told t
+      × Talks whole (talk_begun_at before) asked told t
 
 -- the first of the lines in the bytes that were read
 abbrev pub ReadsLines : SourceView → SourceView → List ℕ → List Line → List Line → Type 0
@@ -63,8 +63,8 @@ ReadsLines before now read asked ignored =
 
 -- nothing was read before it was needed: the last piece, of so many bytes at most, was read once
 -- all lines of the bytes before it had got what they get said
-abbrev pub IsNeeded : List ℕ → List Line → Type 0
-IsNeeded read asked =
+abbrev pub IsReadNeeded : List ℕ → List Line → Type 0
+IsReadNeeded read asked =
     (first piece : List ℕ) × (more : List Line) × (read ≡ first ++ piece)
     × (length piece ≤ PIECE) × (asked ≡ lines_of first ++ more)
 
@@ -107,7 +107,7 @@ pub record Talked (before now : Scene) (ended : TalkEnd) : Type 0 where
   pub ignored : List Line
   pub told : List (List ℕ)
   pub reads : ReadsLines before.console.input now.console.input read asked ignored
-  pub needed : IsNeeded read asked
+  pub needed : IsReadNeeded read asked
   pub over : TalksOver before now asked told
   pub written : WritesTalk ended (history_of before.session.installer.list)
       before.console.output now.console.output told
@@ -126,7 +126,7 @@ pub record IsAt (before now : Scene) (held : List ℕ) : Type 0 where
   pub told : List (List ℕ)
   pub consumed : Consumes before.console.input.left now.console.input.left read
   pub gives : GivesLines read asked held
-  pub needed : IsNeeded read asked
+  pub needed : IsReadNeeded read asked
   pub goes_on : AllByRecursion KeepsTalking asked
   pub steady : now.console.input.faults ≡ before.console.input.faults
   pub over : TalksOver before now asked told
@@ -144,7 +144,7 @@ pub record AnswersOperator (opening whole : List ReleaseData) (before now : Cons
   pub told : List (List ℕ)
   pub last : Talk
   pub reads : ReadsLines before.input now.input read asked ignored
-  pub needed : IsNeeded read asked
+  pub needed : IsReadNeeded read asked
   pub talks : Talks whole (talk_begun opening before.growth) asked told last
   pub hears : TellsEachChange (audience (talk_begun opening before.growth)) (events_of talks) last
   pub published : last.published ≡ whole

@@ -1,13 +1,13 @@
-//! Those who hear which zones later installs change.
+//! Subscribers to the zones that later installs change.
 ghost use Rattle.std.specs.Prelude.{◌≡◌, IfOk};
 ghost use Rattle.std.specs.Option.{option_map};
 ghost use Rattle.console.specs.Replies.{news_text};
-ghost use Rattle.subscribers.specs.News.{numbered};
+ghost use Rattle.subscribers.specs.News.{numbered_from};
 ghost use Rattle.td_top.specs.Growth.{GrowthView};
 ghost use Rattle.td_top.specs.Replies.{reply_bytes};
 ghost use Rattle.td_top.specs.Sessions.{AnswersLine};
 
-use crate::replies::Reply;
+use crate::replies::ConsoleReply;
 use crate::session::Session;
 use console::{Line, Said, news_reply};
 use installer::Installer;
@@ -15,24 +15,25 @@ use std::alloc::Global;
 use subscribers::{SubscribeFault, Wish};
 use td_base::{Bytes, NoMemory};
 
-/// Adds a subscriber with a wish of its own, and gives the reply, which takes no memory then.
-pub fn watch(session: &mut Session, wish: &Wish) -> Reply
+/// Adds a subscriber with its own copy of a wish, and returns the reply. When the subscriber was
+/// added, the reply allocates no memory.
+pub fn watch(session: &mut Session, wish: &Wish) -> ConsoleReply
     ensures { (growth : GrowthView) (asked : Line) → asked ≡ Line.Watch wish.now
         → AnswersLine growth growth session.old session.new asked (reply_bytes result) }
 {
     let Ok(own) = copy_of(session.alloc, wish) else {
-        return Reply::brief(&Said::NoMemory);
+        return ConsoleReply::brief(&Said::NoMemory);
     };
     match session.installer.subscribe(own) {
-        Ok(number) => Reply::brief(&Said::Watching(number)),
-        Err(SubscribeFault::NoMemory) => Reply::brief(&Said::NoMemory),
+        Ok(number) => ConsoleReply::brief(&Said::Watching(number)),
+        Err(SubscribeFault::NoMemory) => ConsoleReply::brief(&Said::NoMemory),
         Err(SubscribeFault::WatchFull) => {
-            Reply::shown_refusal(session.alloc, &SubscribeFault::WatchFull)
+            ConsoleReply::shown_refusal(session.alloc, &SubscribeFault::WatchFull)
         }
     }
 }
 
-/// A wish once more.
+/// A copy of a wish.
 fn copy_of(alloc: Global, wish: &Wish) -> Result<Wish, NoMemory>
     ensures { IfOk result (λ own. own ≡ wish.now) }
 {
@@ -43,27 +44,27 @@ fn copy_of(alloc: Global, wish: &Wish) -> Result<Wish, NoMemory>
     })
 }
 
-/// Gives the reply with what the subscriber of a number holds, which it does not hold any more
-/// then. Where there is no memory for the reply, it holds all of it.
-pub fn tell_news(session: &mut Session, number: u32) -> Reply
+/// Returns the reply with the notices that the subscriber of a number holds, and clears them. When
+/// there is no memory for the reply, it keeps all of them.
+pub fn tell_news(session: &mut Session, number: u32) -> ConsoleReply
     ensures { (growth : GrowthView) (asked : Line) → asked ≡ Line.News number
         → AnswersLine growth growth session.old session.new asked (reply_bytes result) }
 {
     match held_text(session.alloc, &session.installer, number) {
         Ok(Some(text)) => {
             session.installer.clear(number);
-            Reply::Long(text)
+            ConsoleReply::Long(text)
         }
-        Ok(None) => Reply::nobody(session.alloc),
-        Err(NoMemory) => Reply::brief(&Said::NoMemory),
+        Ok(None) => ConsoleReply::nobody(session.alloc),
+        Err(NoMemory) => ConsoleReply::brief(&Said::NoMemory),
     }
 }
 
-/// The reply with what the subscriber of a number holds. None exactly where there is no such
-/// subscriber.
+/// The reply with what the subscriber of a number holds. None exactly when no such subscriber
+/// exists.
 fn held_text(alloc: Global, installer: &Installer, number: u32) -> Result<Option<Bytes>, NoMemory>
     ensures { IfOk result (λ text. text
-        ≡ option_map (λ s. news_text s.held) (numbered installer.now.subscribers number)) }
+        ≡ option_map (λ s. news_text s.held) (numbered_from installer.now.subscribers number)) }
 {
     match installer.held(number) {
         None => Ok(None),

@@ -10,7 +10,7 @@ ghost use Rattle.td_top.specs.Command.{plain_command, serve_of};
 
 pub(crate) mod rules;
 
-use crate::command::rules::{Choice, read_rules};
+use crate::command::rules::{RuleChoice, read_rules};
 use crate::running::calendar_mirroring::CalendarPlan;
 use console::{meant_moment, read_number};
 use td_base::{Bytes, is_path_word};
@@ -19,7 +19,7 @@ use td_civil::{HI, Moment, moment_of};
 /// The most folders of a command.
 pub(crate) const MOST_FOLDERS: usize = 64;
 
-/// The most bytes of a network address.
+/// The longest network address, in bytes.
 pub(crate) const ADDRESS_LIMIT: usize = 255;
 
 /// The most workers.
@@ -28,10 +28,10 @@ pub(crate) const MOST_WORKERS: u64 = 64;
 /// The most releases of a load.
 pub(crate) const MOST_RELEASES: u64 = 1_000;
 
-/// What the words ask for.
+/// The command that the arguments request.
 #[derive(Drop)]
 pub enum Command<'a> {
-    /// Install the folders, and answer the input as one connection.
+    /// Install the folders, and serve the input and output as one connection.
     Answer(&'a [Bytes]),
     /// Check the folders as one history.
     Check(&'a [Bytes]),
@@ -39,23 +39,23 @@ pub enum Command<'a> {
     At { file: &'a [u8], moment: Moment },
     Serve(ServeWords<'a>),
     Mirror(MirrorWords<'a>),
-    /// Make so many releases, serve requests after each, and print what was counted.
+    /// Make this many releases, serve requests after each, and print the counts.
     Load(u32),
-    /// Get the calendars of the server at an address, and print what they tell of a range.
+    /// Fetch the calendars of the server at an address, and print their observances in a range.
     MirrorCalendars(CalendarPlan<'a>),
 }
 
-/// Serve an address by so many workers, over the releases of folders. Each release but the first is
-/// asked these rules.
+/// Serve an address with a number of workers, over the releases of folders. The rules apply to each
+/// release but the first.
 #[derive(Drop)]
 pub struct ServeWords<'a> {
     pub address: &'a [u8],
     pub workers: u32,
-    pub rules: Choice,
+    pub rules: RuleChoice,
     pub folders: &'a [Bytes],
 }
 
-/// Follow the server at an address, and serve another address by so many workers.
+/// Follow the server at an address, and serve another address with a number of workers.
 #[derive(Clone, Copy)]
 pub struct MirrorWords<'a> {
     pub address: &'a [u8],
@@ -63,7 +63,7 @@ pub struct MirrorWords<'a> {
     pub upstream: &'a [u8],
 }
 
-/// The command that the words spell, if they are of the grammar.
+/// Parses command-line arguments. `None` if they are not in the grammar.
 pub fn read_words(words: &[Bytes]) -> Option<Command<'_>>
     ensures spelled { option_map plain_command result ≡ command_of words.now }
     ensures meant { IfSome result IsMeantCommand }
@@ -74,7 +74,7 @@ pub fn read_words(words: &[Bytes]) -> Option<Command<'_>>
     }
 }
 
-/// The command of this name with these words after it.
+/// Parses the arguments of the command of this name.
 fn read_named<'a>(name: &[u8], words: &'a [Bytes]) -> Option<Command<'a>>
     ensures spelled { option_map plain_command result ≡ command_of (name.now ∷ words.now) }
     ensures meant { IfSome result IsMeantCommand }
@@ -122,7 +122,7 @@ fn read_check(words: &[Bytes]) -> Option<Command<'_>>
     }
 }
 
-/// Whether the words may name the folders of a command.
+/// Whether the arguments are allowed as the folders of a command.
 #[tactic(auto, unfolding(crate::specs::Command::are_folders))]
 fn are_folders(words: &[Bytes]) -> bool
     ensures test { result ≡ are_folders words.now }
@@ -131,7 +131,7 @@ fn are_folders(words: &[Bytes]) -> bool
     1 <= words.len() && words.len() <= MOST_FOLDERS && are_path_words(words)
 }
 
-/// Whether each of the words may name a folder.
+/// Whether each of the arguments is allowed as a folder.
 fn are_path_words(words: &[Bytes]) -> bool
     ensures { result ≡ list_all is_path_word words.now }
 {
@@ -149,7 +149,8 @@ fn read_at(words: &[Bytes]) -> Option<Command<'_>>
     }
 }
 
-/// The command over a file at a moment, if the word may name a file and the moment has a meaning.
+/// The command over a file at a moment, if the argument is allowed as a file and the moment is
+/// within bounds.
 fn at_moment<'a>(file: &'a [u8], moment: &[u8]) -> Option<Command<'a>>
     ensures spelled { option_map plain_command result ≡ at_of (file.now ∷ moment.now ∷ []) }
     ensures meant { IfSome result IsMeantCommand }
@@ -174,8 +175,8 @@ fn read_serve(words: &[Bytes]) -> Option<Command<'_>>
     }
 }
 
-/// The command that serves an address, if the words may name one, some workers, and then rules and
-/// folders.
+/// The command that serves an address, if the arguments are an address, a number of workers, rules
+/// and folders.
 fn serve_at<'a>(address: &'a [u8], workers: &[u8], words: &'a [Bytes]) -> Option<Command<'a>>
     ensures spelled { option_map plain_command result
         ≡ serve_of (address.now ∷ workers.now ∷ words.now) }
@@ -210,8 +211,8 @@ fn read_mirror(words: &[Bytes]) -> Option<Command<'_>>
     }
 }
 
-/// The command that serves an address of a mirror, if the words may name two addresses and some
-/// workers.
+/// The command that serves an address of a mirror, if the arguments are two addresses and a number
+/// of workers.
 fn mirror_at<'a>(address: &'a [u8], workers: &[u8], upstream: &'a [u8]) -> Option<Command<'a>>
     ensures spelled { option_map plain_command result
         ≡ mirror_of (address.now ∷ workers.now ∷ upstream.now ∷ []) }
@@ -228,8 +229,8 @@ fn mirror_at<'a>(address: &'a [u8], workers: &[u8], upstream: &'a [u8]) -> Optio
     }))
 }
 
-/// Whether a word may name a network address: 1 to 255 letters, digits and `.:-[]` that do not
-/// begin with a dash.
+/// Whether an argument is allowed as a network address: 1 to 255 letters, digits and `.:-[]` that
+/// do not begin with a dash.
 fn is_address(word: &[u8]) -> bool
     ensures { result ≡ is_address word.now }
 {
@@ -239,14 +240,14 @@ fn is_address(word: &[u8]) -> bool
     }
 }
 
-/// Whether each byte may stand in a network address.
+/// Whether a network address may contain each byte.
 fn are_address_bytes(word: &[u8]) -> bool
     ensures { result ≡ list_all is_address_byte word.now }
 {
     word.iter().all(|byte| is_address_byte(*byte))
 }
 
-/// Whether a byte may stand in a network address.
+/// Whether a network address may contain a byte.
 fn is_address_byte(byte: u8) -> bool
     ensures { result ≡ is_address_byte byte }
 {
@@ -280,7 +281,7 @@ fn read_calmirror(words: &[Bytes]) -> Option<Command<'_>>
     }
 }
 
-/// The command over the calendars of a server, if the words may name its address and spell a range.
+/// The command over the calendars of a server, if the arguments are its address and a range.
 fn calendars_in<'a>(upstream: &'a [u8], start: &[u8], end: &[u8]) -> Option<Command<'a>>
     ensures spelled { option_map plain_command result
         ≡ calmirror_of (upstream.now ∷ start.now ∷ end.now ∷ []) }
@@ -298,8 +299,8 @@ fn calendars_in<'a>(upstream: &'a [u8], start: &[u8], end: &[u8]) -> Option<Comm
     }))
 }
 
-/// The moment that a word spells, if it comes after the start of a range. It may be the end of the
-/// moments that have a meaning.
+/// The moment that an argument encodes, if it comes after the start of a range. It may be the
+/// exclusive end of the supported moments.
 fn end_after(start: Moment, word: &[u8]) -> Option<Moment>
     ensures value { option_map (λ m. m.seconds) result ≡ end_after start.seconds word.now }
     ensures later { IfSome result (λ m. start.seconds <ℤ m.seconds) }

@@ -1,23 +1,24 @@
 ghost use Rattle.std.specs.Prelude.{◌≡◌};
 ghost use Rattle.td_top.specs.ConsoleBeside.{Halted, Ran, beside_of};
 
-use crate::growth::Growth;
+use crate::growth::ReleaseFeed;
 use crate::session::Session;
 use crate::talking::{TalkEnd, talk};
 use desk_pool::{Beside, StopFlag};
-use installer::Asked;
+use installer::InstallPolicy;
 use std::sync::Wait;
 use td_base::{Sink, Source};
 
-/// How a talk ended, if it did and memory served, and the flag that is raised after it.
+/// How a console session ended (`None` until then, or when memory ran out), and the flag that is
+/// raised after it.
 #[derive(Drop)]
 pub struct TalkOver {
     pub end: Option<TalkEnd>,
     pub flag: StopFlag,
 }
 
-/// The console of a server: it talks with an operator while workers serve, keeps how the talk
-/// ended, and raises their flag after it. All that it works with is lent to it.
+/// The console of a server: it serves an operator while workers run, keeps how the session ended,
+/// and raises the workers' flag after it. All that it works with is borrowed.
 #[derive(Drop)]
 pub struct Console<'a, Q, G, C, K> {
     pub session: &'a mut Session,
@@ -61,7 +62,8 @@ impl<'a, Q, G, C, K> Console<'a, Q, G, C, K> {
     }
 }
 
-impl<'a, 'k, G: Growth, C: Source, K: Sink> Beside for Console<'a, Asked<'k>, G, C, K> {
+impl<'a, 'k, G: ReleaseFeed, C: Source, K: Sink> Beside
+    for Console<'a, InstallPolicy<'k>, G, C, K> {
     ghost flag = { λ c. c.over.now.flag.flag };
 
     ghost stopped = { λ c. c.over.now.flag.raised };

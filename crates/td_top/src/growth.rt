@@ -4,26 +4,26 @@ ghost use Rattle.td_top.specs.Growth.{GrowthView, Grows};
 ghost use Rattle.td_top.specs.Replies.{reply_bytes};
 ghost use Rattle.td_top.specs.Sessions.{AnswersLine};
 
-use crate::replies::Reply;
+use crate::replies::ConsoleReply;
 use crate::session::Session;
 use console::Line;
-use installer::Asked;
+use installer::InstallPolicy;
 use std::sync::Wait;
 
-/// What a history grows by while it is served: the folders of a store, or a mirror.
-pub trait Growth {
-    /// Where these rules are asked of releases.
+/// The source of new releases while a history is served: the folders of a store, or a mirror.
+pub trait ReleaseFeed {
+    /// The view of the source, given the rules that apply to releases.
     ghost seen: { Self → List Chosen → GrowthView };
 
-    /// Does what a line asks for, where it is one that makes the history grow, and gives the reply
-    /// to it.
+    /// Performs a line that requests growth, and returns the reply to it. `None` for any other
+    /// line, which changes nothing.
     fn grow<R: Wait>(
         &mut self,
         rt: &R,
         session: &mut Session,
-        asked: &Asked<'_>,
+        asked: &InstallPolicy<'_>,
         line: &Line,
-    ) -> Option<Reply>
+    ) -> Option<ConsoleReply>
         ensures done { IfSome result (λ reply. AnswersLine (seen self.old asked.now.rules.chosen)
             (seen self.new asked.now.rules.chosen) session.old session.new line.now
             (reply_bytes reply)) }

@@ -5,7 +5,7 @@ ghost use Rattle.subscribers.specs.Wishes.{WantsAll};
 use admission::Kept;
 use subscribers::Want;
 
-/// The tests that the caller of a run keeps: one at least for each kind of rule, and for each kind
+/// The tests that the caller of a run keeps: at least one for each kind of rule, and for each kind
 /// of wish.
 #[derive(Clone, Copy)]
 pub struct KeptTests<'t> {

@@ -1,9 +1,13 @@
-//! The top call of the program: what its words, the files of its store and its input make it write,
-//! and with which status it ends. [`run`] is the call. How a run ends, command by command, is
-//! `RunEnds` of `specs/Running.antt`, and when it is complete, [`runs_complete`].
+//! The top call of the program, [`run`]: what it writes, and its exit status, for given arguments,
+//! store and input. How a run ends, command by command, is `RunEnds` of `specs/Running.antt`. When
+//! it is complete is stated by [`runs_complete`].
+//!
+//! Files, sockets and threads are traits of `td_base` here. The program `tzdistd` calls `run` with
+//! those of `devices`. The work is that of `installer`, `connection`, `console`, `mirror` and
+//! `calendar_mirror`.
 #![tactic(auto)]
 
-// A run: its words, what it is lent, how each command goes, and how a run ends.
+// A run: its arguments, what it borrows, each command, and how a run ends.
 mod command;
 mod kept_tests;
 mod outcome;
@@ -15,23 +19,23 @@ mod status;
 mod printing;
 mod refusing;
 
-// What is published, and for whom.
+// What is published, and for which desks.
 mod opening;
-mod publishing;
 mod session;
+mod session_installs;
 
-// The talk with an operator.
+// The console session of an operator.
 mod audience;
 mod operator;
 mod replies;
 mod talking;
 
-// What a history grows by: folders, or a mirror of another server.
-mod folders;
-mod following;
+// Sources of new releases: folders, or a mirror of another server.
+mod folder_feed;
 mod growth;
+mod mirror_feed;
 
-// Workers, and that talk beside them.
+// Workers, and the console session next to them.
 mod console_beside;
 mod works;
 

@@ -4,29 +4,29 @@ ghost use Rattle.td_top.specs.Works.{HasSeen};
 
 use crate::session::Session;
 use catalogue::Catalogue;
-use installer::{Asked, InstallFault, Installer};
+use installer::{InstallFault, InstallPolicy, Installer};
 use publication::Desk;
 use std::alloc::Global;
 use std::sync::Wait;
 use td_base::{Bytes, NoMemory, Store};
 use zone_meaning::Zone;
 
-/// What the releases of folders were installed for: a session, and the desks of its workers.
-pub struct Opened {
+/// What exists once the releases of folders are installed: a session, and the desks of its workers.
+pub struct OpenedServer {
     pub session: Session,
     pub desks: Vec<Desk<Catalogue<Zone>>>,
 }
 
-/// Installs the releases of folders, each but the first where no rule refuses it, for a session and
-/// the desks of so many workers.
+/// Installs the releases of folders, for a session and the desks of this many workers. Rules apply
+/// to each release but the first.
 pub fn open_all<R: Wait, S: Store>(
     rt: &R,
     alloc: Global,
     folders: &[Bytes],
-    asked: &Asked<'_>,
+    asked: &InstallPolicy<'_>,
     store: &mut S,
     workers: u32,
-) -> Result<Opened, InstallFault>
+) -> Result<OpenedServer, InstallFault>
     requires folders { 0 < length folders.now }
     requires workers { workers ≤ 64 }
     ensures all { InstallsAll asked.now.rules.chosen folders.now
@@ -46,7 +46,7 @@ pub fn open_all<R: Wait, S: Store>(
         return Err(fault);
     }
     match learn_opening(alloc, &session.installer, desks) {
-        Ok(desks) => Ok(Opened { session, desks }),
+        Ok(desks) => Ok(OpenedServer { session, desks }),
         Err(NoMemory) => {
             session.close(rt);
             Err(InstallFault::NoMemory)
@@ -78,7 +78,7 @@ fn learn_opening(
 fn install_rest<R: Wait, S: Store>(
     rt: &R,
     folders: &[Bytes],
-    asked: &Asked<'_>,
+    asked: &InstallPolicy<'_>,
     store: &mut S,
     session: &mut Session,
 ) -> Result<(), InstallFault>

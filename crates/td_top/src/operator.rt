@@ -10,24 +10,24 @@ ghost use Rattle.td_top.specs.Sessions.{AnswersLine};
 ghost use Rattle.td_top.specs.declared.session.Session.{Session as SessionView};
 
 use crate::audience::{tell_news, watch};
-use crate::growth::Growth;
-use crate::replies::Reply;
+use crate::growth::ReleaseFeed;
+use crate::replies::ConsoleReply;
 use crate::session::Session;
 use catalogue::Catalogue;
 use console::{Line, Said};
-use installer::{Asked, Installer};
+use installer::{InstallPolicy, Installer};
 use std::sync::Wait;
 use td_base::{NoMemory, Token};
 use zone_meaning::Zone;
 
-/// Does what a line asks for, and gives the reply to it.
-pub fn answer_line<R: Wait, G: Growth>(
+/// Performs a line of the operator, and returns the reply to it.
+pub fn answer_line<R: Wait, G: ReleaseFeed>(
     rt: &R,
     session: &mut Session,
-    asked: &Asked<'_>,
+    asked: &InstallPolicy<'_>,
     growth: &mut G,
     line: &Line,
-) -> Reply
+) -> ConsoleReply
     ensures answers { AnswersLine (G.seen growth.old asked.now.rules.chosen)
         (G.seen growth.new asked.now.rules.chosen)
         session.old session.new line.now (reply_bytes result) }
@@ -43,7 +43,7 @@ pub fn answer_line<R: Wait, G: Growth>(
         Line::Quit => bye(),
         _ => match growth.grow(rt, session, asked, line) {
             Some(reply) => reply,
-            None => Reply::brief(&Said::Unknown),
+            None => ConsoleReply::brief(&Said::Unknown),
         },
     }
 }
@@ -56,16 +56,16 @@ pub fn newest(installer: &Installer) -> Token
     last.token(last.count())
 }
 
-/// What is said to a line that asks that the talk end.
-fn bye() -> Reply
+/// The reply to a line that ends the session.
+fn bye() -> ConsoleReply
     ensures { (growth : GrowthView) (session : SessionView) (asked : Line) → asked ≡ Line.Quit
         → AnswersLine growth growth session session asked (reply_bytes result) }
 {
-    Reply::brief(&Said::Bye)
+    ConsoleReply::brief(&Said::Bye)
 }
 
 /// Shows the release that the desk holds after one enter.
-fn show(session: &mut Session) -> Reply
+fn show(session: &mut Session) -> ConsoleReply
     ensures answers { (growth : GrowthView) (asked : Line) → asked ≡ Line.Status
         → AnswersLine growth growth session.old session.new asked (reply_bytes result) }
     // What is shown is what was found by an enter of this call.
@@ -73,13 +73,13 @@ fn show(session: &mut Session) -> Reply
         ⊎ (reply_bytes result ≡ reply_text said.NoMemory) }
 {
     match session.desk.enter() {
-        Ok(()) => Reply::brief(&serving(session.desk.value())),
-        Err(NoMemory) => Reply::brief(&Said::NoMemory),
+        Ok(()) => ConsoleReply::brief(&serving(session.desk.value())),
+        Err(NoMemory) => ConsoleReply::brief(&Said::NoMemory),
     }
 }
 
-/// What is said of a catalogue that is served: the token of its last place, and how many zones its
-/// last release has.
+/// The status of a served catalogue: the token of its last place, and how many zones its last
+/// release has.
 fn serving(catalogue: &Catalogue<Zone>) -> Said
     requires { HasZoneHistory catalogue.now }
     ensures said { ForEachZoneHistory catalogue.now

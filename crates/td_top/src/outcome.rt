@@ -2,16 +2,16 @@ ghost use Rattle.std.specs.Prelude.{◌≡◌, [], map, Option, None};
 ghost use Rattle.std.specs.Option.{option_map};
 ghost use Rattle.td_base.specs.DoorViews.{DoorView};
 ghost use Rattle.td_base.specs.Upstreams.{UpstreamView};
-ghost use Rattle.td_top.specs.Command.{Asked};
+ghost use Rattle.td_top.specs.Command.{PlainCommand};
 ghost use Rattle.td_top.specs.Outside.{World};
 ghost use Rattle.td_top.specs.Running.{HasRun, number_of};
 
 use crate::status::Status;
 use std::alloc::Global;
 
-/// How a run ended: the status with which the process ends; the doors that were served, in the
-/// order in which the network gave them, none where no door was served to its end; and the server
-/// that was followed, as it was left, where the network gave one.
+/// How a run ended: the exit status of the process, the doors that were served, and the server that
+/// was followed. The doors are in the order of the network, and none if no door was served to its
+/// end. The server is as it was left, if the network gave one.
 #[derive(Drop)]
 pub struct Outcome<D, U> {
     pub status: u8,
@@ -19,7 +19,7 @@ pub struct Outcome<D, U> {
     pub up: Option<U>,
 }
 
-/// The same, with the status by its name.
+/// Like [`Outcome`], with a named status.
 #[derive(Drop)]
 pub struct Ending<D, U> {
     pub status: Status,
@@ -46,7 +46,7 @@ impl<D> Served<D> {
         }
     }
 
-    /// As the end of a run that followed this server, or none.
+    /// Adds the server that the run followed, or none.
     pub fn after<U>(self, up: Option<U>) -> Ending<D, U>
         ensures status { result.status ≡ self.status }
         ensures doors { result.doors ≡ self.doors }
@@ -63,7 +63,7 @@ impl<D, U> Ending<D, U> {
         ensures status { result.status ≡ status }
         ensures doors { result.doors.items ≡ [] }
         ensures up { result.up ≡ None }
-        ensures ends { (asked : Option Asked) (before after : World) (door : D → DoorView)
+        ensures ends { (asked : Option PlainCommand) (before after : World) (door : D → DoorView)
             (server : U → UpstreamView) → HasRun asked before after [] None status
             → HasRun asked before after (map door result.doors.items)
             (option_map server result.up) result.status }
@@ -76,7 +76,7 @@ impl<D, U> Ending<D, U> {
         }
     }
 
-    /// What the caller of the run is given.
+    /// What the caller of the run receives.
     pub fn outcome(self) -> Outcome<D, U>
         ensures status { result.status ≡ number_of self.status }
         ensures doors { result.doors ≡ self.doors }

@@ -8,9 +8,9 @@ use std::alloc::Global;
 use std::fmt::Display;
 use td_base::{Bytes, NoMemory, Sink, Written, write_whole};
 
-/// Writes a text that ends a run with this status. Where a write fails the status is
-/// [`Status::NotWritten`] in place of [`Status::Done`], and a line that says why nothing was done
-/// keeps its own.
+/// Writes a text that ends a run with this status. When a write fails, the status is
+/// [`Status::NotWritten`] instead of [`Status::Done`]. A line that says why nothing was done keeps
+/// its own status.
 pub fn print<K: Sink>(output: &mut K, status: Status, text: &[u8]) -> Status
     requires { CanPrint status }
     ensures { Printed status text.now (K.seen output.old) (K.seen output.new) result }
@@ -21,7 +21,7 @@ pub fn print<K: Sink>(output: &mut K, status: Status, text: &[u8]) -> Status
     }
 }
 
-/// Refuses something, with this status, for the reason that a text gives.
+/// Ends a run with this status and a line that gives the reason as text.
 pub fn refuse<K: Sink>(alloc: Global, status: Status, why: &Bytes, output: &mut K) -> Status
     requires { CanRefuse status }
     ensures { Tells status (refused_line why.now) (K.seen output.old) (K.seen output.new) result }
@@ -32,7 +32,7 @@ pub fn refuse<K: Sink>(alloc: Global, status: Status, why: &Bytes, output: &mut 
     }
 }
 
-/// Refuses something, with this status, for a reason that can be shown.
+/// Ends a run with this status and a line that gives a printable reason.
 pub fn refuse_shown<D: Display, K: Sink>(
     alloc: Global,
     status: Status,
@@ -49,7 +49,7 @@ pub fn refuse_shown<D: Display, K: Sink>(
     }
 }
 
-/// The line that refuses something.
+/// The line of a refusal.
 fn refused_line(alloc: Global, why: &Bytes) -> Result<Bytes, NoMemory>
     ensures { IfOk result (λ line. line ≡ refused_line why.now) }
 {
@@ -59,7 +59,7 @@ fn refused_line(alloc: Global, why: &Bytes) -> Result<Bytes, NoMemory>
     Ok(line)
 }
 
-/// A value as it is shown.
+/// A value as it is printed.
 pub fn shown<D: Display>(alloc: Global, value: &D) -> Result<Bytes, NoMemory>
     ensures { IfOk result (λ text. IfSome (D.output value.now) (λ shown. text ≡ shown)) }
 {

@@ -9,7 +9,7 @@ use release_check::CheckFault;
 use std::alloc::Global;
 use td_base::{Bytes, NoMemory, Sink};
 
-/// Ends a run for a folder that was not installed.
+/// Ends a run because a folder was not installed.
 pub fn refuse_install<K: Sink>(alloc: Global, fault: &InstallFault, output: &mut K) -> Status
     ensures { RefusesInstall fault.now (K.seen output.old) (K.seen output.new) result }
 {

@@ -15,69 +15,69 @@ use std::alloc::Global;
 use std::fmt::Display;
 use td_base::{Bytes, NoMemory};
 
-/// A reply as it is written.
+/// The bytes of a reply.
 #[derive(Drop)]
-pub enum Reply {
+pub enum ConsoleReply {
     Short(ShortLine),
     Long(Bytes),
 }
 
-impl Reply {
-    /// The reply for what is said, other than a refusal. It takes no memory.
-    pub fn brief(said: &Said) -> Reply
+impl ConsoleReply {
+    /// The reply for anything but a refusal. It allocates no memory.
+    pub fn brief(said: &Said) -> ConsoleReply
         requires { IsBoundedReply said.now }
         ensures { reply_bytes result ≡ reply_text said.now }
     {
-        Reply::Short(short(said))
+        ConsoleReply::Short(short(said))
     }
 
-    /// The reply for a folder that was not installed. It takes memory; where there is none, that is
-    /// said.
-    pub fn refusal(alloc: Global, fault: &InstallFault) -> Reply
+    /// The reply for a folder that was not installed. It allocates memory; without memory the reply
+    /// says so.
+    pub fn refusal(alloc: Global, fault: &InstallFault) -> ConsoleReply
         ensures { SaysRefused fault.now (reply_bytes result) }
     {
         match fault {
-            InstallFault::NoMemory => Reply::brief(&Said::NoMemory),
+            InstallFault::NoMemory => ConsoleReply::brief(&Said::NoMemory),
             _ => match refused(alloc, fault) {
-                Ok(line) => Reply::Long(line),
-                Err(NoMemory) => Reply::brief(&Said::NoMemory),
+                Ok(line) => ConsoleReply::Long(line),
+                Err(NoMemory) => ConsoleReply::brief(&Said::NoMemory),
             },
         }
     }
 
-    /// The reply for a sync that ended by a fault. It takes memory; where there is none, that is
-    /// said.
-    pub fn sync_refusal(alloc: Global, fault: &SyncFault) -> Reply
+    /// The reply for a sync that ended with a fault. It allocates memory; without memory the reply
+    /// says so.
+    pub fn sync_refusal(alloc: Global, fault: &SyncFault) -> ConsoleReply
         ensures { SaysFaulted fault.now (reply_bytes result) }
     {
         match fault {
-            SyncFault::NoMemory => Reply::brief(&Said::NoMemory),
+            SyncFault::NoMemory => ConsoleReply::brief(&Said::NoMemory),
             _ => match faulted(alloc, fault) {
-                Ok(line) => Reply::Long(line),
-                Err(NoMemory) => Reply::brief(&Said::NoMemory),
+                Ok(line) => ConsoleReply::Long(line),
+                Err(NoMemory) => ConsoleReply::brief(&Said::NoMemory),
             },
         }
     }
 
-    /// The reply for something that was refused, for a reason that can be shown. It takes memory;
-    /// where there is none, that is said.
-    pub fn shown_refusal<D: Display>(alloc: Global, why: &D) -> Reply
+    /// The reply for something that was refused, with a printable reason. It allocates memory;
+    /// without memory the reply says so.
+    pub fn shown_refusal<D: Display>(alloc: Global, why: &D) -> ConsoleReply
         ensures { IfSome (D.output why.now) (λ text. SaysWhy text (reply_bytes result)) }
     {
         match shown_line(alloc, why) {
-            Ok(line) => Reply::Long(line),
-            Err(NoMemory) => Reply::brief(&Said::NoMemory),
+            Ok(line) => ConsoleReply::Long(line),
+            Err(NoMemory) => ConsoleReply::brief(&Said::NoMemory),
         }
     }
 
-    /// The reply where nobody has subscribed under a number. It takes memory; where there is none,
-    /// that is said.
-    pub fn nobody(alloc: Global) -> Reply
+    /// The reply when nobody has subscribed under a number. It allocates memory; without memory the
+    /// reply says so.
+    pub fn nobody(alloc: Global) -> ConsoleReply
         ensures { SaysWhy nobody_text (reply_bytes result) }
     {
         match nobody_line(alloc) {
-            Ok(line) => Reply::Long(line),
-            Err(NoMemory) => Reply::brief(&Said::NoMemory),
+            Ok(line) => ConsoleReply::Long(line),
+            Err(NoMemory) => ConsoleReply::brief(&Said::NoMemory),
         }
     }
 
@@ -86,8 +86,8 @@ impl Reply {
         ensures { result.now ≡ reply_bytes self.now }
     {
         match self {
-            Reply::Short(line) => line.as_slice(),
-            Reply::Long(line) => line.as_slice(),
+            ConsoleReply::Short(line) => line.as_slice(),
+            ConsoleReply::Long(line) => line.as_slice(),
         }
     }
 }
@@ -106,7 +106,7 @@ fn faulted(alloc: Global, fault: &SyncFault) -> Result<Bytes, NoMemory>
     refused_line(alloc, shown(alloc, fault)?)
 }
 
-/// The line that refuses for a reason that can be shown.
+/// The line of a refusal with a printable reason.
 fn shown_line<D: Display>(alloc: Global, why: &D) -> Result<Bytes, NoMemory>
     ensures { IfOk result (λ line. IfSome (D.output why.now) (λ text.
         line ≡ reply_text (said.Refused text))) }
@@ -121,7 +121,7 @@ fn nobody_line(alloc: Global) -> Result<Bytes, NoMemory>
     refused_line(alloc, Bytes::from_slice(alloc, b"20 NoWatch")?)
 }
 
-/// The line that refuses for this reason.
+/// The line of a refusal with this reason.
 fn refused_line(alloc: Global, why: Bytes) -> Result<Bytes, NoMemory>
     ensures { IfOk result (λ line. line ≡ reply_text (said.Refused why)) }
 {

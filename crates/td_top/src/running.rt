@@ -31,7 +31,7 @@ use crate::running::loading::{LoadPlan, load, load_complete};
 use crate::running::mirroring::{mirror_server, mirrors_complete};
 use crate::running::server::{serve_doors, serves_complete};
 use crate::running::state_line::{state_at, state_complete};
-use crate::site::Site;
+use crate::site::RunIo;
 use crate::status::Status;
 use admission::Kept;
 use std::alloc::Global;
@@ -43,27 +43,31 @@ use td_base::{Bytes, Door, Network, Sink, Source, Spawner, Store};
 /// The line that is printed for words that are no command.
 const USAGE: &[u8] = b"usage: tzdistd answer|serve|mirror|check|at|load|calmirror\n";
 
-/// Does what the words of a command line ask for, over a store of files, an input and an output,
-/// and, to serve connections, over a network and a spawner of workers. It gives the status with
-/// which the process ends, the doors that were served, and the server that was followed.
+/// Runs a command line over a store of files, an input and an output and, to serve connections, a
+/// network and a spawner of workers. Returns the exit status of the process, the doors that were
+/// served, and the server that was followed.
 ///
-/// `answer DIR..` installs the releases of folders, in their order, and serves the input and the
-/// output, as one connection, over the last. `serve ADDRESS WORKERS RULES DIR..` serves the
-/// connections of an address by so many workers, while an operator talks over the input and the
-/// output. Of its releases each but the first is asked the rules `--max-changed N` and
-/// `--no-past-change MOMENT`, in their order, and refused by the first that does not allow what it
-/// changes. `mirror ADDRESS WORKERS UPSTREAM` does so over what another server has, with which it
-/// syncs first and whenever the operator asks for that, and without rules. `check DIR..` checks
-/// folders as one history, with a line for each. `at FILE MOMENT` prints the state of a zone file
-/// at a moment. `load NUMBER` makes so many releases, serves requests after each in memory, and
-/// prints what was counted. `calmirror UPSTREAM START END` gets the calendars of another server,
-/// and prints what each tells of a range.
+/// `answer DIR..` installs the releases of folders, in their order. It serves the input and output,
+/// as one connection, over the last release.
 ///
-/// The operator of `serve` and `mirror` may ask to hear which zones later releases change, by
-/// wishes, and is told when it asks for the news.
+/// `serve ADDRESS WORKERS RULES DIR..` serves the connections of an address with a number of
+/// workers, while an operator uses the console over the input and output. The rules are
+/// `--max-changed N` and `--no-past-change MOMENT`. They apply in their order to each release but
+/// the first of the history. A release is refused by the first rule that does not allow its
+/// changes.
 ///
-/// The tests of the rules and those of the wishes, one for each kind at least, are kept by the
-/// caller.
+/// `mirror ADDRESS WORKERS UPSTREAM` serves likewise what another server has, without rules. It
+/// syncs with that server first, and whenever the operator requests it.
+///
+/// `check DIR..` checks folders as one history, with a line for each. `at FILE MOMENT` prints the
+/// state of a zone file at a moment. `load NUMBER` makes that many releases, serves requests after
+/// each in memory, and prints the counts. `calmirror UPSTREAM START END` fetches the calendars of
+/// another server, and prints the observances of each in a range.
+///
+/// The operator of `serve` and `mirror` may subscribe, by wishes, to the zones that later releases
+/// change, and receives the notices on `news`.
+///
+/// The caller keeps the tests of the rules and of the wishes, at least one of each kind.
 #[tactic(auto, unfolding(crate::specs::Running::HasRun))]
 pub fn run<R, S, C, K, N, W>(
     rt: &R,
@@ -102,19 +106,19 @@ where
         (map N.Door.seen result.doors.items) (option_map N.Up.seen result.up) status
         × LaterWorld before after }
 {
-    let mut site = Site::new(input, output, net, spawner);
+    let mut site = RunIo::new(input, output, net, spawner);
     let tests = KeptTests { kept, wants };
     do_words(rt, alloc, words, &tests, store, &mut site).outcome()
 }
 
-/// Does what the words ask for.
+/// Performs the command.
 fn do_words<R, S, C, K, N, W>(
     rt: &R,
     alloc: Global,
     words: &[Bytes],
     tests: &KeptTests<'_>,
     store: &mut S,
-    site: &mut Site<'_, C, K, N, W>,
+    site: &mut RunIo<'_, C, K, N, W>,
 ) -> Ending<N::Door, N::Up>
 where
     R: Threads + Wait + Copy + Send + 'static,
@@ -156,7 +160,7 @@ where
     }
 }
 
-/// Ends a run whose words are no command.
+/// Ends a run whose arguments are not a command.
 #[tactic(auto, unfolding(crate::specs::Command::usage_line))]
 fn usage<K: Sink>(output: &mut K) -> Status
     // The store and the input, whatever they are, are left alone.
@@ -166,9 +170,9 @@ fn usage<K: Sink>(output: &mut K) -> Status
     print(output, Status::Usage, USAGE)
 }
 
-/// Law: a run whose words are a command does all that was asked, or memory runs out, where no count
-/// of faults rose and what the command needs of the outside is there: folders that give releases, a
-/// file of a zone, or a primary that answers until a list of changes comes back empty.
+/// Law: a run whose arguments are a command completes it, or memory runs out. This needs that no
+/// count of faults rose, and that what the command needs exists. That is folders that give
+/// releases, a file of a zone, or a primary that answers until a list of changes comes back empty.
 pub fn runs_complete()
     ensures answer { (dirs : List (List ℕ)) → Completes (answer dirs) }
     ensures serve { (address : List ℕ) (workers : ℕ) (rules : List Chosen) (dirs : List (List ℕ))

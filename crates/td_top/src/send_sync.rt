@@ -1,8 +1,8 @@
-//! How a run ended may cross threads and be shared by them, where its doors and the server that was
-//! followed may.
+//! How a run ended may move between threads and be shared by them, if its doors and the server that
+//! was followed may.
 use crate::Outcome;
 
-/// Only for types that threads may hand over and share.
+/// Accepts only types that threads may move and share.
 fn is_shared<T: Send + Sync>() {}
 
 fn types_are_shared<D: Send + Sync, U: Send + Sync>() {

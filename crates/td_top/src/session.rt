@@ -6,8 +6,8 @@ use publication::Desk;
 use std::alloc::Global;
 use zone_meaning::Zone;
 
-/// What a console publishes with, and a desk of the same pair by which it shows what is served. The
-/// desk has seen all that was published. What is published next takes its memory from `alloc`.
+/// What a console publishes with, and a desk of the same pair for showing what is served. The desk
+/// has seen all that was published. Later publishes allocate from `alloc`.
 pub struct Session {
     pub alloc: Global,
     pub installer: Installer,

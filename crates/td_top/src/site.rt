@@ -1,23 +1,23 @@
 ghost use Rattle.std.specs.Prelude.{◌≡◌};
 
-/// What a run is lent of the outside beside its store: an input and an output, a network, and a
+/// What a run borrows from outside, besides its store: an input and an output, a network, and a
 /// spawner of workers.
 #[derive(Drop)]
-pub struct Site<'a, C, K, N, W> {
+pub struct RunIo<'a, C, K, N, W> {
     pub input: &'a mut C,
     pub output: &'a mut K,
     pub net: &'a mut N,
     pub spawner: &'a mut W,
 }
 
-impl<'a, C, K, N, W> Site<'a, C, K, N, W> {
-    /// The site of these.
+impl<'a, C, K, N, W> RunIo<'a, C, K, N, W> {
+    /// Bundles these into a site.
     pub fn new(
         input: &'a mut C,
         output: &'a mut K,
         net: &'a mut N,
         spawner: &'a mut W,
-    ) -> Site<'a, C, K, N, W>
+    ) -> RunIo<'a, C, K, N, W>
         ensures input { result.input.ghost_name ≡ input.entry.ghost_name }
         ensures output { result.output.ghost_name ≡ output.entry.ghost_name }
         ensures network { result.net.ghost_name ≡ net.entry.ghost_name }
@@ -27,7 +27,7 @@ impl<'a, C, K, N, W> Site<'a, C, K, N, W> {
         ensures network_now { result.net.now ≡ net.old }
         ensures spawner_now { result.spawner.now ≡ spawner.old }
     {
-        Site {
+        RunIo {
             input,
             output,
             net,

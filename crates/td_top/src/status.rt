@@ -6,12 +6,12 @@ ghost use Rattle.td_top.specs.Running.Answering.{end_status};
 use crate::talking::TalkEnd;
 use td_base::End;
 
-/// How a run ends.
+/// The exit status of a run.
 #[derive(Clone, Copy, PartialEq, Eq)]
 pub enum Status {
     /// 0: the work was done.
     Done,
-    /// 1: the words are not of the grammar.
+    /// 1: the arguments are not in the grammar.
     Usage,
     /// 2: a folder, a zone file or the first release of a mirror was refused, or a zone file is
     /// absent.
@@ -22,16 +22,16 @@ pub enum Status {
     NotWritten,
     /// 5: a worker was not started.
     NotStarted,
-    /// 6: the network failed, or a door of it sixteen times.
+    /// 6: the network failed, or one of its doors failed sixteen times.
     NoNetwork,
-    /// 7: the first sync of a mirror ended by a fault.
+    /// 7: the first sync of a mirror ended with a fault.
     NotSynced,
     /// 70: memory ran out.
     NoMemory,
 }
 
 impl Status {
-    /// The status with which the process ends.
+    /// The exit status of the process.
     pub fn number(self) -> u8
         ensures { result ≡ number_of self }
     {
@@ -61,8 +61,8 @@ pub fn status_of(end: End) -> Status
     }
 }
 
-/// The status for the end of a talk beside workers, of which one may have ended because its door is
-/// worn.
+/// The status for the end of a console session next to workers. A worker may have ended because its
+/// door is worn.
 pub fn status_for(end: TalkEnd, worn: bool) -> Status
     ensures { result ≡ status_for end worn }
 {

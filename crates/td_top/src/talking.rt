@@ -8,17 +8,17 @@ ghost use Rattle.td_top.specs.TalkingSteps.{FeedsTalk, SaysBye, SaysText, TakesL
 ghost use Rattle.td_top.specs.TalkingSteps.{Turns, most_waiting};
 
 use crate::console_beside::Console;
-use crate::growth::Growth;
+use crate::growth::ReleaseFeed;
 use crate::operator::{answer_line, newest};
 use console::{Line, Lines, Said, short};
-use installer::Asked;
+use installer::InstallPolicy;
 use std::sync::Wait;
 use td_base::{NoMemory, ReadStep, Sink, Source, Written, write_whole};
 
-/// How many bytes are asked of the input at a time.
+/// How many bytes one read of the input requests.
 const PIECE: usize = 4_096;
 
-/// How a talk with an operator ended.
+/// How a console session ended.
 #[derive(Clone, Copy, PartialEq, Eq)]
 pub enum TalkEnd {
     /// The operator quit.
@@ -31,33 +31,33 @@ pub enum TalkEnd {
     NotWritten,
 }
 
-/// What one turn of a talk came to.
+/// The result of one turn of a session.
 #[derive(Clone, Copy, PartialEq, Eq)]
-pub enum Turn {
-    /// The talk goes on.
+pub enum TalkTurn {
+    /// The session goes on.
     On,
-    /// The talk ended.
+    /// The session ended.
     End(TalkEnd),
     /// There is no memory for what the operator wrote.
     NoMemory,
 }
 
-/// What came of the next line.
+/// The result of taking the next line.
 #[derive(Drop)]
-pub enum Taken {
+pub enum LineTaken {
     /// A line.
     Line(Line),
-    /// A line with a text of its own, for which there was no memory.
+    /// A line that owns a text, for which there was no memory.
     Unread,
-    /// No line is held whole.
+    /// No whole line is held.
     None,
 }
 
-/// Tells that the server is ready, and answers line by line until the operator quits, the input
-/// ends, or a read or a write fails. It gives no end where memory ran out.
-pub fn talk<R: Wait, G: Growth, C: Source, K: Sink>(
+/// Reports that the server is ready, and answers line by line until the operator quits, the input
+/// ends, or a read or a write fails. Returns no end when memory ran out.
+pub fn talk<R: Wait, G: ReleaseFeed, C: Source, K: Sink>(
     rt: &R,
-    console: &mut Console<'_, Asked<'_>, G, C, K>,
+    console: &mut Console<'_, InstallPolicy<'_>, G, C, K>,
 ) -> Option<TalkEnd>
     ensures talks { let at = scene_of (λ a. a.rules.chosen) G.seen C.seen K.seen in
         ComesTo (at console.old) (at console.new) result }
@@ -71,10 +71,10 @@ pub fn talk<R: Wait, G: Growth, C: Source, K: Sink>(
     }
 }
 
-/// Answers line by line up to the end of the talk.
-fn answer_lines<R: Wait, G: Growth, C: Source, K: Sink>(
+/// Answers line by line until the session ends.
+fn answer_lines<R: Wait, G: ReleaseFeed, C: Source, K: Sink>(
     rt: &R,
-    console: &mut Console<'_, Asked<'_>, G, C, K>,
+    console: &mut Console<'_, InstallPolicy<'_>, G, C, K>,
 ) -> Option<TalkEnd>
     ensures talks { let at = scene_of (λ a. a.rules.chosen) G.seen C.seen K.seen in
         TalksOn (at console.old) (at console.new) result }
@@ -83,20 +83,20 @@ fn answer_lines<R: Wait, G: Growth, C: Source, K: Sink>(
     let mut lines = Lines::new(console.session.alloc);
     for _ in rt.forever() {
         match take_turn(rt, console, &mut lines) {
-            Turn::On => {}
-            Turn::End(end) => return Some(end),
-            Turn::NoMemory => return None,
+            TalkTurn::On => {}
+            TalkTurn::End(end) => return Some(end),
+            TalkTurn::NoMemory => return None,
         }
     }
     unreachable!()
 }
 
-/// Answers the next line, or reads a piece of the input where none is held whole.
-fn take_turn<R: Wait, G: Growth, C: Source, K: Sink>(
+/// Answers the next line, or reads a piece of the input when no whole line is held.
+fn take_turn<R: Wait, G: ReleaseFeed, C: Source, K: Sink>(
     rt: &R,
-    console: &mut Console<'_, Asked<'_>, G, C, K>,
+    console: &mut Console<'_, InstallPolicy<'_>, G, C, K>,
     lines: &mut Lines,
-) -> Turn
+) -> TalkTurn
     requires { length lines.old ≤ most_waiting }
     ensures turns { let at = scene_of (λ a. a.rules.chosen) G.seen C.seen K.seen in
         Turns (at console.old) (at console.new) lines.old lines.new result }
@@ -104,11 +104,11 @@ fn take_turn<R: Wait, G: Growth, C: Source, K: Sink>(
     ensures held { length lines.new ≤ most_waiting }
 {
     match take_line(lines) {
-        Taken::None => feed(lines, console.input),
-        Taken::Unread => say(console.output, short(&Said::NoMemory).as_slice()),
-        Taken::Line(line) => {
+        LineTaken::None => feed(lines, console.input),
+        LineTaken::Unread => say(console.output, short(&Said::NoMemory).as_slice()),
+        LineTaken::Line(line) => {
             if is_quit(&line) {
-                return Turn::End(quit(console.output));
+                return TalkTurn::End(quit(console.output));
             }
             let reply = answer_line(rt, console.session, console.asked, console.growth, &line);
             say(console.output, reply.as_slice())
@@ -116,31 +116,31 @@ fn take_turn<R: Wait, G: Growth, C: Source, K: Sink>(
     }
 }
 
-/// Whether a line asks that the talk end.
+/// Whether a line ends the session.
 fn is_quit(line: &Line) -> bool
     ensures { result ≡ is_quit line.now }
 {
     matches!(line, Line::Quit)
 }
 
-/// Takes the next line off the bytes that are held.
-fn take_line(lines: &mut Lines) -> Taken
+/// Removes the next line from the bytes that are held.
+fn take_line(lines: &mut Lines) -> LineTaken
     ensures takes { TakesLine lines.old lines.new result }
     ensures fewer { length lines.new ≤ length lines.old }
-    ensures few { result ≡ Taken.None → length lines.new ≤ most_held }
+    ensures few { result ≡ LineTaken.None → length lines.new ≤ most_held }
 {
     match lines.next() {
-        Ok(Some(line)) => Taken::Line(line),
-        Ok(None) => Taken::None,
+        Ok(Some(line)) => LineTaken::Line(line),
+        Ok(None) => LineTaken::None,
         Err(NoMemory) => {
             lines.pass_over();
-            Taken::Unread
+            LineTaken::Unread
         }
     }
 }
 
 /// Reads a piece of the input, and holds it.
-fn feed<C: Source>(lines: &mut Lines, input: &mut C) -> Turn
+fn feed<C: Source>(lines: &mut Lines, input: &mut C) -> TalkTurn
     requires { length lines.old ≤ most_held }
     ensures told { FeedsTalk (C.seen input.old) (C.seen input.new) lines.old lines.new result }
     ensures later { LaterSource (C.seen input.old) (C.seen input.new) }
@@ -149,21 +149,21 @@ fn feed<C: Source>(lines: &mut Lines, input: &mut C) -> Turn
     let mut room = [0; PIECE];
     match input.read(&mut room) {
         ReadStep::Got(count) => match lines.feed(&room[..count]) {
-            Ok(()) => Turn::On,
-            Err(NoMemory) => Turn::NoMemory,
+            Ok(()) => TalkTurn::On,
+            Err(NoMemory) => TalkTurn::NoMemory,
         },
-        ReadStep::End => Turn::End(TalkEnd::InputEnded),
-        ReadStep::Failed => Turn::End(TalkEnd::NotRead),
+        ReadStep::End => TalkTurn::End(TalkEnd::InputEnded),
+        ReadStep::Failed => TalkTurn::End(TalkEnd::NotRead),
     }
 }
 
 /// Writes a reply.
-fn say<K: Sink>(output: &mut K, text: &[u8]) -> Turn
+fn say<K: Sink>(output: &mut K, text: &[u8]) -> TalkTurn
     ensures { SaysText (K.seen output.old) (K.seen output.new) text.now result }
 {
     match write_whole(output, text) {
-        Written::Whole => Turn::On,
-        Written::Cut => Turn::End(TalkEnd::NotWritten),
+        Written::Whole => TalkTurn::On,
+        Written::Cut => TalkTurn::End(TalkEnd::NotWritten),
     }
 }
 

@@ -12,8 +12,7 @@ use std::alloc::Global;
 use td_base::{Bytes, Door, NoMemory, Role};
 use zone_meaning::Zone;
 
-/// The works of such a server that serve doors, each by a desk of its own and with a sign of the
-/// flag.
+/// The works of a server, one for each door, each with a separate desk and a sign of the flag.
 pub fn works_for<D: Door + Drop>(
     alloc: Global,
     role: &Role,
@@ -41,7 +40,7 @@ pub fn works_for<D: Door + Drop>(
     Ok((works, flag))
 }
 
-/// What a server is, once more.
+/// A copy of a server's role.
 fn again(alloc: Global, role: &Role) -> Result<Role, NoMemory>
     ensures { IfOk result (λ own. own ≡ role.now) }
 {
@@ -53,8 +52,8 @@ fn again(alloc: Global, role: &Role) -> Result<Role, NoMemory>
     }
 }
 
-/// Lets the desks of workers learn all that was published, and gives their doors, and whether one
-/// of them is worn.
+/// Lets the desks of workers learn all that was published. Returns their doors, and whether one of
+/// them is worn.
 pub fn learn_all<D: Drop + Door>(
     alloc: Global,
     ended: &mut Ended<Catalogue<Zone>>,

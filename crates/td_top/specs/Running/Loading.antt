@@ -13,7 +13,7 @@ use Rattle.connection.specs.FaultCounts.{no_faults}
 use Rattle.connection.specs.Served.{IsClosed}
 use Rattle.connection.specs.Serving.{answer_at}
 use Rattle.made_load.specs.Counts.{CountsReply, no_counts, summary_text, with_release}
-use Rattle.made_load.specs.Releases.{HasFiles, made_manifest}
+use Rattle.made_load.specs.Releases.{HasMadeFiles, made_manifest}
 use Rattle.made_load.specs.Requests.{made_requests}
 use Rattle.made_load.specs.declared.counts.LoadCounts.{LoadCounts}
 use Rattle.td_top.specs.Outside.{LeavesStreams, Outside}
@@ -24,7 +24,7 @@ use Rattle.td_top.specs.declared.status.Status.TheVariants as status
 -- a release is what its made manifest and its made files give after those before it
 pub record IsMadeAfter (H : List ReleaseData) (r : ReleaseData) : Type 0 where
   pub files : List File
-  pub has : HasFiles (length H + 1) files
+  pub has : HasMadeFiles (length H + 1) files
   pub gives : examined_in files [] (before_of H) (made_manifest (length H + 1)) ≡ Ok r
 
 -- the text of the first head of some, and what follows it
@@ -36,7 +36,7 @@ pub record IsFirstHead (heads first rest : List ℕ) : Type 0 where
 
 -- A request was answered by these bytes, at the last place of a history: they are what was written
 -- to a connection that brought it alone and was closed, and one request was answered there.
-pub record IsAnswered (H : List ReleaseData) (request reply : List ℕ) : Type 0 where
+pub record IsRequestAnswered (H : List ReleaseData) (request reply : List ℕ) : Type 0 where
   pub read : List ℕ
   pub unread : List ℕ
   pub brought : request ≡ read ++ unread
@@ -48,7 +48,7 @@ pub record IsAnswered (H : List ReleaseData) (request reply : List ℕ) : Type 0
 pub data AreCounted (H : List ReleaseData) : List ℕ → LoadCounts → LoadCounts → Type 0 where
   none : (c : LoadCounts) → AreCounted H [] c c
   next : (requests request rest reply : List ℕ) (before now end : LoadCounts)
-      → IsFirstHead requests request rest → IsAnswered H request reply
+      → IsFirstHead requests request rest → IsRequestAnswered H request reply
       → CountsReply reply before now → AreCounted H rest now end → AreCounted H requests before end
 
 -- the counts of the first releases of a load

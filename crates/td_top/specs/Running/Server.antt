@@ -111,12 +111,13 @@ pub data OpenedEnds (server : Role) (address : List ℕ) (workers : ℕ) (openin
   -- with the end of the talk, once the workers were done: the doors that the network gave were
   -- served over the history of the run, which grows by the releases that came of the operator's
   -- lines, and none was answered from before the opening's last; each release of that history is
-  -- sound and may follow those before it
+  -- sound and may follow those before it; every worker was started
   served : (history : List ReleaseData) (given doors : List DoorView) (ended : TalkEnd)
       (worn : Bool)
       → IsHistory IsSound history
       → AnswersOperator opening history before.console after.console ended
       → OpensDoors before.network after.network address workers given
+      → after.spawner ≡ before.spawner
       → ServesDoors server (length opening) history given doors worn
       → OpenedEnds server address workers opening before after history doors
       (status_for ended worn)

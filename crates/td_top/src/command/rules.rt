@@ -1,10 +1,10 @@
-//! The words of `serve` that choose rules for releases.
+//! The arguments of `serve` that choose rules for releases.
 ghost use Rattle.std.specs.Prelude.{◌≡◌, ◌<◌, ◌∷◌, [], ◌++◌, length, map, IfOk, IfSome, false};
 ghost use Rattle.std.specs.Prelude.{true};
 ghost use Rattle.std.specs.Option.{option_map};
 ghost use Rattle.admission.specs.Rules.{KeepsAll};
 ghost use Rattle.td_top.specs.Command.{are_once, has_kind, if_once, is_same_kind, next_rule};
-ghost use Rattle.td_top.specs.Command.{rule_of, rules_then};
+ghost use Rattle.td_top.specs.Command.{rule_of_words, rules_then};
 
 use admission::{Chosen, Kept, RuleKind, Rules};
 use arrayvec::ArrayVec;
@@ -16,17 +16,18 @@ use td_base::{Bytes, NoMemory};
 /// How many kinds of rules there are.
 const KINDS: usize = 2;
 
-/// The most zones that a rule may let a release change.
+/// The greatest number of changed zones that a rule may be set to allow.
 pub(crate) const MOST_CHANGED: u64 = 4_096;
 
-/// The rules that a command names: at most one of each kind, in the order in which they are asked.
-/// They stand in fixed room, so that words are read without memory. Contracts see the list of them.
+/// The rules that a command names: at most one of each kind, in the order in which they are
+/// applied. They are in a fixed array, so that arguments are parsed without memory. Contracts see
+/// the list of them.
 #[derive(Drop)]
-pub struct Choice {
+pub struct RuleChoice {
     held: ArrayVec<Named, KINDS>,
 }
 
-/// A rule that is named, or a blank in the room for one.
+/// A named rule, or an unused slot of the array.
 #[derive(Clone, Copy)]
 pub struct Named {
     rule: Chosen,
@@ -43,7 +44,7 @@ impl Default for Named {
     }
 }
 
-impl Model for Choice {
+impl Model for RuleChoice {
     ghost use Rattle.std.specs.Prelude.{List, map};
     ghost use Rattle.admission.specs.declared.rules.Chosen.{Chosen};
 
@@ -52,12 +53,12 @@ impl Model for Choice {
     ghost view = { λ c. map (λ n. n.rule) c.held.items };
 }
 
-impl Choice {
+impl RuleChoice {
     /// No rules.
-    fn new() -> Choice
+    fn new() -> RuleChoice
         ensures { result ≡ [] }
     {
-        Choice {
+        RuleChoice {
             held: ArrayVec::new(),
         }
     }
@@ -72,7 +73,7 @@ impl Choice {
             .any(|named| is_same_kind(named.rule.kind, kind))
     }
 
-    /// Adds a rule after them, of a kind of which there is none.
+    /// Appends a rule of a kind that is not among them.
     fn add(&mut self, rule: Chosen)
         requires once { are_once self.old ≡ true }
         requires new { has_kind rule.kind self.old ≡ false }
@@ -81,7 +82,7 @@ impl Choice {
         self.held.push(Named { rule });
     }
 
-    /// The rules as they are asked, by tests of their kinds that are kept.
+    /// The rules in the order in which they are applied, with the tests that the caller keeps.
     pub fn rules<'k>(&self, alloc: Global, kept: &'k [Kept]) -> Result<Rules<'k>, NoMemory>
         requires { KeepsAll (map (λ k. k.kind) kept.now) }
         ensures { IfOk result (λ rules. rules.chosen ≡ self.now) }
@@ -95,11 +96,12 @@ impl Choice {
     }
 }
 
-/// The rules with which words begin, and the words after them, if no kind of rule comes twice.
-pub fn read_rules(words: &[Bytes]) -> Option<(Choice, &[Bytes])>
+/// Parses the rules at the start of arguments, and returns them with the remaining arguments.
+/// `None` if a kind of rule occurs twice.
+pub fn read_rules(words: &[Bytes]) -> Option<(RuleChoice, &[Bytes])>
     ensures { option_map (λ p. (p.0, p.1.now)) result ≡ if_once (rules_then words.now) }
 {
-    let mut choice = Choice::new();
+    let mut choice = RuleChoice::new();
     let mut left = words;
     'rules: while let Some((rule, rest)) = next_rule(left) {
         if choice.has(rule.kind) {
@@ -111,14 +113,14 @@ pub fn read_rules(words: &[Bytes]) -> Option<(Choice, &[Bytes])>
     Some((choice, left))
 }
 
-/// Whether two kinds are one.
+/// Whether two kinds are equal.
 fn is_same_kind(one: RuleKind, two: RuleKind) -> bool
     ensures { result ≡ is_same_kind one two }
 {
     one == two
 }
 
-/// The rule with which words begin, if they begin with one, and the words after it.
+/// The rule at the start of arguments, if they start with one, and the remaining arguments.
 fn next_rule(words: &[Bytes]) -> Option<(Chosen, &[Bytes])>
     ensures next { option_map (λ p. (p.0, p.1.now)) result ≡ next_rule words.now }
     ensures fewer { IfSome result (λ p. length p.1.now < length words.now) }
@@ -132,9 +134,9 @@ fn next_rule(words: &[Bytes]) -> Option<(Chosen, &[Bytes])>
     }
 }
 
-/// The rule of this name with this word after it.
+/// The rule with this name and this argument.
 fn read_rule(name: &[u8], value: &[u8]) -> Option<Chosen>
-    ensures { result ≡ rule_of name.now value.now }
+    ensures { result ≡ rule_of_words name.now value.now }
 {
     if name == b"--max-changed".as_slice() {
         let most = read_number(value, 0, MOST_CHANGED)?;

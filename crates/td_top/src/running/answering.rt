@@ -6,13 +6,13 @@ ghost use Rattle.td_top.specs.Running.{Completes, RunsAlone};
 ghost use Rattle.td_top.specs.Tells.{ServesLast, ServesLater};
 
 use crate::kept_tests::KeptTests;
-use crate::opening::{Opened, open_all};
+use crate::opening::{OpenedServer, open_all};
 use crate::refusing::refuse_install;
 use crate::session::Session;
 use crate::status::{Status, status_of};
 use admission::Rules;
 use catalogue::Catalogue;
-use installer::Asked;
+use installer::InstallPolicy;
 use publication::{Desk, Ended};
 use release_check::one_folder;
 use std::alloc::Global;
@@ -20,15 +20,15 @@ use std::sync::Wait;
 use td_base::{Bytes, End, Joined, NoMemory, Role, Sink, Source, Store};
 use zone_meaning::Zone;
 
-/// Folders whose releases are installed, in their order, and the tests that are kept.
+/// Folders whose releases are installed in this order, and the tests that the caller keeps.
 #[derive(Clone, Copy)]
 pub struct AnswerPlan<'w> {
     pub folders: &'w [Bytes],
     pub tests: &'w KeptTests<'w>,
 }
 
-/// Installs the releases of folders, and serves the input and the output, as one connection, over
-/// the last of them.
+/// Installs the releases of folders, and serves the input and output, as one connection, over the
+/// last of them.
 pub fn answer<R: Wait, S: Store, C: Source, K: Sink>(
     rt: &R,
     alloc: Global,
@@ -42,14 +42,14 @@ pub fn answer<R: Wait, S: Store, C: Source, K: Sink>(
         (outside (S.seen store.old) (C.seen input.old) (K.seen output.old))
         (outside (S.seen store.new) (C.seen input.new) (K.seen output.new)) result }
 {
-    let asked = Asked::new(Rules::none(alloc), plan.tests.wants);
+    let asked = InstallPolicy::new(Rules::none(alloc), plan.tests.wants);
     match open_all(rt, alloc, plan.folders, &asked, store, 0) {
-        Ok(Opened { session, desks: _ }) => serve_last(rt, alloc, session, input, output),
+        Ok(OpenedServer { session, desks: _ }) => serve_last(rt, alloc, session, input, output),
         Err(fault) => refuse_install(alloc, &fault, output),
     }
 }
 
-/// Serves the input and the output over the last release of a session, whose history ends.
+/// Serves the input and output over the last release of a session, then ends the history.
 fn serve_last<R: Wait, C: Source, K: Sink>(
     rt: &R,
     alloc: Global,
@@ -70,8 +70,8 @@ fn serve_last<R: Wait, C: Source, K: Sink>(
     }
 }
 
-/// Ends the history of a session, and lets its desk learn that. What is shown stays until the other
-/// value is closed.
+/// Ends the history of a session, and lets its desk learn the end. What is published stays until
+/// the other value is closed.
 fn end_history<R: Wait>(
     rt: &R,
     session: Session,
@@ -96,7 +96,7 @@ fn end_history<R: Wait>(
     }
 }
 
-/// Serves the input and the output, as one connection, over a desk that has seen all.
+/// Serves the input and output, as one connection, over a desk that has seen everything published.
 fn serve<C: Source, K: Sink>(
     alloc: Global,
     desk: &mut Desk<Catalogue<Zone>>,
@@ -112,8 +112,8 @@ fn serve<C: Source, K: Sink>(
     report.end
 }
 
-/// Law: where nothing failed and its folders give releases, `answer` ends with the input, or memory
-/// runs out.
+/// Law: if nothing failed and its folders give releases, `answer` ends at the end of the input, or
+/// memory runs out.
 pub fn answers_complete()
     ensures { (dirs : List (List ℕ)) → Completes (answer dirs) }
 {

@@ -4,7 +4,7 @@ ghost use Rattle.std.specs.Option.{option_map};
 ghost use Rattle.catalogue.specs.Order.{IsRising};
 ghost use Rattle.sync_core.specs.Mirrors.{entry_name};
 ghost use Rattle.td_base.specs.Views.{SourceView, StoreView};
-ghost use Rattle.td_top.specs.Command.{IsRange, calmirror};
+ghost use Rattle.td_top.specs.Command.{IsRangeAsked, calmirror};
 ghost use Rattle.td_top.specs.Outside.{outside, world};
 ghost use Rattle.td_top.specs.Running.{Completes, RunsAs};
 ghost use Rattle.td_top.specs.Running.CalendarMirroring.{KeepsCalendar, PrintsCalendars};
@@ -26,7 +26,7 @@ use sync_core::Mirror;
 use td_base::{Made, Network, Sink, Upstream, Written, write_whole};
 use td_civil::Moment;
 
-/// The address of a server of calendars, and the range of which its calendars are to tell.
+/// The address of a server of calendars, and the range to print.
 #[derive(Clone, Copy)]
 pub struct CalendarPlan<'w> {
     pub upstream: &'w [u8],
@@ -34,15 +34,15 @@ pub struct CalendarPlan<'w> {
     pub end: Moment,
 }
 
-/// Syncs once with the server of calendars at an address, and prints what the calendar of each zone
-/// tells of a range, a zone at a time.
+/// Syncs once with the server of calendars at an address. Then prints the observances of each
+/// zone's calendar in a range, one zone at a time.
 pub fn mirror_calendars<N: Network, K: Sink>(
     alloc: Global,
     plan: &CalendarPlan<'_>,
     net: &mut N,
     output: &mut K,
 ) -> Ending<N::Door, N::Up>
-    requires { IsRange plan.now.start.seconds plan.now.end.seconds }
+    requires { IsRangeAsked plan.now.start.seconds plan.now.end.seconds }
     // The store, the input and the spawner, whatever they are, are left alone.
     ensures { (store : StoreView) (input : SourceView) (spawner : ℕ) → RunsAs
         (Some (calmirror plan.now.upstream.now plan.now.start.seconds plan.now.end.seconds))
@@ -63,14 +63,14 @@ pub fn mirror_calendars<N: Network, K: Sink>(
     }
 }
 
-/// Syncs once, and prints what is kept, or why the sync ended before.
+/// Syncs once, and prints the calendars kept, or why the sync failed.
 fn print_calendars<U: Upstream, K: Sink>(
     alloc: Global,
     plan: &CalendarPlan<'_>,
     server: &mut U,
     output: &mut K,
 ) -> Status
-    requires { IsRange plan.now.start.seconds plan.now.end.seconds }
+    requires { IsRangeAsked plan.now.start.seconds plan.now.end.seconds }
     ensures { SyncsOnce plan.now.upstream.now plan.now.start.seconds plan.now.end.seconds
         (U.seen server.old) (U.seen server.new) (K.seen output.old) (K.seen output.new) result }
 {
@@ -81,8 +81,7 @@ fn print_calendars<U: Upstream, K: Sink>(
     }
 }
 
-/// Prints what the calendar of each zone tells, in the order of the zones, which are those that the
-/// mirror knows.
+/// Prints the calendar of each zone that the mirror knows, in the order of the zones.
 fn print_zones<K: Sink>(
     alloc: Global,
     plan: &CalendarPlan<'_>,
@@ -90,7 +89,7 @@ fn print_zones<K: Sink>(
     zones: &[ListZone],
     output: &mut K,
 ) -> Status
-    requires range { IsRange plan.now.start.seconds plan.now.end.seconds }
+    requires range { IsRangeAsked plan.now.start.seconds plan.now.end.seconds }
     requires known { zones.now ≡ mirror.now.entries }
     requires rising { IsRising (map entry_name zones.now) }
     requires kept { AllByRecursion (λ z. KeepsCalendar mirror.now.files z.tzid) zones.now }
@@ -106,7 +105,7 @@ fn print_zones<K: Sink>(
     Status::Done
 }
 
-/// Prints what the calendar of a zone tells, or gives the status that ends the run.
+/// Prints the calendar of a zone, or returns the status that ends the run.
 #[tactic(auto, using(crate::proofs::CalendarLemmas::zone_printed))]
 fn print_zone<K: Sink>(
     alloc: Global,
@@ -115,7 +114,7 @@ fn print_zone<K: Sink>(
     zone: &ListZone,
     output: &mut K,
 ) -> Result<(), Status>
-    requires range { IsRange plan.now.start.seconds plan.now.end.seconds }
+    requires range { IsRangeAsked plan.now.start.seconds plan.now.end.seconds }
     requires kept { KeepsCalendar mirror.now.files zone.now.tzid }
     ensures { PrintsZone mirror.now.files plan.now.start.seconds plan.now.end.seconds zone.now
         (K.seen output.old) (K.seen output.new) result }
@@ -129,7 +128,7 @@ fn print_zone<K: Sink>(
     }
 }
 
-/// Ends a run for a sync that ended by a fault.
+/// Ends a run because its sync ended with a fault.
 fn refuse_sync<K: Sink>(alloc: Global, fault: &CalendarSyncFault, output: &mut K) -> Status
     ensures { RefusesCalendars fault.now (K.seen output.old) (K.seen output.new) result }
 {
@@ -139,8 +138,8 @@ fn refuse_sync<K: Sink>(alloc: Global, fault: &CalendarSyncFault, output: &mut K
     }
 }
 
-/// Law: where nothing failed and the sync is with a primary whose second list is an empty one of
-/// changes, `calmirror` prints what each calendar tells, or memory runs out.
+/// Law: if nothing failed and the primary's second list is an empty list of changes, `calmirror`
+/// prints each calendar, or memory runs out.
 pub fn calendars_complete()
     ensures { (upstream : List ℕ) (start last : ℤ) → Completes (calmirror upstream start last) }
 {

@@ -18,8 +18,7 @@ use std::alloc::Global;
 use td_base::{Bytes, NoMemory, Sink, Store, Written, put_decimal, write_whole};
 use zone_meaning::Zone;
 
-/// Checks folders as one history, and prints a line for each as it goes, up to the first that is
-/// refused.
+/// Checks folders as one history, and prints a line for each, up to the first that is refused.
 pub fn check_folders<S: Store, K: Sink>(
     alloc: Global,
     folders: &[Bytes],
@@ -41,7 +40,7 @@ pub fn check_folders<S: Store, K: Sink>(
     Status::Done
 }
 
-/// Checks one more folder, after the history of a catalogue, and prints its line. It gives the
+/// Checks one more folder, after the history of a catalogue, and prints its line. Returns the
 /// catalogue with its release, or the status that ends the run.
 fn check_next<S: Store, K: Sink>(
     alloc: Global,
@@ -61,7 +60,7 @@ fn check_next<S: Store, K: Sink>(
     }
 }
 
-/// The catalogue of a history with the release of one folder more, which may be the first.
+/// The catalogue of a history, extended by the release of a folder, which may be the first.
 fn follow<S: Store>(
     alloc: Global,
     folder: &[u8],
@@ -97,8 +96,7 @@ fn tell<K: Sink>(
     }
 }
 
-/// The line of a release that is accepted: `ok`, the token of the last place and the number of its
-/// zones.
+/// The line of an accepted release: `ok`, the token of the last place and the number of its zones.
 fn ok_line(alloc: Global, catalogue: &Catalogue<Zone>) -> Result<Bytes, NoMemory>
     requires { HasZoneHistory catalogue.now }
     ensures { IfOk result (HasLine catalogue.now) }
@@ -111,8 +109,8 @@ fn ok_line(alloc: Global, catalogue: &Catalogue<Zone>) -> Result<Bytes, NoMemory
     Ok(line)
 }
 
-/// Law: where nothing failed and its folders give releases, `check` prints a line for each, or
-/// memory runs out.
+/// Law: if nothing failed and its folders give releases, `check` prints a line for each, or memory
+/// runs out.
 pub fn checks_complete()
     ensures { (dirs : List (List ℕ)) → Completes (check dirs) }
 {

@@ -15,7 +15,7 @@ use crate::running::loading::load_turns::serve_release;
 use crate::status::Status;
 use admission::Rules;
 use catalogue::Catalogue;
-use installer::{Asked, Installer};
+use installer::{InstallPolicy, Installer};
 use made_load::{LoadCounts, release, summary};
 use publication::Desk;
 use std::alloc::Global;
@@ -23,15 +23,15 @@ use std::sync::Wait;
 use td_base::{Bytes, NoMemory, Sink};
 use zone_meaning::Zone;
 
-/// How many releases are made, and the tests that are kept.
+/// How many releases are made, and the tests that the caller keeps.
 #[derive(Clone, Copy)]
 pub struct LoadPlan<'w> {
     pub number: u32,
     pub tests: &'w KeptTests<'w>,
 }
 
-/// Makes so many releases, serves requests after each, and prints what was counted of the replies.
-/// A load that stops before its end, whatever for, ends as one without memory.
+/// Makes this many releases, serves requests after each, and prints the counts of the replies. A
+/// load that stops early, for any reason, ends as one without memory.
 pub fn load<R: Wait, K: Sink>(rt: &R, alloc: Global, plan: &LoadPlan<'_>, output: &mut K) -> Status
     requires some { 1 ≤ plan.now.number }
     requires most { plan.now.number ≤ 1_000 }
@@ -45,7 +45,7 @@ pub fn load<R: Wait, K: Sink>(rt: &R, alloc: Global, plan: &LoadPlan<'_>, output
     }
 }
 
-/// The line that tells what was counted of a load of so many releases.
+/// The line with the counts of a load of this many releases.
 fn load_line<R: Wait>(rt: &R, alloc: Global, plan: &LoadPlan<'_>) -> Result<Bytes, NoMemory>
     requires some { 1 ≤ plan.now.number }
     requires most { plan.now.number ≤ 1_000 }
@@ -70,7 +70,7 @@ fn count_load<R: Wait>(rt: &R, alloc: Global, plan: &LoadPlan<'_>) -> Result<Loa
     }
 }
 
-/// The same, where the first release is published for one desk.
+/// Like `count_load`, once the first release is published for one desk.
 fn count_opened<R: Wait>(
     rt: &R,
     alloc: Global,
@@ -93,7 +93,7 @@ fn count_opened<R: Wait>(
     counts
 }
 
-/// Serves the requests of the first release, which is published, and publishes and serves the
+/// Serves the requests of the first release, which is published, then publishes and serves the
 /// others.
 fn count_releases<R: Wait>(
     rt: &R,
@@ -120,7 +120,7 @@ fn count_releases<R: Wait>(
     Ok(counts)
 }
 
-/// Publishes a release, and lets the desk learn of it.
+/// Publishes a release, and lets the desk learn it.
 fn publish<R: Wait>(
     rt: &R,
     alloc: Global,
@@ -140,7 +140,7 @@ fn publish<R: Wait>(
     ensures seen { OnOk result (desk.new.seen ≡ installer.new.list) }
 {
     let (manifest, mut store) = release(alloc, plan.number, made)?;
-    let asked = Asked::new(Rules::none(alloc), plan.tests.wants);
+    let asked = InstallPolicy::new(Rules::none(alloc), plan.tests.wants);
     match installer.install_manifest(rt, alloc, &manifest, &mut store, &asked) {
         Ok(receipt) => {
             desk.learn(receipt);
@@ -150,7 +150,7 @@ fn publish<R: Wait>(
     }
 }
 
-/// Law: where nothing failed, `load` prints its line, or memory runs out.
+/// Law: if nothing failed, `load` prints its line, or memory runs out.
 pub fn load_complete()
     ensures { (n : ℕ) → Completes (load n) }
 {}

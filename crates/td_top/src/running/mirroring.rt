@@ -10,19 +10,20 @@ ghost use Rattle.td_top.specs.Site.{site_names, site_of, world_of};
 ghost use Rattle.td_top.specs.Tells.{RefusesSync};
 
 use crate::command::MirrorWords;
-use crate::following::{Follow, open_stated};
 use crate::kept_tests::KeptTests;
+use crate::mirror_feed::{Follow, open_stated};
 use crate::outcome::{Ending, Served};
 use crate::printing::refuse_shown;
 use crate::refusing::refuse_install;
 use crate::running::server::{Serving, serve_opened};
-use crate::site::Site;
+use crate::site::RunIo;
 use crate::status::Status;
 use admission::Rules;
-use installer::Asked;
+use installer::InstallPolicy;
 use mirror::{SyncFault, sync};
 use mirror_world::{
-    histories_go_on, mirrors_hold_in_turn, releases_are_held, settled_mirrors_pass, syncs_settle,
+    contents_are_held, histories_go_on, mirrors_hold_in_turn, releases_are_held,
+    settled_mirrors_pass, syncs_settle,
 };
 use std::alloc::Global;
 use std::sync::Wait;
@@ -30,15 +31,16 @@ use std::thread::Threads;
 use sync_core::Mirror;
 use td_base::{Bytes, Door, Made, Network, NoMemory, Role, Sink, Source, Spawner, Upstream};
 
-/// Syncs with the server at an address, publishes what the mirror states, and serves the doors of
-/// another address, each by a worker of its own, while an operator talks over the input and the
-/// output and lets the mirror sync again. The server's requests name it as they were given it.
+/// Syncs with the server at an address, publishes what the mirror holds, and serves the doors of
+/// another address, each with a separate worker. Meanwhile an operator uses the console over the
+/// input and output, and may request further syncs. The `Host` of each request is the server's
+/// address as given.
 pub fn mirror_server<R, C, K, N, W>(
     rt: &R,
     alloc: Global,
     words: &MirrorWords<'_>,
     tests: &KeptTests<'_>,
-    site: &mut Site<'_, C, K, N, W>,
+    site: &mut RunIo<'_, C, K, N, W>,
 ) -> Ending<N::Door, N::Up>
 where
     R: Threads + Wait + Copy + Send + 'static,
@@ -61,6 +63,7 @@ where
     mirrors_hold_in_turn();
     histories_go_on();
     releases_are_held();
+    contents_are_held();
     match site.net.upstream(alloc, words.upstream) {
         Made::Given(server) => {
             let mut follow = Follow {
@@ -81,14 +84,14 @@ where
     }
 }
 
-/// Syncs for the first time, and serves what the mirror states.
+/// Syncs for the first time, and serves what the mirror holds.
 fn follow_on<R, U, C, K, N, W>(
     rt: &R,
     alloc: Global,
     words: &MirrorWords<'_>,
     tests: &KeptTests<'_>,
     follow: &mut Follow<'_, U>,
-    site: &mut Site<'_, C, K, N, W>,
+    site: &mut RunIo<'_, C, K, N, W>,
 ) -> Served<N::Door>
 where
     R: Threads + Wait + Copy + Send + 'static,
@@ -115,14 +118,14 @@ where
     }
 }
 
-/// Serves what a settled mirror states.
+/// Serves what a settled mirror holds.
 fn serve_stated<R, U, C, K, N, W>(
     rt: &R,
     alloc: Global,
     words: &MirrorWords<'_>,
     tests: &KeptTests<'_>,
     follow: &mut Follow<'_, U>,
-    site: &mut Site<'_, C, K, N, W>,
+    site: &mut RunIo<'_, C, K, N, W>,
 ) -> Served<N::Door>
 where
     R: Threads + Wait + Copy + Send + 'static,
@@ -153,7 +156,7 @@ where
                 address: words.address,
                 workers: words.workers,
             };
-            let asked = Asked::new(Rules::none(alloc), tests.wants);
+            let asked = InstallPolicy::new(Rules::none(alloc), tests.wants);
             serve_opened(rt, &serving, opened, &asked, follow, site)
         }
         Err(fault) => Served::closed(alloc, refuse_install(alloc, &fault, site.output)),
@@ -167,7 +170,7 @@ fn secondary(alloc: Global, address: &[u8]) -> Result<Role, NoMemory>
     Ok(Role::Secondary(Bytes::from_slice(alloc, address)?))
 }
 
-/// Ends a run for a first sync that ended by a fault.
+/// Ends a run because the first sync ended with a fault.
 fn refuse_sync<K: Sink>(alloc: Global, fault: &SyncFault, output: &mut K) -> Status
     ensures { RefusesSync fault.now (K.seen output.old) (K.seen output.new) result }
 {
@@ -177,8 +180,8 @@ fn refuse_sync<K: Sink>(alloc: Global, fault: &SyncFault, output: &mut K) -> Sta
     }
 }
 
-/// Law: where nothing failed and the first sync is with a primary whose second list is an empty one
-/// of changes, `mirror` ends as a server does, or memory runs out.
+/// Law: if nothing failed and the primary's second list is an empty list of changes, `mirror` ends
+/// as a server does, or memory runs out.
 pub fn mirrors_complete()
     ensures { (address : List ℕ) (workers : ℕ) (upstream : List ℕ)
         → Completes (mirror address workers upstream) }

@@ -14,20 +14,20 @@ ghost use Rattle.td_top.specs.Works.{HasWorks, Learnt};
 
 use crate::command::ServeWords;
 use crate::console_beside::{Console, TalkOver};
-use crate::growth::Growth;
+use crate::growth::ReleaseFeed;
 use crate::kept_tests::KeptTests;
-use crate::opening::{Opened, open_all};
+use crate::opening::{OpenedServer, open_all};
 use crate::outcome::{Ending, Served};
 use crate::refusing::refuse_install;
 use crate::session::Session;
-use crate::site::Site;
+use crate::site::RunIo;
 use crate::status::{Status, status_for};
 use crate::talking::TalkEnd;
 use crate::works::{learn_all, works_for};
 use catalogue::Catalogue;
 use connection::{DoorDone, DoorWork};
 use desk_pool::{PoolEnd, StopFlag, run_beside};
-use installer::Asked;
+use installer::InstallPolicy;
 use publication::{Desk, Ended};
 use release_check::one_folder;
 use std::alloc::Global;
@@ -36,7 +36,7 @@ use std::thread::Threads;
 use td_base::{Door, Made, Network, NoMemory, Role, Sink, Source, Spawner, Store};
 use zone_meaning::Zone;
 
-/// Which doors are served: as such a server, at an address, each by a worker of its own.
+/// The role in which doors are served, and the address. Each door has a separate worker.
 #[derive(Clone, Copy)]
 pub struct Serving<'d> {
     pub role: &'d Role,
@@ -44,15 +44,15 @@ pub struct Serving<'d> {
     pub workers: u32,
 }
 
-/// Installs the releases of folders under rules, and serves such doors, while an operator talks
-/// over the input and the output and installs further releases.
+/// Installs the releases of folders under rules, and serves such doors. Meanwhile an operator uses
+/// the console over the input and output, and may install further releases.
 pub fn serve_doors<R, S, C, K, N, W>(
     rt: &R,
     alloc: Global,
     words: &ServeWords<'_>,
     tests: &KeptTests<'_>,
     store: &mut S,
-    site: &mut Site<'_, C, K, N, W>,
+    site: &mut RunIo<'_, C, K, N, W>,
 ) -> Ending<N::Door, N::Up>
 where
     R: Threads + Wait + Copy + Send + 'static,
@@ -75,7 +75,7 @@ where
     let Ok(rules) = words.rules.rules(alloc, tests.kept) else {
         return Ending::closed(alloc, Status::NoMemory);
     };
-    let asked = Asked::new(rules, tests.wants);
+    let asked = InstallPolicy::new(rules, tests.wants);
     let serving = Serving {
         role: &Role::Primary,
         address: words.address,
@@ -87,19 +87,19 @@ where
     }
 }
 
-/// Serves such doors, once a first history is published, while an operator talks over the input and
-/// the output.
+/// Serves such doors, once a first history is published, while an operator uses the console over
+/// the input and output.
 pub fn serve_opened<R, G, C, K, N, W>(
     rt: &R,
     serving: &Serving<'_>,
-    opened: Opened,
-    asked: &Asked<'_>,
+    opened: OpenedServer,
+    asked: &InstallPolicy<'_>,
     growth: &mut G,
-    site: &mut Site<'_, C, K, N, W>,
+    site: &mut RunIo<'_, C, K, N, W>,
 ) -> Served<N::Door>
 where
     R: Threads + Wait + Copy + Send + 'static,
-    G: Growth,
+    G: ReleaseFeed,
     C: Source,
     K: Sink,
     N: Network,
@@ -115,7 +115,7 @@ where
         (site_of (G.seen growth.new asked.now.rules.chosen) C.seen K.seen N.seen W.faults site.new)
         (map N.Door.seen result.doors.items) result.status }
 {
-    let Opened { session, desks } = opened;
+    let OpenedServer { session, desks } = opened;
     let alloc = session.alloc;
     match site.net.doors(alloc, serving.address, serving.workers) {
         Made::Given(doors) => match works_for(alloc, serving.role, doors, desks) {
@@ -135,15 +135,16 @@ where
     }
 }
 
-/// Who serves: a session with what it asks, and the works of workers, of such a flag.
+/// What serves: a session, the rules and tests it borrows, the works of the workers, and their
+/// flag.
 struct Staff<'s, 'k, D: Door> {
     session: Session,
-    asked: &'s Asked<'k>,
+    asked: &'s InstallPolicy<'k>,
     works: Vec<DoorWork<D>>,
     flag: StopFlag,
 }
 
-/// Serves doors by their works, beside a talk with the operator.
+/// Serves doors by their works, next to a console session.
 fn serve_beside<R, G, C, K, D, W>(
     rt: &R,
     staff: Staff<'_, '_, D>,
@@ -154,7 +155,7 @@ fn serve_beside<R, G, C, K, D, W>(
 ) -> Served<D>
 where
     R: Threads + Wait + Copy + Send + 'static,
-    G: Growth,
+    G: ReleaseFeed,
     C: Source,
     K: Sink,
     D: Door + Send + Drop + 'static,
@@ -192,8 +193,8 @@ where
     }
 }
 
-/// Ends the history of a session, of which all desks learn, once the workers are done and the talk
-/// is over.
+/// Ends the history of a session once the workers are done and the console session is over. All
+/// desks learn the end.
 fn conclude<R: Wait, D: Door + Drop>(
     rt: &R,
     session: Session,
@@ -240,7 +241,7 @@ fn learn_last<D: Door + Drop>(
     learn_all(alloc, ended, dones)
 }
 
-/// Gives up what is published, and ends without doors.
+/// Releases what is published, and ends without doors.
 fn give_up<R: Wait, D>(rt: &R, session: Session, status: Status) -> Served<D>
     ensures status { result.status ≡ status }
     ensures doors { result.doors.items ≡ [] }
@@ -250,8 +251,8 @@ fn give_up<R: Wait, D>(rt: &R, session: Session, status: Status) -> Served<D>
     Served::closed(alloc, status)
 }
 
-/// Law: where nothing failed, its folders give releases and no rule refuses one, `serve` ends by
-/// the word of the operator or with the input, or memory runs out.
+/// Law: `serve` ends at `quit` or at the end of the input, or memory runs out. This holds if
+/// nothing failed, its folders give releases and no rule refuses one.
 pub fn serves_complete()
     ensures { (address : List ℕ) (workers : ℕ) (rules : List Chosen) (dirs : List (List ℕ))
         → Completes (serve address workers rules dirs) }

@@ -19,7 +19,7 @@ use td_civil::{Local, Moment};
 use tzif_reader::MOST_BYTES;
 use zone_meaning::{ZoneFault, at, zone_of};
 
-/// One byte more than a zone file may have, so that a longer one is seen to be longer.
+/// One byte more than a zone file may have, so that a longer one is noticed.
 const ZONE_ROOM: u64 = MOST_BYTES as u64 + 1;
 
 /// Prints the state of a zone file at a moment, or why there is none.
@@ -89,7 +89,7 @@ pub(crate) fn kind_word(dst: bool) -> &'static [u8]
     if dst { b" dst " } else { b" std " }
 }
 
-/// Refuses an absent file.
+/// Ends a run because a file is absent.
 fn refuse_absent<K: Sink>(alloc: Global, file: &[u8], output: &mut K) -> Status
     ensures { TellsRefused (codes "8 Absent " ++ file.now)
         (K.seen output.old) (K.seen output.new) result }
@@ -100,7 +100,7 @@ fn refuse_absent<K: Sink>(alloc: Global, file: &[u8], output: &mut K) -> Status
     }
 }
 
-/// What is told of an absent file.
+/// The text for an absent file.
 fn absent_text(alloc: Global, file: &[u8]) -> Result<Bytes, NoMemory>
     ensures { IfOk result (λ text. text ≡ codes "8 Absent " ++ file.now) }
 {
@@ -109,7 +109,7 @@ fn absent_text(alloc: Global, file: &[u8]) -> Result<Bytes, NoMemory>
     Ok(text)
 }
 
-/// Law: where nothing failed and the file is that of a zone, `at` prints the state, or memory runs
+/// Law: if nothing failed and the file is that of a zone, `at` prints the state, or memory runs
 /// out.
 pub fn state_complete()
     ensures { (path : List ℕ) (m : ℤ) → Completes (at path m) }

@@ -11,7 +11,7 @@ use Rattle.made_load.specs.Counts.{CountsReply}
 use Rattle.made_load.specs.declared.counts.LoadCounts.{LoadCounts}
 use Rattle.td_base.specs.Views.{ConnView}
 use Rattle.td_base.specs.declared.report.Role.TheVariants as role
-use Rattle.td_top.specs.Running.Loading.{IsAnswered, IsMadeAfter}
+use Rattle.td_top.specs.Running.Loading.{IsRequestAnswered, IsMadeAfter}
 
 -- a connection was served to its close, and one request was answered, at the last place of a
 -- history
@@ -26,7 +26,7 @@ pub record ClosesOver (H : List ReleaseData) (before now : ConnView) : Type 0 wh
 pub record AnswersCounted (H : List ReleaseData) (request : List ℕ) (before now : LoadCounts)
     : Type 0 where
   pub reply : List ℕ
-  pub answered : IsAnswered H request reply
+  pub answered : IsRequestAnswered H request reply
   pub counted : CountsReply reply before now
 
 -- one made release more was published

@@ -1,10 +1,10 @@
-//! What the calendar of a zone tells of a range, as lines.
+//! The observances of a zone's calendar in a range, as lines.
 ghost use Rattle.std.specs.Prelude.{◌≡◌, ◌++◌, ◌≤ℤ◌, ◌<ℤ◌, Ok, IfOk, IsOk, OnOk};
 ghost use Rattle.std.specs.Fmt.{signed_decimal};
 ghost use Rattle.std.specs.Int.{int_max, int_min};
 ghost use Rattle.std.specs.List.{AllByRecursion, flat_map};
 ghost use Rattle.td_civil.specs.Bounds.{IsWithinBounds};
-ghost use Rattle.td_top.specs.Command.{IsRange};
+ghost use Rattle.td_top.specs.Command.{IsRangeAsked};
 ghost use Rattle.td_top.specs.Running.CalendarMirroring as page;
 ghost use Rattle.td_top.specs.Running.CalendarMirroring.{KeepsCalendar, ZoneTells};
 ghost use Rattle.td_top.specs.Running.CalendarMirroring.CalendarSteps.{AppendsCalendar};
@@ -23,14 +23,14 @@ use td_base::{Bytes, NoMemory};
 use td_civil::{HI, LO, Moment, Observance, utc_text};
 use vtimezone_reader::{Calendar, CalendarFault, expand, first_onset, read};
 
-/// The lines of a zone, of which a calendar is kept.
+/// The lines of a zone whose calendar is kept.
 pub fn text_of_zone(
     alloc: Global,
     plan: &CalendarPlan<'_>,
     mirror: &Mirror,
     zone: &ListZone,
 ) -> Result<Bytes, NoMemory>
-    requires range { IsRange plan.now.start.seconds plan.now.end.seconds }
+    requires range { IsRangeAsked plan.now.start.seconds plan.now.end.seconds }
     requires kept { KeepsCalendar mirror.now.files zone.now.tzid }
     ensures { IfOk result (ZoneTells mirror.now.files
         plan.now.start.seconds plan.now.end.seconds zone.now) }
@@ -43,7 +43,7 @@ pub fn text_of_zone(
     Ok(lines)
 }
 
-/// The calendar that a text is. It is one, so that memory alone can be missing.
+/// Parses a text that is known to be a calendar, so that only memory can fail.
 fn calendar_of(alloc: Global, text: &Bytes) -> Result<Calendar, NoMemory>
     requires { IsOk (calendar_in text.now) }
     ensures reads { IfOk result (λ c. calendar_in text.now ≡ Ok c) }
@@ -56,7 +56,7 @@ fn calendar_of(alloc: Global, text: &Bytes) -> Result<Calendar, NoMemory>
     }
 }
 
-/// Appends the line with which a zone begins.
+/// Appends the first line of a zone.
 fn put_zone(out: &mut Bytes, tzid: &Bytes) -> Result<(), NoMemory>
     ensures { OnOk result (out.new ≡ out.old ++ page.zone_line tzid.now) }
 {
@@ -66,7 +66,7 @@ fn put_zone(out: &mut Bytes, tzid: &Bytes) -> Result<(), NoMemory>
     Ok(())
 }
 
-/// Appends what a calendar tells of a range.
+/// Appends the observances of a calendar in a range.
 #[tactic(auto, using(crate::proofs::CalendarLemmas::calendar_told))]
 fn put_calendar(
     alloc: Global,
@@ -74,7 +74,7 @@ fn put_calendar(
     calendar: &Calendar,
     plan: &CalendarPlan<'_>,
 ) -> Result<(), NoMemory>
-    requires range { IsRange plan.now.start.seconds plan.now.end.seconds }
+    requires range { IsRangeAsked plan.now.start.seconds plan.now.end.seconds }
     requires sound { IsSoundCalendar calendar.now }
     ensures { OnOk result (AppendsCalendar calendar.now
         plan.now.start.seconds plan.now.end.seconds out.old out.new) }
@@ -93,7 +93,7 @@ fn later(a: Moment, b: Moment) -> Moment
     if b.seconds < a.seconds { a } else { b }
 }
 
-/// The earlier of an end and of that of a calendar, if it has one.
+/// The earlier of an end and the end of a calendar, if it has one.
 fn end_within(until: &Option<Moment>, end: Moment) -> Moment
     ensures is { result.seconds ≡ page.end_within until.now end.seconds }
     ensures within { result.seconds ≤ℤ end.seconds }

@@ -15,13 +15,13 @@ use td_base::texts::skip;
 use td_base::{Bytes, End, MemoryConn, MemorySink, MemorySource, NoMemory, Role};
 use zone_meaning::Zone;
 
-/// How many bytes a connection has room for, which are more than the replies to the requests of a
-/// release have.
+/// The buffer of a connection, in bytes. It is larger than all replies to the requests of a
+/// release.
 const ROOM: usize = 65_536;
 
-/// Serves the requests that are made after the last release that a desk has seen, over a connection
-/// in memory, and counts the replies from the bytes that it took. `Err` where memory or the room of
-/// the connection runs out.
+/// Makes requests for the last release that a desk has seen, serves them over a connection in
+/// memory, and counts the replies from its bytes. `Err` when memory or the buffer of the connection
+/// runs out.
 pub fn serve_release(
     alloc: Global,
     desk: &mut Desk<Catalogue<Zone>>,
@@ -41,8 +41,8 @@ pub fn serve_release(
     Ok(())
 }
 
-/// Serves requests one after another, each to its end before the next one comes, so that what the
-/// connection took meanwhile is its reply.
+/// Serves requests one after another, each to its end before the next one. So the bytes that the
+/// connection took meanwhile are the reply.
 fn serve_requests(
     alloc: Global,
     desk: &mut Desk<Catalogue<Zone>>,
@@ -64,7 +64,7 @@ fn serve_requests(
     Ok(())
 }
 
-/// The first head, and what follows it. `Err` where none ends in the bytes.
+/// The first head, and the bytes after it. `Err` if no head ends in the bytes.
 fn first_head(heads: &[u8]) -> Result<(&[u8], &[u8]), NoMemory>
     ensures first { IfOk result (λ p. IsFirstHead heads.now p.0.now p.1.now) }
     ensures fewer { IfOk result (λ p. length p.1.now < length heads.now) }
@@ -96,7 +96,7 @@ fn serve_request(
     Ok(())
 }
 
-/// Lets a connection bring these bytes, and nothing after them.
+/// Gives a connection these bytes to read, and nothing after them.
 fn bring(alloc: Global, conn: &mut MemoryConn, bytes: &[u8]) -> Result<(), NoMemory>
     ensures { OnOk result (conn.new.source.left ≡ bytes.now) }
 {
@@ -104,7 +104,7 @@ fn bring(alloc: Global, conn: &mut MemoryConn, bytes: &[u8]) -> Result<(), NoMem
     Ok(())
 }
 
-/// Counts a reply. `Err` where the bytes are none.
+/// Counts a reply. `Err` if the bytes are not a reply.
 fn count_reply(alloc: Global, reply: &[u8], counts: &mut LoadCounts) -> Result<(), NoMemory>
     ensures { OnOk result (CountsReply reply.now counts.old counts.new) }
 {
@@ -114,8 +114,8 @@ fn count_reply(alloc: Global, reply: &[u8], counts: &mut LoadCounts) -> Result<(
     }
 }
 
-/// Serves a connection of one request to its close, over what the desk has seen. Nothing else is
-/// published meanwhile: where the desk saw more, the load would be another.
+/// Serves a connection of one request until it closes, over what the desk has seen. Nothing else is
+/// published meanwhile: a desk that saw more would change the load.
 fn serve_one(
     alloc: Global,
     desk: &mut Desk<Catalogue<Zone>>,

@@ -7,7 +7,12 @@ use Rattle.td_top.proofs.running.mirroring.mirror_server.Goals as goal
 pub returns-in-Given-clause-ends : goal.returns-in-Given-clause-ends
 returns-in-Given-clause-ends g c = λ store. runs_as _ _ _ _ _ _ (rw (c.after.ensures.doors, c.after.ensures.status, c.after.ensures.up)
     (ran_mirror c.args.words.now.address.now c.args.words.now.workers c.args.words.now.upstream.now store _ _ _ _
-    (record { in_turn = c.mirrors_hold_in_turn.ensures; go_on = c.histories_go_on.ensures; held = c.releases_are_held.ensures }) _ _ _ _ _ _ _ _ _ _ _ _
+    (record {
+      in_turn = c.mirrors_hold_in_turn.ensures;
+      go_on = c.histories_go_on.ensures;
+      held = c.releases_are_held.ensures;
+      stated = c.contents_are_held.ensures;
+    }) _ _ _ _ _ _ _ _ _ _ _ _
     (reaches_server g.N.Up.Upstream.seen _ _ c.args.words.now.upstream.now c.in-Given.server c.in-Given.ensures.reaches) c.in-Given.ensures.reaches.later
     (rw c.empty.ensures at c.follow_on-served.ensures.ends) refl))
 

@@ -29,7 +29,7 @@ returns-in-Some g c =
     search (c.conclude.ensures, ap (λ l. l.0) names, rules) in
     let nobody = subst (λ s. s.installer.subscribers ≡ []) (sym c.new-console.ensures.session_now) c.requires.nobody in
     let done = beside_done g.D.Door.seen _ _ _ c.in-Some.end c.args.staff.works.items c.in-All.dones.items _ _ _ _ told.1 told.2 ended
-    c.run_beside-pool.ensures.later c.in-All.ensures.results concluded nobody in
+    c.run_beside-pool.ensures.later c.in-All.ensures.counts c.in-All.ensures.results concluded nobody in
     search (done, same_rules _ _ _ told.1 told.2, ap (λ l. l.1) names, ap (λ l. l.2) names, ap (λ l. l.3) names, ap (λ l. l.0) names, rules)
 
 pub returns-in-All : goal.returns-in-All
@@ -58,7 +58,7 @@ returns-in-NotStarted g c =
 
 pub returns : goal.returns
 returns g c =
-    let same = ap (beside_of (λ a. a.rules.chosen) g.G.Growth.seen g.C.Source.seen g.K.Sink.seen) c.in-NoMemory.ensures.beside in
+    let same = ap (beside_of (λ a. a.rules.chosen) g.G.ReleaseFeed.seen g.C.Source.seen g.K.Sink.seen) c.in-NoMemory.ensures.beside in
     let left = beside_left g.D.Door.seen _ _ c.args.staff.works.items _ _ _ _ same c.run_beside-pool.ensures.later c.give_up-in-NoMemory.ensures.status
     c.give_up-in-NoMemory.ensures.doors in
     search (left, ap (λ v. v.rules) same, ap (λ v. v.lent.1) same, ap (λ v. v.lent.2) same, ap (λ v. v.lent.3) same, ap (λ v. v.lent.0) same, rules)

@@ -1,6 +1,6 @@
 use Rattle.std.proofs.Common.{◌≡◌, ◌++◌, drop, map}
 use Rattle.td_top.specs.declared.command.rules.Named.{Named}
-use Rattle.td_top.proofs.command.rules.Choice.rules.Given as goal
+use Rattle.td_top.proofs.command.rules.RuleChoice.rules.Given as goal
 
 abbrev pub invariant-loop-named : goal.invariant-loop-named
 invariant-loop-named g l =

@@ -2,26 +2,26 @@ ghost use Rattle.td_top.specs.Growth.{AsksFolder, folders};
 ghost use Rattle.td_top.specs.Replies.{reply_bytes};
 ghost use Rattle.td_top.specs.Sessions.{AnswersLine};
 
-use crate::growth::Growth;
+use crate::growth::ReleaseFeed;
 use crate::operator::newest;
-use crate::replies::Reply;
+use crate::replies::ConsoleReply;
 use crate::session::Session;
 use console::{Line, Said};
-use installer::Asked;
+use installer::InstallPolicy;
 use std::sync::Wait;
 use td_base::{Bytes, Store};
 
 /// A server's history grows by the folders of its store.
-impl<S: Store> Growth for S {
+impl<S: Store> ReleaseFeed for S {
     ghost seen = { λ store rules. folders rules (S.seen store) };
 
     fn grow<R: Wait>(
         &mut self,
         rt: &R,
         session: &mut Session,
-        asked: &Asked<'_>,
+        asked: &InstallPolicy<'_>,
         line: &Line,
-    ) -> Option<Reply> {
+    ) -> Option<ConsoleReply> {
         match line {
             Line::Install(dir) => Some(install(rt, session, asked, self, dir)),
             _ => None,
@@ -29,21 +29,21 @@ impl<S: Store> Growth for S {
     }
 }
 
-/// Installs the release of a folder, where no rule refuses it.
+/// Installs the release of a folder, if no rule refuses it.
 fn install<R: Wait, S: Store>(
     rt: &R,
     session: &mut Session,
-    asked: &Asked<'_>,
+    asked: &InstallPolicy<'_>,
     store: &mut S,
     dir: &Bytes,
-) -> Reply
+) -> ConsoleReply
     ensures { (line : Line) → AsksFolder line dir.now
         → AnswersLine (folders asked.now.rules.chosen (S.seen store.old))
         (folders asked.now.rules.chosen (S.seen store.new)) session.old session.new
         line (reply_bytes result) }
 {
     match session.install(rt, dir.as_slice(), store, asked) {
-        Ok(()) => Reply::brief(&Said::Installed(newest(&session.installer))),
-        Err(fault) => Reply::refusal(session.alloc, &fault),
+        Ok(()) => ConsoleReply::brief(&Said::Installed(newest(&session.installer))),
+        Err(fault) => ConsoleReply::refusal(session.alloc, &fault),
     }
 }

@@ -2,7 +2,7 @@ use Rattle.std.proofs.Common.{refl}
 use Rattle.catalogue.specs.Holdings.{history_of}
 use Rattle.td_top.proofs.FollowLines.{opens}
 use Rattle.td_top.proofs.Installing.{parts_desks}
-use Rattle.td_top.proofs.following.open_stated.Goals as goal
+use Rattle.td_top.proofs.mirror_feed.open_stated.Goals as goal
 
 pub returns-clause-stated : goal.returns-clause-stated
 returns-clause-stated g c =

@@ -2,7 +2,7 @@ use Rattle.std.proofs.Common.{ap, ◌∙◌, arith}
 use Rattle.td_top.specs.Command.{are_once, has_kind}
 use Rattle.td_top.specs.declared.command.rules.Named.{Named}
 use Rattle.td_top.proofs.RuleLemmas.{has_room}
-use Rattle.td_top.proofs.command.rules.Choice.add.Goals as goal
+use Rattle.td_top.proofs.command.rules.RuleChoice.add.Goals as goal
 
 pub push-requires : goal.push-requires
 push-requires c = (

@@ -3,7 +3,7 @@ use Rattle.console.specs.Replies.{reply_text}
 use Rattle.console.specs.declared.said.Said.TheVariants as said
 use Rattle.catalogue.specs.Holdings.{history_of}
 use Rattle.td_top.proofs.FolderLines.{is_installed, is_refused}
-use Rattle.td_top.proofs.folders.install.Goals as goal
+use Rattle.td_top.proofs.folder_feed.install.Goals as goal
 
 pub returns-in-Ok : goal.returns-in-Ok
 returns-in-Ok g c = λ line asks.

@@ -3,7 +3,7 @@ use Rattle.catalogue.specs.Holdings.{history_of}
 use Rattle.console.specs.Replies.{reply_text}
 use Rattle.console.specs.declared.said.Said.TheVariants as said
 use Rattle.td_top.proofs.FollowLines.{is_joined, is_not_joined}
-use Rattle.td_top.proofs.following.install.Goals as goal
+use Rattle.td_top.proofs.mirror_feed.install.Goals as goal
 
 pub returns-in-Ok : goal.returns-in-Ok
 returns-in-Ok g c = λ s is has other.

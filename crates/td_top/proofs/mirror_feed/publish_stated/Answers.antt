@@ -4,7 +4,7 @@ use Rattle.console.specs.Replies.{reply_text}
 use Rattle.console.specs.declared.said.Said.TheVariants as said
 use Rattle.sync_core.specs.Published.{HasFiles}
 use Rattle.td_top.proofs.FollowLines.{differs, is_not_compared, is_unchanged, same_files}
-use Rattle.td_top.proofs.following.publish_stated.Goals as goal
+use Rattle.td_top.proofs.mirror_feed.publish_stated.Goals as goal
 
 pub returns-in-Ok-true : goal.returns-in-Ok-true
 returns-in-Ok-true g c = λ s is has.
@@ -14,7 +14,7 @@ returns-in-Ok-true g c = λ s is has.
 pub returns-in-Ok-false : goal.returns-in-Ok-false
 returns-in-Ok-false g c = λ s is has.
     let told = rw c.in-Ok-false.field-0-test at c.in-Ok-false.ensures in
-    c.install.ensures s is (subst (λ (files : List File). HasFiles files s.files) (sym (same_files c.args.store.now c.serves.new.store told.later)) has)
+    c.install.ensures s is (subst (λ (files : List File). HasFiles files s.files) (sym (same_files c.args.store.now c.last_matches.new.store told.later)) has)
     (differs c.args.store.now c.args.manifest.now s is has c.args.session.now _ told)
 
 pub returns-in-Err : goal.returns-in-Err

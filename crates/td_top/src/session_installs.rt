@@ -6,19 +6,19 @@ ghost use Rattle.td_top.specs.Sessions.{LaterSession};
 
 use crate::session::Session;
 use admission::Rules;
-use installer::{Asked, InstallFault};
+use installer::{InstallFault, InstallPolicy};
 use release_manifest::Manifest;
 use std::sync::Wait;
 use td_base::Store;
 
 impl Session {
-    /// Installs the release of a folder, where no rule refuses it, and lets the desk learn of it.
+    /// Installs the release of a folder, if no rule refuses it, and lets the desk learn it.
     pub fn install<R: Wait, S: Store>(
         &mut self,
         rt: &R,
         dir: &[u8],
         store: &mut S,
-        asked: &Asked<'_>,
+        asked: &InstallPolicy<'_>,
     ) -> Result<(), InstallFault>
         ensures found { Installs (S.seen store.old) (S.seen store.new) dir.now
             asked.now.rules.chosen (history_of self.old.installer.list)
@@ -37,14 +37,14 @@ impl Session {
         Ok(())
     }
 
-    /// Installs the release of a manifest and its files, of which no rule is asked, and lets the
-    /// desk learn of it.
+    /// Installs the release of a manifest and its files, to which no rule applies, and lets the
+    /// desk learn it.
     pub fn install_stated<R: Wait, S: Store>(
         &mut self,
         rt: &R,
         manifest: &Manifest,
         store: &mut S,
-        asked: &Asked<'_>,
+        asked: &InstallPolicy<'_>,
     ) -> Result<(), InstallFault>
         ensures found { InstallsStated (S.seen store.old) (S.seen store.new) manifest.now []
             (history_of self.old.installer.list) (λ u. history_of self.new.installer.list) result }
@@ -57,7 +57,7 @@ impl Session {
             (self.new.installer.subscribers ≡ self.old.installer.subscribers) }
         ensures later { LaterSession self.old self.new }
     {
-        let unruled = Asked::new(Rules::none(self.alloc), asked.wants);
+        let unruled = InstallPolicy::new(Rules::none(self.alloc), asked.wants);
         let receipt = self
             .installer
             .install_manifest(rt, self.alloc, manifest, store, &unruled)?;
@@ -65,7 +65,7 @@ impl Session {
         Ok(())
     }
 
-    /// Gives up what is published. It may wait for desks that are entering.
+    /// Releases what is published. It may wait for desks that are entering.
     pub fn close<R: Wait>(self, rt: &R) {
         let Session {
             alloc: _,

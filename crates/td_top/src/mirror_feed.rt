@@ -9,13 +9,13 @@ ghost use Rattle.td_top.specs.Opening.{HasDesks, published_in};
 ghost use Rattle.td_top.specs.Replies.{reply_bytes};
 ghost use Rattle.td_top.specs.Sessions.{AnswersLine};
 
-use crate::growth::Growth;
-use crate::opening::Opened;
+use crate::growth::ReleaseFeed;
+use crate::opening::OpenedServer;
 use crate::operator::newest;
-use crate::replies::Reply;
+use crate::replies::ConsoleReply;
 use crate::session::Session;
 use console::{Line, Said};
-use installer::{Asked, InstallFault, Installer};
+use installer::{InstallFault, InstallPolicy, Installer};
 use mirror::sync;
 use release_manifest::Manifest;
 use std::alloc::Global;
@@ -23,24 +23,24 @@ use std::sync::Wait;
 use sync_core::Mirror;
 use td_base::{MemoryStore, NoMemory, Upstream};
 
-/// A mirror, and the server that it follows and asks as this host.
+/// A mirror, the server that it follows, and the host name for its requests.
 pub struct Follow<'h, U: Upstream> {
     pub mirror: Mirror,
     pub host: &'h [u8],
     pub upstream: U,
 }
 
-/// A mirror's history grows by what the other server is heard to have, of which no rule is asked.
-impl<'h, U: Upstream> Growth for Follow<'h, U> {
+/// A mirror's history grows by what it receives from the other server. No rule is applied to it.
+impl<'h, U: Upstream> ReleaseFeed for Follow<'h, U> {
     ghost seen = { λ follow _. follow_of U.seen follow };
 
     fn grow<R: Wait>(
         &mut self,
         rt: &R,
         session: &mut Session,
-        asked: &Asked<'_>,
+        asked: &InstallPolicy<'_>,
         line: &Line,
-    ) -> Option<Reply> {
+    ) -> Option<ConsoleReply> {
         match line {
             Line::Sync => Some(sync_once(rt, session, asked, self)),
             _ => None,
@@ -48,13 +48,13 @@ impl<'h, U: Upstream> Growth for Follow<'h, U> {
     }
 }
 
-/// Syncs, and publishes what the mirror states, where that is another release than the last.
+/// Syncs, and publishes what the mirror holds, if that is another release than the last.
 fn sync_once<R: Wait, U: Upstream>(
     rt: &R,
     session: &mut Session,
-    asked: &Asked<'_>,
+    asked: &InstallPolicy<'_>,
     follow: &mut Follow<'_, U>,
-) -> Reply
+) -> ConsoleReply
     ensures { (line : Line) → Grows (follow_of U.seen follow.old) line → AnswersLine
         (follow_of U.seen follow.old) (follow_of U.seen follow.new) session.old session.new
         line (reply_bytes result) }
@@ -62,38 +62,43 @@ fn sync_once<R: Wait, U: Upstream>(
     let alloc = session.alloc;
     match sync(alloc, &mut follow.mirror, follow.host, &mut follow.upstream) {
         Ok(()) => publish(rt, session, asked, &follow.mirror),
-        Err(fault) => Reply::sync_refusal(alloc, &fault),
+        Err(fault) => ConsoleReply::sync_refusal(alloc, &fault),
     }
 }
 
-/// Publishes what the mirror states, where that is another release than the last, and gives what is
-/// said of it.
-fn publish<R: Wait>(rt: &R, session: &mut Session, asked: &Asked<'_>, mirror: &Mirror) -> Reply
+/// Publishes what the mirror holds, if that is another release than the last, and returns the reply
+/// about it.
+fn publish<R: Wait>(
+    rt: &R,
+    session: &mut Session,
+    asked: &InstallPolicy<'_>,
+    mirror: &Mirror,
+) -> ConsoleReply
     requires { mirror.now.pending ≡ [] }
     ensures { PublishesStated mirror.now session.old session.new (reply_bytes result) }
 {
     match mirror.manifest(session.alloc) {
         Ok((manifest, mut store)) => publish_stated(rt, session, asked, &manifest, &mut store),
-        Err(NoMemory) => Reply::brief(&Said::NoMemory),
+        Err(NoMemory) => ConsoleReply::brief(&Said::NoMemory),
     }
 }
 
-/// The same of a manifest and its files.
+/// Like `publish`, for a manifest and its files.
 fn publish_stated<R: Wait>(
     rt: &R,
     session: &mut Session,
-    asked: &Asked<'_>,
+    asked: &InstallPolicy<'_>,
     manifest: &Manifest,
     store: &mut MemoryStore,
-) -> Reply
+) -> ConsoleReply
     ensures { (s : MirrorState) → manifest.now ≡ manifest_of s → HasFiles store.old s.files
         → PublishesStated s session.old session.new (reply_bytes result) }
 {
     let alloc = session.alloc;
-    match session.installer.serves(alloc, manifest, store) {
-        Ok(true) => Reply::brief(&Said::Unchanged(newest(&session.installer))),
+    match session.installer.last_matches(alloc, manifest, store) {
+        Ok(true) => ConsoleReply::brief(&Said::Unchanged(newest(&session.installer))),
         Ok(false) => install(rt, session, asked, manifest, store),
-        Err(fault) => Reply::refusal(alloc, &fault),
+        Err(fault) => ConsoleReply::refusal(alloc, &fault),
     }
 }
 
@@ -101,28 +106,28 @@ fn publish_stated<R: Wait>(
 fn install<R: Wait>(
     rt: &R,
     session: &mut Session,
-    asked: &Asked<'_>,
+    asked: &InstallPolicy<'_>,
     manifest: &Manifest,
     store: &mut MemoryStore,
-) -> Reply
+) -> ConsoleReply
     ensures { (s : MirrorState) → manifest.now ≡ manifest_of s → HasFiles store.old s.files
         → (StatesLast (history_of session.old.installer.list) s → ⊥)
         → PublishesStated s session.old session.new (reply_bytes result) }
 {
     match session.install_stated(rt, manifest, store, asked) {
-        Ok(()) => Reply::brief(&Said::Installed(newest(&session.installer))),
-        Err(fault) => Reply::refusal(session.alloc, &fault),
+        Ok(()) => ConsoleReply::brief(&Said::Installed(newest(&session.installer))),
+        Err(fault) => ConsoleReply::refusal(session.alloc, &fault),
     }
 }
 
-/// Publishes what the mirror states as a first release, for a session and the desks of so many
+/// Publishes what the mirror holds as a first release, for a session and the desks of this many
 /// workers.
 pub fn open_stated<R: Wait>(
     rt: &R,
     alloc: Global,
     mirror: &Mirror,
     workers: u32,
-) -> Result<Opened, InstallFault>
+) -> Result<OpenedServer, InstallFault>
     requires settled { mirror.now.pending ≡ [] }
     requires workers { workers ≤ 64 }
     ensures stated { OpensStated mirror.now (published_in result) }
@@ -137,7 +142,7 @@ pub fn open_stated<R: Wait>(
         workers + 1,
     )?;
     let desk = desks.pop().unwrap();
-    Ok(Opened {
+    Ok(OpenedServer {
         session: Session {
             alloc,
             installer,

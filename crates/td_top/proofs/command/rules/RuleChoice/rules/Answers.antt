@@ -2,7 +2,7 @@ use Rattle.std.proofs.Common.{◌≤◌, length}
 use Rattle.admission.proofs.lemmas.Keeping.{all_kept}
 use Rattle.td_top.specs.declared.command.rules.Named.{Named}
 use Rattle.td_top.proofs.RuleLemmas.{few_rules}
-use Rattle.td_top.proofs.command.rules.Choice.rules.Goals as goal
+use Rattle.td_top.proofs.command.rules.RuleChoice.rules.Goals as goal
 
 pub new-requires : goal.new-requires
 new-requires g c =

@@ -1,5 +1,5 @@
 use Rattle.td_top.proofs.FollowLines.{is_faulted, is_synced}
-use Rattle.td_top.proofs.following.sync_once.Goals as goal
+use Rattle.td_top.proofs.mirror_feed.sync_once.Goals as goal
 
 pub publish-requires : goal.publish-requires
 publish-requires g c = c.in-Ok.ensures.settled

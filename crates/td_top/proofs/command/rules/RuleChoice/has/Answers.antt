@@ -5,7 +5,7 @@ use Rattle.std.proofs.lemmas.Iterator.Search.{any_from_yields_List}
 use Rattle.td_top.specs.Command.{has_kind, is_same_kind}
 use Rattle.td_top.specs.declared.command.rules.Named.{Named}
 use Rattle.td_top.proofs.RuleLemmas.{has_mapped}
-use Rattle.td_top.proofs.command.rules.Choice.has.Goals as goal
+use Rattle.td_top.proofs.command.rules.RuleChoice.has.Goals as goal
 
 pub returns : goal.returns
 returns c =
