@@ -1,4 +1,4 @@
-//! Documents that are written. A row names the values, which stand here.
+//! Documents that are written. A row names the values, which are defined here.
 ghost use Rattle.std.specs.Prelude.{◌≤◌, IfOk, length};
 ghost use Rattle.std.specs.List.{AllByRecursion};
 ghost use Rattle.td_base.specs.Names.{IsPlain};
@@ -28,7 +28,7 @@ fn way_of(word: &str) -> Result<Way, CaseFault> {
     }
 }
 
-/// `list NAME WAY`: the list, after other bytes.
+/// `list NAME WAY`: the list, appended to other bytes.
 pub fn list(alloc: Global, row: &Row) -> Answer {
     let way = way_of(row.text(1)?)?;
     match row.text(0)? {
@@ -40,7 +40,7 @@ pub fn list(alloc: Global, row: &Row) -> Answer {
     }
 }
 
-/// A list, after other bytes.
+/// A list, appended to other bytes.
 fn written(alloc: Global, way: Way, token: &[u8], zones: &[ListZone]) -> Answer
     requires token { IsPlain token.now }
     requires zones { AllByRecursion IsPlainZone zones.now }
@@ -71,7 +71,7 @@ fn item_by_item(alloc: Global, token: &[u8], zones: &[ListZone]) -> Answer
     Ok(list.end()?.into_vec())
 }
 
-/// A zone of the publisher `Test`, with one tag for all.
+/// A zone of the publisher `Test`. All zones have the same tag.
 fn zone(
     alloc: Global,
     tzid: &[u8],
@@ -110,7 +110,7 @@ fn two_zones(alloc: Global, way: Way) -> Answer {
     written(alloc, way, b"1-89abcdef01234567", &[york, utc])
 }
 
-/// Quotation marks and backslashes, which are escaped (RFC 8259, section 7).
+/// A list with quotation marks and backslashes, which are escaped (RFC 8259, section 7).
 fn escaped(alloc: Global, way: Way) -> Answer {
     let mut aliases = Items::new(alloc);
     aliases.push(Bytes::from_slice(alloc, b"A")?)?;
@@ -184,7 +184,7 @@ fn east(alloc: Global) -> Answer {
     Ok(east.end(b"A/B", from)?.into_vec())
 }
 
-/// `leap-table`: that of 1973, which is known to hold up to 28 December 2025.
+/// `leap-table`: the table of 1973, which is known to hold up to 28 December 2025.
 pub fn leap_table(alloc: Global) -> Answer {
     let steps = vec![in alloc;
         LeapStep {

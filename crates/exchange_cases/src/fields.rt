@@ -1,4 +1,4 @@
-//! What fields of negotiation choose and have.
+//! Header fields of content negotiation: what they choose and contain.
 use case_lines::{Answer, Row, shown};
 use negotiate::{choose, none_match};
 use std::alloc::Global;
@@ -9,7 +9,7 @@ pub fn choice(alloc: Global, row: &Row) -> Answer {
     shown(alloc, &choose(field))
 }
 
-/// `none-match TAG FIELD`: whether the field has the tag.
+/// `none-match TAG FIELD`: whether the field contains the tag.
 pub fn holding(alloc: Global, row: &Row) -> Answer {
     shown(alloc, &none_match(row.word(1)?, row.word(0)?))
 }

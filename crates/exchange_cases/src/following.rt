@@ -1,19 +1,19 @@
-//! A mirror that is told what rows say.
+//! A mirror that receives what rows say.
 use case_lines::{Answer, CaseFault, Row, Told};
 use json_forms::{BadList, ListDoc, read_list};
 use std::alloc::Global;
 use sync_core::{Heard, Mirror, Settled};
 use td_base::{Ask, Bytes};
 
-/// `begin`: the mirror holds nothing.
+/// `begin`: an empty mirror.
 pub fn begin(alloc: Global, mirror: &mut Mirror) -> Answer {
     *mirror = Mirror::empty(alloc);
     Ok(Vec::new(alloc))
 }
 
-/// `told WHAT`: what the mirror had asked, and whether it then holds what the primary has. It is
-/// told of a list (`{..`), that the token is `refused`, or of a file; `lost` is told where nothing
-/// comes, and after `restart` it begins anew.
+/// `told WHAT`: what the mirror had requested, and whether it is then in sync. WHAT is a list
+/// (`{..`), `refused` for a refused token, or a file. It is `lost` when no answer comes, and after
+/// `restart` the mirror starts again.
 pub fn told(alloc: Global, mirror: &mut Mirror, row: &Row) -> Answer {
     let what = row.word(0)?;
     let mut told = Told::new(alloc);
@@ -26,7 +26,7 @@ pub fn told(alloc: Global, mirror: &mut Mirror, row: &Row) -> Answer {
     told.answer()
 }
 
-/// Tells what a mirror asks.
+/// Appends what a mirror requests.
 fn tell_ask(alloc: Global, told: &mut Told, mirror: &Mirror) {
     match mirror.ask(alloc) {
         Ok(Ask::List(None)) => told.bytes(b"list"),
@@ -54,7 +54,7 @@ fn hear(alloc: Global, mirror: &mut Mirror, what: &[u8]) -> Result<Settled, Case
     take(alloc, mirror, what)
 }
 
-/// Lets the mirror take an answer of the kind that it waits for.
+/// Lets the mirror apply an answer of the kind that it waits for.
 fn take(alloc: Global, mirror: &mut Mirror, told: &[u8]) -> Result<Settled, CaseFault> {
     match mirror.ask(alloc)? {
         Ask::Get(_) => {
@@ -69,7 +69,7 @@ fn take(alloc: Global, mirror: &mut Mirror, told: &[u8]) -> Result<Settled, Case
     }
 }
 
-/// The list that a text is.
+/// Parses a text as a list.
 fn list_in(alloc: Global, text: &[u8]) -> Result<ListDoc, CaseFault> {
     match read_list(alloc, text) {
         Ok(list) => Ok(list),

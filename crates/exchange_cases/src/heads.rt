@@ -1,11 +1,11 @@
-//! Heads out of the bytes of a connection.
+//! Parsing request heads from the bytes of a connection.
 use crate::pieces::{Same, joined};
 use case_lines::{Answer, CaseFault, Row, Told, numbers};
 use http_request::{Head, Heads, Next};
 use std::alloc::Global;
 use td_base::Bytes;
 
-/// `heads STREAM`: what comes of the stream, in pieces of each size from 1 to 99.
+/// `heads STREAM`: the heads of the stream, in pieces of each size from 1 to 99.
 pub fn heads(alloc: Global, row: &Row) -> Answer {
     let stream = joined(alloc, row.words())?;
     let mut same = Same::new(told_of(alloc, stream.as_slice(), 1));
@@ -15,7 +15,7 @@ pub fn heads(alloc: Global, row: &Row) -> Answer {
     same.answer(alloc)
 }
 
-/// `long STREAM`: what comes of the stream, in single bytes and in pieces of 4,096 and 20,000.
+/// `long STREAM`: the heads of the stream, in single bytes and in pieces of 4,096 and 20,000 bytes.
 pub fn long(alloc: Global, row: &Row) -> Answer {
     let stream = joined(alloc, row.words())?;
     let mut same = Same::new(told_of(alloc, stream.as_slice(), 1));
@@ -25,7 +25,7 @@ pub fn long(alloc: Global, row: &Row) -> Answer {
     same.answer(alloc)
 }
 
-/// `held SIZES STREAM`: how many bytes are held after each piece, of these sizes.
+/// `held SIZES STREAM`: how many bytes are held after each piece. The pieces have these sizes.
 pub fn held(alloc: Global, row: &Row) -> Answer {
     let stream = joined(alloc, row.words().get(1..).unwrap_or(&[]))?;
     held_of(alloc, row, stream.as_slice())
@@ -44,7 +44,7 @@ fn held_of(alloc: Global, row: &Row, stream: &[u8]) -> Answer {
     told.answer()
 }
 
-/// Tells how many bytes are held after this piece, and takes the heads that stand whole in them.
+/// Appends how many bytes are held after this piece, and removes the whole heads from them.
 fn tell_held(alloc: Global, heads: &mut Heads, piece: &[u8], told: &mut Told) {
     told.done(heads.feed(piece));
     told.value(&heads.held());
@@ -56,7 +56,7 @@ fn tell_held(alloc: Global, heads: &mut Heads, piece: &[u8], told: &mut Told) {
     }
 }
 
-/// What comes of the stream in pieces of this size: a line for each head, then the refusal or
+/// The result of the stream in pieces of this size: a line for each head, then the refusal or
 /// `more`.
 fn told_of(alloc: Global, stream: &[u8], size: usize) -> Answer {
     let mut told = Told::new(alloc);
@@ -75,7 +75,8 @@ fn tell_stream(alloc: Global, stream: &[u8], size: usize, told: &mut Told) {
     told.bytes(b"more");
 }
 
-/// Tells the heads that stand whole in what is held. Whether a refusal came, or no memory was left.
+/// Appends the whole heads in the held bytes, at most four. Returns whether a refusal came, or
+/// memory ran out.
 fn tell(alloc: Global, heads: &mut Heads, told: &mut Told) -> bool {
     for _ in 0..4 {
         match heads.next(alloc) {
@@ -94,7 +95,7 @@ fn tell(alloc: Global, heads: &mut Heads, told: &mut Told) -> bool {
     false
 }
 
-/// The target, ` head` for HEAD, ` close` where the connection is to be closed, and the two joined
+/// The target, ` head` for HEAD, ` close` if the connection is to be closed, and the two joined
 /// fields.
 fn tell_head(told: &mut Told, head: &Head) {
     told.bytes(head.target.as_slice());

@@ -8,8 +8,8 @@ use sync_core::Mirror;
 use td_base::{Ask, Bytes, FileRead, MemoryStore, Store};
 use td_civil::{HI, LO, Moment, utc_text};
 
-/// `mirror-held`: the release that is held, as lines: stamp, publisher and version, and of each zone
-/// its identifier, its aliases, the name of its file and its bytes; or that files are pending.
+/// `mirror-held`: the release that is held, as lines, or that files are pending. The lines are
+/// stamp, publisher and version, and for each zone its identifier, aliases, file name and bytes.
 pub fn held(alloc: Global, mirror: &Mirror) -> Answer {
     match mirror.ask(alloc)? {
         Ask::Get(_) => case_lines::bytes(alloc, b"pending"),

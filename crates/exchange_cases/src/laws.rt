@@ -1,4 +1,4 @@
-//! Laws, each of which does nothing. That a row calls them shows that they can be.
+//! Laws, each of which does nothing. A row that calls them shows that they can be called.
 use case_lines::Answer;
 use std::alloc::Global;
 use sync_world::{
@@ -6,7 +6,7 @@ use sync_world::{
 };
 use zone_meaning::Zone;
 
-/// `secondary-laws`: each law of a secondary is called, for the primary that answers by the actions.
+/// `secondary-laws`: calls each law of a secondary, for the primary that answers by the actions.
 pub fn of_secondaries(alloc: Global) -> Answer {
     mirrors_hold::<Actions>();
     holds_comes::<Actions>();
@@ -16,14 +16,14 @@ pub fn of_secondaries(alloc: Global) -> Answer {
     case_lines::bytes(alloc, b"called")
 }
 
-/// `mirror-laws`: those of replies that a mirror reads, and of its exchanges, are called.
+/// `mirror-laws`: calls the laws of replies that a mirror reads, and of its exchanges.
 pub fn of_mirrors(alloc: Global) -> Answer {
     http_client::one_reading();
     mirror::one_meaning();
     case_lines::bytes(alloc, b"called")
 }
 
-/// `connection-laws`: those of heads, and of the lines of a console, are called.
+/// `connection-laws`: calls the laws of heads, and of the lines of a console.
 pub fn of_connections(alloc: Global) -> Answer {
     http_request::gives();
     http_request::is_bounded();

@@ -6,7 +6,8 @@ use std::alloc::Global;
 use subscribers::{Wish, WishKind};
 
 /// `lines TEXT`: the lines of the text, each with a line feed, and how many bytes are held in the
-/// end; in pieces of each size from 1 to 59, and cut once at each place up to the 59th.
+/// end. The text comes in pieces of each size from 1 to 59, and cut once at each place up to the
+/// 59th.
 pub fn lines(alloc: Global, row: &Row) -> Answer {
     let text = joined(alloc, row.words())?;
     let mut same = Same::new(in_pieces(alloc, text.as_slice(), 1));
@@ -17,10 +18,10 @@ pub fn lines(alloc: Global, row: &Row) -> Answer {
     same.answer(alloc)
 }
 
-/// `long-line FIRST TIMES END`: FIRST, then so many times `x`, in pieces of 4,096, after each of
-/// which lines are asked for, then END. The lines that came before END, of which there is to be
-/// none, the length of the first line's folder, the lines after it, the most bytes that were held
-/// before END, and how many are held after it.
+/// `long-line FIRST TIMES END`: feeds FIRST, then `x` TIMES times in pieces of 4,096 bytes, then
+/// END. Lines are requested after each piece. The answer has the lines before END (there should be
+/// none), the length of the first line's folder, and the lines after it. It ends with the most
+/// bytes held before END, and how many are held after it.
 pub fn long_line(alloc: Global, row: &Row) -> Answer {
     let (first, times, end) = (row.word(0)?, row.number(1)?, row.word(2)?);
     let mut lines = Lines::new(alloc);
@@ -32,7 +33,7 @@ pub fn long_line(alloc: Global, row: &Row) -> Answer {
     told.answer()
 }
 
-/// Feeds so many times `x`, and gives the most bytes that were held after a piece.
+/// Feeds `x` so many times, and returns the most bytes that were held after a piece.
 fn feed_long(lines: &mut Lines, times: u64, told: &mut Told) -> usize {
     let piece = [b'x'; 4_096];
     let mut most = 0;
@@ -42,14 +43,14 @@ fn feed_long(lines: &mut Lines, times: u64, told: &mut Told) -> usize {
     feed_piece(lines, &piece[..(times % 4_096) as usize], told).max(most)
 }
 
-/// Feeds a piece, tells the lines that then stand whole, and gives how many bytes are held.
+/// Feeds a piece, appends the whole lines, and returns how many bytes are held.
 fn feed_piece(lines: &mut Lines, piece: &[u8], told: &mut Told) -> usize {
     told.done(lines.feed(piece));
     tell_all(lines, told);
     lines.held()
 }
 
-/// Tells the first line by the length of its folder, and those after it.
+/// Appends the length of the first line's folder, and the lines after it.
 fn tell_end(lines: &mut Lines, told: &mut Told, most: usize) {
     tell_folder(lines, told);
     told.bytes(b" ");
@@ -59,7 +60,7 @@ fn tell_end(lines: &mut Lines, told: &mut Told, most: usize) {
     told.value(&lines.held());
 }
 
-/// Tells how long the folder of an `install` is, which is the next line.
+/// Appends the length of the folder in the next line, which is an `install`.
 fn tell_folder(lines: &mut Lines, told: &mut Told) {
     match lines.next() {
         Ok(Some(Line::Install(folder))) => told.value(&folder.len()),
@@ -68,7 +69,7 @@ fn tell_folder(lines: &mut Lines, told: &mut Told) {
     }
 }
 
-/// The text in pieces of this size, with each piece read before the next is fed.
+/// The text in pieces of this size, with the lines of each piece read before the next is fed.
 fn in_pieces(alloc: Global, text: &[u8], size: usize) -> Answer {
     let mut lines = Lines::new(alloc);
     let mut told = Told::new(alloc);
@@ -79,7 +80,7 @@ fn in_pieces(alloc: Global, text: &[u8], size: usize) -> Answer {
     told.answer()
 }
 
-/// The text in two pieces, cut here, with nothing read between them.
+/// The text in two pieces, cut here, with no line read between them.
 fn cut_once(alloc: Global, text: &[u8], at: usize) -> Answer {
     let (first, rest) = text.split_at(at.min(text.len()));
     let mut lines = Lines::new(alloc);

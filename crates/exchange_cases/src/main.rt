@@ -1,14 +1,14 @@
-//! Tries what the crates of heads, targets, answers, documents, consoles and mirrors offer over the
-//! cases of a table on standard input, and tells of each whose answer is not the expected one. The
-//! table explains its own lines.
+//! Tests the crates of heads, targets, answers, documents, consoles and mirrors over the cases of a
+//! table on standard input. Reports each case whose answer is not the expected one. The table
+//! explains its own lines.
 #![tactic(auto)]
 
-// Documents that are written, and that are read.
+// Documents that are written, and that are parsed.
 mod documents;
 mod problems;
 mod readings;
 
-// Requests of a mirror, the replies to them, and a mirror that is told what comes or synced.
+// Requests of a mirror, the replies to them, and a mirror that receives answers or syncs.
 mod following;
 mod holding;
 mod syncs;
@@ -45,7 +45,7 @@ fn main(rt: HostRuntime) -> io::Result<()> {
     read_table(&rt, alloc, &mut mirror, &mut store)
 }
 
-/// Reads the table, and tells of each row whose answer is not the expected one.
+/// Runs the table, and reports each row whose answer is not the expected one.
 fn read_table<R: Input + Print>(
     rt: &R,
     alloc: Global,
@@ -64,7 +64,7 @@ fn read_table<R: Input + Print>(
     println!(rt; "{tally}")
 }
 
-/// What is to be told of the next line.
+/// The report on the next line.
 fn told(
     alloc: Global,
     table: &mut Table,
@@ -81,7 +81,7 @@ fn told(
     }
 }
 
-/// What is answered to a row: here of a mirror that follows another server.
+/// The answer to a row: here of a mirror that follows another server.
 fn answer(alloc: Global, mirror: &mut Mirror, store: &mut MemoryStore, row: &Row) -> Answer {
     match row.kind() {
         "begin" => following::begin(alloc, mirror),

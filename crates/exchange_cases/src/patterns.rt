@@ -3,7 +3,7 @@ use case_lines::{Answer, CaseFault, Row, Told, printed, shown};
 use find_pattern::{BadPattern, Pattern, matches, read};
 use std::alloc::Global;
 
-/// `pattern TEXT`: whether others may stand before and after, and the text; or the fault.
+/// `pattern TEXT`: whether other characters may precede and follow it, and the text; or the fault.
 pub fn pattern(alloc: Global, row: &Row) -> Answer {
     match read(alloc, row.word(0)?) {
         Ok(pattern) => told(alloc, &pattern),

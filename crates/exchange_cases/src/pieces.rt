@@ -1,8 +1,8 @@
-//! Texts that stand in several words, and answers in which a cut shows.
+//! Texts of several words, and answers that show whether a cut matters.
 use case_lines::{Answer, Told};
 use std::alloc::Global;
 
-/// The words with a blank between two: the text that they were cut from.
+/// The words joined by blanks: the text that they were cut from.
 pub fn joined(alloc: Global, words: &[Vec<u8>]) -> Answer {
     let mut text = Told::new(alloc);
     for (at, word) in words.iter().enumerate() {
@@ -14,16 +14,16 @@ pub fn joined(alloc: Global, words: &[Vec<u8>]) -> Answer {
     text.answer()
 }
 
-/// What is answered to a text, whatever the size of its pieces.
+/// The answer for a text, if it does not depend on the size of its pieces.
 #[derive(Drop)]
 pub struct Same {
     first: Answer,
-    /// The first size of pieces that gives something else.
+    /// The first size of pieces that gives another answer.
     differing: Option<usize>,
 }
 
 impl Same {
-    /// With what pieces of the first size give.
+    /// Starts with the answer for pieces of the first size.
     pub fn new(first: Answer) -> Same {
         Same {
             first,
@@ -31,14 +31,14 @@ impl Same {
         }
     }
 
-    /// Takes what pieces of another size give.
+    /// Compares the answer for pieces of another size.
     pub fn compare(&mut self, size: usize, other: Answer) {
         if !is_same(&self.first, &other) {
             self.differing = self.differing.or(Some(size));
         }
     }
 
-    /// What all sizes give, or the size of pieces that gives something else.
+    /// The answer of all sizes, or the size of pieces that gives another one.
     pub fn answer(self, alloc: Global) -> Answer {
         match self.differing {
             None => self.first,
@@ -54,7 +54,7 @@ fn is_same(first: &Answer, other: &Answer) -> bool {
     }
 }
 
-/// What is answered where pieces of this size give something else than those before.
+/// The answer when pieces of this size give another result than those before.
 fn differs(alloc: Global, size: usize) -> Answer {
     let mut told = Told::new(alloc);
     told.bytes(b"another answer in pieces of ");

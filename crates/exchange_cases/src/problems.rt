@@ -1,4 +1,4 @@
-//! Problems, and what a server can do, as they are written.
+//! Problem documents and capabilities documents, as they are written.
 ghost use Rattle.std.specs.Prelude.{IfOk};
 ghost use Rattle.json_forms.specs.PlainTexts.{IsPlainRole};
 

@@ -1,10 +1,10 @@
-//! Lists and problems that are read.
+//! Parsing lists and problem documents.
 use case_lines::{Answer, CaseFault, Row, Told, printed, shown};
 use json_forms::{BadList, ListDoc, ListZone, read_list, read_problem};
 use std::alloc::Global;
 use td_base::Bytes;
 
-/// `list-fault TEXT`: why the text is no list, and `none` where it is one.
+/// `list-fault TEXT`: why the text is not a list, and `none` if it is one.
 pub fn list_fault(alloc: Global, row: &Row) -> Answer {
     match read_list(alloc, row.word(0)?) {
         Ok(_) => case_lines::bytes(alloc, b"none"),
@@ -31,7 +31,7 @@ fn told(alloc: Global, list: &ListDoc) -> Answer {
     told.answer()
 }
 
-/// Tells identifier, tag, stamp in seconds, publisher, version and aliases of a zone.
+/// Appends identifier, tag, stamp in seconds, publisher, version and aliases of a zone.
 fn tell_zone(told: &mut Told, zone: &ListZone) {
     told.bytes(b" |");
     tell_word(told, &zone.tzid);
@@ -50,7 +50,7 @@ fn tell_word(told: &mut Told, word: &Bytes) {
     told.bytes(word.as_slice());
 }
 
-/// `read-problem TEXT`: the problem that the text tells of, if it tells of one.
+/// `read-problem TEXT`: the problem in the text, if it has one.
 pub fn problem(alloc: Global, row: &Row) -> Answer {
     let found = read_problem(alloc, row.word(0)?)?;
     shown(alloc, &found)

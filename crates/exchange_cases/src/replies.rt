@@ -8,16 +8,16 @@ use http_answer::{Answer as Reply, Kind, make_reply, write};
 use std::alloc::Global;
 use td_base::Bytes;
 
-/// `reply STATUS KIND TAG MOVED WHAT AFTER BODY`: the reply to such an answer, appended and in a
-/// buffer of its own. TAG is `-` where there is none, MOVED `moved` or `here`, WHAT `head` or
-/// `body`, and AFTER `close` or `open`.
+/// `reply STATUS KIND TAG MOVED WHAT AFTER BODY`: the reply to such an answer, both appended and in
+/// a new buffer. TAG is `-` for none, MOVED `moved` or `here`, WHAT `head` or `body`, and AFTER
+/// `close` or `open`.
 pub fn reply(alloc: Global, row: &Row) -> Answer {
     let (head_only, close) = (row.text(4)? == "head", row.text(5)? == "close");
     let answer = answer_of(alloc, row)?;
     both(alloc, &answer, head_only, close)
 }
 
-/// The reply in a buffer of its own, where the appended one is the same.
+/// The reply in a new buffer, if the appended one is the same.
 fn both(alloc: Global, answer: &Reply, head_only: bool, close: bool) -> Answer
     requires { IsAnswerStatus answer.now.status }
 {

@@ -1,4 +1,4 @@
-//! What requests are answered over a release.
+//! Answers to requests over a release.
 ghost use Rattle.std.specs.Prelude.{IfOk, IsTrue};
 ghost use Rattle.td_base.specs.TargetForm.{has_form};
 ghost use Rattle.zone_meaning.specs.ZoneHistories.{HasZoneHistory};
@@ -20,8 +20,8 @@ pub fn file(alloc: Global, store: &mut MemoryStore, row: &Row) -> case_lines::An
     Ok(Vec::new(alloc))
 }
 
-/// `request DIR METHOD TARGET FIELDS`: what is answered over the release of that folder to a
-/// request with these fields besides Host.
+/// `request DIR METHOD TARGET FIELDS`: the answer, over the release of that folder, to a request
+/// with these fields besides Host.
 pub fn request(alloc: Global, store: &mut MemoryStore, row: &Row) -> case_lines::Answer {
     let dir = row.word(0)?;
     let head = head_of(alloc, row)?;
@@ -76,7 +76,7 @@ fn answer_to(alloc: Global, catalogue: &Catalogue<Zone>, head: &Head) -> case_li
     told(alloc, &answer)
 }
 
-/// Status, kind, tag and body; a dash stands for no tag, and nothing for an empty body.
+/// Status, kind, tag and body. A dash means no tag, and nothing means an empty body.
 fn told(alloc: Global, answer: &http_answer::Answer) -> case_lines::Answer {
     let mut told = Told::new(alloc);
     told.value(&answer.status);

@@ -1,4 +1,4 @@
-//! What an operator is told.
+//! Replies to an operator.
 ghost use Rattle.std.specs.Prelude.{IfOk};
 ghost use Rattle.console.specs.Replies.{IsBoundedReply};
 
@@ -9,12 +9,12 @@ use std::alloc::Global;
 use subscribers::{Names, Notice};
 use td_base::{Bytes, Token, texts};
 
-/// What stands before a reply that is appended.
+/// The text before an appended reply.
 const BEFORE: &[u8] = b"before\n";
 
-/// `said KIND ..`: the reply, appended and, unless it is a refusal, in fixed room. After `ready`,
-/// `installed`, `unchanged` and `serving` stands a token, and after that of `serving` the number
-/// of zones; after `watching` a number; after `refused` the fault.
+/// `said KIND ..`: the reply, appended and, unless it is a refusal, in a fixed buffer. After
+/// `ready`, `installed`, `unchanged` and `serving` comes a token; `serving` also has the number of
+/// zones. After `watching` comes a number, and after `refused` the fault.
 pub fn said(alloc: Global, row: &Row) -> Answer {
     if row.text(0)? == "refused" {
         return refused(alloc, row);
@@ -23,7 +23,7 @@ pub fn said(alloc: Global, row: &Row) -> Answer {
     both(alloc, &said)
 }
 
-/// What is said, unless it is a refusal.
+/// The reply that is described, unless it is a refusal.
 fn bounded(row: &Row) -> Result<Said, CaseFault>
     ensures { IfOk result IsBoundedReply }
 {
@@ -49,7 +49,7 @@ fn refused(alloc: Global, row: &Row) -> Answer {
     appended(alloc, &Said::Refused(Bytes::from(fault)))
 }
 
-/// The reply in fixed room, where the appended one is the same.
+/// The reply in a fixed buffer, if the appended one is the same.
 fn both(alloc: Global, said: &Said) -> Answer
     requires { IsBoundedReply said.now }
 {
@@ -61,7 +61,7 @@ fn both(alloc: Global, said: &Said) -> Answer
     }
 }
 
-/// The reply as it is appended.
+/// The appended reply.
 fn appended(alloc: Global, said: &Said) -> Answer {
     let mut out = Bytes::from_slice(alloc, BEFORE)?;
     reply(&mut out, said)?;
@@ -76,7 +76,7 @@ fn after(alloc: Global, out: &Bytes) -> Answer {
     }
 }
 
-/// `news PLACE:TZID,TZID ..`: the reply to `news`, of a notice for each word.
+/// `news PLACE:TZID,TZID ..`: the reply to `news`, with a notice for each word.
 pub fn news(alloc: Global, row: &Row) -> Answer {
     let mut notices = Vec::new(alloc);
     for word in row.words() {
@@ -107,7 +107,7 @@ fn names(alloc: Global, text: &[u8]) -> Result<Names, CaseFault> {
     Ok(names)
 }
 
-/// The token that the second word is.
+/// The token in the second word.
 fn token(row: &Row) -> Result<Token, CaseFault> {
     let word = row.word(1)?;
     let mut token = Token::new();

@@ -1,4 +1,4 @@
-//! A mirror that follows a server whose answers rows tell.
+//! A mirror that follows a server whose answers are in rows.
 use case_lines::{Answer, CaseFault, Row, Told};
 use mirror::SyncFault;
 use std::alloc::Global;
@@ -8,9 +8,9 @@ use td_base::{Bytes, Exchange, Faulty, Items, MemoryUpstream};
 /// The host of the requests.
 const HOST: &[u8] = b"y";
 
-/// `sync TIMES ANSWER ..`: the mirror is synced with a server that gives these answers, so many
-/// times in a row; an exchange fails where one is `lost`. Answers with no byte follow. The targets
-/// that were asked for, each after a bar, and the outcome.
+/// `sync TIMES ANSWER ..`: syncs the mirror once with a server that gives these answers, the whole
+/// sequence TIMES times. An exchange fails where the answer is `lost`. After the last, answers are
+/// empty. Prints the requested targets, each after a bar, and the outcome.
 pub fn sync(alloc: Global, mirror: &mut Mirror, row: &Row) -> Answer {
     let mut upstream = server(alloc, row)?;
     let mut told = Told::new(alloc);
@@ -30,7 +30,7 @@ fn server(alloc: Global, row: &Row) -> Result<Faulty<MemoryUpstream>, CaseFault>
     Ok(Faulty::new(script, failing))
 }
 
-/// The words of a row that tell answers.
+/// The words of a row that are answers.
 fn answers(row: &Row) -> &[Vec<u8>] {
     row.words().get(1..).unwrap_or(&[])
 }
@@ -66,7 +66,7 @@ fn add_answers(alloc: Global, script: &mut MemoryUpstream, row: &Row) -> Result<
     Ok(())
 }
 
-/// Tells what stands between the first two blanks of a request.
+/// Appends the text between the first two blanks of a request.
 fn tell_target(told: &mut Told, exchange: &Exchange) {
     told.bytes(b"|");
     if let Some(target) = exchange

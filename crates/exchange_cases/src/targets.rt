@@ -1,4 +1,4 @@
-//! What targets ask for.
+//! What request targets mean.
 use case_lines::{Answer, Row, Told};
 use std::alloc::Global;
 use target::{Asked, Param, read};

@@ -1,11 +1,11 @@
-//! Requests that a mirror writes, and replies that it reads.
+//! Requests that a mirror writes, and replies that it parses.
 use case_lines::{Answer, CaseFault, Row, Told, printed};
 use http_client::{BadReply, Reply};
 use std::alloc::Global;
 use td_base::{Ask, Bytes};
 
 /// `mirror-request HOST list`, `mirror-request HOST since TOKEN` or `mirror-request HOST get NAME`:
-/// the request after the text `before`.
+/// the request, appended to the text `before`.
 pub fn request(alloc: Global, row: &Row) -> Answer {
     let host = row.word(0)?;
     let ask = ask_of(alloc, row)?;
@@ -27,7 +27,7 @@ fn ask_of(alloc: Global, row: &Row) -> Result<Ask, CaseFault> {
     }
 }
 
-/// `mirror-reply TEXT`: the status and the body, or why the text is no reply.
+/// `mirror-reply TEXT`: the status and the body, or why the text is not a reply.
 pub fn reply(alloc: Global, row: &Row) -> Answer {
     match http_client::read(alloc, row.word(0)?) {
         Ok(reply) => told(alloc, &reply),

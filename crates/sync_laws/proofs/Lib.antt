@@ -1,0 +1,9 @@
+mod Askable
+mod Coming
+mod Following
+mod LastChanges
+mod Latest
+mod Lengths
+mod Named
+mod Settling
+mod Statuses

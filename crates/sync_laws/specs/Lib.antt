@@ -1,0 +1,4 @@
+pub mod Fields
+pub mod LastChange
+pub mod Responses
+pub mod SyncEnds

@@ -1,0 +1,18 @@
+//! Laws of mirrors: what they send, what they take, when a sync ends well, what they state of a
+//! release, and the limits of all that is read. Each is stated over bytes, histories or numbers,
+//! not over the steps of the code.
+#![tactic(auto)]
+
+mod exchanges;
+mod limits;
+mod releases;
+mod syncs;
+mod worlds;
+
+pub use exchanges::{
+    requests_name_their_host, responses_are_taken_by_status, responses_end_by_their_length,
+};
+pub use limits::limits_are_these;
+pub use releases::{held_releases_state_their_last_change, later_releases_may_follow};
+pub use syncs::{only_empty_changes_settle, syncs_end_with_empty_changes};
+pub use worlds::{mirrors_come_to_hold, requests_can_be_sent};
