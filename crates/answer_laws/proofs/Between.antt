@@ -15,7 +15,7 @@ use Rattle.json_forms.specs.declared.problem_type.Problem.TheVariants as problem
 use Rattle.target.specs.declared.asked_types.Param.{Param}
 use Rattle.target.specs.declared.asked_types.Param.TheVariants as param
 use Rattle.actions.specs.Bounds.{AreBounds, begin_of, bounds_in, end_bound, end_if_any, finish_of, start_bound, with_end, with_start}
-use Rattle.actions.specs.Moments.{end_of, is_end, moment_given, moment_if, start_of}
+use Rattle.actions.specs.Moments.{end_of, is_end, moment_given, moment_where, start_of}
 use Rattle.actions.specs.declared.bounds.Bound.{Bound}
 use Rattle.actions.specs.declared.bounds.Bound.TheVariants.{Open, At}
 use Rattle.actions.specs.declared.bounds.Bounds.{Bounds}
@@ -47,7 +47,7 @@ tested : (test : ℤ → Bool) (m : ℤ) (t : Bool) (b : Bound) → test m ≡ t
 tested test m true b is e = let same : At (record { seconds = m }) ≡ b = cc in record { moment = m; given = refl; passes = is; bound = sym same }
 tested test m false b is e = absurd cc
 
-given : (test : ℤ → Bool) (o : Option ℤ) (b : Bound) → at_moment (moment_if test o) ≡ Some b → IsGiven test o b
+given : (test : ℤ → Bool) (o : Option ℤ) (b : Bound) → at_moment (moment_where test o) ≡ Some b → IsGiven test o b
 given test None b e = absurd cc
 given test (Some m) b e = tested test m (test m) b refl e
 

@@ -30,7 +30,7 @@ use Rattle.actions.specs.Describing.{capabilities_of, capabilities_answer}
 use Rattle.actions.specs.Documents.{with_data, not_modified}
 use Rattle.actions.specs.Expanding.{expand_answer, expansion, expansion_answer, expansion_between}
 use Rattle.actions.specs.Finding.{find_answer, found_by}
-use Rattle.actions.specs.Formats.{form_of}
+use Rattle.actions.specs.Formats.{format_data}
 use Rattle.actions.specs.Getting.{form_answer, format_answer, get_answer, is_held, zone_answer}
 use Rattle.actions.specs.LeapSeconds.{leap_answer, leaps_told, table_told}
 use Rattle.actions.specs.Listing.{changes_since, list_answer}
@@ -113,31 +113,31 @@ pub record IsGot (H : List ReleaseData) (name : List ℕ) (start end : Param) (k
   pub format : Format
   pub bounds : Bounds
   pub found : option_and_then (slice_get (meta H)) (place_named H name) ≡ Some entry
-  pub bounded : bounds_in (form_of format).bounds start end ≡ Ok bounds
-  pub kind_is : (form_of format).kind ≡ k
+  pub bounded : bounds_in (format_data format).bounds start end ≡ Ok bounds
+  pub kind_is : (format_data format).kind ≡ k
   pub status : a.status ≡ 200
-  pub body : a.body ≡ (form_of format).text name entry.content bounds
+  pub body : a.body ≡ (format_data format).text name entry.content bounds
 
 module _ (H : List ReleaseData) (name : List ℕ) (held : Option (List ℕ)) (start end : Param) (k : Kind) (of_data : IsOfData k) where
   given : (e : EntryData) (format : Format) (bounds : Bounds) (tag : List ℕ) (b : Bool)
-      → option_and_then (slice_get (meta H)) (place_named H name) ≡ Some e → bounds_in (form_of format).bounds start end ≡ Ok bounds
-      → (cond b (not_modified tag) (with_data (form_of format).kind tag ((form_of format).text name e.content bounds))).kind ≡ Some k
-      → IsGot H name start end k (cond b (not_modified tag) (with_data (form_of format).kind tag ((form_of format).text name e.content bounds)))
+      → option_and_then (slice_get (meta H)) (place_named H name) ≡ Some e → bounds_in (format_data format).bounds start end ≡ Ok bounds
+      → (cond b (not_modified tag) (with_data (format_data format).kind tag ((format_data format).text name e.content bounds))).kind ≡ Some k
+      → IsGot H name start end k (cond b (not_modified tag) (with_data (format_data format).kind tag ((format_data format).text name e.content bounds)))
   given e format bounds tag true found bounded is = absurd cc
   given e format bounds tag false found bounded is =
-      record { entry = e; format = format; bounds = bounds; found = found; bounded = bounded; kind_is = (let same : (form_of format).kind ≡ k = cc in same); status = refl; body = refl }
+      record { entry = e; format = format; bounds = bounds; found = found; bounded = bounded; kind_is = (let same : (format_data format).kind ≡ k = cc in same); status = refl; body = refl }
 
   formed : (e : EntryData) (format : Format) (r : Result Bounds Problem) → option_and_then (slice_get (meta H)) (place_named H name) ≡ Some e
-      → bounds_in (form_of format).bounds start end ≡ r → (form_answer (form_of format) name e held r).kind ≡ Some k
-      → IsGot H name start end k (form_answer (form_of format) name e held r)
+      → bounds_in (format_data format).bounds start end ≡ r → (form_answer (format_data format) name e held r).kind ≡ Some k
+      → IsGot H name start end k (form_answer (format_data format) name e held r)
   formed e format (Err refused) found bounded is = absurd (of_data.problem (let same : Some kind.Problem ≡ Some k = is in sym (let one : kind.Problem ≡ k = cc in one)))
   formed e format (Ok bounds) found bounded is =
-      given e format bounds (data_tag e.tag (form_of format).mark bounds) (is_held held (data_tag e.tag (form_of format).mark bounds)) found bounded is
+      given e format bounds (data_tag e.tag (format_data format).mark bounds) (is_held held (data_tag e.tag (format_data format).mark bounds)) found bounded is
 
   chosen : (e : EntryData) (o : Option Format) → option_and_then (slice_get (meta H)) (place_named H name) ≡ Some e
       → (format_answer o name e held start end).kind ≡ Some k → IsGot H name start end k (format_answer o name e held start end)
   chosen e None found is = absurd (of_data.problem (let same : Some kind.Problem ≡ Some k = is in sym (let one : kind.Problem ≡ k = cc in one)))
-  chosen e (Some format) found is = formed e format (bounds_in (form_of format).bounds start end) found refl is
+  chosen e (Some format) found is = formed e format (bounds_in (format_data format).bounds start end) found refl is
 
   of_zone : (accept : Option (List ℕ)) (o : Option EntryData) → option_and_then (slice_get (meta H)) (place_named H name) ≡ o
       → (zone_answer name o accept held start end).kind ≡ Some k → IsGot H name start end k (zone_answer name o accept held start end)

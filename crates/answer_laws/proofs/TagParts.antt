@@ -11,7 +11,7 @@ use Rattle.td_civil.proofs.lemmas.Shown.{reads_back_lem}
 use Rattle.negotiate.specs.declared.choosing.Format.{Format}
 use Rattle.negotiate.specs.declared.choosing.Format.TheVariants as format
 use Rattle.actions.specs.Bounds.{AreBounds}
-use Rattle.actions.specs.Formats.{form_of}
+use Rattle.actions.specs.Formats.{format_data}
 use Rattle.actions.specs.Tags.{after_point, bounds_text, data_tag}
 use Rattle.actions.specs.declared.bounds.Bound.{Bound}
 use Rattle.actions.specs.declared.bounds.Bound.TheVariants.{Open, At}
@@ -164,7 +164,7 @@ tag_is a mark p =
     ∙ ap (λ (x : List ℕ). 34 ∷ x) (regrouped a (codes ".") mark (shown p.start p.end) quoted)
 
 -- the marks of two formats begin differently
-same_format : (f g : Format) (x y : List ℕ) → (form_of f).mark ++ x ≡ (form_of g).mark ++ y → f ≡ g
+same_format : (f g : Format) (x y : List ℕ) → (format_data f).mark ++ x ≡ (format_data g).mark ++ y → f ≡ g
 same_format format.Calendar format.Calendar x y e = refl
 same_format format.Calendar format.Tzif x y e = absurd (let first : 99 ≡ 116 = head_of 99 116 _ _ e in omega arith)
 same_format format.Calendar format.CalendarJson x y e = absurd (let first : 99 ≡ 106 = head_of 99 106 _ _ e in omega arith)
@@ -176,15 +176,15 @@ same_format format.CalendarJson format.Tzif x y e = absurd (let first : 106 ≡ 
 same_format format.CalendarJson format.CalendarJson x y e = refl
 
 pub same_tags : (a b : List ℕ) (f g : Format) (p q : Bounds) → length a ≡ length b → AreBounds p → AreBounds q
-    → data_tag a (form_of f).mark p ≡ data_tag b (form_of g).mark q → (a ≡ b) × (f ≡ g) × (p ≡ q)
+    → data_tag a (format_data f).mark p ≡ data_tag b (format_data g).mark q → (a ≡ b) × (f ≡ g) × (p ≡ q)
 same_tags a b f g p q n hp hq e =
     let x = shown p.start p.end ++ quoted in
     let y = shown q.start q.end ++ quoted in
-    let front = parted a b (46 ∷ ((form_of f).mark ++ x)) (46 ∷ ((form_of g).mark ++ y)) n
-    (tail_of 34 34 _ _ (sym (tag_is a (form_of f).mark p) ∙ e ∙ tag_is b (form_of g).mark q)) in
-    let marks = tail_of 46 46 ((form_of f).mark ++ x) ((form_of g).mark ++ y) front.rest in
+    let front = parted a b (46 ∷ ((format_data f).mark ++ x)) (46 ∷ ((format_data g).mark ++ y)) n
+    (tail_of 34 34 _ _ (sym (tag_is a (format_data f).mark p) ∙ e ∙ tag_is b (format_data g).mark q)) in
+    let marks = tail_of 46 46 ((format_data f).mark ++ x) ((format_data g).mark ++ y) front.rest in
     let formats = same_format f g x y marks in
-    let one = parted (form_of f).mark (form_of g).mark x y (ap (λ (h : Format). length (form_of h).mark) formats) marks in
+    let one = parted (format_data f).mark (format_data g).mark x y (ap (λ (h : Format). length (format_data h).mark) formats) marks in
     let same = same_bounds p.start p.end q.start q.end (start_text p.start p.end hp) (end_text p.start p.end hp) (start_text q.start q.end hq)
     (end_text q.start q.end hq) one.rest in
     (front.front, formats, ap₂ (λ (s t : Bound). bounds_by s t) same.start same.end)

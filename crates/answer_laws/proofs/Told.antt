@@ -40,7 +40,7 @@ use Rattle.zone_meaning.specs.Sound.{IsSound, IsSoundFile}
 use Rattle.zone_meaning.specs.State.{footer_meant, zone_state}
 use Rattle.actions.specs.Action.{action}
 use Rattle.actions.specs.Bounds.{AreBounds, begin_of, bounds_in, end_bound, end_if_any, range_between, start_bound}
-use Rattle.actions.specs.Formats.{AreTexts, alias_of, calendar_text, form_of, json_text, zone_spelling}
+use Rattle.actions.specs.Formats.{AreTexts, alias_of, calendar_text, format_data, json_text, zone_spelling}
 use Rattle.actions.specs.declared.bounds.Bound.{Bound}
 use Rattle.actions.specs.declared.bounds.Bounds.{Bounds}
 use Rattle.actions.specs.declared.bounds.BoundRule.TheVariants as rule
@@ -63,17 +63,17 @@ alias_is name tzid = alias_as name tzid (bytes_eq name tzid) refl
 
 -- ---- formats by what their content is
 
-calendar_format : (f : Format) → (form_of f).kind ≡ kind.Calendar → f ≡ format.Calendar
+calendar_format : (f : Format) → (format_data f).kind ≡ kind.Calendar → f ≡ format.Calendar
 calendar_format format.Calendar is = refl
 calendar_format format.Tzif is = absurd cc
 calendar_format format.CalendarJson is = absurd cc
 
-json_format : (f : Format) → (form_of f).kind ≡ kind.CalendarJson → f ≡ format.CalendarJson
+json_format : (f : Format) → (format_data f).kind ≡ kind.CalendarJson → f ≡ format.CalendarJson
 json_format format.Calendar is = absurd cc
 json_format format.Tzif is = absurd cc
 json_format format.CalendarJson is = refl
 
-file_format : (f : Format) → (form_of f).kind ≡ kind.Tzif → f ≡ format.Tzif
+file_format : (f : Format) → (format_data f).kind ≡ kind.Tzif → f ≡ format.Tzif
 file_format format.Calendar is = absurd cc
 file_format format.Tzif is = refl
 file_format format.CalendarJson is = absurd cc
@@ -174,8 +174,8 @@ tells_in_lines spell mean H role head history is =
     let zone = by.got.entry.content in
     let bounds = by.got.bounds in
     let format_is = calendar_format by.got.format by.got.kind_is in
-    let bounded : bounds_in rule.Optional by.start by.end ≡ Ok bounds = sym (ap (λ (f : Format). bounds_in (form_of f).bounds by.start by.end) format_is) ∙ by.got.bounded in
-    let body : (action H role head).body ≡ calendar_text by.name zone bounds = by.got.body ∙ ap (λ (f : Format). (form_of f).text by.name zone bounds) format_is in
+    let bounded : bounds_in rule.Optional by.start by.end ≡ Ok bounds = sym (ap (λ (f : Format). bounds_in (format_data f).bounds by.start by.end) format_is) ∙ by.got.bounded in
+    let body : (action H role head).body ≡ calendar_text by.name zone bounds = by.got.body ∙ ap (λ (f : Format). (format_data f).text by.name zone bounds) format_is in
     let has = has_range by.start by.end bounds bounded in
     let named = found_named H by.name by.got.entry by.got.found in
     made spelled H head kind.Calendar (action H role head) by mean history has
@@ -193,8 +193,8 @@ tells_as_json spell trees mean spellable H role head history is =
     let zone = by.got.entry.content in
     let bounds = by.got.bounds in
     let format_is = json_format by.got.format by.got.kind_is in
-    let bounded : bounds_in rule.Optional by.start by.end ≡ Ok bounds = sym (ap (λ (f : Format). bounds_in (form_of f).bounds by.start by.end) format_is) ∙ by.got.bounded in
-    let body : (action H role head).body ≡ json_text by.name zone bounds = by.got.body ∙ ap (λ (f : Format). (form_of f).text by.name zone bounds) format_is in
+    let bounded : bounds_in rule.Optional by.start by.end ≡ Ok bounds = sym (ap (λ (f : Format). bounds_in (format_data f).bounds by.start by.end) format_is) ∙ by.got.bounded in
+    let body : (action H role head).body ≡ json_text by.name zone bounds = by.got.body ∙ ap (λ (f : Format). (format_data f).text by.name zone bounds) format_is in
     let has = has_range by.start by.end bounds bounded in
     let named = found_named H by.name by.got.entry by.got.found in
     let sound = zone_is_sound H by.name zone history named in
@@ -227,7 +227,7 @@ tells_the_file H role head history is =
     let zone = by.got.entry.content in
     let bounds = by.got.bounds in
     let format_is = file_format by.got.format by.got.kind_is in
-    let bounded : bounds_in rule.Refused by.start by.end ≡ Ok bounds = sym (ap (λ (f : Format). bounds_in (form_of f).bounds by.start by.end) format_is) ∙ by.got.bounded in
+    let bounded : bounds_in rule.Refused by.start by.end ≡ Ok bounds = sym (ap (λ (f : Format). bounds_in (format_data f).bounds by.start by.end) format_is) ∙ by.got.bounded in
     let both = bounds_are rule.Refused by.start by.end bounds bounded in
     record {
       name = by.name;
@@ -236,5 +236,5 @@ tells_the_file H role head history is =
       zone = zone;
       named = found_named H by.name by.got.entry by.got.found;
       status = by.got.status;
-      bytes = by.got.body ∙ ap (λ (f : Format). (form_of f).text by.name zone bounds) format_is;
+      bytes = by.got.body ∙ ap (λ (f : Format). (format_data f).text by.name zone bounds) format_is;
     }

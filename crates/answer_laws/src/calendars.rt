@@ -14,10 +14,10 @@ use actions::calendars_spell_the_zone;
 use format_laws::calendars_read_back;
 use vtimezone::{parts_mean, zone_parts_are_spellable};
 
-/// Each answer with a calendar in lines (RFC 5545), and each with a calendar as JSON (RFC 7265), is
-/// read as the calendar of a zone of the last release: the one that has the name in the request. It
-/// begins and ends where the request says. At each moment between, the part in force has the
-/// offset, the flag and the name that the zone's file gives.
+/// Each answer with a calendar in lines (RFC 5545) or as JSON (RFC 7265) reads as the calendar of a
+/// zone. The zone is the one of the last release that has the name in the request. The calendar
+/// begins and ends as the request says. At each moment between, the part in force has the offset,
+/// the flag and the name that the zone's file gives.
 pub fn calendars_tell_their_zone()
     ensures lines { (H : List ReleaseData) (role : Role) (head : Head) → IsHistory IsSound H
         → (action H role head).kind ≡ Some Calendar

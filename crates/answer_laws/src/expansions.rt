@@ -15,10 +15,10 @@ use json_forms::expansion_reads_back;
 use release_laws::observances_are_of_states;
 use zone_meaning::last_observance_tells_the_state;
 
-/// Each answer to a request for an expansion that has status 200 reads as the document of the
-/// observances of a zone between the bounds of the request. The zone is the one of the last release
-/// that has the name in the request. Each observance is written out over the states of its file. At
-/// each moment between, the last one that has come has the offset and the name that the file gives.
+/// Each 200 answer to an expansion request reads as the document of the observances of a zone
+/// between the bounds of the request. The zone is the one of the last release that has the name in
+/// the request. The observances are derived from the states of its file. At each moment between,
+/// the latest observance so far has the offset and the name that the file gives.
 pub fn expansions_tell_their_zone()
     ensures { (H : List ReleaseData) (role : Role) (head : Head) (name : List ℕ)
         (start end : Param) → IsHistory IsSound H → asks head.target ≡ Expand name start end

@@ -9,8 +9,8 @@ ghost use Rattle.zone_meaning.specs.Sound.{IsSound};
 ghost use Rattle.actions.specs.Action.{action};
 ghost use Rattle.answer_laws.specs.Files.{IsFileOf};
 
-/// Each answer with a file has the bytes of the file of the zone that has the name in the request,
-/// in the last release. The request has no bounds.
+/// Each answer with a file has the bytes of a zone's file in the last release. The zone is the one
+/// that has the name in the request. The request has no bounds.
 pub fn files_are_those_of_zones()
     ensures { (H : List ReleaseData) (role : Role) (head : Head) → IsHistory IsSound H
         → (action H role head).kind ≡ Some Tzif → IsFileOf H head (action H role head) }

@@ -1,11 +1,12 @@
-//! Laws of whole answers: what a client may conclude from the answer to its request.
+//! Laws of whole answers: what a client may conclude from the answer to its request. The crate
+//! holds theorems only.
 //!
-//! An answer with a calendar, in lines or as JSON, reads as the calendar of the zone that the head
-//! names, between the bounds that it requests, and gives the state of that zone's file at each
-//! moment between them ([`calendars_tell_their_zone`]). An answer with a file has the bytes of the
-//! zone's own file ([`files_are_those_of_zones`]), and an expansion the observances of that file
+//! An answer with a calendar, in lines or as JSON, reads as the calendar of the requested zone,
+//! between the requested bounds. At each moment between them it gives the state of that zone's file
+//! ([`calendars_tell_their_zone`]). An answer with a file has the bytes of the zone's file
+//! ([`files_are_those_of_zones`]). An expansion has the observances of that file
 //! ([`expansions_tell_their_zone`]). A list shows the zones that changed
-//! ([`lists_tell_what_changed`]). Equal entity tags are of one content, one format and one range
+//! ([`lists_tell_what_changed`]). Equal entity tags stand for one content, one format and one range
 //! ([`entity_tags_cover`]).
 #![tactic(auto)]
 

@@ -11,10 +11,10 @@ ghost use Rattle.answer_laws.specs.Lists.{IsListOf};
 
 use json_forms::list_reads_back;
 
-/// Each answer to a request for a list that has status 200 reads as a list of zones of the last
-/// release, by their names and tags, with the token of that release. It has all of them. Where the
-/// request has the token of a place, it leaves out exactly those zones whose content each release
-/// from that place on has.
+/// Each 200 answer to a list request reads as zones of the last release, by their names and tags,
+/// with the token of that release. Without a token in the request it has all of them. With the
+/// token of a place it leaves out exactly those zones whose content every release from that place
+/// on has.
 pub fn lists_tell_what_changed()
     ensures { (H : List ReleaseData) (role : Role) (head : Head) (since : Param)
         → asks head.target ≡ ListOf since → (action H role head).status ≡ 200

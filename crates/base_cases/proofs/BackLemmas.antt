@@ -5,7 +5,7 @@ use Rattle.td_base.specs.Doors.{AcceptTold, Accepts, FinishTold, Finishes, HasOu
 use Rattle.td_base.specs.Views.{ConnView}
 use Rattle.td_base.specs.declared.door.Accepted.TheVariants as accepted
 use Rattle.td_base.specs.declared.report.Report.{Report}
-use Rattle.base_cases.specs.Settled.{IsSettled}
+use Rattle.base_cases.specs.Settled.{IsDoorSettled}
 
 module _ {C : Type 0} (seen : C → ConnView) where
   out_after : (o n : Option DoorContent) (conn : C) → IfSome o (λ c. length c.finished ≡ length c.given)
@@ -51,20 +51,20 @@ module _ {C : Type 0} (seen : C → ConnView) where
   failed_after None None e h = tt
 
   -- a connection that was given can be handed back
-  pub is_out : (a b : DoorView) (conn : C) → IsSettled a → Accepts seen a b (accepted.Given conn) → HasOut b
+  pub is_out : (a b : DoorView) (conn : C) → IsDoorSettled a → Accepts seen a b (accepted.Given conn) → HasOut b
   is_out a b conn e h = at_most b.content (out_after a.content b.content conn e h.told)
 
   -- and where it was, all are back
-  pub is_back : (a b c : DoorView) (conn : C) (now : ConnView) (report : Report) → IsSettled a
-      → Accepts seen a b (accepted.Given conn) → Finishes b c now report → IsSettled c
+  pub is_back : (a b c : DoorView) (conn : C) (now : ConnView) (report : Report) → IsDoorSettled a
+      → Accepts seen a b (accepted.Given conn) → Finishes b c now report → IsDoorSettled c
   is_back a b c conn now report e h f =
       back_after b.content c.content now report (out_after a.content b.content conn e h.told) f.told
 
-  pub is_idle : (a b : DoorView) → IsSettled a → Accepts seen a b accepted.Idle → IsSettled b
+  pub is_idle : (a b : DoorView) → IsDoorSettled a → Accepts seen a b accepted.Idle → IsDoorSettled b
   is_idle a b e h = same_after a.content b.content e h.told
 
-  pub is_ended : (a b : DoorView) → IsSettled a → Accepts seen a b accepted.Ended → IsSettled b
+  pub is_ended : (a b : DoorView) → IsDoorSettled a → Accepts seen a b accepted.Ended → IsDoorSettled b
   is_ended a b e h = ended_after a.content b.content e h.told
 
-  pub is_failed : (a b : DoorView) → IsSettled a → Accepts seen a b accepted.Failed → IsSettled b
+  pub is_failed : (a b : DoorView) → IsDoorSettled a → Accepts seen a b accepted.Failed → IsDoorSettled b
   is_failed a b e h = failed_after a.content b.content e h.told

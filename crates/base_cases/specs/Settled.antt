@@ -4,8 +4,8 @@ use Rattle.td_base.specs.DoorViews.{DoorView}
 use Rattle.td_base.specs.MemoryDoors.{MemoryDoorState}
 
 -- each connection that the door gave was handed back
-abbrev pub IsSettled : DoorView → Type 0
-IsSettled door = IfSome door.content (λ c. length c.finished ≡ length c.given)
+abbrev pub IsDoorSettled : DoorView → Type 0
+IsDoorSettled door = IfSome door.content (λ c. length c.finished ≡ length c.given)
 
 -- a door in memory that has given nothing, and to which nothing was handed back
 pub record IsUnasked (door : MemoryDoorState) : Type 0 where

@@ -1,4 +1,4 @@
-//! Connections: one in memory, some of whose calls fail, and one of a source and a sink.
+//! Connections in memory, some of whose calls fail, and a connection made of a source and a sink.
 ghost use Rattle.td_base.specs.Views.{LaterConn, LaterSink, LaterSource};
 
 use crate::given;
@@ -6,9 +6,9 @@ use case_lines::{Answer, CaseFault, Row, Told, shown};
 use std::alloc::Global;
 use td_base::{Conn, FaultyConn, Joined, MemoryConn, ReadStep, Sink, Source, send_whole, texts};
 
-/// `conn INPUT SIZES ROOM READS WRITES CALL ..`, with the numbers of the reads and writes that
-/// fail: what each call gives, and what the connection has given and taken then. A call is `read`,
-/// into four bytes, `write:TEXT` or `send:TEXT`.
+/// `conn INPUT SIZES ROOM READS WRITES CALL ..`: the result of each call, and what the connection
+/// gave and took. READS and WRITES are the numbers of the calls that fail. A call is `read`, into
+/// four bytes, `write:TEXT` or `send:TEXT`.
 pub fn conn(alloc: Global, row: &Row) -> Answer {
     let mut conn = faulty(alloc, row)?;
     let mut told = Told::new(alloc);
@@ -30,7 +30,7 @@ fn inner(alloc: Global, row: &Row) -> Result<MemoryConn, CaseFault> {
     Ok(MemoryConn::new(given::source(alloc, row, 0)?, sink))
 }
 
-/// What one call gives.
+/// The result of one call.
 fn act<C: Conn>(alloc: Global, conn: &mut C, call: &[u8]) -> Answer {
     let (verb, text) = texts::cut(call, b':');
     let text = text.unwrap_or(&[]);
@@ -41,7 +41,7 @@ fn act<C: Conn>(alloc: Global, conn: &mut C, call: &[u8]) -> Answer {
     }
 }
 
-/// What one read gives.
+/// The result of one read.
 fn read<C: Conn>(alloc: Global, conn: &mut C) -> Answer {
     let mut room = [0; 4];
     match conn.read(&mut room) {
@@ -51,7 +51,7 @@ fn read<C: Conn>(alloc: Global, conn: &mut C) -> Answer {
     }
 }
 
-/// What one write does.
+/// The result of one write.
 fn write<C: Conn>(alloc: Global, conn: &mut C, piece: &[u8]) -> Answer {
     if piece.is_empty() {
         return Err(CaseFault::Strange);
@@ -59,7 +59,7 @@ fn write<C: Conn>(alloc: Global, conn: &mut C, piece: &[u8]) -> Answer {
     shown(alloc, &conn.write(piece))
 }
 
-/// Appends what a connection has given and taken.
+/// Appends what a connection gave and took.
 pub fn tell(told: &mut Told, conn: &MemoryConn) {
     tell_both(told, conn.source.given(), conn.sink.taken());
 }
@@ -71,8 +71,8 @@ fn tell_both(told: &mut Told, given: &[u8], taken: &[u8]) {
     told.bytes(taken);
 }
 
-/// `joined INPUT ROOM TIMES`: what a source has given and a sink has taken when so often what one
-/// read into three bytes gives was written back.
+/// `joined INPUT ROOM TIMES`: what a source gave and a sink took after TIMES echoes, each of which
+/// reads at most three bytes and writes them back.
 pub fn joined(alloc: Global, row: &Row) -> Answer {
     let times = row.number(2)?;
     let mut sink = given::whole_sink(alloc, row, 1)?;
@@ -85,7 +85,7 @@ pub fn joined(alloc: Global, row: &Row) -> Answer {
     told.answer()
 }
 
-/// Writes back what one read gives.
+/// Writes back the bytes of one read.
 pub fn echo<C: Conn>(conn: &mut C)
     ensures { LaterConn (C.seen conn.old) (C.seen conn.new) }
 {
@@ -95,7 +95,7 @@ pub fn echo<C: Conn>(conn: &mut C)
     }
 }
 
-/// What becomes of a source and a sink that are joined is known to who lent them.
+/// The owner of a source and a sink knows what happened to them while they were joined.
 fn echo_between<C: Source, K: Sink>(source: &mut C, sink: &mut K)
     ensures source { LaterSource (C.seen source.old) (C.seen source.new) }
     ensures sink { LaterSink (K.seen sink.old) (K.seen sink.new) }

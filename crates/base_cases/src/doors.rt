@@ -1,6 +1,6 @@
 //! Doors in memory, some of whose calls fail.
 ghost use Rattle.std.specs.Prelude.{IfOk};
-ghost use Rattle.base_cases.specs.Settled.{IsSettled, IsUnasked};
+ghost use Rattle.base_cases.specs.Settled.{IsDoorSettled, IsUnasked};
 ghost use Rattle.td_base.specs.MemoryDoors.{faulty_door, memory_door};
 
 use crate::conns::{self, echo};
@@ -9,10 +9,9 @@ use case_lines::{Answer, CaseFault, Row, Told, shown};
 use std::alloc::Global;
 use td_base::{Accepted, Door, DoorAnswer, End, FaultyDoor, MemoryDoor, Places, Report};
 
-/// `door ROOM SCRIPT FAILING CALLS`: what so many calls for a connection give, each of which is
-/// echoed once and handed back; and what is still to come, for how many more there is room, and
-/// what those that are back have given and taken. The script has `idle` and inputs, with a comma
-/// between two.
+/// `door ROOM SCRIPT FAILING CALLS`: the results of CALLS requests for a connection, each of which
+/// is echoed once and handed back. Then what is still to come, the room for more, and what the
+/// connections handed back gave and took. The script has `idle` and inputs, separated by commas.
 pub fn door(alloc: Global, row: &Row) -> Answer {
     let calls = row.number(3)?;
     let mut door = faulty(alloc, row)?;
@@ -25,7 +24,7 @@ pub fn door(alloc: Global, row: &Row) -> Answer {
 }
 
 fn faulty(alloc: Global, row: &Row) -> Result<FaultyDoor<MemoryDoor>, CaseFault>
-    ensures { IfOk result (λ door. IsSettled (faulty_door memory_door door)) }
+    ensures { IfOk result (λ door. IsDoorSettled (faulty_door memory_door door)) }
 {
     let failing = given::calls(alloc, row, 2)?;
     let door = scripted(alloc, row.number(0)?, row.word(1)?)?;
@@ -60,10 +59,10 @@ fn push(alloc: Global, door: &mut MemoryDoor, step: &[u8]) -> Result<(), CaseFau
 }
 
 #[tactic(auto, using(crate::proofs::BackLemmas::is_out, crate::proofs::BackLemmas::is_back, crate::proofs::BackLemmas::is_idle, crate::proofs::BackLemmas::is_ended, crate::proofs::BackLemmas::is_failed))]
-/// Asks for the next connection, echoes what comes of it once, and hands it back.
+/// Requests the next connection, echoes one read of it, and hands it back.
 fn serve<D: Door>(door: &mut D) -> DoorAnswer
-    requires { IsSettled (D.seen door.old) }
-    ensures { IsSettled (D.seen door.new) }
+    requires { IsDoorSettled (D.seen door.old) }
+    ensures { IsDoorSettled (D.seen door.new) }
 {
     match door.accept() {
         Accepted::Given(mut conn) => {
@@ -85,7 +84,7 @@ fn report() -> Report {
     }
 }
 
-/// Appends what is told of a door.
+/// Appends the state of a door.
 fn tell(told: &mut Told, door: &MemoryDoor) {
     told.bytes(b" coming ");
     told.value(&door.coming());

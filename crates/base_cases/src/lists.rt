@@ -5,7 +5,7 @@ use std::alloc::Global;
 use td_base::{Bytes, Places, ShortText};
 
 /// `bytes FIRST BYTE MORE LENGTH`: the first bytes, with a byte and more bytes appended, cut at a
-/// length; and how many there are then.
+/// length; and the resulting count.
 pub fn bytes(alloc: Global, row: &Row) -> Answer {
     let mut list = given::bytes(alloc, row, 0)?;
     grow_and_cut(&mut list, row)?;
@@ -27,8 +27,8 @@ fn grow_and_cut(list: &mut Bytes, row: &Row) -> Result<(), CaseFault> {
     Ok(())
 }
 
-/// `compare BYTES BYTES`: how the first compare to the second; and of the first, whether there are
-/// none, and whether their copy and what is made of their `Vec` equal them.
+/// `compare BYTES BYTES`: how the first bytes compare to the second. Also whether the first are
+/// empty, and whether their copy and the value made from their `Vec` equal them.
 pub fn compare(alloc: Global, row: &Row) -> Answer {
     let first = given::bytes(alloc, row, 0)?;
     let second = given::bytes(alloc, row, 1)?;
@@ -44,8 +44,7 @@ fn compared(alloc: Global, first: &Bytes, second: &Bytes, copy: Bytes) -> Answer
     Ok(text.into_bytes())
 }
 
-/// `items NUMBERS NUMBER`: the numbers with one more, how many there are, and how many in the
-/// `Vec`.
+/// `items NUMBERS NUMBER`: the numbers with one more, their count, and the count in the `Vec`.
 pub fn items(alloc: Global, row: &Row) -> Answer {
     let more = row.number(1)?;
     let mut items = given::calls(alloc, row, 0)?;
@@ -59,7 +58,7 @@ pub fn items(alloc: Global, row: &Row) -> Answer {
     told.answer()
 }
 
-/// `short TEXT TEXT`: the copy of a short text of the two, and whether it equals that.
+/// `short TEXT TEXT`: the copy of a short text of the two, and whether it equals the original.
 pub fn short(alloc: Global, row: &Row) -> Answer {
     let (first, second) = (row.word(0)?, row.word(1)?);
     if first.len() > 2 || second.len() > 2 {

@@ -1,5 +1,5 @@
-//! Tries what `td_base` and `td_civil` offer over the cases of a table on standard input, and tells
-//! of each whose answer is not the expected one. The table explains its own lines.
+//! Tests `td_base` and `td_civil` over the cases of a table on standard input, and reports each
+//! case whose answer is not the expected one. The table explains its own lines.
 #![tactic(auto)]
 
 // Numbers, names and texts.
@@ -20,7 +20,7 @@ mod works;
 mod moments;
 mod states;
 
-// What rows speak of.
+// What rows describe.
 mod given;
 
 use case_lines::{Answer, Row, Table};
@@ -40,7 +40,7 @@ fn main(rt: HostRuntime) -> io::Result<()> {
     println!(rt; "{tally}")
 }
 
-/// Tries the next line, and tells of it if its answer is not the expected one.
+/// Runs the next line, and reports it if its answer is not the expected one.
 fn try_line<R: Threads + Wait + Print + Copy + Send + 'static>(
     rt: &R,
     alloc: Global,
@@ -57,7 +57,7 @@ fn try_line<R: Threads + Wait + Print + Copy + Send + 'static>(
     Ok(())
 }
 
-/// What is answered to a row.
+/// The answer to a row.
 fn answer<R: Threads + Wait + Copy + Send + 'static>(rt: &R, alloc: Global, row: &Row) -> Answer {
     match row.kind() {
         "joined-work" => works::joined(rt, alloc, row),

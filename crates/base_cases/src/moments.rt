@@ -9,7 +9,7 @@ use td_civil::{
     year_of,
 };
 
-/// `moment TEXT`: the seconds of the moment that it spells.
+/// `moment TEXT`: the moment that it encodes, in seconds since 1970-01-01 UTC.
 pub fn read(alloc: Global, row: &Row) -> Answer {
     match moment_of(row.word(0)?) {
         Ok(Moment { seconds }) => shown(alloc, &seconds),
@@ -36,7 +36,7 @@ pub fn year(alloc: Global, row: &Row) -> Answer {
     shown(alloc, &year_of(moment(row)?))
 }
 
-/// The moment of the first word, which must have a meaning.
+/// The moment of the first word, which must be within the supported range.
 fn moment(row: &Row) -> Result<Moment, CaseFault>
     ensures { IfOk result (λ m. IsWithinBounds m.seconds) }
 {
@@ -78,7 +78,7 @@ pub fn date(alloc: Global, row: &Row) -> Answer {
     Ok(format!(in alloc; "{year} {month} {day}")?.into_bytes())
 }
 
-/// `is-date TEXT`: whether it is a date.
+/// `is-date TEXT`: whether the text is a date.
 pub fn judge(alloc: Global, row: &Row) -> Answer {
     shown(alloc, &is_date(row.word(0)?))
 }

@@ -8,9 +8,9 @@ use td_base::{
 
 type Tried = MemoryNetwork<MemoryDoor, MemoryUpstream>;
 
-/// `network DOORS UPSTREAMS FAILING ADDRESS WHAT`, with more addresses: what each call for so many
-/// doors, or for another server where it says `up`, gives; how many doors are left; and where doors
-/// were opened and servers were reached.
+/// `network DOORS UPSTREAMS FAILING ADDRESS WHAT`, with more addresses: the result of each call. A
+/// call requests WHAT doors, or an upstream if WHAT is `up`. Then how many doors are left, and at
+/// which addresses doors were opened and upstreams reached.
 pub fn network(alloc: Global, row: &Row) -> Answer {
     let mut network = faulty(alloc, row)?;
     let mut told = Told::new(alloc);
@@ -28,7 +28,7 @@ fn faulty(alloc: Global, row: &Row) -> Result<Faulty<Tried>, CaseFault> {
     Ok(Faulty::new(network, failing))
 }
 
-/// Adds doors and other servers, of which none has a connection or an answer.
+/// Adds doors and upstreams that have no connection and no answer.
 fn fill(alloc: Global, network: &mut Tried, row: &Row) -> Result<(), CaseFault> {
     for _ in 0..row.number(0)? {
         network.push(MemoryDoor::new(alloc, 1)?)?;
@@ -39,7 +39,7 @@ fn fill(alloc: Global, network: &mut Tried, row: &Row) -> Result<(), CaseFault> 
     Ok(())
 }
 
-/// What the call gives whose address stands at a place.
+/// The result of the call whose address is at a position.
 fn call<N: Network>(alloc: Global, network: &mut N, row: &Row, at: usize) -> Answer
 where
     N::Door: Drop,
@@ -74,7 +74,7 @@ where
     }
 }
 
-/// Appends what is told of a network.
+/// Appends the state of a network.
 fn tell(told: &mut Told, network: &Tried) {
     told.bytes(b" left ");
     told.value(&network.len());
@@ -90,8 +90,8 @@ fn tell(told: &mut Told, network: &Tried) {
     }
 }
 
-/// `upstream ANSWERS FAILING MOST REQUEST ..`, with a comma between two answers: what each request
-/// is answered, up to so many bytes, and which were.
+/// `upstream ANSWERS FAILING MOST REQUEST ..`, with answers separated by commas: the answer to each
+/// request, of at most MOST bytes, and which requests were answered.
 pub fn upstream(alloc: Global, row: &Row) -> Answer {
     let most = row.number(2)?;
     let mut server = faulty_server(alloc, row)?;
@@ -117,7 +117,7 @@ fn add_answers(alloc: Global, server: &mut MemoryUpstream, row: &Row) -> Result<
     Ok(())
 }
 
-/// What one exchange gives.
+/// The result of one exchange.
 fn ask<U: Upstream>(alloc: Global, server: &mut U, request: &[u8], most: u64) -> Answer {
     match server.exchange(alloc, request, most) {
         Exchanged::Got(answer) => Ok(answer.into_vec()),

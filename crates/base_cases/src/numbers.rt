@@ -3,7 +3,7 @@ use case_lines::{Answer, CaseFault, Row, shown};
 use std::alloc::Global;
 use td_base::{Bytes, put_decimal, put_hex, put_sized, read_decimal};
 
-/// `decimal NUMBER`: it in digits, after an `x`.
+/// `decimal NUMBER`: the number in digits, after an `x`.
 pub fn decimal(alloc: Global, row: &Row) -> Answer {
     let number = row.number(0)?;
     let mut out = Bytes::from_slice(alloc, b"x")?;
@@ -11,7 +11,7 @@ pub fn decimal(alloc: Global, row: &Row) -> Answer {
     Ok(out.into_vec())
 }
 
-/// `hex BYTES`: their digits, after an `x`.
+/// `hex BYTES`: their hex digits, after an `x`.
 pub fn hex(alloc: Global, row: &Row) -> Answer {
     let bytes = row.word(0)?;
     let mut out = Bytes::from_slice(alloc, b"x")?;
@@ -19,7 +19,7 @@ pub fn hex(alloc: Global, row: &Row) -> Answer {
     Ok(out.into_vec())
 }
 
-/// `sized BYTES`: their length and they, after an `x`.
+/// `sized BYTES`: their length and the bytes, after an `x`.
 pub fn sized(alloc: Global, row: &Row) -> Answer {
     let bytes = row.word(0)?;
     if bytes.len() > u32::MAX as usize {
@@ -30,7 +30,7 @@ pub fn sized(alloc: Global, row: &Row) -> Answer {
     Ok(out.into_vec())
 }
 
-/// `read-decimal TEXT`: the number that it writes.
+/// `read-decimal TEXT`: the number that it encodes.
 pub fn read(alloc: Global, row: &Row) -> Answer {
     shown(alloc, &read_decimal(row.word(0)?))
 }

@@ -7,8 +7,8 @@ use td_civil::{
     some_year, years_apart,
 };
 
-/// `state OFFSET NAME`: whether the copy of a state equals it, and is the same by `is_same`; and
-/// whether the state in daylight saving time is.
+/// `state OFFSET NAME`: whether the copy of a state equals it, and is the same by `is_same`. Also
+/// whether the state in daylight saving time is the same.
 pub fn state(alloc: Global, row: &Row) -> Answer {
     let (state, other) = (local(row, false)?, local(row, true)?);
     let copy = state.copy();
@@ -28,7 +28,7 @@ fn local(row: &Row, dst: bool) -> Result<Local, CaseFault> {
     Ok(Local { offset, dst, name })
 }
 
-/// `laws`: that each law can be called.
+/// `laws`: shows that each law can be called.
 pub fn laws(alloc: Global) -> Answer {
     laws::reads_a_prefix();
     laws::names_are_plain();

@@ -4,8 +4,8 @@ use case_lines::{Answer, CaseFault, Row, Told};
 use std::alloc::Global;
 use td_base::{Bytes, Faulty, FileRead, MemoryStore, Store, texts};
 
-/// `store FILES FAILING PATH MOST`, with more paths and numbers: the first bytes of each file. The
-/// files are `PATH:TEXT` with a comma between two.
+/// `store FILES FAILING PATH MOST`, with more paths and numbers: at most MOST bytes of each file.
+/// The files are `PATH:TEXT`, separated by commas.
 pub fn store(alloc: Global, row: &Row) -> Answer {
     let mut store = faulty(alloc, row)?;
     let mut told = Told::new(alloc);
@@ -29,7 +29,7 @@ fn put_all(alloc: Global, store: &mut MemoryStore, row: &Row) -> Result<(), Case
     Ok(())
 }
 
-/// Puts a file into a store, which is `PATH:TEXT`.
+/// Puts a file `PATH:TEXT` into a store.
 fn put(alloc: Global, store: &mut MemoryStore, file: &[u8]) -> Result<(), CaseFault> {
     let (path, text) = texts::cut(file, b':');
     let path = Bytes::from_slice(alloc, path)?;
@@ -37,7 +37,7 @@ fn put(alloc: Global, store: &mut MemoryStore, file: &[u8]) -> Result<(), CaseFa
     Ok(store.put(path, text)?)
 }
 
-/// What the look gives whose path stands at a place.
+/// The result of the look whose path is at a position.
 fn look<S: Store>(alloc: Global, store: &mut S, row: &Row, at: usize) -> Answer {
     let (path, most) = (row.word(at)?, row.number(at.saturating_add(1))?);
     match store.read_file(alloc, path, most) {

@@ -6,8 +6,8 @@ use td_base::{
     Faulty, MemorySink, MemorySource, ReadStep, Sink, Source, SourceFault, read_to_end, write_whole,
 };
 
-/// `source BYTES SIZES FAILING READS`: what so many reads into three bytes give, and what the
-/// source has given then.
+/// `source BYTES SIZES FAILING READS`: the results of READS reads into three bytes, and what the
+/// source gave.
 pub fn source(alloc: Global, row: &Row) -> Answer {
     let reads = row.number(3)?;
     let mut source = faulty_source(alloc, row)?;
@@ -25,7 +25,7 @@ fn faulty_source(alloc: Global, row: &Row) -> Result<Faulty<MemorySource>, CaseF
     Ok(Faulty::new(given::source(alloc, row, 0)?, failing))
 }
 
-/// What one read gives.
+/// The result of one read.
 fn read<C: Source>(alloc: Global, source: &mut C) -> Answer {
     let mut room = [0; 3];
     match source.read(&mut room) {
@@ -35,8 +35,8 @@ fn read<C: Source>(alloc: Global, source: &mut C) -> Answer {
     }
 }
 
-/// `sink ROOM SIZES FAILING PIECE ..`: what a write of each piece does, and what the sink has taken
-/// and has room for then.
+/// `sink ROOM SIZES FAILING PIECE ..`: the result of a write of each piece, and what the sink took
+/// and has room for afterwards.
 pub fn sink(alloc: Global, row: &Row) -> Answer {
     let mut sink = faulty_sink(alloc, row)?;
     let mut told = Told::new(alloc);
@@ -47,7 +47,7 @@ pub fn sink(alloc: Global, row: &Row) -> Answer {
     told.answer()
 }
 
-/// Appends what a sink has taken and has room for.
+/// Appends what a sink took and has room for.
 fn tell(told: &mut Told, sink: &MemorySink) {
     told.bytes(b" taken ");
     told.bytes(sink.taken());
@@ -60,7 +60,7 @@ fn faulty_sink(alloc: Global, row: &Row) -> Result<Faulty<MemorySink>, CaseFault
     Ok(Faulty::new(given::sink(alloc, row, 0)?, failing))
 }
 
-/// What one write does.
+/// The result of one write.
 fn write<K: Sink>(alloc: Global, sink: &mut K, piece: &[u8]) -> Answer {
     if piece.is_empty() {
         return Err(CaseFault::Strange);
@@ -68,7 +68,7 @@ fn write<K: Sink>(alloc: Global, sink: &mut K, piece: &[u8]) -> Answer {
     shown(alloc, &sink.write(piece))
 }
 
-/// `read-to-end BYTES SIZES FAILING MOST`: what is read of a source, up to so many bytes.
+/// `read-to-end BYTES SIZES FAILING MOST`: what is read of a source, up to MOST bytes.
 pub fn to_end(alloc: Global, row: &Row) -> Answer {
     let most = row.number(3)? as usize;
     let mut source = faulty_source(alloc, row)?;

@@ -1,4 +1,4 @@
-//! Texts of a head's fields.
+//! Texts of header fields.
 use case_lines::{Answer, CaseFault, Row, Told, shown};
 use std::alloc::Global;
 use td_base::texts;
@@ -25,7 +25,7 @@ fn tell_rest(told: &mut Told, rest: Option<&[u8]>) {
     }
 }
 
-/// `trim TEXT`: it without blanks at its ends, in brackets.
+/// `trim TEXT`: the text without blanks at its ends, in brackets.
 pub fn trim(alloc: Global, row: &Row) -> Answer {
     let text = texts::trim(row.word(0)?);
     let mut told = Told::new(alloc);
@@ -35,7 +35,7 @@ pub fn trim(alloc: Global, row: &Row) -> Answer {
     told.answer()
 }
 
-/// `part TEXT COUNT`: so many bytes of its start, and those after them.
+/// `part TEXT COUNT`: its first COUNT bytes, and those after them.
 pub fn part(alloc: Global, row: &Row) -> Answer {
     let (text, count) = (row.word(0)?, row.number(1)? as usize);
     let mut told = Told::new(alloc);
@@ -45,8 +45,8 @@ pub fn part(alloc: Global, row: &Row) -> Answer {
     told.answer()
 }
 
-/// `any-case TEXT TEXT`: whether the two are the same without case, and whether the first begins
-/// with the second.
+/// `any-case TEXT TEXT`: whether the two are equal without case, and whether the first begins with
+/// the second.
 pub fn any_case(alloc: Global, row: &Row) -> Answer {
     let (text, other) = (row.word(0)?, row.word(1)?);
     shown(

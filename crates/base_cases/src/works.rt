@@ -1,4 +1,4 @@
-//! Works that are done in threads, or when they are joined.
+//! Works that run in threads, or when they are joined.
 ghost use Rattle.std.specs.Prelude.{◌≡◌, ◌*◌, IfOk, IfErr};
 
 use crate::given;
@@ -24,8 +24,8 @@ impl Work for Doubling {
     }
 }
 
-/// `joined-work FAILING NUMBER ..`: what comes of doubling each number when works are done as they
-/// are joined, and those of these starts are handed back.
+/// `joined-work FAILING NUMBER ..`: the results of doubling each number when works run as they are
+/// joined. The works whose starts are in FAILING are handed back.
 pub fn joined<R: Threads + Wait + Copy + Send + 'static>(
     rt: &R,
     alloc: Global,
@@ -40,7 +40,7 @@ pub fn joined<R: Threads + Wait + Copy + Send + 'static>(
     told.answer()
 }
 
-/// What comes of doubling the number at a place.
+/// The result of doubling the number at a position.
 fn double_at<S: Spawner, R: Threads + Wait + Copy + Send + 'static>(
     rt: &R,
     alloc: Global,
@@ -52,14 +52,14 @@ fn double_at<S: Spawner, R: Threads + Wait + Copy + Send + 'static>(
     shown(alloc, &double(rt, alloc, spawner, number))
 }
 
-/// `threaded-work NUMBER`: what comes of doubling it in a thread.
+/// `threaded-work NUMBER`: the result of doubling it in a thread.
 pub fn threaded<R: Threads + Wait + Copy + Send + 'static>(
     rt: &R,
     alloc: Global,
     row: &Row,
 ) -> Answer {
     let number = given::small(row, 0)?;
-    let mut spawner = ThreadSpawner { refused: 0 };
+    let mut spawner = ThreadSpawner::new();
     let mut told = Told::new(alloc);
     told.value(&double(rt, alloc, &mut spawner, number));
     told.bytes(b", ");
@@ -68,7 +68,7 @@ pub fn threaded<R: Threads + Wait + Copy + Send + 'static>(
     told.answer()
 }
 
-/// `refused-work NUMBER`: what comes of doubling it in a thread whose stack would take all memory.
+/// `refused-work NUMBER`: the result of doubling it in a thread whose stack would need all memory.
 pub fn refused<R: Threads + Wait + Copy + Send + 'static>(
     rt: &R,
     alloc: Global,
@@ -77,31 +77,50 @@ pub fn refused<R: Threads + Wait + Copy + Send + 'static>(
     let number = given::small(row, 0)?;
     let huge = Builder::new().stack_size(usize::MAX);
     let back = match start_by(huge, rt, alloc, Doubling { number }) {
-        Ok(running) => Ok(ThreadSpawner { refused: 0 }.join(rt, running)),
+        Ok(running) => Ok(ThreadSpawner::new().join(rt, running)),
         Err(work) => Err(work.number),
     };
     shown(alloc, &back)
 }
 
-/// What begins each work in a thread, and counts those for which none could be made.
+/// A spawner that starts each work in a thread, and counts those for which none could be made.
 #[derive(Drop)]
 struct ThreadSpawner {
     refused: u64,
+    active: u64,
+}
+
+impl ThreadSpawner {
+    /// A spawner that has started nothing.
+    fn new() -> ThreadSpawner {
+        ThreadSpawner {
+            refused: 0,
+            active: 0,
+        }
+    }
 }
 
 impl Spawner for ThreadSpawner {
     ghost faults = { λ s. s.refused };
 
+    ghost active = { λ s. s.active };
+
     fn begin(&mut self) -> Begin {
+        self.active = self.active.saturating_add(1);
         Begin::InThread
     }
 
     fn refuse(&mut self) {
         self.refused = self.refused.saturating_add(1);
+        self.active = self.active.saturating_sub(1);
+    }
+
+    fn count_join(&mut self) {
+        self.active = self.active.saturating_sub(1);
     }
 }
 
-/// What came of doubling a number: the double, or the number where the work was handed back.
+/// The result of doubling a number: the double, or the number if the work was handed back.
 fn double<S: Spawner, R: Threads + Wait + Copy + Send + 'static>(
     rt: &R,
     alloc: Global,

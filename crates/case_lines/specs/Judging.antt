@@ -4,14 +4,14 @@ use Rattle.std.specs.Prelude.{Option, Some, None, if◌then◌else◌}
 use Rattle.case_lines.specs.declared.tally.Tally.{Tally}
 
 -- one more, as far as the number goes
-abbrev pub one_more : ℕ → ℕ
-one_more n = min (n + 1) (2 ^ 64 - 1)
+abbrev pub one_row_more : ℕ → ℕ
+one_row_more n = min (n + 1) (2 ^ 64 - 1)
 
 -- the tally after one more case
 abbrev pub after_case : Tally → Bool → Tally
 after_case c is_right = record {
-  cases = one_more c.cases;
-  right = if is_right then one_more c.right else c.right;
+  cases = one_row_more c.cases;
+  right = if is_right then one_row_more c.right else c.right;
 }
 
 -- the tally after one more row: it is a case where an answer is expected

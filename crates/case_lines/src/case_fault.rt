@@ -2,12 +2,12 @@ use std::alloc::{AllocError, AllocFailed};
 use td_base::NoMemory;
 use thiserror::Error;
 
-/// Why a line is no case.
+/// Why a line is not a case.
 #[derive(Clone, Copy, Debug, PartialEq, Eq, Error)]
 pub enum CaseFault {
     #[error("out of memory")]
     NoMemory,
-    /// No case is of this kind, or a word is missing or is not what it is to be.
+    /// The kind of the case is unknown, or a word is missing or not of its form.
     #[error("strange line")]
     Strange,
 }

@@ -1,26 +1,28 @@
-//! What the programs of cases share. Each reads a table from its standard input, a case a line, and
-//! tells of each whose answer is not the expected one; [`Table`] reads the lines and counts.
+//! The common code of the programs of cases. Each reads a table from its standard input, one case
+//! per line, and reports each case with an unexpected answer. [`Table`] reads the lines and counts.
+//! It depends on `td_base`, `hex` and `thiserror`.
 //!
-//! A line `# ..` is a comment. `let NAME TEXT` names a text, and `series NAME FROM TO TEXT` the
-//! texts of all numbers from one to the other, each of which `$(n)` stands for in the text. Any
-//! other line is a row, `KIND WORD WORD .. = ANSWER`, with one blank between two words; where there
-//! is no answer, none is expected, and it is no case.
+//! A line `# ..` is a comment. `let NAME TEXT` names a text. `series NAME FROM TO TEXT` repeats the
+//! text for all numbers in the range, with `$(n)` as the number. Any other line is a row, `KIND
+//! WORD WORD .. = ANSWER`, with one blank between two words. A row without an answer is not counted
+//! as a case.
 //!
-//! In a text `$(NAME)` stands for the text of that name, and `$(NAME*3)` for three of it; `\r`,
-//! `\n`, `\t`, `\0` and `\xNN` stand for bytes, `\e` for none, and `\\` and `\$` for themselves.
+//! In a text `$(NAME)` inserts the text of that name, and `$(NAME*3)` inserts it three times. `\r`,
+//! `\n`, `\t`, `\0` and `\xNN` are bytes, `\e` is empty, and `\\` and `\$` are the characters `\`
+//! and `$`.
 #![tactic(auto)]
 
-// Lines, and how many answers were right.
+// Rows, and the count of right answers.
 mod row;
 mod table;
 mod tally;
 
-// What texts and words stand for.
+// The values of texts and words.
 mod numerals;
 mod quoting;
 mod texts;
 
-// Answers, and why there is none.
+// Answers, and their errors.
 mod answer;
 mod case_fault;
 mod told;

@@ -4,12 +4,12 @@ use std::alloc::Global;
 use std::str;
 use td_base::read_decimal;
 
-/// The number that a word writes in decimal.
+/// Reads a word as a decimal number.
 pub fn number(word: &[u8]) -> Result<u64, CaseFault> {
     read_decimal(word).ok_or(CaseFault::Strange)
 }
 
-/// The numbers that a word writes in decimal, with a comma between two; a dash stands for none.
+/// Reads a word as decimal numbers with commas between them; a dash means no numbers.
 pub fn numbers(alloc: Global, word: &[u8]) -> Result<Vec<u64>, CaseFault> {
     let mut all = Vec::new(alloc);
     if word != b"-".as_slice() {
@@ -20,7 +20,7 @@ pub fn numbers(alloc: Global, word: &[u8]) -> Result<Vec<u64>, CaseFault> {
     Ok(all)
 }
 
-/// The number that a word writes in decimal, after a `-` if it is below zero.
+/// Reads a word as a decimal number, with a `-` if it is below zero.
 pub fn signed(word: &[u8]) -> Result<i64, CaseFault> {
     let Ok(text) = str::from_utf8(word) else {
         return Err(CaseFault::Strange);
@@ -31,7 +31,7 @@ pub fn signed(word: &[u8]) -> Result<i64, CaseFault> {
     }
 }
 
-/// The bytes that a word writes in hex digits, two a byte.
+/// Reads a word as hex digits, two per byte.
 pub fn hex_bytes(alloc: Global, word: &[u8]) -> Result<Vec<u8>, CaseFault> {
     match hex::decode(alloc, word) {
         Ok(bytes) => Ok(bytes),

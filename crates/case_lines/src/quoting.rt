@@ -1,6 +1,6 @@
 use std::alloc::{AllocError, Global};
 
-/// The bytes as they would stand in a table.
+/// The bytes, escaped as in a table.
 pub fn written(alloc: Global, bytes: &[u8]) -> Result<String, AllocError> {
     let mut text = String::new(alloc);
     for byte in bytes {

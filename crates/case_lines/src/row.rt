@@ -4,15 +4,14 @@ use std::alloc::{AllocError, Global};
 use std::marker::Model;
 use std::str;
 
-/// A line of a table, with what its texts stand for. Contracts see the answer that is expected, if
-/// one is.
+/// A row of a table, with its texts decoded. Contracts see the expected answer, if the row has one.
 #[derive(Drop)]
 pub struct Row {
     kind: String,
     words: Vec<Vec<u8>>,
-    /// The line before the answer, as it stands in the table.
+    /// The line before the answer, as written in the table.
     pub(crate) title: String,
-    /// The answer that is expected, if one is.
+    /// The expected answer, if the row has one.
     pub(crate) expected: Option<Vec<u8>>,
 }
 
@@ -25,7 +24,7 @@ impl Model for Row {
 }
 
 impl Row {
-    /// What a line says.
+    /// Reads a line.
     pub(crate) fn read(alloc: Global, texts: &Texts, line: &str) -> Result<Row, CaseFault> {
         let (front, expected) = match line.split_once(" = ") {
             Some((front, answer)) => (front, Some(texts.meaning(answer)?)),
@@ -46,7 +45,7 @@ impl Row {
         })
     }
 
-    /// A line that cannot be read.
+    /// A line that cannot be read, as a row of the empty kind.
     pub(crate) fn strange(alloc: Global, line: &str) -> Result<Row, AllocError> {
         Ok(Row {
             kind: String::new(alloc),
@@ -56,7 +55,7 @@ impl Row {
         })
     }
 
-    /// The first word as it stands in the table, which names the kind of the case.
+    /// The first word as written in the table, which is the kind of the case.
     pub fn kind(&self) -> &str {
         self.kind.as_str()
     }
@@ -66,7 +65,7 @@ impl Row {
         self.words.as_slice()
     }
 
-    /// The word at this place, from 0.
+    /// The word at this index, from 0.
     pub fn word(&self, at: usize) -> Result<&[u8], CaseFault> {
         match self.words.get(at) {
             Some(word) => Ok(word.as_slice()),
@@ -74,7 +73,7 @@ impl Row {
         }
     }
 
-    /// The word at this place as a text.
+    /// The word at this index as a text.
     pub fn text(&self, at: usize) -> Result<&str, CaseFault> {
         match str::from_utf8(self.word(at)?) {
             Ok(text) => Ok(text),
@@ -82,17 +81,17 @@ impl Row {
         }
     }
 
-    /// The word at this place as a number.
+    /// The word at this index as a decimal number.
     pub fn number(&self, at: usize) -> Result<u64, CaseFault> {
         number(self.word(at)?)
     }
 
-    /// The word at this place as a number that may be below zero.
+    /// The word at this index as a decimal number that may be below zero.
     pub fn signed(&self, at: usize) -> Result<i64, CaseFault> {
         signed(self.word(at)?)
     }
 
-    /// The word at this place as the bytes whose hex digits it has.
+    /// The word at this index as bytes, written in hex digits.
     pub fn hex(&self, alloc: Global, at: usize) -> Result<Vec<u8>, CaseFault> {
         hex_bytes(alloc, self.word(at)?)
     }

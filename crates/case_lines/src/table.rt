@@ -23,7 +23,7 @@ impl Model for Table {
 }
 
 impl Table {
-    /// A table of which nothing was read.
+    /// A table before its first line.
     pub fn new(alloc: Global) -> Table
         ensures { result ≡ record { cases = 0; right = 0 } }
     {
@@ -34,8 +34,8 @@ impl Table {
         }
     }
 
-    /// What the next line says; None if it is empty, a comment or names a text. A line that cannot
-    /// be read is a row of the empty kind.
+    /// Reads the next line. `None` if it is empty, a comment or names a text. A line that cannot be
+    /// read is a row of the empty kind.
     pub fn row(&mut self, line: &str) -> Result<Option<Row>, AllocError>
         ensures { self.new ≡ self.old }
     {
@@ -56,8 +56,8 @@ impl Table {
         Ok(Some(Row::read(self.alloc, &self.texts, line)?))
     }
 
-    /// Counts a row for which an answer is expected, and gives what is to be told of it, if its
-    /// answer is another.
+    /// Counts a row that has an expected answer. It returns the message to print if the answer is
+    /// another one.
     pub fn judge(&mut self, row: &Row, answer: Answer) -> Result<Option<String>, AllocError>
         ensures told { IfOk result (λ told.
             IsNone told ↔ IsOkAnd answer (λ given. IsExpected row.now given.items)) }
@@ -75,7 +75,7 @@ impl Table {
         Ok(told)
     }
 
-    /// How many answers were right until now.
+    /// The number of cases and of right answers so far.
     pub fn tally(&self) -> Tally
         ensures { result ≡ self.now }
     {
@@ -83,7 +83,7 @@ impl Table {
     }
 }
 
-/// What is to be told of an answer that is not the expected one.
+/// The message for an answer that is not the expected one; `None` for the expected one.
 fn difference(alloc: Global, row: &Row, answer: &[u8]) -> Result<Option<String>, AllocError>
     ensures { IfOk result (λ told. IsNone told ↔ IsExpected row.now answer.now) }
 {
@@ -99,7 +99,7 @@ fn difference(alloc: Global, row: &Row, answer: &[u8]) -> Result<Option<String>,
     Ok(Some(format!(in alloc; "{title}: {expected} is expected, and {given} is given")?))
 }
 
-/// What is told of a row that says nothing.
+/// The message for a row that cannot be read.
 fn strange(alloc: Global, row: &Row) -> Result<String, AllocError> {
     let title = row.title.as_str();
     format!(in alloc; "strange line: {title}")

@@ -3,7 +3,7 @@ ghost use Rattle.case_lines.specs.Judging.{after_case};
 
 use std::fmt;
 
-/// How many cases there were, as far as numbers go, and how many were answered as expected.
+/// The number of cases, saturating, and how many had the expected answer.
 #[derive(Clone, Copy)]
 pub struct Tally {
     pub cases: u64,
@@ -11,7 +11,7 @@ pub struct Tally {
 }
 
 impl Tally {
-    /// Before the first case.
+    /// The counts before the first case.
     pub fn new() -> Tally
         ensures { result ≡ record { cases = 0; right = 0 } }
     {

@@ -2,22 +2,22 @@ use crate::{CaseFault, number};
 use std::alloc::{AllocError, Global};
 use std::collections::BTreeMap;
 
-/// Where the reading of a text of the table stands.
+/// The state of the reader of a text.
 #[derive(Clone, Copy)]
 enum Place {
     Plain,
     /// After a backslash.
     Escape,
-    /// After `\x`, and after its first digit.
+    /// After `\x`, and then after its first digit.
     Hex,
     LowHex(u8),
     /// After a dollar sign.
     Dollar,
-    /// In a name, which begins here.
+    /// In a name, which begins at this position.
     Name(usize),
 }
 
-/// Texts that have names.
+/// The named texts of a table.
 #[derive(Drop)]
 pub struct Texts {
     alloc: Global,
@@ -33,8 +33,8 @@ impl Texts {
         }
     }
 
-    /// Does what a line says that names a text, and tells whether it is one. It is `let NAME TEXT`
-    /// or `series NAME FROM TO TEXT`.
+    /// Handles a line that names a text, and returns whether the line is one: `let NAME TEXT` or
+    /// `series NAME FROM TO TEXT`.
     pub fn define(&mut self, word: &str, rest: &str) -> Result<bool, CaseFault> {
         match word {
             "let" => {
@@ -62,7 +62,7 @@ impl Texts {
         Ok(())
     }
 
-    /// The text once for each number, which `$(n)` stands for in it.
+    /// The text once for each number of the range, with `$(n)` as the number.
     fn series(&mut self, from: u64, to: u64, text: &str) -> Result<Vec<u8>, CaseFault> {
         let mut all = Vec::new(self.alloc);
         for n in from..to.saturating_add(1) {
@@ -73,14 +73,14 @@ impl Texts {
         Ok(all)
     }
 
-    /// What a text of the table stands for.
+    /// The bytes of a text of the table.
     pub fn meaning(&self, text: &str) -> Result<Vec<u8>, CaseFault> {
         let mut out = Vec::new(self.alloc);
         self.append(text.as_bytes(), &mut out)?;
         Ok(out)
     }
 
-    /// Appends what a text of the table stands for.
+    /// Appends the bytes of a text of the table.
     pub fn append(&self, text: &[u8], out: &mut Vec<u8>) -> Result<(), CaseFault> {
         let mut place = Place::Plain;
         for (at, byte) in text.iter().enumerate() {
@@ -92,7 +92,7 @@ impl Texts {
         }
     }
 
-    /// Takes one byte, and gives the place after it.
+    /// Reads one byte, and returns the next state.
     fn step(
         &self,
         text: &[u8],
@@ -129,7 +129,7 @@ impl Texts {
         }
     }
 
-    /// Appends the text of a name, as often as the number after its star says.
+    /// Appends a named text, as often as the number after its star.
     fn append_named(&self, name: &[u8], out: &mut Vec<u8>) -> Result<(), CaseFault> {
         let star = name.iter().position(|b| *b == b'*').unwrap_or(name.len());
         let times = number(name.get(star.saturating_add(1)..).unwrap_or(b"1"))?;
@@ -157,7 +157,7 @@ fn digit(byte: u8) -> Result<u8, CaseFault> {
     }
 }
 
-/// The byte that a sign after a backslash stands for.
+/// The byte of an escape, from the character after the backslash.
 fn control(byte: u8) -> Result<u8, CaseFault> {
     match byte {
         b'r' => Ok(b'\r'),

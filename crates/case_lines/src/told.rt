@@ -3,8 +3,8 @@ use std::alloc::Global;
 use std::fmt;
 use td_base::NoMemory;
 
-/// A text that is written piece by piece, or why a piece of it is missing: that is told at its end,
-/// so that nothing between can fail.
+/// An answer that is built in pieces. A fault of a piece is reported at the end, so that no call
+/// before it can fail.
 #[derive(Drop)]
 pub struct Told {
     alloc: Global,
@@ -13,7 +13,7 @@ pub struct Told {
 }
 
 impl Told {
-    /// Nothing yet.
+    /// No pieces yet.
     pub fn new(alloc: Global) -> Told {
         Told {
             alloc,
@@ -45,7 +45,7 @@ impl Told {
         }
     }
 
-    /// Appends what a call gave, and a bar.
+    /// Appends the answer of a call, and a bar.
     pub fn call(&mut self, given: Answer) {
         match given {
             Ok(given) => {
@@ -56,19 +56,19 @@ impl Told {
         }
     }
 
-    /// Takes how a call ended of which nothing is told.
+    /// Records the result of a call that adds nothing to the answer.
     pub fn done(&mut self, outcome: Result<(), NoMemory>) {
         if outcome.is_err() {
             self.fail(CaseFault::NoMemory);
         }
     }
 
-    /// A piece is missing. The first fault is kept.
+    /// Records a fault. The first one is kept.
     pub fn fail(&mut self, fault: CaseFault) {
         self.fault = self.fault.or(Some(fault));
     }
 
-    /// The whole text, if no piece is missing.
+    /// The whole answer, or the first fault.
     pub fn answer(self) -> Answer {
         match self.fault {
             None => Ok(self.text),

@@ -11,8 +11,8 @@ use Rattle.td_base.specs.declared.report.End.{End}
 use Rattle.td_base.specs.declared.report.TheConstants.{MOST_PLACES}
 use Rattle.connection.specs.FaultCounts.{FaultCounts}
 use Rattle.connection.specs.Replies.{IsOpen, is_last, replies, replies_after, reply_at}
-use Rattle.connection.specs.Served.{NeverFall, Served, Session}
-use Rattle.connection_laws.specs.Joined.{AllGoOn, GoesOn, IsServedWhole, LeavesOpen, Request, joined, numbered, replies_to}
+use Rattle.connection.specs.Served.{NeverFall, Served, Transcript}
+use Rattle.connection_laws.specs.Joined.{AllGoOn, GoesOn, IsServedWhole, LeavesOpen, Request, joined_transcripts, numbered_requests, replies_to}
 
 -- ---- heads
 
@@ -38,16 +38,16 @@ asks_on feeds bytes next heads more end asks following =
 
 -- ---- requests of one stretch
 
-heads_of : (n : ℕ) (heads : List Head) → map (λ (r : Request). r.head) (numbered n heads) ≡ heads
+heads_of : (n : ℕ) (heads : List Head) → map (λ (r : Request). r.head) (numbered_requests n heads) ≡ heads
 heads_of n [] = refl
 heads_of n (head ∷ heads) = ap (λ l. head ∷ l) (heads_of (n + 1) heads)
 
-as_many : (n : ℕ) (heads : List Head) → length (numbered n heads) ≡ length heads
+as_many : (n : ℕ) (heads : List Head) → length (numbered_requests n heads) ≡ length heads
 as_many n [] = refl
 as_many n (head ∷ heads) = ap suc (as_many (n + 1) heads)
 
 replies_are : (answer : ℕ → Head → Answer) (n : ℕ) (heads : List Head) (places : List ℕ)
-    → replies_after answer n heads places ≡ replies_to answer (numbered n heads) places
+    → replies_after answer n heads places ≡ replies_to answer (numbered_requests n heads) places
 unfolding replies_after
 replies_are answer n [] places = refl
 replies_are answer n (head ∷ heads) [] = refl
@@ -67,7 +67,7 @@ both_false false b e f = f
 both_false true b e f = absurd (cc)
 
 all_open : (n : ℕ) (heads : List Head) → list_any (λ h. h.close) heads ≡ false → n + length heads < MOST_PLACES
-    → AllByRecursion LeavesOpen (numbered n heads)
+    → AllByRecursion LeavesOpen (numbered_requests n heads)
 all_open n [] kept few = tt
 all_open n (head ∷ heads) kept few = (
   both_false head.close _ (or_left head.close _ kept) (ne_eqb (n + 1) MOST_PLACES (λ e. omega (arith, e, few))),
@@ -97,20 +97,20 @@ record Earlier (answer : ℕ → Head → Answer) (read written places : List �
   placed : length places ≡ length requests
   heads : (next : List ℕ) (more : List Head) (end : Ending) → Asks next more end → Asks (read ++ next) (map (λ r. r.head) requests ++ more) end
 
-earlier : Feeds → (answer : ℕ → Head → Answer) (stretches : List Session) → AllGoOn answer stretches
+earlier : Feeds → (answer : ℕ → Head → Answer) (stretches : List Transcript) → AllGoOn answer stretches
     → Earlier answer (flat_map (λ s. s.read) stretches) (flat_map (λ s. s.written) stretches) (flat_map (λ s. s.places) stretches)
 earlier feeds answer [] all = record { requests = []; open_after = tt; written_is = refl; placed = refl; heads = λ next more end asks. asks }
 earlier feeds answer (s ∷ stretches) all =
     let one = all.0 in
     let rest = earlier feeds answer stretches all.1 in
-    let first = numbered 0 one.heads in
+    let first = numbered_requests 0 one.heads in
     let count : length s.places ≡ length first = one.placed ∙ sym (as_many 0 one.heads) in
-    let read = flat_map (λ (t : Session). t.read) stretches in
-    let places = flat_map (λ (t : Session). t.places) stretches in
+    let read = flat_map (λ (t : Transcript). t.read) stretches in
+    let places = flat_map (λ (t : Transcript). t.places) stretches in
     record {
       requests = first ++ rest.requests;
       open_after = all_both first rest.requests (all_open 0 one.heads one.open_after.kept (omega (arith, one.open_after.few))) rest.open_after;
-      written_is = ap (λ l. l ++ flat_map (λ (t : Session). t.written) stretches) (one.written ∙ replies_are answer 0 one.heads s.places)
+      written_is = ap (λ l. l ++ flat_map (λ (t : Transcript). t.written) stretches) (one.written ∙ replies_are answer 0 one.heads s.places)
           ∙ (ap (λ l. replies_to answer first s.places ++ l) rest.written_is ∙ sym (replies_both answer first rest.requests s.places places count));
       placed = length-append s.places places
           ∙ (ap (λ n. n + length places) count ∙ (ap (λ n. length first + n) rest.placed ∙ sym (length-append first rest.requests)));
@@ -123,9 +123,9 @@ earlier feeds answer (s ∷ stretches) all =
           (asks_on feeds s.read (read ++ next) one.heads (map (λ r. r.head) rest.requests ++ more) end one.asks (rest.heads next more end asks)));
     }
 
-pub join : Feeds → (answer : ℕ → Head → Answer) (count : ℕ) (stretches : List Session) (last : Session) (before now : FaultCounts) (end : End)
-    → AllGoOn answer stretches → Served answer count last before now end → NeverFall (joined stretches last).places
-    → IsServedWhole answer count (joined stretches last) before now end
+pub join : Feeds → (answer : ℕ → Head → Answer) (count : ℕ) (stretches : List Transcript) (last : Transcript) (before now : FaultCounts) (end : End)
+    → AllGoOn answer stretches → Served answer count last before now end → NeverFall (joined_transcripts stretches last).places
+    → IsServedWhole answer count (joined_transcripts stretches last) before now end
 join feeds answer count stretches last before now end all served rising =
     let first = earlier feeds answer stretches all in
     record {

@@ -1,5 +1,6 @@
 -- The text of a calendar as JSON reads as its tree.
-use Rattle.std.proofs.Common.{◌≡◌, ℕ, suc, ◌+◌, ◌≤◌, ℤ, pos, negsuc, ◌+ℤ◌, ◌≤ℤ◌, FitsSigned, w32, List, [], ◌∷◌, ◌++◌, map, codes, Option, None, Some, refl, arith}
+use Rattle.std.proofs.Common.{◌≡◌, ℕ, suc, ◌+◌, ◌≤◌, ℤ, pos, negsuc, ◌+ℤ◌, ◌≤ℤ◌, FitsSigned, w32, List, [], ◌∷◌, ◌++◌, map, codes, Option, None, Some, refl}
+use Rattle.std.proofs.Common.{arith}
 use Rattle.std.specs.List.{All, AllByRecursion}
 use Rattle.std.specs.Option.{IfSome}
 use Rattle.serde_json.specs.Data.{Data, string, array, object, Members, no_members, member}
@@ -14,8 +15,10 @@ use Rattle.recurrence.specs.declared.rule_types.Form.TheVariants as form
 use Rattle.recurrence.specs.declared.rule_types.Rule.{Rule}
 use Rattle.recurrence.specs.Spellable.{IsSpellable}
 use Rattle.recurrence.specs.Valid.{IsMonth, IsFirstDay, IsValidForm}
-use Rattle.jcal.specs.Tree.{property, component, integer, seven_data, form_members, last_members, recur_data, kind_of, change_properties, date_data, dates_properties}
-use Rattle.jcal.specs.Tree.{rule_properties, part_properties, part_data, alias_properties, end_properties, zone_properties, zone_data, calendar_properties, tree, calendar}
+use Rattle.jcal.specs.Tree.{property, component, integer, seven_data, form_members, last_members, recur_data, component_kind, change_properties, date_data}
+use Rattle.jcal.specs.Tree.{dates_properties}
+use Rattle.jcal.specs.Tree.{rule_properties, part_properties, part_data, alias_properties, end_properties, zone_properties, calendar_data, calendar_properties}
+use Rattle.jcal.specs.Tree.{tree, calendar}
 use Rattle.format_laws.proofs.Readable.{IsReadable, array_readable, string_readable, deeper, integer_readable, read_back}
 
 abbrev AreReadable : ℕ → List Data → Type 0
@@ -160,7 +163,7 @@ rule_readable (Some rule) until valid =
 part_readable : (p : Part) → IsSpellable p → IsReadable 5 (part_data p)
 unfolding part_data
 part_readable p h =
-    component_readable 3 (kind_of p.dst) (part_properties p) []
+    component_readable 3 (component_kind p.dst) (part_properties p) []
     (both 3 (change_properties p ++ dates_properties p.dates p.from) (rule_properties p.rule p.until)
     (both 3 (change_properties p) (dates_properties p.dates p.from) (change_readable p) (dates_readable p.dates p.from))
     (rule_readable p.rule p.until h.writable.rule)) tt
@@ -182,8 +185,8 @@ end_readable None = tt
 end_readable (Some end) = (deeper 2 5 _ (omega arith) (text_readable _ _ _), tt)
 
 zone_readable : (tzid : List ℕ) (alias_of : Option (List ℕ)) (parts : List Part) (until : Option Moment) → AllByRecursion IsSpellable parts
-    → IsReadable 7 (zone_data tzid alias_of parts until)
-unfolding zone_data
+    → IsReadable 7 (calendar_data tzid alias_of parts until)
+unfolding calendar_data
 zone_readable tzid alias_of parts until all =
     component_readable 5 (codes "vtimezone") (zone_properties tzid alias_of until) (map part_data parts)
     (deeper 2 5 _ (omega arith) (text_readable _ _ _), both 5 (alias_properties alias_of) (end_properties until) (alias_readable alias_of) (end_readable until))
@@ -197,7 +200,7 @@ tree_readable : (tzid : List ℕ) (alias_of : Option (List ℕ)) (parts : List P
     → IsReadable 9 (tree tzid alias_of parts until)
 unfolding tree
 tree_readable tzid alias_of parts until all =
-    component_readable 7 (codes "vcalendar") calendar_properties (zone_data tzid alias_of parts until ∷ []) calendar_properties_readable
+    component_readable 7 (codes "vcalendar") calendar_properties (calendar_data tzid alias_of parts until ∷ []) calendar_properties_readable
     (zone_readable tzid alias_of parts until all, tt)
 
 each_spellable : (ps : List Part) → All IsSpellable ps → AllByRecursion IsSpellable ps

@@ -1,4 +1,5 @@
-//! Laws of documents as JSON, each the contract of a function that does nothing.
+//! Laws of documents as JSON. Each is the contract of a function with an empty body, or of one that
+//! only calls other laws.
 ghost use Rattle.std.specs.Prelude.{◌≡◌, ◌<◌, ℕ, Bool, List, length, Some, Option, IfSome, All};
 ghost use Rattle.std.specs.Prelude.{option_and_then};
 ghost use Rattle.serde_json.specs.Read.{read};
@@ -14,8 +15,8 @@ ghost use Rattle.json_forms.specs.CapabilitiesDocument.{capabilities_document};
 
 use jcal::calendar_spells;
 
-/// The text of a calendar as JSON is read as its tree, for every calendar that can be written. So
-/// reading the text, and then the tree property by property, gives back identifiers, end and parts.
+/// The text of a calendar as JSON is read as its tree, for every calendar that can be written.
+/// Reading the text, and then the tree property by property, gives back identifiers, end and parts.
 pub fn calendars_read_back()
     ensures tree { (tzid : List ℕ) (alias_of : Option (List ℕ)) (parts : List Part)
         (until : Option Moment) → All IsSpellable parts
@@ -29,7 +30,7 @@ pub fn calendars_read_back()
     calendar_spells();
 }
 
-/// The text of what a server can do is read as its tree, whatever the server's role.
+/// The text of the capabilities of a server is read as its tree, for every role of the server.
 pub fn capabilities_read_back()
     ensures { (role : Role) (publisher : List ℕ) (with_leaps : Bool)
         → read (capabilities_document role publisher with_leaps)

@@ -1,7 +1,8 @@
-//! Laws of documents as JSON: the text of each is read as the tree that it is the text of.
+//! Laws of documents as JSON: reading the text of each gives the tree that it was printed from.
 //!
-//! Those of lists, expansions, tables of leap seconds and problems stand in `json_forms`. Here are
-//! those of calendars as JSON, which also say what is read from such a text, and of capabilities.
+//! The laws of lists, expansions, tables of leap seconds and problems are in `json_forms`. This
+//! crate has those of capabilities and of calendars as JSON (`jcal`); the latter also say what is
+//! read from such a text. `answer_laws` uses them.
 #![tactic(auto)]
 
 mod documents;

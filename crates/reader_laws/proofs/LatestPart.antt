@@ -8,7 +8,7 @@ use Rattle.td_civil.specs.declared.moment_type.TheConstants.{LO}
 use Rattle.recurrence.specs.InForce.{state_of_part}
 use Rattle.recurrence.specs.declared.part_types.Part.{Part}
 use Rattle.vtimezone_reader.specs.Onsets.{begun_at, calendar_state, has_onset, state_since}
-use Rattle.reader_laws.specs.Latest.{IsLatest}
+use Rattle.reader_laws.specs.Latest.{IsLatestOnset}
 use Rattle.reader_laws.proofs.OnsetTests.{is_onset, onset_passes}
 use Rattle.reader_laws.proofs.Tests.{not_true}
 
@@ -56,7 +56,7 @@ abs_is : (z : ℤ) → pos 0 ≤ℤ z → pos (unsigned_abs z) ≡ z
 abs_is (pos n) low = refl
 abs_is (negsuc n) low = absurd (omega (arith, signed_arith))
 
-pub latest_gives : (parts : List Part) (t m : ℤ) (place : ℕ) (p : Part) → IsLatest parts t place p m
+pub latest_gives : (parts : List Part) (t m : ℤ) (place : ℕ) (p : Part) → IsLatestOnset parts t place p m
     → calendar_state parts t ≡ record { offset = p.to; dst = p.dst; name = p.name }
 unfolding calendar_state
 latest_gives parts t m place p is =

@@ -24,7 +24,7 @@ IsOnsetOf p t =
 
 -- the part at this place has an onset that is not after t; no part has a later one that is not
 -- after t, and no part at a later place has the same one
-pub record IsLatest (parts : List Part) (t : ℤ) (place : ℕ) (p : Part) (m : ℤ) : Type 0 where
+pub record IsLatestOnset (parts : List Part) (t : ℤ) (place : ℕ) (p : Part) (m : ℤ) : Type 0 where
   pub there : slice_get parts place ≡ Some p
   pub onset : IsOnsetOf p m
   pub meant : LO ≤ℤ m

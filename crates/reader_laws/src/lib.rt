@@ -1,8 +1,8 @@
-//! Laws of calendars that are read: what is read of the lines of a part and of a rule, which
-//! moments are onsets, and which part gives the state.
+//! Laws of calendars that are read. They state what is read of the lines of a part and of a rule,
+//! which moments are onsets, and which part gives the state. The crate holds theorems only.
 //!
-//! `vtimezone_reader` defines each of these by a step for a line, a word or a second. Here each is
-//! said once more, over all lines and all moments (RFC 5545, sections 3.3.10 and 3.6.5).
+//! `vtimezone_reader` defines each of these step by step, for a line, a word or a second. Here each
+//! is stated over all lines and all moments (RFC 5545, sections 3.3.10 and 3.6.5).
 #![tactic(auto)]
 
 mod calendars;

@@ -5,8 +5,8 @@ ghost use Rattle.vtimezone_reader.specs.PartLines.{begun_part};
 ghost use Rattle.vtimezone_reader.specs.declared.part_lines.OpenPart.{OpenPart};
 ghost use Rattle.reader_laws.specs.Lines.{HasLines, LinesRead};
 
-/// A part whose lines were read has the first name among them that is one, and all their dates in
-/// order.
+/// A part whose lines were read has the first TZNAME among them of at most 32 visible bytes, and
+/// all their dates in order.
 pub fn parts_have_their_lines()
     ensures { (dst : Bool) (lines : List Named) (p : OpenPart) → LinesRead (begun_part dst) lines p
         → HasLines lines p }

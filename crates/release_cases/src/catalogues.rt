@@ -1,5 +1,4 @@
-//! The catalogue of a history of folders. Each row begins with the folders, with a comma between
-//! two.
+//! The catalogue of a history of folders. Each row begins with the folders, separated by commas.
 use crate::histories::catalogue_of;
 use crate::leap_tables::steps;
 use crate::{indexes, ruled};
@@ -12,7 +11,7 @@ use std::alloc::{AllocError, Global};
 use td_base::MemoryStore;
 use zone_meaning::{Zone, file};
 
-/// What a catalogue answers.
+/// The answer of a catalogue.
 pub fn asked(alloc: Global, row: &Row, store: &mut MemoryStore) -> Answer {
     let catalogue = catalogue_of(alloc, row.word(0)?, store)?;
     told(alloc, row, store, &catalogue)
@@ -45,7 +44,7 @@ fn stands(alloc: Global, catalogue: &Catalogue<Zone>) -> Result<Vec<u8>, AllocEr
     Ok(out)
 }
 
-/// `leaps DIRS`: expiry, length of the file and steps of its table, if there is one.
+/// `leaps DIRS`: expiry, length of the file and steps of its table, if it has one.
 fn leaps(alloc: Global, catalogue: &Catalogue<Zone>) -> Answer {
     match catalogue.leaps() {
         Some(table) => Ok(steps(alloc, table)?),
@@ -53,7 +52,7 @@ fn leaps(alloc: Global, catalogue: &Catalogue<Zone>) -> Answer {
     }
 }
 
-/// The place that a row names.
+/// The place in a row.
 fn place(row: &Row) -> Result<u32, CaseFault> {
     indexes::place(row.number(1)?)
 }

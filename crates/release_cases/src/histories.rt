@@ -1,4 +1,4 @@
-//! Folders one after another, each judged against those before it.
+//! Folders one after another, each checked against those before it.
 ghost use Rattle.catalogue.specs.Releases.{release_data};
 ghost use Rattle.zone_meaning.specs.Sound.{IsSound};
 ghost use Rattle.zone_meaning.specs.ZoneHistories.{zone_bytes};
@@ -11,7 +11,7 @@ use std::alloc::Global;
 use td_base::{Bytes, MemoryStore, NoMemory, put_decimal};
 use zone_meaning::Zone;
 
-/// `history DIR ..`: of each folder in turn how many zones it has, or its fault.
+/// `history DIR ..`: for each folder in turn, how many zones it has, or its fault.
 pub fn told(alloc: Global, row: &Row, store: &mut MemoryStore) -> Answer {
     let mut told = Bytes::new(alloc);
     let mut last = None;
@@ -21,7 +21,7 @@ pub fn told(alloc: Global, row: &Row, store: &mut MemoryStore) -> Answer {
     Ok(told.into_vec())
 }
 
-/// `again DIR COUNT`: what is told of a folder once it has been the next release so often.
+/// `again DIR COUNT`: the answer for a folder that has been the next release COUNT times.
 pub fn again(alloc: Global, row: &Row, store: &mut MemoryStore) -> Answer {
     let dir = row.word(0)?;
     let last = repeated(alloc, dir, row.number(1)?, store)?;
@@ -30,7 +30,7 @@ pub fn again(alloc: Global, row: &Row, store: &mut MemoryStore) -> Answer {
     Ok(told.into_vec())
 }
 
-/// The catalogue after a folder has been the next release so often.
+/// The catalogue after a folder has been the next release so many times.
 fn repeated(
     alloc: Global,
     dir: &[u8],
@@ -45,7 +45,7 @@ fn repeated(
     Ok(last)
 }
 
-/// The catalogue of a history of folders, with a comma between two, none of which is refused.
+/// The catalogue of a history of folders, separated by commas, none of which is refused.
 pub fn catalogue_of(
     alloc: Global,
     dirs: &[u8],
@@ -59,8 +59,8 @@ pub fn catalogue_of(
     last.ok_or(CaseFault::Strange)
 }
 
-/// Judges a folder after a catalogue, and tells how many zones it has or its fault, which is also
-/// shown where that is another text.
+/// Checks a folder after a catalogue, and appends how many zones it has, or its fault. The fault's
+/// `Display` text is appended too if it differs from the printed bytes.
 fn step(
     alloc: Global,
     dir: &[u8],
@@ -100,7 +100,7 @@ fn put_fault(alloc: Global, told: &mut Bytes, fault: &CheckFault) -> Result<(), 
     put_shown(told, fault.to_string(alloc)?.as_bytes(), printed.as_slice())
 }
 
-/// Tells how a fault is shown, where it is not so printed.
+/// Appends the `Display` text of a fault, if it differs from the printed one.
 fn put_shown(told: &mut Bytes, shown: &[u8], printed: &[u8]) -> Result<(), NoMemory> {
     if shown != printed {
         told.append(b", ")?;
@@ -109,7 +109,7 @@ fn put_shown(told: &mut Bytes, shown: &[u8], printed: &[u8]) -> Result<(), NoMem
     told.append(b";")
 }
 
-/// The catalogue with one release more.
+/// The catalogue extended by one release.
 fn grown(
     alloc: Global,
     last: Option<Catalogue<Zone>>,

@@ -3,13 +3,13 @@ use case_lines::{Answer, CaseFault, Row, numbers, shown};
 use change_index::{ChangeIndex, index};
 use std::alloc::Global;
 
-/// `after NUMBERS NUMBER`: what an index keeps of the numbers above one.
+/// `after NUMBERS NUMBER`: the entries of an index of NUMBERS that are above NUMBER.
 pub fn after(alloc: Global, row: &Row) -> Answer {
     let index = index_of(alloc, row)?;
     shown(alloc, &index.after(place(row.number(1)?)?))
 }
 
-/// `positions-after NUMBERS NUMBER`: where these stand.
+/// `positions-after NUMBERS NUMBER`: the positions of these.
 pub fn positions(alloc: Global, row: &Row) -> Answer {
     let index = index_of(alloc, row)?;
     match index.positions_after(alloc, place(row.number(1)?)?) {
@@ -18,7 +18,7 @@ pub fn positions(alloc: Global, row: &Row) -> Answer {
     }
 }
 
-/// The index of the numbers that a row names first.
+/// The index of the numbers in the first word of a row.
 fn index_of(alloc: Global, row: &Row) -> Result<ChangeIndex, CaseFault> {
     let mut places = Vec::new(alloc);
     for number in numbers(alloc, row.word(0)?)? {

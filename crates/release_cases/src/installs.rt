@@ -3,14 +3,14 @@ ghost use Rattle.std.specs.Prelude.{◌≡◌};
 
 use case_lines::{Answer, CaseFault, Row};
 use catalogue::Catalogue;
-use installer::{Asked, InstallFault, Installer};
+use installer::{InstallFault, InstallPolicy, Installer};
 use publication::Desk;
 use std::alloc::Global;
 use std::sync::Wait;
 use td_base::{Bytes, MemoryStore, NoMemory};
 use zone_meaning::Zone;
 
-/// `open DIR`: the fault of a first folder as it is shown, or nothing.
+/// `open DIR`: the `Display` text of a first folder's fault, or nothing.
 pub fn open<R: Wait>(rt: &R, alloc: Global, row: &Row, store: &mut MemoryStore) -> Answer {
     match Installer::open(rt, alloc, row.word(0)?, store, 1) {
         Ok((installer, desks)) => {
@@ -33,15 +33,15 @@ struct Steps {
     fault: Bytes,
 }
 
-/// `install DIR DIR DIR`: the places at which two desks answer once the first folder was published,
-/// the first desk was told of the second, both entered, the third was refused, and both learnt the
-/// end; and the fault of the third.
+/// `install DIR DIR DIR`: the places at which two desks answer, and the fault of the third folder.
+/// First the first folder was published, then the first desk learned of the second, then both
+/// entered. Then the third was refused, and at last both learned the end.
 pub fn install<R: Wait>(
     rt: &R,
     alloc: Global,
     row: &Row,
     store: &mut MemoryStore,
-    asked: &Asked<'_>,
+    asked: &InstallPolicy<'_>,
 ) -> Answer {
     let (steps, ended) = match run(rt, alloc, row, store, asked) {
         Ok(run) => run,
@@ -62,7 +62,7 @@ fn run<R: Wait>(
     alloc: Global,
     row: &Row,
     store: &mut MemoryStore,
-    asked: &Asked<'_>,
+    asked: &InstallPolicy<'_>,
 ) -> Result<(Steps, (u32, u32)), InstallFault> {
     let (first, more) = (word(row, 0), (word(row, 1), word(row, 2)));
     let (installer, desks) = Installer::open(rt, alloc, first, store, 2)?;
@@ -78,7 +78,7 @@ fn run_for<R: Wait>(
     alloc: Global,
     dirs: (&[u8], &[u8]),
     store: &mut MemoryStore,
-    asked: &Asked<'_>,
+    asked: &InstallPolicy<'_>,
     installer: Installer,
     one: &mut Desk<Catalogue<Zone>>,
     two: &mut Desk<Catalogue<Zone>>,
@@ -95,18 +95,18 @@ fn run_for<R: Wait>(
     }
 }
 
-/// The folder at this place, or the store's own top where the row has none.
+/// The folder at this position, or the store's own top folder if the row has none.
 fn word(row: &Row, at: usize) -> &[u8] {
     row.word(at).unwrap_or(&[])
 }
 
-/// Installs a release, of which the first desk is told, and then one that is refused.
+/// Installs a release that the first desk learns of, and then one that is refused.
 fn grow<R: Wait>(
     rt: &R,
     alloc: Global,
     dirs: (&[u8], &[u8]),
     store: &mut MemoryStore,
-    asked: &Asked<'_>,
+    asked: &InstallPolicy<'_>,
     installer: &mut Installer,
     one: &mut Desk<Catalogue<Zone>>,
     two: &mut Desk<Catalogue<Zone>>,
@@ -141,7 +141,7 @@ fn text_of<T: Drop>(alloc: Global, answer: Result<T, InstallFault>) -> Result<By
     Ok(text)
 }
 
-/// The place at which a desk answers after an enter, 0 where that was refused.
+/// The place at which a desk answers after an enter, or 0 if the enter was refused.
 pub fn entered(desk: &mut Desk<Catalogue<Zone>>) -> u32
     ensures { desk.new.pair ≡ desk.old.pair }
 {

@@ -1,16 +1,16 @@
-//! Whether a folder joins a history whole or not at all.
+//! Whether a folder joins a history as a whole or not at all.
 use crate::installs::entered;
 use case_lines::{Answer, CaseFault, Row};
 use catalogue::Catalogue;
-use installer::{Asked, InstallFault, Installer};
+use installer::{InstallFault, InstallPolicy, Installer};
 use publication::Desk;
 use std::alloc::{AllocError, Global};
 use std::sync::Wait;
 use td_base::MemoryStore;
 use zone_meaning::Zone;
 
-/// What a history has come to: its releases, the zones and names of the last one, and the place at
-/// which a desk answers after an enter.
+/// The state of a history: its releases, the zones and names of the last one, and the place of a
+/// desk after an enter.
 #[derive(Clone, Copy)]
 struct Stand {
     releases: u32,
@@ -19,21 +19,20 @@ struct Stand {
     entered: u32,
 }
 
-/// What becomes of a folder: whether it joined the history, and what that comes to. Nothing where
-/// it is refused for another cause than memory.
+/// The result for a folder: whether it joined the history, and the resulting state. `None` if it is
+/// refused for another cause than memory.
 type Joining = Option<(bool, Stand)>;
 
-/// `joins DIR DIR STAND`: what the history of the first folder comes to once the second has joined
-/// it: releases, zones, names and the place of a desk, with a comma between two. Where a first try
-/// fails for want of memory a second is made, and if the history does not stand as STAND says
-/// between them, what it comes to then is told first. `bench/each_allocation.py` fails each
-/// allocation of such a row in turn.
+/// `joins DIR DIR STAND`: the state of the history of the first folder once the second has joined
+/// it. The state is releases, zones, names and the place of a desk, separated by commas. A first
+/// try that is out of memory is repeated. If the state between the tries is not STAND, it is
+/// printed first. `bench/each_allocation.py` fails each allocation of such a row in turn.
 pub fn joins<R: Wait>(
     rt: &R,
     alloc: Global,
     row: &Row,
     store: &mut MemoryStore,
-    asked: &Asked<'_>,
+    asked: &InstallPolicy<'_>,
 ) -> Answer {
     let dirs = (row.word(0)?, row.word(1)?);
     let (first, second) = match installed(rt, alloc, dirs, store, asked) {
@@ -49,7 +48,7 @@ pub fn joins<R: Wait>(
     Ok(out)
 }
 
-/// Tells the stand after a try that failed, where it is not this one.
+/// Appends the state after a failed try, if it is not this one.
 fn put_between(
     alloc: Global,
     out: &mut Vec<u8>,
@@ -72,13 +71,13 @@ fn text_of(alloc: Global, stand: &Stand) -> Result<String, AllocError> {
     format!(in alloc; "{releases},{zones},{names},{entered}")
 }
 
-/// Installs the second folder after the first, and once more where there was no memory for it.
+/// Installs the second folder after the first, and once more if it was out of memory.
 fn installed<R: Wait>(
     rt: &R,
     alloc: Global,
     dirs: (&[u8], &[u8]),
     store: &mut MemoryStore,
-    asked: &Asked<'_>,
+    asked: &InstallPolicy<'_>,
 ) -> Result<(Joining, Joining), InstallFault> {
     let (installer, desks) = Installer::open(rt, alloc, dirs.0, store, 1)?;
     let (mut installer, mut desks) = (installer, desks);
@@ -88,13 +87,13 @@ fn installed<R: Wait>(
     Ok(both)
 }
 
-/// Installs a folder, and once more where there was no memory for it.
+/// Installs a folder, and once more if it was out of memory.
 fn tried<R: Wait>(
     rt: &R,
     alloc: Global,
     dir: &[u8],
     store: &mut MemoryStore,
-    asked: &Asked<'_>,
+    asked: &InstallPolicy<'_>,
     installer: &mut Installer,
     desk: &mut Desk<Catalogue<Zone>>,
 ) -> (Joining, Joining) {
@@ -112,7 +111,7 @@ fn joined<R: Wait>(
     alloc: Global,
     dir: &[u8],
     store: &mut MemoryStore,
-    asked: &Asked<'_>,
+    asked: &InstallPolicy<'_>,
     installer: &mut Installer,
     desk: &mut Desk<Catalogue<Zone>>,
 ) -> Joining {

@@ -7,7 +7,7 @@ use td_base::{Bytes, Items, texts};
 use tzif_reader::{LeapLine, MOST_BYTES, ZoneFile};
 
 /// `leap-table LINES`: the days from 1970-01-01 with their offsets, or the fault as it is printed.
-/// The lines are `TIME:CORRECTION` with a comma between two; a dash stands for none.
+/// The lines are `TIME:CORRECTION`, separated by commas. A dash means none.
 pub fn table(alloc: Global, row: &Row) -> Answer {
     let file = file_with(alloc, row.word(0)?)?;
     told(alloc, &file)
@@ -52,7 +52,7 @@ fn leap_line(line: &[u8]) -> Result<LeapLine, CaseFault> {
     })
 }
 
-/// The number of 32 bits that a word writes, which may be below zero.
+/// Parses a signed number of 32 bits.
 fn short(word: &[u8]) -> Result<i32, CaseFault> {
     i32::try_from(signed(word)?).ok().ok_or(CaseFault::Strange)
 }

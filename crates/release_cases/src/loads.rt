@@ -1,4 +1,4 @@
-//! The made load: its releases, its requests and the line that tells its counts.
+//! The made load: its releases, its requests and the line of its counts.
 use crate::manifests::said;
 use case_lines::{Answer, CaseFault, Row, shown};
 use catalogue::Catalogue;
@@ -9,10 +9,10 @@ use std::alloc::Global;
 use td_base::{Bytes, FileRead, MemoryStore, Store, put_hex};
 use zone_meaning::Zone;
 
-/// The most bytes of a file that are looked at.
+/// The most bytes of a file that are read.
 const MOST_BYTES: u64 = 4_096;
 
-/// What a row of a load is answered.
+/// The answer to a row of a load.
 pub fn told(alloc: Global, row: &Row) -> Answer {
     match row.kind() {
         "load-manifest" => manifest(alloc, row),
@@ -24,7 +24,7 @@ pub fn told(alloc: Global, row: &Row) -> Answer {
     }
 }
 
-/// `load-manifest NUMBER RELEASE`: what the manifest of a release says.
+/// `load-manifest NUMBER RELEASE`: the content of a release's manifest.
 fn manifest(alloc: Global, row: &Row) -> Answer {
     let (manifest, _store) = made(alloc, small(row, 0)?, small(row, 1)?)?;
     Ok(said(alloc, &manifest)?)
@@ -58,8 +58,7 @@ fn asked(alloc: Global, row: &Row) -> Answer {
     Ok(asked.into_vec())
 }
 
-/// `load-place-of NUMBER TEXT ..`: the places of which the texts are the tokens after so many
-/// releases.
+/// `load-place-of NUMBER TEXT ..`: the places whose tokens the texts are, after NUMBER releases.
 fn places(alloc: Global, row: &Row) -> Answer {
     let catalogue = last_made(alloc, small(row, 0)?)?;
     places_in(alloc, row, &catalogue)
@@ -73,7 +72,7 @@ fn places_in(alloc: Global, row: &Row, catalogue: &Catalogue<Zone>) -> Answer {
     shown(alloc, &places.as_slice())
 }
 
-/// `load-summary RELEASES REQUESTS FINE UNCHANGED ENTRIES`: the line that tells these counts.
+/// `load-summary RELEASES REQUESTS FINE UNCHANGED ENTRIES`: the line of these counts.
 fn line(alloc: Global, row: &Row) -> Answer {
     let counts = LoadCounts {
         releases: small(row, 0)?,
@@ -87,7 +86,7 @@ fn line(alloc: Global, row: &Row) -> Answer {
     Ok(out.into_vec())
 }
 
-/// The catalogue of the first so many releases.
+/// The catalogue of the first releases of a load, this many.
 fn last_made(alloc: Global, number: u32) -> Result<Catalogue<Zone>, CaseFault> {
     let mut last = first_made(alloc, number)?;
     for r in 2..number.saturating_add(1) {
@@ -111,7 +110,7 @@ fn next_made(
     stated(next_stated(alloc, &manifest, &mut store, last))
 }
 
-/// The catalogue, if there is one.
+/// The catalogue, if it could be made.
 fn stated(made: Result<Catalogue<Zone>, InstallFault>) -> Result<Catalogue<Zone>, CaseFault> {
     match made {
         Ok(catalogue) => Ok(catalogue),
@@ -120,7 +119,7 @@ fn stated(made: Result<Catalogue<Zone>, InstallFault>) -> Result<Catalogue<Zone>
     }
 }
 
-/// A release of a load, where it has one of this number.
+/// A release of a load, if the load has one of this number.
 fn made(alloc: Global, n: u32, r: u32) -> Result<(Manifest, MemoryStore), CaseFault> {
     if r < 1 || n < r || 1_000 < n {
         return crate::strange();
@@ -128,7 +127,7 @@ fn made(alloc: Global, n: u32, r: u32) -> Result<(Manifest, MemoryStore), CaseFa
     Ok(release(alloc, n, r)?)
 }
 
-/// The word at a place as a number of 32 bits.
+/// The word at a position as a number of 32 bits.
 fn small(row: &Row, at: usize) -> Result<u32, CaseFault> {
     let number = row.number(at)?;
     if number > u32::MAX as u64 {

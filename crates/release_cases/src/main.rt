@@ -1,6 +1,6 @@
-//! Tries what `release_manifest`, `leap_table`, `release_check`, `change_index`, `catalogue`,
-//! `admission`, `installer` and `made_load` offer over the cases of a table on standard input, and
-//! tells of each whose answer is not the expected one. The table explains its own lines.
+//! Tests `release_manifest`, `leap_table`, `release_check`, `change_index`, `catalogue`,
+//! `admission`, `installer` and `made_load` over the cases of a table on standard input. Reports
+//! each case whose answer is not the expected one. The table explains its own lines.
 #![tactic(auto)]
 
 ghost use Rattle.std.specs.Prelude.{◌≡◌, map};
@@ -29,7 +29,7 @@ mod loads;
 
 use admission::{Changed, Delta, Kept, RuleKind, Rules, Test, changes_at_most, changes_no_past};
 use case_lines::{Answer, CaseFault, Row, Table};
-use installer::Asked;
+use installer::InstallPolicy;
 use std::alloc::Global;
 use std::io;
 use std::sync::Wait;
@@ -54,7 +54,7 @@ fn main(rt: HostRuntime) -> io::Result<()> {
     over_rules(&rt, alloc, &kept)
 }
 
-/// Reads the table, with a test for each kind of rule.
+/// Runs the table, with a test for each kind of rule.
 #[tactic(auto, using(subscribers::proofs::lemmas::Wanting::three_wanted))]
 fn over_rules<R: Wait + Input + Print>(rt: &R, alloc: Global, kept: &[Kept]) -> io::Result<()>
     requires { KeepsAll (map (λ k. k.kind) kept.now) }
@@ -76,16 +76,16 @@ fn over_rules<R: Wait + Input + Print>(rt: &R, alloc: Global, kept: &[Kept]) -> 
         Want::new(WishKind::Under, under),
         Want::new(WishKind::Past, past),
     ];
-    let asked = Asked::new(Rules::none(alloc), &wants);
+    let asked = InstallPolicy::new(Rules::none(alloc), &wants);
     read_table(rt, alloc, kept, &asked)
 }
 
-/// Reads the table, and tells of each row whose answer is not the expected one.
+/// Runs the table, and reports each row whose answer is not the expected one.
 fn read_table<R: Wait + Input + Print>(
     rt: &R,
     alloc: Global,
     kept: &[Kept],
-    asked: &Asked<'_>,
+    asked: &InstallPolicy<'_>,
 ) -> io::Result<()>
     requires { KeepsAll (map (λ k. k.kind) kept.now) }
 {
@@ -102,7 +102,7 @@ fn read_table<R: Wait + Input + Print>(
     println!(rt; "{tally}")
 }
 
-/// Tells of a row whose answer is not the expected one.
+/// Reports a row whose answer is not the expected one.
 fn judge<R: Print>(rt: &R, table: &mut Table, row: &Row, answer: Answer) -> io::Result<()> {
     if let Some(told) = table.judge(row, answer)? {
         println!(rt; "{told}")?;
@@ -110,15 +110,15 @@ fn judge<R: Print>(rt: &R, table: &mut Table, row: &Row, answer: Answer) -> io::
     Ok(())
 }
 
-/// What is answered to a row, with a test for each kind of rule, and what is lent to installs of
-/// which no rule is asked.
+/// The answer to a row. `kept` has a test for each kind of rule; `asked` is borrowed by installs
+/// without rules.
 fn answer<R: Wait>(
     rt: &R,
     alloc: Global,
     row: &Row,
     store: &mut MemoryStore,
     kept: &[Kept],
-    asked: &Asked<'_>,
+    asked: &InstallPolicy<'_>,
 ) -> Answer
     requires { KeepsAll (map (λ k. k.kind) kept.now) }
 {
@@ -138,7 +138,7 @@ fn answer<R: Wait>(
     }
 }
 
-/// What is answered to a row of another kind, which asks for no rule and installs nothing.
+/// The answer to a row of another kind, which uses no rule and installs nothing.
 fn answer_alone(alloc: Global, row: &Row, store: &mut MemoryStore) -> Answer {
     match row.kind() {
         "manifest" => manifests::read_back(alloc, row),
@@ -180,7 +180,7 @@ fn text<T: std::fmt::Display>(alloc: Global, value: &T) -> Answer {
     Ok(format!(in alloc; "{value}")?.into_bytes())
 }
 
-/// A word of which a case has none.
+/// A word that no case has.
 fn strange<T>() -> Result<T, CaseFault> {
     Err(CaseFault::Strange)
 }

@@ -3,7 +3,7 @@ use case_lines::{Answer, Row};
 use release_manifest::{Manifest, ManifestZone, read};
 use std::alloc::{AllocError, Global};
 
-/// `manifest TEXT`: what the manifest says, or its fault as it is printed.
+/// `manifest TEXT`: the content of the manifest, or its fault as it is printed.
 pub fn read_back(alloc: Global, row: &Row) -> Answer {
     match read(alloc, row.word(0)?) {
         Ok(manifest) => Ok(said(alloc, &manifest)?),
@@ -11,8 +11,7 @@ pub fn read_back(alloc: Global, row: &Row) -> Answer {
     }
 }
 
-/// Publisher, version and stamp, then each zone and the table of leap seconds, with a bar before
-/// each.
+/// Publisher, version and stamp, then each zone and the table of leap seconds, each after a bar.
 pub fn said(alloc: Global, manifest: &Manifest) -> Result<Vec<u8>, AllocError> {
     let mut out = Vec::from_slice(alloc, manifest.publisher.as_slice())?;
     out.push(b' ')?;
@@ -28,7 +27,7 @@ pub fn said(alloc: Global, manifest: &Manifest) -> Result<Vec<u8>, AllocError> {
     Ok(out)
 }
 
-/// A zone with its file, and its aliases with a comma before each.
+/// A zone with its file, and its aliases, each after a comma.
 fn put_zone(out: &mut Vec<u8>, zone: &ManifestZone) -> Result<(), AllocError> {
     put_texts(out, zone.tzid.as_slice(), zone.file.as_slice())?;
     for alias in zone.aliases.as_slice() {

@@ -1,9 +1,9 @@
-//! Faults that no table leads to at each place, as they are printed.
+//! Faults, as they are printed, that the tables do not reach at each place.
 use case_lines::{Answer, CaseFault, Row};
 use release_manifest::{ManifestFault, Path};
 use std::alloc::Global;
 
-/// `printed FAULT`, with the path and its numbers where it has one.
+/// `printed FAULT`, with its path and numbers, if it has them.
 pub fn printed(alloc: Global, row: &Row) -> Answer {
     let fault = match row.text(0)? {
         "NoMemory" => ManifestFault::NoMemory,

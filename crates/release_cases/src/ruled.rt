@@ -1,5 +1,5 @@
-//! Rules for releases: what a release changes, what chosen rules say of that, and what they let
-//! join a history.
+//! Rules for releases: what a release changes, what chosen rules decide, and which releases join a
+//! history.
 ghost use Rattle.std.specs.Prelude.{map};
 ghost use Rattle.admission.specs.Rules.{KeepsAll};
 
@@ -7,7 +7,7 @@ use crate::stated::{put_after, put_count};
 use admission::{Changed, Chosen, Delta, Kept, RuleKind, Rules, delta_of};
 use case_lines::{Answer, CaseFault, Row, shown, signed};
 use catalogue::{Catalogue, Release};
-use installer::{Asked, Installer};
+use installer::{InstallPolicy, Installer};
 use release_check::check;
 use std::alloc::Global;
 use std::sync::Wait;
@@ -18,7 +18,7 @@ use zone_meaning::Zone;
 /// The most rules of a row.
 const MOST_RULES: usize = 8;
 
-/// The rule of a word: `most=N` or `from=SECONDS`.
+/// Parses a rule: `most=N` or `from=SECONDS`.
 fn rule(word: &[u8]) -> Result<Chosen, CaseFault> {
     if let Some(number) = word.strip_prefix(b"most=") {
         let number = signed(number)?;
@@ -37,7 +37,7 @@ fn rule(word: &[u8]) -> Result<Chosen, CaseFault> {
     })
 }
 
-/// The rules of a word, with a comma between two, or none of an empty one.
+/// Parses rules separated by commas. An empty word has none.
 #[tactic(auto, using(admission::proofs::lemmas::Keeping::all_kept))]
 pub fn rules<'k>(alloc: Global, kept: &'k [Kept], word: &[u8]) -> Result<Rules<'k>, CaseFault>
     requires { KeepsAll (map (λ k. k.kind) kept.now) }
@@ -55,8 +55,8 @@ pub fn rules<'k>(alloc: Global, kept: &'k [Kept], word: &[u8]) -> Result<Rules<'
     Ok(Rules::new(kept, chosen))
 }
 
-/// `asked RULES MOMENTS`: what rules say of a release whose changes begin at these moments, in
-/// seconds, or never.
+/// `asked RULES MOMENTS`: what rules decide about a release whose changes begin at these moments,
+/// in seconds, or never.
 pub fn asked(alloc: Global, row: &Row, kept: &[Kept]) -> Answer
     requires { KeepsAll (map (λ k. k.kind) kept.now) }
 {
@@ -79,7 +79,7 @@ fn delta(alloc: Global, word: &[u8]) -> Result<Delta, CaseFault> {
     Ok(Delta { changed })
 }
 
-/// The moment of a word, none of `never`.
+/// Parses a moment. `never` is none.
 fn moment(word: &[u8]) -> Result<Option<Moment>, CaseFault> {
     if word == b"never".as_slice() {
         return Ok(None);
@@ -88,7 +88,7 @@ fn moment(word: &[u8]) -> Result<Option<Moment>, CaseFault> {
     Ok(Some(Moment { seconds }))
 }
 
-/// `changed DIRS DIR`: the zones that a folder changes of the last release of a history, each with
+/// `changed DIRS DIR`: the zones that a folder changes in the last release of a history. Each has
 /// the moment from which it differs from what its identifier stood for, if it does.
 pub fn changed(
     alloc: Global,
@@ -120,19 +120,19 @@ fn told(alloc: Global, delta: &Delta) -> Answer {
     Ok(out)
 }
 
-/// `ruled RULES DIR ..`: how many releases the history has once the first folder began it, and
-/// after each further one that was installed under the rules, after its fault if it has one.
+/// `ruled RULES DIR ..`: how many releases the history has after the first folder, and after each
+/// further one that is installed under the rules. The fault of a folder, if any, is printed first.
 pub fn ruled<R: Wait>(
     rt: &R,
     alloc: Global,
     row: &Row,
     store: &mut MemoryStore,
     kept: &[Kept],
-    asked: &Asked<'_>,
+    asked: &InstallPolicy<'_>,
 ) -> Answer
     requires { KeepsAll (map (λ k. k.kind) kept.now) }
 {
-    let asked = Asked::new(rules(alloc, kept, row.word(0)?)?, asked.wants);
+    let asked = InstallPolicy::new(rules(alloc, kept, row.word(0)?)?, asked.wants);
     begun(rt, alloc, row, store, &asked)
 }
 
@@ -142,7 +142,7 @@ fn begun<R: Wait>(
     alloc: Global,
     row: &Row,
     store: &mut MemoryStore,
-    asked: &Asked<'_>,
+    asked: &InstallPolicy<'_>,
 ) -> Answer {
     match Installer::open(rt, alloc, row.word(1)?, store, 1) {
         Ok((installer, desks)) => {
@@ -163,7 +163,7 @@ fn grown<R: Wait>(
     row: &Row,
     store: &mut MemoryStore,
     installer: &mut Installer,
-    asked: &Asked<'_>,
+    asked: &InstallPolicy<'_>,
 ) -> Answer {
     let mut out = Vec::new(alloc);
     put_count(alloc, &mut out, installer)?;

@@ -1,31 +1,31 @@
-//! Manifests that are at hand and installed, and whether they are what is served. Their files stand
-//! in a folder of the store.
+//! Installing manifests that are already parsed, and whether they are what is served. Their files
+//! are in a folder of the store.
 ghost use Rattle.std.specs.Prelude.{map};
 ghost use Rattle.admission.specs.Rules.{KeepsAll};
 
 use crate::ruled::rules;
 use admission::Kept;
 use case_lines::{Answer, CaseFault, Row};
-use installer::{Asked, InstallFault, Installer};
+use installer::{InstallFault, InstallPolicy, Installer};
 use release_manifest::{MOST_BYTES, Manifest, ManifestLeaps, ManifestZone, read};
 use std::alloc::{AllocError, Global};
 use std::sync::Wait;
 use td_base::{Bytes, FileRead, Items, MemoryStore, NoMemory, Store};
 
-/// `stated RULES DIR DIR DIR`: how many releases the history has once the first manifest began it,
-/// and after the second and the third were installed under the rules, each after its fault if it
-/// has one.
+/// `stated RULES DIR DIR DIR`: how many releases the history has after the first manifest, and
+/// after the second and the third were installed under the rules. The fault of each, if any, is
+/// printed first.
 pub fn stated<R: Wait>(
     rt: &R,
     alloc: Global,
     row: &Row,
     store: &mut MemoryStore,
     kept: &[Kept],
-    asked: &Asked<'_>,
+    asked: &InstallPolicy<'_>,
 ) -> Answer
     requires { KeepsAll (map (λ k. k.kind) kept.now) }
 {
-    let asked = Asked::new(rules(alloc, kept, row.word(0)?)?, asked.wants);
+    let asked = InstallPolicy::new(rules(alloc, kept, row.word(0)?)?, asked.wants);
     begun(rt, alloc, row, store, &asked)
 }
 
@@ -35,7 +35,7 @@ fn begun<R: Wait>(
     alloc: Global,
     row: &Row,
     store: &mut MemoryStore,
-    asked: &Asked<'_>,
+    asked: &InstallPolicy<'_>,
 ) -> Answer {
     let first = manifest_of(alloc, row.word(1)?, store)?;
     match Installer::open_manifest(rt, alloc, &first, store, 1) {
@@ -57,7 +57,7 @@ fn grown<R: Wait>(
     row: &Row,
     store: &mut MemoryStore,
     installer: &mut Installer,
-    asked: &Asked<'_>,
+    asked: &InstallPolicy<'_>,
 ) -> Answer {
     let mut out = Vec::new(alloc);
     put_count(alloc, &mut out, installer)?;
@@ -68,14 +68,14 @@ fn grown<R: Wait>(
     Ok(out)
 }
 
-/// The fault of a manifest that is installed, if it has one.
+/// The fault of installing a manifest, if it has one.
 fn refused<R: Wait>(
     rt: &R,
     alloc: Global,
     dir: &[u8],
     store: &mut MemoryStore,
     installer: &mut Installer,
-    asked: &Asked<'_>,
+    asked: &InstallPolicy<'_>,
 ) -> Result<Option<InstallFault>, CaseFault> {
     let manifest = manifest_of(alloc, dir, store)?;
     Ok(
@@ -85,7 +85,7 @@ fn refused<R: Wait>(
     )
 }
 
-/// Tells how many releases the history has after a step, which may have had a fault.
+/// Appends how many releases the history has after a step, which may have had a fault.
 pub fn put_after(
     alloc: Global,
     out: &mut Vec<u8>,
@@ -100,7 +100,7 @@ pub fn put_after(
     Ok(())
 }
 
-/// Tells how many releases the history has.
+/// Appends how many releases the history has.
 pub fn put_count(
     alloc: Global,
     out: &mut Vec<u8>,
@@ -111,8 +111,8 @@ pub fn put_count(
     Ok(())
 }
 
-/// `serves DIR TEXT`: whether a history that the manifest of a folder began serves the manifest of
-/// a text, over the files of the folder.
+/// `serves DIR TEXT`: whether a history that begins with the manifest of a folder serves the
+/// manifest in a text, over the files of the folder.
 pub fn served<R: Wait>(rt: &R, alloc: Global, row: &Row, store: &mut MemoryStore) -> Answer {
     let asked = manifest_in(alloc, row.word(0)?, row.word(1)?)?;
     serves(rt, alloc, row.word(0)?, &asked, store)
@@ -129,7 +129,7 @@ fn serves<R: Wait>(
     match Installer::open_manifest(rt, alloc, &first, store, 1) {
         Ok((installer, desks)) => {
             drop(desks);
-            let answer = installer.serves(alloc, asked, store);
+            let answer = installer.last_matches(alloc, asked, store);
             installer.close(rt);
             told(alloc, answer)
         }
@@ -153,7 +153,7 @@ fn manifest_of(alloc: Global, dir: &[u8], store: &mut MemoryStore) -> Result<Man
     }
 }
 
-/// The manifest of a text, with the paths of its files in a folder.
+/// The manifest in a text, with the paths of its files in a folder.
 fn manifest_in(alloc: Global, dir: &[u8], text: &[u8]) -> Result<Manifest, CaseFault> {
     match read(alloc, text) {
         Ok(manifest) => Ok(placed(alloc, dir, manifest)?),

@@ -1,4 +1,4 @@
-//! Manifests that are at hand.
+//! Manifests that are already parsed.
 use case_lines::{Answer, CaseFault, Row};
 use release_check::{CheckFault, examine};
 use release_manifest::{Manifest, ManifestLeaps};
@@ -6,7 +6,7 @@ use std::alloc::Global;
 use td_base::{Bytes, Items, MemoryStore};
 use td_civil::Moment;
 
-/// `examine PUBLISHER VERSION SECONDS EXPIRES`: what is told of a release without zones, with the
+/// `examine PUBLISHER VERSION SECONDS EXPIRES`: the answer for a release without zones, with the
 /// table of leap seconds of the folder `with-leap`.
 pub fn examined(alloc: Global, row: &Row, store: &mut MemoryStore) -> Answer {
     let manifest = value(alloc, row)?;

@@ -1,5 +1,6 @@
 -- Two histories with one chain value, or with one token, are one.
-use Rattle.std.proofs.Common.{◌≡◌, false, true, ℕ, zero, suc, ◌<◌, ◌≤◌, ◌^◌, ℤ, Option, None, Some, List, [], ◌∷◌, ◌++◌, length, length-take, take, inl, inr, refl, sym, ap, ap₂, ◌∙◌, subst, map, arith, append_assoc}
+use Rattle.std.proofs.Common.{◌≡◌, false, true, ℕ, zero, suc, ◌<◌, ◌≤◌, ◌^◌, ℤ, Option, None, Some, List, [], ◌∷◌, ◌++◌, length, length-take, take, inl, inr}
+use Rattle.std.proofs.Common.{refl, sym, ap, ap₂, ◌∙◌, subst, map, arith, append_assoc}
 use Rattle.std.specs.List.{AllByRecursion, fold}
 use Rattle.std.specs.Fmt.{decimal}
 use Rattle.std.specs.Option.{IfSome}
@@ -19,7 +20,7 @@ use Rattle.zone_meaning.specs.Lengths.{sound_lengths}
 use Rattle.zone_meaning.specs.Sound.{IsSound, IsSoundLeaps}
 use Rattle.zone_meaning.proofs.lemmas.Members.{member_first, member_later}
 use Rattle.release_laws.specs.Covered.{IsSameLink}
-use Rattle.release_laws.specs.Hashed.{IsOfContents, IsHashedAfter, shown_of, AreApart}
+use Rattle.release_laws.specs.Hashed.{IsOfContents, IsHashedAfter, shown_of, AreApartByDigest}
 use Rattle.release_laws.proofs.SameBytes.{same_contents, same_links}
 use Rattle.release_laws.proofs.Short.{short_contents}
 
@@ -151,7 +152,7 @@ chain_folds : (H : List ReleaseData) → chain_of H ≡ fold linked (chain_of []
 unfolding chain_of
 chain_folds H = refl
 
-pub same_chains : (G H : List ReleaseData) → IsHistory IsSound G → IsHistory IsSound H → AreApart G H → length G ≡ length H → chain_of G ≡ chain_of H → G ≡ H
+pub same_chains : (G H : List ReleaseData) → IsHistory IsSound G → IsHistory IsSound H → AreApartByDigest G H → length G ≡ length H → chain_of G ≡ chain_of H → G ≡ H
 same_chains G H g h apart n e =
     (same_row (chain_of []) (chain_of []) G H first_length first_length (all_whole [] G g) (all_whole [] H h)
     (λ x y hx hy same. apart x y hx hy (ap shown_of same)) n (sym (chain_folds G) ∙ e ∙ chain_folds H)).releases
@@ -192,7 +193,7 @@ shown_by n a b e =
     let rest : (45 ∷ shown_of a) ≡ (45 ∷ shown_of b) = append_cancel_left (decimal n) (45 ∷ shown_of a) (45 ∷ shown_of b) e in
     cc
 
-same_parts : (n : ℕ) (rs ss : List ReleaseData) → length rs ≡ n → length ss ≡ n → AllByRecursion IsWhole rs → AllByRecursion IsWhole ss → AreApart rs ss
+same_parts : (n : ℕ) (rs ss : List ReleaseData) → length rs ≡ n → length ss ≡ n → AllByRecursion IsWhole rs → AllByRecursion IsWhole ss → AreApartByDigest rs ss
     → token_text n (chain_of rs) ≡ token_text n (chain_of ss) → rs ≡ ss
 same_parts n [] [] nr ns hr hs apart e = refl
 same_parts n [] (s ∷ ss) nr ns hr hs apart e = absurd (omega (arith, nr, ns))
@@ -212,7 +213,7 @@ unfolding token_of
 token_texts G H m n same e = ap (λ k. token_text k (chain_of (take m G))) (sym same) ∙ e
 
 pub same_tokens : ((G H : List ReleaseData) (m n : ℕ) → m < 2 ^ 32 → n < 2 ^ 32 → token_of G m ≡ token_of H n → m ≡ n)
-    → (G H : List ReleaseData) (m n : ℕ) → IsHistory IsSound G → IsHistory IsSound H → AreApart G H → m ≤ length G → n ≤ length H
+    → (G H : List ReleaseData) (m n : ℕ) → IsHistory IsSound G → IsHistory IsSound H → AreApartByDigest G H → m ≤ length G → n ≤ length H
     → m < 2 ^ 32 → n < 2 ^ 32 → token_of G m ≡ token_of H n → take m G ≡ take n H
 same_tokens places G H m n g h apart lm ln hm hn e =
     let same = places G H m n hm hn e in

@@ -28,6 +28,6 @@ shown_of digest = take 16 (encode_lower digest)
 
 -- no two different texts that are hashed for the two histories have digests of which a token shows
 -- the same
-abbrev pub AreApart : List ReleaseData → List ReleaseData → Type 0
-AreApart G H =
+abbrev pub AreApartByDigest : List ReleaseData → List ReleaseData → Type 0
+AreApartByDigest G H =
     (a b : List ℕ) → IsHashed G a → IsHashed H b → shown_of (sha256 a) ≡ shown_of (sha256 b) → a ≡ b

@@ -4,7 +4,7 @@ use Rattle.td_base.specs.Doors.{IsNewDoor}
 use Rattle.td_base.specs.MemoryDoors.{FaultyDoorState, MemoryDoorState, faulty_door, memory_door}
 
 -- a door in memory that has given nothing and answered nothing
-pub record IsUnasked (door : MemoryDoorState) : Type 0 where
+pub record IsUnaskedDoor (door : MemoryDoorState) : Type 0 where
   pub given : door.given ≡ []
   pub finished : door.finished ≡ []
   pub last : door.last ≡ None

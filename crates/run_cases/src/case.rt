@@ -2,11 +2,11 @@ ghost use Rattle.std.specs.Prelude.{map};
 ghost use Rattle.admission.specs.Rules.{KeepsAll};
 ghost use Rattle.subscribers.specs.Wishes.{WantsAll};
 
-use crate::ending::Ending;
+use crate::ending::RunResult;
 use crate::exchanges::are_met;
 use crate::outside::{File, ROOM, Sizes, calls, piece_sizes, source_of};
 use crate::plan::NetworkPlan;
-use crate::stage::Stage;
+use crate::stage::RunStage;
 use crate::trial::Trial;
 use admission::Kept;
 use case_lines::CaseFault;
@@ -16,23 +16,23 @@ use std::thread::Threads;
 use subscribers::Want;
 use td_base::{Bytes, Faulty, MemorySink, MemorySource, NoMemory};
 
-/// A run, and how it is to end.
+/// A run, and how it must end.
 #[derive(Drop)]
 pub struct Case {
     pub title: String,
     pub words: Vec<Bytes>,
     pub input: Vec<u8>,
     pub network: NetworkPlan,
-    /// The numbers of the calls that fail, from 1, of each object.
+    /// The numbers of the calls that fail, from 1, for each object.
     pub store_failing: Vec<u64>,
     pub input_failing: Vec<u64>,
     pub output_failing: Vec<u64>,
     pub spawner_failing: Vec<u64>,
     /// The most bytes of each call.
     pub sizes: Sizes,
-    /// How many bytes the output has room for.
+    /// The room of the output, in bytes.
     pub room: usize,
-    pub ending: Ending,
+    pub ending: RunResult,
 }
 
 impl Case {
@@ -51,11 +51,11 @@ impl Case {
                 write: ROOM,
             },
             room: ROOM,
-            ending: Ending::new(alloc),
+            ending: RunResult::new(alloc),
         })
     }
 
-    /// Does what a line with a number says.
+    /// Applies a line that has a number.
     pub fn set(&mut self, word: &str, number: u64) -> Result<(), CaseFault> {
         match word {
             "room" => self.room = number as usize,
@@ -70,8 +70,8 @@ impl Case {
         Ok(())
     }
 
-    /// Whether a run ended as it is to.
-    pub fn is_met_by(&self, trial: Trial, ending: &Ending) -> bool {
+    /// Whether a run ended as it must.
+    pub fn is_met_by(&self, trial: Trial, ending: &RunResult) -> bool {
         let wanted = &self.ending;
         ending.status == self.wanted_status(trial)
             && ending.output.as_slice() == self.wanted_output(trial)
@@ -82,8 +82,8 @@ impl Case {
             && self.meets_exchanges(trial, ending)
     }
 
-    /// Whether the exchanges of a run are those that it is to make.
-    fn meets_exchanges(&self, trial: Trial, ending: &Ending) -> bool {
+    /// Whether the exchanges of a run are those that it must make.
+    fn meets_exchanges(&self, trial: Trial, ending: &RunResult) -> bool {
         match (&self.ending.exchanges, &ending.exchanges) {
             (Some(wanted), Some(told)) => {
                 are_met(wanted.as_slice(), told.as_slice(), self.wanted_end(trial))
@@ -93,8 +93,8 @@ impl Case {
         }
     }
 
-    /// The place in the output of the last exchange of a run. A line that is read is answered, so
-    /// where not all of the input is read something is written after each exchange.
+    /// The position in the output of the last exchange of a run. A line that is read is answered,
+    /// so when not all of the input is read, something is written after each exchange.
     fn wanted_end(&self, trial: Trial) -> usize {
         let end = self.wanted_output(trial).len();
         match trial {
@@ -103,8 +103,8 @@ impl Case {
         }
     }
 
-    /// The status of a run. Status 4 stands in the place of 0 where a write failed, and 3 where a
-    /// read of the input did.
+    /// The status of a run, which is that of the case. It is 4 instead of 0 when a write failed,
+    /// and 3 when a read of the input failed.
     fn wanted_status(&self, trial: Trial) -> u8 {
         match trial {
             Trial::Unwritten(_) if self.ending.status == 0 => 4,
@@ -113,8 +113,8 @@ impl Case {
         }
     }
 
-    /// The output of a run. It ends before a write that failed. Where not all of the input was
-    /// read, it has one line, and one more for each whole line that was.
+    /// The output of a run. It ends before a write that failed. When not all of the input was read,
+    /// it has one line, and one more for each whole line that was read.
     fn wanted_output(&self, trial: Trial) -> &[u8] {
         let whole = self.ending.output.as_slice();
         match trial {
@@ -127,7 +127,7 @@ impl Case {
         }
     }
 
-    /// Runs it over the files.
+    /// Runs the case over the files.
     pub fn run<R: Threads + Wait + Copy + Send + 'static>(
         &self,
         rt: &R,
@@ -136,11 +136,11 @@ impl Case {
         wants: &[Want],
         files: &[File],
         trial: Trial,
-    ) -> Result<Ending, NoMemory>
+    ) -> Result<RunResult, NoMemory>
         requires rules { KeepsAll (map (λ k. k.kind) kept.now) }
         requires wants { WantsAll (map (λ w. w.kind) wants.now) }
     {
-        let mut stage = Stage::new(alloc, self, files, trial)?;
+        let mut stage = RunStage::new(alloc, self, files, trial)?;
         let outcome = stage.play(rt, alloc, self.words.as_slice(), kept, wants);
         stage.end(alloc, outcome)
     }
@@ -177,12 +177,12 @@ impl Case {
     }
 }
 
-/// The first bytes, as many as there are of so many.
+/// The first `count` bytes, or all if they are fewer.
 fn prefix(bytes: &[u8], count: usize) -> &[u8] {
     bytes.get(..count).unwrap_or(bytes)
 }
 
-/// How many lines stand whole in the bytes.
+/// How many whole lines the bytes have.
 fn count_lines(bytes: &[u8]) -> usize {
     let mut count: usize = 0;
     for byte in bytes {
@@ -193,7 +193,7 @@ fn count_lines(bytes: &[u8]) -> usize {
     count
 }
 
-/// The first lines of the bytes, so many.
+/// The first lines of the bytes, this many.
 fn first_lines(bytes: &[u8], lines: usize) -> &[u8] {
     let mut left = lines;
     for (at, byte) in bytes.iter().enumerate() {

@@ -1,28 +1,28 @@
-use crate::exchanges::Exchanged;
+use crate::exchanges::PastExchange;
 use case_lines::{CaseFault, Texts, cut, number, numbers, written};
 use std::alloc::{AllocError, Global};
 use td_base::End;
 
 /// How a run ends.
 #[derive(Drop)]
-pub struct Ending {
+pub struct RunResult {
     pub status: u8,
     pub output: Vec<u8>,
-    /// What the network was asked for.
-    pub asked: Vec<Asked>,
-    /// How often the spawner was to begin a work.
+    /// The doors that were requested from the network.
+    pub asked: Vec<NetworkAsked>,
+    /// How often the spawner was to start a work.
     pub begun: u64,
-    /// The addresses at which it was asked for an upstream.
+    /// The addresses at which the network was to reach an upstream.
     pub reached: Vec<Vec<u8>>,
     /// The doors that were handed back.
     pub doors: Vec<DoorEnd>,
     /// The exchanges of the upstream that was handed back.
-    pub exchanges: Option<Vec<Exchanged>>,
+    pub exchanges: Option<Vec<PastExchange>>,
 }
 
-/// A call for so many doors at an address.
+/// A request for a number of doors at an address.
 #[derive(Drop, PartialEq)]
-pub struct Asked {
+pub struct NetworkAsked {
     pub address: Vec<u8>,
     pub doors: u64,
 }
@@ -45,9 +45,9 @@ pub struct ConnEnd {
     pub output: Vec<u8>,
 }
 
-impl Ending {
-    pub fn new(alloc: Global) -> Ending {
-        Ending {
+impl RunResult {
+    pub fn new(alloc: Global) -> RunResult {
+        RunResult {
             status: 0,
             output: Vec::new(alloc),
             asked: Vec::new(alloc),
@@ -58,7 +58,7 @@ impl Ending {
         }
     }
 
-    /// Adds what a line of the table says, and tells whether it says something of an end.
+    /// Adds what a line of the table says, and returns whether the line describes an end.
     pub fn add(
         &mut self,
         alloc: Global,
@@ -71,7 +71,7 @@ impl Ending {
             "status" => self.status = byte(rest)?,
             "output" => texts.append(rest.as_bytes(), &mut self.output)?,
             "starts" => self.begun = number(rest.as_bytes())?,
-            "asks" => self.asked.push(Asked {
+            "asks" => self.asked.push(NetworkAsked {
                 address: texts.meaning(first)?,
                 doors: number(second.as_bytes())?,
             })?,
@@ -89,7 +89,7 @@ impl Ending {
             "reaches" => self.reached.push(texts.meaning(rest)?)?,
             "up" => self.exchanges = Some(Vec::new(alloc)),
             "exchange" => match &mut self.exchanges {
-                Some(all) => all.push(Exchanged::read(texts, rest, self.output.len())?)?,
+                Some(all) => all.push(PastExchange::read(texts, rest, self.output.len())?)?,
                 None => return Err(CaseFault::Strange),
             },
             _ => return Ok(false),
@@ -97,7 +97,7 @@ impl Ending {
         Ok(true)
     }
 
-    /// The end as the table would say it.
+    /// The end as the table would write it.
     pub fn told(&self, alloc: Global) -> Result<String, AllocError> {
         let output = written(alloc, self.output.as_slice())?;
         let status = self.status;
@@ -170,7 +170,7 @@ impl ConnEnd {
     }
 }
 
-/// The places between commas; a dash stands for none.
+/// The places, separated by commas. A dash means none.
 fn read_places(alloc: Global, text: &[u8]) -> Result<Vec<u32>, CaseFault> {
     let mut places = Vec::new(alloc);
     for place in numbers(alloc, text)?.as_slice() {

@@ -1,23 +1,23 @@
 use case_lines::{CaseFault, Texts, written};
 use std::alloc::{AllocError, Global};
 
-/// How many bytes of an answer are to be wanted at the most.
+/// The limit that each exchange of the table sets for its answer, in bytes.
 const MOST: u64 = 8_388_608;
 
 /// An exchange of the upstream that was handed back.
 #[derive(Drop)]
-pub struct Exchanged {
+pub struct PastExchange {
     pub request: Vec<u8>,
-    /// How many bytes of the answer were wanted at the most.
+    /// The limit of the answer, in bytes.
     pub most: u64,
-    /// How many bytes of the output are to be written before it, where it stands in the table.
+    /// How many bytes of output come before it, if it is from the table.
     pub after: usize,
 }
 
-impl Exchanged {
-    /// An exchange of the table, before which so many bytes of output stand.
-    pub fn read(texts: &Texts, request: &str, after: usize) -> Result<Exchanged, CaseFault> {
-        Ok(Exchanged {
+impl PastExchange {
+    /// An exchange of the table, after this many bytes of output.
+    pub fn read(texts: &Texts, request: &str, after: usize) -> Result<PastExchange, CaseFault> {
+        Ok(PastExchange {
             request: texts.meaning(request)?,
             most: MOST,
             after,
@@ -34,15 +34,15 @@ impl Exchanged {
         Ok(())
     }
 
-    /// Whether another asks for the same.
-    fn is(&self, other: &Exchanged) -> bool {
+    /// Whether another has the same request and limit.
+    fn is(&self, other: &PastExchange) -> bool {
         self.request == other.request && self.most == other.most
     }
 }
 
-/// Whether the exchanges that were told are those of the table that come in a run whose output ends
-/// at this place.
-pub fn are_met(table: &[Exchanged], told: &[Exchanged], end: usize) -> bool {
+/// Whether the exchanges of a run are exactly those of the table that come before its output ends,
+/// at this position.
+pub fn are_met(table: &[PastExchange], told: &[PastExchange], end: usize) -> bool {
     let mut left = told.iter();
     for wanted in table {
         if wanted.after > end {

@@ -1,5 +1,5 @@
-//! Runs the top call over the cases of a table on standard input, each over objects in memory, and
-//! tells of each that ends otherwise than the table says. The table explains its own lines.
+//! Runs the top call over the cases of a table on standard input, each over objects in memory.
+//! Reports each case that ends otherwise than the table says. The table explains its own lines.
 #![tactic(auto)]
 
 ghost use Rattle.std.specs.Prelude.{◌≡◌};
@@ -9,7 +9,7 @@ ghost use Rattle.subscribers.specs.Wishes.{takes_by};
 // The table, line by line.
 mod script;
 
-// A case, what its runs differ in, and how they are to end.
+// A case, how its runs differ, and how they must end.
 mod case;
 mod ending;
 mod exchanges;

@@ -1,6 +1,6 @@
 //! The objects in memory over which a case runs.
 ghost use Rattle.std.specs.Prelude.{◌≡◌, IfOk, []};
-ghost use Rattle.run_cases.specs.Doors.{IsNew, IsUnasked};
+ghost use Rattle.run_cases.specs.Doors.{IsNew, IsUnaskedDoor};
 ghost use Rattle.td_base.specs.MemoryDoors.{IsFresh};
 ghost use Rattle.td_base.specs.MemoryNetworks.{TellsNone};
 ghost use Rattle.td_base.specs.MemoryUpstreams.{faulty_upstream, memory_upstream};
@@ -26,10 +26,10 @@ pub struct Sizes {
     pub write: usize,
 }
 
-/// Room for the longest output.
+/// Room for the longest output, in bytes.
 pub const ROOM: usize = 400_000;
 
-/// For how many writes to a connection their size counts.
+/// For how many writes to a connection their size is limited.
 const SMALL_WRITES: usize = 10_000;
 
 /// A store of the files.
@@ -42,7 +42,7 @@ pub fn store_of(alloc: Global, files: &[File]) -> Result<MemoryStore, NoMemory> 
     Ok(store)
 }
 
-/// A source of these bytes, whose first read gives so many.
+/// A source of these bytes, whose first read gives this many.
 pub fn source_of(
     alloc: Global,
     bytes: &[u8],
@@ -56,13 +56,13 @@ pub fn source_of(
     Ok(MemorySource::in_pieces(bytes, sizes))
 }
 
-/// A door of which chosen calls fail.
+/// A door in which chosen calls fail.
 pub type CaseDoor = FaultyDoor<MemoryDoor>;
 
-/// Another server of which chosen exchanges fail.
+/// An upstream in which chosen exchanges fail.
 pub type CaseUpstream = Faulty<MemoryUpstream>;
 
-/// A network of doors and other servers.
+/// A network of doors and upstreams.
 pub fn network_of(
     alloc: Global,
     plan: &NetworkPlan,
@@ -106,7 +106,7 @@ fn push_step(
     step: &StepPlan,
     sizes: Sizes,
 ) -> Result<(), NoMemory>
-    ensures { IsUnasked door.old → IsUnasked door.new }
+    ensures { IsUnaskedDoor door.old → IsUnaskedDoor door.new }
 {
     match step {
         StepPlan::Conn(conn) if door.room() > 0 => door.push_conn(conn_of(alloc, conn, sizes)?),
@@ -129,12 +129,12 @@ fn conn_of(alloc: Global, plan: &ConnPlan, sizes: Sizes) -> Result<FaultyConn<Me
     ))
 }
 
-/// The numbers of the calls that are to fail.
+/// The numbers of the calls that must fail.
 pub fn calls(alloc: Global, numbers: &Vec<u64>) -> Result<Items<u64>, NoMemory> {
     Ok(Items::from(Vec::from_slice(alloc, numbers.as_slice())?))
 }
 
-/// The first size, and then as many others as there are bytes, where these are to be small.
+/// The first size, then one small size for each byte, if small sizes are requested.
 pub fn piece_sizes(
     alloc: Global,
     first: usize,

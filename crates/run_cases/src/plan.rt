@@ -1,7 +1,7 @@
 use case_lines::{CaseFault, number};
 use std::alloc::Global;
 
-/// What the network of a case has and does.
+/// The doors and upstreams of a case's network, and its failing calls.
 #[derive(Drop)]
 pub struct NetworkPlan {
     pub doors: Vec<DoorPlan>,
@@ -10,7 +10,7 @@ pub struct NetworkPlan {
     pub failing: Vec<u64>,
 }
 
-/// What another server answers, one answer an exchange.
+/// The answers of an upstream, one for each exchange.
 #[derive(Drop)]
 pub struct UpstreamPlan {
     pub answers: Vec<Vec<u8>>,
@@ -18,7 +18,7 @@ pub struct UpstreamPlan {
     pub failing: Vec<u64>,
 }
 
-/// What a door answers, one step a call.
+/// The answers of a door, one step for each call.
 #[derive(Drop)]
 pub struct DoorPlan {
     pub steps: Vec<StepPlan>,
@@ -30,11 +30,11 @@ pub struct DoorPlan {
 pub enum StepPlan {
     /// A connection.
     Conn(ConnPlan),
-    /// That none waits.
+    /// No connection waits.
     Idle,
 }
 
-/// A connection of this input.
+/// A connection with this input.
 #[derive(Drop)]
 pub struct ConnPlan {
     pub input: Vec<u8>,
@@ -44,7 +44,7 @@ pub struct ConnPlan {
 }
 
 impl NetworkPlan {
-    /// A network without doors and upstreams, of which no call fails.
+    /// A network without doors and upstreams, in which no call fails.
     pub fn new(alloc: Global) -> NetworkPlan {
         NetworkPlan {
             doors: Vec::new(alloc),
@@ -53,7 +53,7 @@ impl NetworkPlan {
         }
     }
 
-    /// Adds what a line of the table says, whose text is this.
+    /// Adds a line of the table, with this text.
     pub fn add(
         &mut self,
         alloc: Global,

@@ -3,7 +3,7 @@ ghost use Rattle.admission.specs.Rules.{KeepsAll};
 ghost use Rattle.subscribers.specs.Wishes.{WantsAll};
 
 use crate::case::Case;
-use crate::ending::Ending;
+use crate::ending::RunResult;
 use crate::outside::File;
 use crate::trial::Trial;
 use admission::Kept;
@@ -37,8 +37,8 @@ impl Script {
         }
     }
 
-    /// How many runs ended otherwise than the table says, where it had as many as its line `runs`
-    /// says.
+    /// The report after the last line. It has how many runs ended otherwise than the table says, if
+    /// the table had as many runs as its line `runs` says.
     pub fn last_told(&self) -> Result<String, AllocError> {
         let (cases, right, stated) = (self.tally.cases, self.tally.right, self.stated);
         if cases != stated {
@@ -50,7 +50,7 @@ impl Script {
         )
     }
 
-    /// Does what a line says, and gives what is to be told of it, if anything.
+    /// Applies a line, and returns the report on it, if any.
     pub fn read_line<R: Threads + Wait + Copy + Send + 'static>(
         &mut self,
         rt: &R,
@@ -189,8 +189,8 @@ fn push_words(alloc: Global, case: &mut Case, words: &str) -> Result<(), CaseFau
     Ok(())
 }
 
-/// What is told of a run that ended otherwise.
-fn told(alloc: Global, case: &Case, ending: &Ending) -> Result<String, AllocError> {
+/// The report on a run that ended otherwise.
+fn told(alloc: Global, case: &Case, ending: &RunResult) -> Result<String, AllocError> {
     let (title, ending) = (case.title.as_str(), ending.told(alloc)?);
     format!(in alloc; "{title}: ended with {ending}")
 }

@@ -4,8 +4,8 @@ ghost use Rattle.admission.specs.Rules.{KeepsAll};
 ghost use Rattle.subscribers.specs.Wishes.{WantsAll};
 
 use crate::case::Case;
-use crate::ending::{ConnEnd, DoorEnd, Ending};
-use crate::exchanges::Exchanged;
+use crate::ending::{ConnEnd, DoorEnd, RunResult};
+use crate::exchanges::PastExchange;
 use crate::outside::{CaseDoor, CaseUpstream, File, calls, network_of, store_of};
 use crate::trial::Trial;
 use crate::watched::{WatchedNetwork, WatchedSpawner};
@@ -24,7 +24,7 @@ type CaseNetwork = WatchedNetwork<Faulty<MemoryNetwork<CaseDoor, CaseUpstream>>>
 
 /// The objects of a run.
 #[derive(Drop)]
-pub struct Stage {
+pub struct RunStage {
     store: Faulty<MemoryStore>,
     input: Faulty<MemorySource>,
     output: Faulty<MemorySink>,
@@ -32,20 +32,20 @@ pub struct Stage {
     spawner: WatchedSpawner<Faulty<MemorySpawner>>,
 }
 
-impl Stage {
+impl RunStage {
     /// The objects of a run of a case over the files.
     pub fn new(
         alloc: Global,
         case: &Case,
         files: &[File],
         trial: Trial,
-    ) -> Result<Stage, NoMemory> {
+    ) -> Result<RunStage, NoMemory> {
         let store = store(alloc, case, files)?;
         let input = case.source(alloc, trial)?;
         let output = case.sink(alloc, trial)?;
         let network = network(alloc, case)?;
         let spawner = spawner(alloc, case)?;
-        Ok(Stage {
+        Ok(RunStage {
             store,
             input,
             output,
@@ -85,12 +85,12 @@ impl Stage {
         self,
         alloc: Global,
         outcome: Outcome<CaseDoor, CaseUpstream>,
-    ) -> Result<Ending, NoMemory> {
+    ) -> Result<RunResult, NoMemory> {
         let output = Vec::from_slice(alloc, self.output.inner().taken())?;
         let doors = ends_of(alloc, outcome.doors.as_slice())?;
         let exchanges = exchanges_of(alloc, &outcome.up)?;
         let calls = self.network.into_calls();
-        Ok(Ending {
+        Ok(RunResult {
             status: outcome.status,
             output,
             begun: self.spawner.begun(),
@@ -118,7 +118,7 @@ fn spawner(alloc: Global, case: &Case) -> Result<WatchedSpawner<Faulty<MemorySpa
     Ok(WatchedSpawner::new(Faulty::new(MemorySpawner::new(), failing)))
 }
 
-/// How the doors were handed back.
+/// The ends of the doors that were handed back.
 fn ends_of(alloc: Global, doors: &[CaseDoor]) -> Result<Vec<DoorEnd>, NoMemory> {
     let mut ends = Vec::new(alloc);
     for door in doors {
@@ -142,21 +142,21 @@ fn door_end(alloc: Global, door: &MemoryDoor) -> Result<DoorEnd, NoMemory> {
     })
 }
 
-/// The exchanges that the upstream tells, where one was handed back.
+/// The exchanges that the upstream recorded, if one was handed back.
 fn exchanges_of(
     alloc: Global,
     up: &Option<CaseUpstream>,
-) -> Result<Option<Vec<Exchanged>>, NoMemory> {
+) -> Result<Option<Vec<PastExchange>>, NoMemory> {
     match up {
         Some(upstream) => Ok(Some(told_by(alloc, upstream)?)),
         None => Ok(None),
     }
 }
 
-fn told_by(alloc: Global, upstream: &CaseUpstream) -> Result<Vec<Exchanged>, NoMemory> {
+fn told_by(alloc: Global, upstream: &CaseUpstream) -> Result<Vec<PastExchange>, NoMemory> {
     let mut told = Vec::new(alloc);
     for exchange in upstream.inner().told() {
-        told.push(Exchanged {
+        told.push(PastExchange {
             request: Vec::from_slice(alloc, exchange.request.as_slice())?,
             most: exchange.most,
             after: 0,
@@ -165,7 +165,7 @@ fn told_by(alloc: Global, upstream: &CaseUpstream) -> Result<Vec<Exchanged>, NoM
     Ok(told)
 }
 
-/// The top call. What it promises is not needed here, and is much at objects that tell all.
+/// The top call. Its contract is not needed here, and is long over objects with a full view.
 fn top_call<R, S, C, K, N, W>(
     rt: &R,
     alloc: Global,

@@ -1,9 +1,9 @@
-/// What differs from one run of a case to another.
+/// How one run of a case differs from another.
 #[derive(Clone, Copy)]
 pub enum Trial {
-    /// Nothing.
+    /// Not at all.
     Plain,
-    /// The first read of the input gives so many bytes.
+    /// The first read of the input gives this many bytes.
     Cut(usize),
     /// Each write to the output takes one byte, and the one with this number fails.
     Unwritten(usize),
@@ -14,7 +14,7 @@ pub enum Trial {
 }
 
 impl Trial {
-    /// The trial with this number, from 1, of those of a name.
+    /// The trial with this number, from 1, among those of a name.
     pub fn of(how: &str, number: usize) -> Trial {
         match how {
             "cut" => Trial::Cut(number),

@@ -1,18 +1,18 @@
-//! Objects of the outside that keep what they were asked.
-use crate::ending::Asked;
+//! Objects of the outside that record the calls to them.
+use crate::ending::NetworkAsked;
 use std::alloc::Global;
 use td_base::{Begin, Made, Network, Spawner};
 
-/// What a network was asked for, call by call.
+/// The requests to a network, call by call.
 #[derive(Drop)]
 pub struct Calls {
-    /// The calls for doors.
-    pub asked: Vec<Asked>,
-    /// The addresses of the calls for an upstream.
+    /// The requests for doors.
+    pub asked: Vec<NetworkAsked>,
+    /// The addresses of the requests for an upstream.
     pub reached: Vec<Vec<u8>>,
 }
 
-/// A network, and what it was asked for.
+/// A network, and the requests to it.
 #[derive(Drop)]
 pub struct WatchedNetwork<N> {
     inner: N,
@@ -32,7 +32,7 @@ impl<N> WatchedNetwork<N> {
 }
 
 impl<N: Drop> WatchedNetwork<N> {
-    /// What it was asked for.
+    /// The requests to it.
     pub fn into_calls(self) -> Calls {
         self.calls
     }
@@ -56,11 +56,11 @@ impl<N: Network> Network for WatchedNetwork<N> {
     }
 }
 
-/// Without memory for a call it is lost, and the run differs.
+/// Without memory a call is not recorded, and the run differs.
 impl Calls {
     fn keep_asked(&mut self, alloc: Global, address: &[u8], doors: u32) {
         if let Ok(address) = Vec::from_slice(alloc, address) {
-            let _ = self.asked.push(Asked {
+            let _ = self.asked.push(NetworkAsked {
                 address,
                 doors: u64::from(doors),
             });
@@ -74,7 +74,7 @@ impl Calls {
     }
 }
 
-/// A spawner, and how often it was to begin a work.
+/// A spawner, and how often it was to start a work.
 #[derive(Drop)]
 pub struct WatchedSpawner<S> {
     inner: S,
@@ -86,7 +86,7 @@ impl<S> WatchedSpawner<S> {
         WatchedSpawner { inner, begun: 0 }
     }
 
-    /// How often it was to begin a work.
+    /// How often it was to start a work.
     pub fn begun(&self) -> u64 {
         self.begun
     }
@@ -95,6 +95,8 @@ impl<S> WatchedSpawner<S> {
 impl<S: Spawner> Spawner for WatchedSpawner<S> {
     ghost faults = { λ w. S.faults w.inner };
 
+    ghost active = { λ w. S.active w.inner };
+
     fn begin(&mut self) -> Begin {
         self.begun = self.begun.saturating_add(1);
         self.inner.begin()
@@ -102,5 +104,9 @@ impl<S: Spawner> Spawner for WatchedSpawner<S> {
 
     fn refuse(&mut self) {
         self.inner.refuse();
+    }
+
+    fn count_join(&mut self) {
+        self.inner.count_join();
     }
 }

@@ -1,7 +1,7 @@
 //! A run of `serve` whose workers are threads of the system. Its two doors are in memory, with one
-//! connection each, and the second request of either comes only once the first of the other was
-//! answered: on one thread, one after the other, they would not both be served. What the operator
-//! is told comes first, and then how each connection ended.
+//! connection each. The second request of either arrives only once the first of the other was
+//! answered. On one thread, one after the other, they would not both be served. The output to the
+//! operator is printed first, and then how each connection ended.
 #![tactic(auto)]
 
 ghost use Rattle.std.specs.Prelude.{◌≡◌};
@@ -16,7 +16,7 @@ use std::io::{Error, ErrorKind};
 use subscribers::{Want, WantTest, Wish, WishKind, is_any, is_past, is_under};
 use td_base::{Bytes, End, MemoryNetwork, MemoryUpstream, NoMemory};
 
-/// For how many turns a read waits for the other connection.
+/// How many turns a read waits for the other connection.
 const TURNS: u32 = 1_000_000;
 
 #[tactic(auto, using(admission::proofs::lemmas::Keeping::both_kept, subscribers::proofs::lemmas::Wanting::three_wanted))]
@@ -89,7 +89,7 @@ fn gates(alloc: Global) -> Result<MemoryNetwork<GateDoor, MemoryUpstream>, NoMem
     Ok(network)
 }
 
-/// The words of the command line.
+/// The arguments of the command line.
 fn words(alloc: Global) -> Result<Vec<Bytes>, NoMemory> {
     let mut words = Vec::new(alloc);
     for word in ["serve", "x", "2", "a"] {
@@ -120,7 +120,7 @@ fn name_of(end: End) -> &'static str {
     }
 }
 
-/// How often the status line of an answer stands in what was written.
+/// How often the status line of an answer occurs in what was written.
 fn answers_in(written: &[u8]) -> usize {
     let line = b"HTTP/1.1 200 OK\r\n".as_slice();
     written.windows(line.len()).filter(|at| *at == line).count()

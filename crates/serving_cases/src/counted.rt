@@ -1,4 +1,4 @@
-//! What counts its calls.
+//! A foreground task that counts its calls.
 use desk_pool::Beside;
 use std::sync::Wait;
 
@@ -14,7 +14,7 @@ impl Beside for Counted {
     ghost use Rattle.std.specs.Prelude.{◌≡◌};
     ghost use Rattle.serving_cases.specs.NoFlag.{no_flag};
 
-    // The works beside it look at no flag.
+    // The works next to it look at no flag.
     ghost flag = { λ c. no_flag };
 
     ghost stopped = { λ c. c.stopped };

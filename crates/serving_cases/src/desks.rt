@@ -35,7 +35,7 @@ fn no_zones(alloc: Global) -> Result<Catalogue<Zone>, NoMemory>
     )
 }
 
-/// A publisher of it, and a desk.
+/// A publisher of that catalogue, and a desk.
 pub fn one_desk<R: Wait>(
     rt: &R,
     alloc: Global,

@@ -11,9 +11,9 @@ use std::sync::Wait;
 use td_base::{End, FaultyConn, MemoryConn, NoMemory, Report, Role, Work};
 use zone_meaning::Zone;
 
-/// `door FLAG STEPS`: what comes of a worker at a door that answers by these steps, with the flag
-/// `raised` or `down` from the first on: the connections that were handed back, how many answers
-/// are left, and whether the door is worn.
+/// `door FLAG STEPS`: the result of a worker at a door that answers by these steps, with the flag
+/// `raised` or `down` from the start. It has the connections handed back, how many answers are
+/// left, and whether the door is worn.
 pub fn door<R: Wait>(rt: &R, alloc: Global, row: &Row) -> Answer {
     let raised = row.text(0)? == "raised";
     let steps = row.word(1)?;
@@ -71,7 +71,7 @@ fn is_answered(conn: &FaultyConn<MemoryConn>, report: &Report) -> bool {
         && report.places.as_slice() == [1].as_slice()
 }
 
-/// Whether nothing was read or answered, since the read failed.
+/// Whether nothing was read or answered, because the read failed.
 fn is_failed(conn: &FaultyConn<MemoryConn>, report: &Report) -> bool {
     conn.inner().sink.taken().is_empty()
         && report.end == End::ReadFault

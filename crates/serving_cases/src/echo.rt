@@ -1,4 +1,4 @@
-//! What computes answers only to count how often it was asked.
+//! An answer source that counts how often it computes.
 ghost use Rattle.answer_cache.specs.Keeping.{AreRight};
 ghost use Rattle.serving_cases.specs.Echoes.{echoed};
 
@@ -35,7 +35,7 @@ impl Compute for Echo {
     }
 }
 
-/// A cache of what it answers.
+/// A cache of its answers.
 #[derive(Drop)]
 pub struct EchoCache {
     pub cache: AnswerCache,

@@ -5,8 +5,8 @@ use std::alloc::Global;
 use std::thread::{Threads, join};
 use td_base::NoMemory;
 
-/// `flag`: what a sign shows before the flag is raised, what it shows twice after that, and what a
-/// second sign shows then.
+/// `flag`: what a sign shows before the flag is raised, what it shows at two looks after that, and
+/// what a second sign then shows.
 pub fn signs(alloc: Global) -> Answer {
     let looks = looks(alloc)?;
     shown(alloc, &looks)
@@ -22,8 +22,8 @@ fn looks(alloc: Global) -> Result<(bool, bool, bool, bool), NoMemory> {
     Ok((before, once, twice, second.is_raised()))
 }
 
-/// `flag-beside`: whether no look of many, while another thread raises the flag, tells that it is
-/// down after one told that it was raised; and what is shown after that.
+/// `flag-beside`: whether a sign never shows the flag down after it showed it raised, over many
+/// looks while another thread raises the flag. Then what is shown after that.
 pub fn beside<R: Threads>(rt: &R, alloc: Global) -> Answer {
     let mut flag = StopFlag::new(alloc)?;
     let mut sign = flag.share()?;
@@ -32,7 +32,7 @@ pub fn beside<R: Threads>(rt: &R, alloc: Global) -> Answer {
     shown(alloc, &(steady, raised))
 }
 
-/// Whether no look of many tells that the flag is down after one told that it was raised.
+/// Whether, over many looks, the sign never shows the flag down after it showed it raised.
 fn is_steady(sign: &mut StopSign) -> bool {
     let mut seen = false;
     for _ in 0..1_000 {

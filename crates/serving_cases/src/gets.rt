@@ -1,13 +1,13 @@
-//! Answers that are kept by their keys.
+//! Cached answers, by their keys.
 use crate::echo::{Echo, EchoCache};
 use answer_cache::{AnswerCache, Key, MOST_ANSWERS};
 use case_lines::{Answer, CaseFault, Row};
 use std::alloc::Global;
 use td_base::{Bytes, NoMemory};
 
-/// `get CAPACITY BOUND PLACE TARGET ACCEPT NONE ..`: what comes of a get of each key of four words,
-/// a letter each: `c` computed, `k` kept, `?` where the answer is not the target. A dash stands for
-/// no field.
+/// `get CAPACITY BOUND PLACE TARGET ACCEPT NONE ..`: the result of a get of each key of four words,
+/// as a letter. It is `c` for computed, `k` for kept, and `?` if the answer is not the target. A
+/// dash means no header field.
 pub fn gets(alloc: Global, row: &Row) -> Answer {
     let mut kept = kept_of(alloc, row)?;
     let mut out = Vec::new(alloc);
@@ -18,7 +18,7 @@ pub fn gets(alloc: Global, row: &Row) -> Answer {
     Ok(out)
 }
 
-/// A cache of the capacity and the bound of the row.
+/// A cache with the capacity and the bound of the row.
 fn kept_of(alloc: Global, row: &Row) -> Result<EchoCache, CaseFault> {
     let (capacity, bound) = (row.number(0)? as usize, row.number(1)? as usize);
     if capacity == 0 || capacity > MOST_ANSWERS {
@@ -30,7 +30,7 @@ fn kept_of(alloc: Global, row: &Row) -> Result<EchoCache, CaseFault> {
     })
 }
 
-/// The key of the four words from this place on.
+/// The key in the four words from this position on.
 fn key_at(alloc: Global, row: &Row, at: usize) -> Result<Key, CaseFault> {
     let Ok(place) = u32::try_from(row.number(at)?) else {
         return Err(CaseFault::Strange);

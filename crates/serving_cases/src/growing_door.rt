@@ -4,7 +4,7 @@ ghost use Rattle.subscribers.specs.Wishes.{takes_by};
 
 use crate::listed_door::ListedDoor;
 use admission::{Changed, Rules};
-use installer::{Asked, Installer};
+use installer::{InstallPolicy, Installer};
 use release_manifest::Manifest;
 use std::alloc::{AllocError, Global};
 use std::collections::VecDeque;
@@ -12,8 +12,8 @@ use std::sync::Wait;
 use subscribers::{Want, WantTest, Wish, WishKind, is_any, is_past, is_under};
 use td_base::{Accepted, Door, FaultyConn, MemoryConn, MemoryStore, Report};
 
-/// A door that installs a release before it gives the connection of a step `p`. It tells nothing but
-/// its last answer.
+/// A door that installs a release before it hands out the connection of a step `p`. Contracts see
+/// only its last answer.
 pub struct GrowingDoor<'a, R> {
     pub rt: &'a R,
     pub alloc: Global,
@@ -25,7 +25,7 @@ pub struct GrowingDoor<'a, R> {
 }
 
 impl<R: Wait> GrowingDoor<'_, R> {
-    /// The door without what it installs.
+    /// The door, without its installer.
     pub fn into_door(self) -> ListedDoor {
         let GrowingDoor {
             rt: _,
@@ -40,7 +40,7 @@ impl<R: Wait> GrowingDoor<'_, R> {
     }
 }
 
-/// Where the next step is `p`, installs the release of the next manifest.
+/// Installs the release of the next manifest, if the next step is `p`.
 fn grow<R: Wait>(
     rt: &R,
     alloc: Global,
@@ -56,8 +56,8 @@ fn grow<R: Wait>(
     }
 }
 
-/// Installs the release of a manifest. Nobody hears of it, but tests of wishes are lent to it as to
-/// any install.
+/// Installs the release of a manifest. There is no subscriber, but the install borrows tests of
+/// wishes as any other does.
 #[tactic(auto, using(subscribers::proofs::lemmas::Wanting::three_wanted))]
 fn install<R: Wait>(
     rt: &R,
@@ -83,7 +83,7 @@ fn install<R: Wait>(
         Want::new(WishKind::Under, under),
         Want::new(WishKind::Past, past),
     ];
-    let asked = Asked::new(Rules::none(alloc), &wants);
+    let asked = InstallPolicy::new(Rules::none(alloc), &wants);
     let _ = installer.install_manifest(rt, alloc, manifest, store, &asked);
     Ok(())
 }

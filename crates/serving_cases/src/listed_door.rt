@@ -1,4 +1,4 @@
-//! A door that answers what its list says, and keeps what was handed back.
+//! A door that answers by a list, and keeps what was handed back.
 ghost use Rattle.std.specs.Prelude.{◌≡◌};
 
 use std::alloc::Global;
@@ -8,10 +8,10 @@ use td_base::{
     NoMemory, Report,
 };
 
-/// How many bytes a connection takes.
+/// How many bytes a connection accepts.
 const ROOM: usize = 300_000;
 
-/// A connection of which no call failed yet.
+/// A connection in which no call has failed yet.
 #[derive(Drop)]
 pub struct NewConn {
     conn: FaultyConn<MemoryConn>,
@@ -19,24 +19,25 @@ pub struct NewConn {
     ghost writes: { conn.writes.faults ≡ 0 },
 }
 
-/// What the door answers at one call. After the last it answers that none is still to come.
+/// What the door answers at one call. After the last it answers that no connection is still to
+/// come.
 #[derive(Drop)]
-enum DoorStep {
+enum ListedStep {
     Conn(NewConn),
     Idle,
     Fails,
 }
 
-/// The door. It tells nothing but its last answer.
+/// The door. Contracts see only its last answer.
 #[derive(Drop)]
 pub struct ListedDoor {
-    steps: VecDeque<DoorStep>,
+    steps: VecDeque<ListedStep>,
     last: Option<DoorAnswer>,
     faults: u64,
     pub finished: Vec<(FaultyConn<MemoryConn>, Report)>,
 }
 
-/// A connection of this input, whose first read fails where that is wanted.
+/// A connection with this input, whose first read fails if requested.
 fn new_conn(alloc: Global, input: &[u8], fails: bool) -> Result<NewConn, NoMemory> {
     let source = MemorySource::new(Bytes::from_slice(alloc, input)?);
     let sink = MemorySink::new(alloc, ROOM)?;
@@ -49,17 +50,17 @@ fn new_conn(alloc: Global, input: &[u8], fails: bool) -> Result<NewConn, NoMemor
 }
 
 impl ListedDoor {
-    /// A door of these steps: `c` and `p` a connection with a list request, `r` one whose first read
-    /// fails, `i` none waits, and else a failure.
+    /// A door with these steps. `c` and `p` are a connection with a list request, and `r` one whose
+    /// first read fails. `i` is no waiting connection, and any other letter is a failure.
     pub fn new(alloc: Global, letters: &[u8]) -> Result<ListedDoor, NoMemory> {
         let input = b"GET /tzdist/zones HTTP/1.1\r\nHost: x\r\n\r\n";
         let mut steps = VecDeque::new(alloc);
         for letter in letters {
             steps.push_back(match *letter {
-                b'c' | b'p' => DoorStep::Conn(new_conn(alloc, input, false)?),
-                b'r' => DoorStep::Conn(new_conn(alloc, input, true)?),
-                b'i' => DoorStep::Idle,
-                _ => DoorStep::Fails,
+                b'c' | b'p' => ListedStep::Conn(new_conn(alloc, input, false)?),
+                b'r' => ListedStep::Conn(new_conn(alloc, input, true)?),
+                b'i' => ListedStep::Idle,
+                _ => ListedStep::Fails,
             })?;
         }
         let finished = Vec::with_capacity(alloc, letters.len())?;
@@ -86,15 +87,15 @@ impl Door for ListedDoor {
 
     fn accept(&mut self) -> Accepted<FaultyConn<MemoryConn>> {
         match self.steps.pop_front() {
-            Some(DoorStep::Conn(NewConn { conn })) => {
+            Some(ListedStep::Conn(NewConn { conn })) => {
                 self.last = Some(DoorAnswer::Given);
                 Accepted::Given(conn)
             }
-            Some(DoorStep::Idle) => {
+            Some(ListedStep::Idle) => {
                 self.last = Some(DoorAnswer::Idle);
                 Accepted::Idle
             }
-            Some(DoorStep::Fails) => {
+            Some(ListedStep::Fails) => {
                 self.last = Some(DoorAnswer::Failed);
                 self.faults = self.faults.saturating_add(1);
                 Accepted::Failed

@@ -1,6 +1,6 @@
-//! Tries what `publication`, `connection`, `answer_cache` and `desk_pool` offer over the cases of a
-//! table on standard input, and tells of each whose answer is not the expected one. The table
-//! explains its own lines.
+//! Tests `publication`, `connection`, `answer_cache` and `desk_pool` over the cases of a table on
+//! standard input. Reports each case whose answer is not the expected one. The table explains its
+//! own lines.
 #![tactic(auto)]
 
 // A publisher of numbers: its desks, and copies that refuse a call.
@@ -18,11 +18,11 @@ mod growing_door;
 mod listed_door;
 mod workers;
 
-// Answers that are kept.
+// Cached answers.
 mod echo;
 mod gets;
 
-// The flag that stops workers, and works beside one thing of the caller's.
+// The flag that stops workers, and works next to a foreground task.
 mod counted;
 mod flags;
 mod late_spawner;
@@ -49,7 +49,7 @@ fn main(rt: HostRuntime) -> io::Result<()> {
     println!(rt; "{tally}")
 }
 
-/// What is answered to a row.
+/// The answer to a row.
 fn answer<R>(rt: &R, alloc: Global, row: &Row) -> Answer
 where
     R: Threads + Wait + Copy + Send + Sync + 'static,
@@ -63,7 +63,7 @@ where
     }
 }
 
-/// What is answered to a row that makes no threads.
+/// The answer to a row that starts no threads.
 fn waiting<R: Wait>(rt: &R, alloc: Global, row: &Row) -> Answer {
     match row.kind() {
         "publishes" => refusals::publish(rt, alloc, row),
@@ -81,7 +81,7 @@ fn waiting<R: Wait>(rt: &R, alloc: Global, row: &Row) -> Answer {
     }
 }
 
-/// The laws, which do nothing.
+/// Calls the laws, which do nothing.
 fn laws(alloc: Global) -> Answer {
     connection::nothing_needed();
     connection::one_closing();

@@ -1,4 +1,4 @@
-//! Works beside one thing of the caller's thread.
+//! Works next to a foreground task on the caller's thread.
 ghost use Rattle.std.specs.Prelude.{◌≡◌};
 
 use crate::counted::Counted;
@@ -10,7 +10,7 @@ use std::sync::Wait;
 use std::thread::Threads;
 use td_base::{NoMemory, Work};
 
-/// A work that gives its number.
+/// A work that returns its number.
 #[derive(Drop)]
 struct Numbered {
     number: u64,
@@ -32,8 +32,8 @@ impl StopsBy for Numbered {
     ghost flag = { λ w. no_flag };
 }
 
-/// `works NUMBER REFUSED`: what comes of so many works, each of which gives its number from 1,
-/// where that start is refused; and how often what is beside them ran and was stopped.
+/// `works NUMBER REFUSED`: the results of NUMBER works, each of which returns its number from 1,
+/// when the start REFUSED is refused. Then how often the foreground task ran and was stopped.
 pub fn works<R>(rt: &R, alloc: Global, row: &Row) -> Answer
 where
     R: Threads + Wait + Copy + Send + 'static,
@@ -60,6 +60,7 @@ where
         refused,
         begun: 0,
         faults: 0,
+        active: 0,
     };
     let mut beside = Counted {
         runs: 0,

@@ -1,22 +1,23 @@
-//! Desks of a publisher, on threads of their own and by what they are told.
+//! Desks of a publisher, on separate threads and by learning.
 ghost use Rattle.std.specs.Prelude.{◌≡◌};
 
-use crate::tallies::{Tally, make_tally, publishes};
+use crate::tallies::{SharedTally, make_tally, publishes};
 use case_lines::{Answer, CaseFault, shown};
 use publication::{Desk, Publisher, make};
 use std::alloc::Global;
 use std::sync::Wait;
 use std::thread::{Threads, join_mut};
 
-/// What the enters of a desk came to: how many were refused, and how many went back.
+/// The result of the enters of a desk: how many were refused, and how many went back in the
+/// history.
 #[derive(Clone, Copy, PartialEq, Eq)]
 struct EnterCounts {
     refused: u32,
     back: u32,
 }
 
-/// Enters so often.
-fn enters(desk: &mut Desk<Tally>, times: u32) -> EnterCounts
+/// Enters this many times.
+fn enters(desk: &mut Desk<SharedTally>, times: u32) -> EnterCounts
     ensures { desk.new.pair ≡ desk.old.pair }
 {
     let (mut refused, mut back) = (0u32, 0u32);
@@ -35,8 +36,8 @@ fn enters(desk: &mut Desk<Tally>, times: u32) -> EnterCounts
 /// Two desks enter, each on a thread.
 fn both_enter<R: Threads>(
     rt: &R,
-    one: &mut Desk<Tally>,
-    two: &mut Desk<Tally>,
+    one: &mut Desk<SharedTally>,
+    two: &mut Desk<SharedTally>,
 ) -> (EnterCounts, EnterCounts)
     ensures { (one.new.pair ≡ one.old.pair) × (two.new.pair ≡ two.old.pair) }
 {
@@ -46,9 +47,9 @@ fn both_enter<R: Threads>(
 /// Two desks enter while values are published. Then the publisher ends, and both learn its end.
 fn race<R: Threads + Wait + Sync>(
     rt: &R,
-    publisher: Publisher<Tally>,
-    one: Desk<Tally>,
-    two: Desk<Tally>,
+    publisher: Publisher<SharedTally>,
+    one: Desk<SharedTally>,
+    two: Desk<SharedTally>,
 ) -> Option<(u32, (EnterCounts, EnterCounts), u32, u32)>
     requires { (one.pair ≡ publisher.pair) × (two.pair ≡ publisher.pair) }
 {
@@ -77,8 +78,8 @@ fn race<R: Threads + Wait + Sync>(
     Some((done, found, one.value().number, two.value().number))
 }
 
-/// `race`: how many of 2,000 values were published while two desks entered 20,000 times each, how
-/// many of their enters were refused and went back, and what both hold at the end.
+/// `race`: how many of 2,000 values were published while two desks entered 20,000 times each. Then
+/// how many of their enters were refused or went back, and what both hold at the end.
 pub fn raced<R: Threads + Wait + Sync>(rt: &R, alloc: Global) -> Answer {
     let Ok((publisher, desks)) = make(rt, alloc, make_tally(1), 2) else {
         return Err(CaseFault::NoMemory);
@@ -103,13 +104,13 @@ pub fn raced<R: Threads + Wait + Sync>(rt: &R, alloc: Global) -> Answer {
     }
 }
 
-/// Publishes two values. One desk learns the later receipt first and then the earlier, the other
-/// learns nothing. What they hold after each of these, and after an enter.
+/// Publishes two values. One desk learns the later receipt first and then the earlier one; the
+/// other learns nothing. Returns what they hold after each of these, and after an enter.
 fn told<R: Wait>(
     rt: &R,
-    publisher: &mut Publisher<Tally>,
-    one: &mut Desk<Tally>,
-    two: &mut Desk<Tally>,
+    publisher: &mut Publisher<SharedTally>,
+    one: &mut Desk<SharedTally>,
+    two: &mut Desk<SharedTally>,
 ) -> Option<[u32; 5]>
     requires { one.old.pair ≡ publisher.old.pair }
 {
@@ -137,8 +138,9 @@ fn told<R: Wait>(
     Some([learnt, held, kept, one.value().number, two.value().number])
 }
 
-/// `learns`: what two desks hold of three values, of which one is told the last and then the
-/// second: that one then, the other, that one after it was told the second, and both after an enter.
+/// `learns`: what two desks hold of three values. One learns the last and then the second, the
+/// other nothing. Prints the first desk, the other one, the first after the second receipt, and
+/// both after an enter.
 pub fn learns<R: Wait>(rt: &R, alloc: Global) -> Answer {
     let Ok((publisher, desks)) = make(rt, alloc, make_tally(1), 2) else {
         return Err(CaseFault::NoMemory);

@@ -1,21 +1,22 @@
-//! Publishes that the copies refuse: what was published and shown stays, and nothing is published
-//! from then on, though the copies would take it.
-use crate::tallies::{Tally, make_tally, publishes};
+//! Publishes that the copies refuse. What was published and shown stays, and nothing is published
+//! from then on, even if the copies would accept it.
+use crate::tallies::{SharedTally, make_tally, publishes};
 use case_lines::{Answer, CaseFault, Row};
 use publication::{FragilePublisher, Onlooker, make_fragile};
 use std::alloc::Global;
 use std::sync::Wait;
 
-/// How a publisher is let go of.
+/// How a publisher is released.
 #[derive(Clone, Copy, PartialEq, Eq)]
 enum Leaving {
     Ends,
     Closes,
 }
 
-/// `publishes ONE TWO TIMES ends|closes`: what becomes of a publisher over copies of which these
-/// calls are refused, that publishes so often: how many values it published after the first, the
-/// last of them, what is found, whether it ended with its mark, and what is found once it is gone.
+/// `publishes ONE TWO TIMES ends|closes`: the result of a publisher that publishes TIMES times,
+/// over copies that refuse the calls ONE and TWO. It has how many values were published after the
+/// first, the last of them, and what is found. Then whether it ended with its mark, and what is
+/// found once it is gone.
 pub fn publish<R: Wait>(rt: &R, alloc: Global, row: &Row) -> Answer {
     let refused = (small(row, 0)?, small(row, 1)?);
     let times = small(row, 2)?;
@@ -24,7 +25,7 @@ pub fn publish<R: Wait>(rt: &R, alloc: Global, row: &Row) -> Answer {
     outcome(rt, alloc, publisher, onlooker, times, leaving)
 }
 
-/// The number at a place, below 2 to the 32nd.
+/// The number at a position, below 2 to the 32nd.
 fn small(row: &Row, at: usize) -> Result<u32, CaseFault> {
     u32::try_from(row.number(at)?)
         .ok()
@@ -42,8 +43,8 @@ fn leaving_at(row: &Row) -> Result<Leaving, CaseFault> {
 fn outcome<R: Wait>(
     rt: &R,
     alloc: Global,
-    publisher: FragilePublisher<Tally>,
-    onlooker: Onlooker<Tally>,
+    publisher: FragilePublisher<SharedTally>,
+    onlooker: Onlooker<SharedTally>,
     times: u32,
     leaving: Leaving,
 ) -> Answer {
@@ -57,7 +58,7 @@ fn outcome<R: Wait>(
 }
 
 /// Whether the publisher ended with its mark.
-fn leaves<R: Wait>(rt: &R, publisher: FragilePublisher<Tally>, leaving: Leaving) -> bool {
+fn leaves<R: Wait>(rt: &R, publisher: FragilePublisher<SharedTally>, leaving: Leaving) -> bool {
     match leaving {
         Leaving::Closes => {
             publisher.close(rt);

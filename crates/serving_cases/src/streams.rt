@@ -11,8 +11,8 @@ use td_base::{
 };
 use zone_meaning::Zone;
 
-/// `stream TEXT`: what comes of a connection of this input, of which the first read gives each
-/// number of bytes from 1 to 199: what is written to it, and its report.
+/// `stream TEXT`: the result of a connection with this input, which is what is written to it, and
+/// its report. The first read gives each number of bytes from 1 to 199 in turn.
 pub fn stream<R: Wait>(rt: &R, alloc: Global, row: &Row) -> Answer {
     let input = row.word(0)?;
     let (publisher, desk) = one_desk(rt, alloc)?;
@@ -22,7 +22,7 @@ pub fn stream<R: Wait>(rt: &R, alloc: Global, row: &Row) -> Answer {
     told
 }
 
-/// `once CUT TEXT`: the same where the first read gives so many bytes.
+/// `once CUT TEXT`: the same when the first read gives CUT bytes.
 pub fn once<R: Wait>(rt: &R, alloc: Global, row: &Row) -> Answer {
     let (cut, input) = (row.number(0)?, row.word(1)?);
     let (publisher, desk) = one_desk(rt, alloc)?;
@@ -32,7 +32,7 @@ pub fn once<R: Wait>(rt: &R, alloc: Global, row: &Row) -> Answer {
     told
 }
 
-/// `computed TEXT`: how many answers were computed for a connection of this input.
+/// `computed TEXT`: how many answers were computed for a connection with this input.
 pub fn computed<R: Wait>(rt: &R, alloc: Global, row: &Row) -> Answer {
     let input = row.word(0)?;
     let (publisher, desk) = one_desk(rt, alloc)?;
@@ -48,7 +48,7 @@ fn counted(alloc: Global, desk: &mut Desk<Catalogue<Zone>>, input: &[u8]) -> Res
     Ok(report.computed)
 }
 
-/// `refused TEXT`: the same after the publisher is gone, where each enter is refused.
+/// `refused TEXT`: the same after the publisher is gone, when each enter is refused.
 pub fn refused<R: Wait>(rt: &R, alloc: Global, row: &Row) -> Answer {
     let input = row.word(0)?;
     let (publisher, desk) = one_desk(rt, alloc)?;
@@ -57,8 +57,8 @@ pub fn refused<R: Wait>(rt: &R, alloc: Global, row: &Row) -> Answer {
     served(alloc, &mut desk, input, 1)
 }
 
-/// `failing READ WRITE CUT TEXT`: the same over a connection of which this read and this write
-/// fail, from 1.
+/// `failing READ WRITE CUT TEXT`: the same over a connection in which this read and this write
+/// fail, counted from 1.
 pub fn failing<R: Wait>(rt: &R, alloc: Global, row: &Row) -> Answer {
     let calls = (row.number(0)?, row.number(1)?);
     let (cut, input) = (row.number(2)?, row.word(3)?);

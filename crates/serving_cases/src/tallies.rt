@@ -5,13 +5,13 @@ use publication::{PublisherOf, Sets};
 use std::sync::Wait;
 use td_base::Value;
 
-/// A number, which stands for each list of so many numbers.
+/// A number, which stands for every list of that many numbers.
 #[derive(Drop)]
-pub struct Tally {
+pub struct SharedTally {
     pub number: u32,
 }
 
-impl Value for Tally {
+impl Value for SharedTally {
     ghost use Rattle.std.specs.Prelude.{◌≡◌, length};
 
     type Element = u32;
@@ -30,16 +30,16 @@ impl Value for Tally {
 }
 
 /// The tally of this number.
-pub fn make_tally(number: u32) -> Tally
+pub fn make_tally(number: u32) -> SharedTally
     ensures { result.number ≡ number }
 {
-    Tally { number }
+    SharedTally { number }
 }
 
-/// Publishes so many values, each one more than the last, and tells how many it did.
-pub fn publishes<R: Wait, T: Sets<Tally>>(
+/// Publishes this many values, each one more than the last, and returns how many succeeded.
+pub fn publishes<R: Wait, T: Sets<SharedTally>>(
     rt: &R,
-    publisher: &mut PublisherOf<Tally, T>,
+    publisher: &mut PublisherOf<SharedTally, T>,
     times: u32,
 ) -> u32
     ensures { publisher.new.pair ≡ publisher.old.pair }

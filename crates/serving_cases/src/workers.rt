@@ -1,4 +1,4 @@
-//! A worker that keeps its answers, at a door at which releases are installed.
+//! A worker that keeps its answers, at a door that installs releases.
 use crate::growing_door::GrowingDoor;
 use crate::listed_door::ListedDoor;
 use case_lines::{Answer, CaseFault, Row};
@@ -14,14 +14,14 @@ use std::sync::Wait;
 use td_base::{Bytes, MemoryStore, NoMemory, Role, Work};
 use zone_meaning::Zone;
 
-/// How many bytes a reply has more than the largest body of which many are kept.
+/// A reply longer than this, in bytes, has a body too large for the cache of many answers.
 const LARGE_REPLY: usize = 66_048;
 
-/// `worker STEPS FILE MANIFEST MANIFEST ..`: what comes of a worker at a door of these steps, over a
-/// history that begins with the release of the first manifest: `c` gives a connection that asks for
-/// the list, and `p` installs the release of the next manifest before that. `FILE` is the file `z`
-/// of zones. For each connection it tells at which place it was answered, how many answers were
-/// computed for that, and by a plus sign that the list has over 65,536 bytes.
+/// `worker STEPS FILE MANIFEST MANIFEST ..`: the result of a worker at a door of these steps, over
+/// a history that begins with the release of the first manifest. `c` gives a connection that
+/// requests the list, and `p` installs the release of the next manifest before that. `FILE` is the
+/// file `z` of zones. For each connection it prints the place at which it was answered and how many
+/// answers were computed for that. A plus sign means that the list has over 65,536 bytes.
 pub fn worker<R: Wait>(rt: &R, alloc: Global, row: &Row) -> Answer {
     let mut store = store_of(alloc, row.word(1)?)?;
     let first = manifest_of(alloc, row.word(2)?)?;

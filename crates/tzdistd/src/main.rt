@@ -1,6 +1,8 @@
-//! The program `tzdistd`: the command of its words over the files of the system and the standard
-//! streams. It ends with the command's status. Where that tells of a failure of the outside, one
-//! line on standard error says which file or stream failed.
+//! The program `tzdistd`: runs the command of its arguments over the files of the system and the
+//! standard streams. It ends with the command's exit status. When that status reports a failure of
+//! the outside, one line on standard error names the file or stream that failed.
+//!
+//! It calls `td_top::run` with the files, sockets and threads of `devices`.
 #![tactic(auto)]
 
 ghost use Rattle.std.specs.Prelude.{◌≡◌};
@@ -18,7 +20,7 @@ use std::io::ErrorKind;
 use std::process::ExitCode;
 use subscribers::{Want, WantTest, Wish, WishKind, is_any, is_past, is_under};
 
-/// For how many milliseconds what is owed to peers may still go out before the program ends.
+/// For how many milliseconds pending output to peers may still be sent before the program ends.
 const OWED_MILLIS: u64 = 2_000;
 
 #[tactic(auto, using(admission::proofs::lemmas::Keeping::both_kept, subscribers::proofs::lemmas::Wanting::three_wanted))]
@@ -97,19 +99,20 @@ fn main(rt: HostRuntime) -> ExitCode {
     exit_code(outcome.status)
 }
 
-/// Says that memory ran out.
+/// Reports that memory ran out.
 fn out_of_memory(rt: &HostRuntime) -> ExitCode {
     complain(rt, OUT_OF_MEMORY, Failures::NONE);
     exit_code(OUT_OF_MEMORY)
 }
 
-/// Why the door that failed most often did so last, if one failed: where one is worn, it is that.
+/// The last failure of the door that failed most often, if one failed. A worn door is always that
+/// one.
 fn door_failure(doors: &[RealDoor<HostRuntime>]) -> Option<ErrorKind> {
     let most = doors.iter().max_by_key(|door| door.faults())?;
     most.failure()
 }
 
-/// Why an exchange with the server that was followed failed last, if one did.
+/// Why the last failed exchange with the upstream failed, if one did.
 fn upstream_failure(up: &Option<RealUpstream<'_, HostRuntime>>) -> Option<ErrorKind> {
     match up {
         Some(upstream) => upstream.failure(),
@@ -117,7 +120,7 @@ fn upstream_failure(up: &Option<RealUpstream<'_, HostRuntime>>) -> Option<ErrorK
     }
 }
 
-/// The program ends with the status itself.
+/// The exit code of a status.
 fn exit_code(status: u8) -> ExitCode
     ensures { exit_status result ≡ status }
 {

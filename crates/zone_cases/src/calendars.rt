@@ -20,18 +20,18 @@ use td_civil::{HI, Moment};
 use vtimezone::{Range, parts, write};
 use zone_meaning::{Zone, footer, has_printable_names};
 
-/// How a calendar is written.
+/// The format of a calendar.
 #[derive(Clone, Copy)]
-pub enum Written {
+pub enum CalendarForm {
     /// In lines (RFC 5545).
     Lines,
     /// As JSON (RFC 7265).
     Json,
 }
 
-/// `calendar HEX FROM END TZID ALIAS-OF`: the text of the calendar, where `-` is no end and no zone
-/// of which the identifier is an alias. `json-calendar` and the same words: that as JSON.
-pub fn calendar(alloc: Global, row: &Row, written: Written) -> Answer {
+/// `calendar HEX FROM END TZID ALIAS-OF`: the text of the calendar. A `-` means no end, or no zone
+/// whose alias the identifier is. `json-calendar` with the same words gives it as JSON.
+pub fn calendar(alloc: Global, row: &Row, written: CalendarForm) -> Answer {
     let range = range_in(row)?;
     let tzid = text_word(row.word(3)?)?;
     let alias_of = alias_word(row.word(4)?)?;
@@ -39,7 +39,7 @@ pub fn calendar(alloc: Global, row: &Row, written: Written) -> Answer {
     text(alloc, &zone, range, tzid, alias_of, written)
 }
 
-/// The zone of the first word, of which a calendar can be written.
+/// The zone of the first word, if a calendar of it can be written.
 fn fit_zone(alloc: Global, row: &Row) -> Result<Zone, CaseFault>
     ensures carried { IfOk result (λ zone. IsCarriedIfAny (footer_meant (lists_of zone).footer)) }
     ensures names { IfOk result (λ zone. IsTrue (has_printable_names zone)) }
@@ -52,7 +52,7 @@ fn fit_zone(alloc: Global, row: &Row) -> Result<Zone, CaseFault>
     }
 }
 
-/// The word, each byte of which stands for itself in a text of a calendar.
+/// The word, if each of its bytes may stand unescaped in a calendar's text.
 fn text_word(word: &[u8]) -> Result<&[u8], CaseFault>
     ensures { IfOk result (λ text. IsSafe text.now) }
 {
@@ -63,7 +63,7 @@ fn text_word(word: &[u8]) -> Result<&[u8], CaseFault>
     }
 }
 
-/// The same, or no word for a dash.
+/// Like `text_word`, with a dash for no word.
 fn alias_word(word: &[u8]) -> Result<Option<&[u8]>, CaseFault>
     ensures { IfOk result (λ alias. IfSome (option_copied alias) IsSafe) }
 {
@@ -74,7 +74,7 @@ fn alias_word(word: &[u8]) -> Result<Option<&[u8]>, CaseFault>
     Ok(Some(text))
 }
 
-/// The range of a row, which has a meaning.
+/// The range of a row, which must be within the supported range.
 fn range_in(row: &Row) -> Result<Range, CaseFault>
     ensures from { IfOk result (λ range. HasMeaning range.from.seconds) }
     ensures until { IfOk result (λ range. IsEndOf range.from.seconds (end_in range)) }
@@ -98,7 +98,7 @@ fn end_after(row: &Row, from: Moment) -> Result<Option<Moment>, CaseFault>
     Ok(Some(Moment { seconds }))
 }
 
-/// Whether yearly rules say what the footer of a zone says.
+/// Whether the footer of a zone can be written as yearly rules.
 fn is_carried(zone: &Zone) -> bool
     ensures { IsTrue result → IsCarriedIfAny (footer_meant (lists_of zone.now).footer) }
 {
@@ -108,7 +108,7 @@ fn is_carried(zone: &Zone) -> bool
     }
 }
 
-/// Whether each byte stands for itself in a text of a calendar.
+/// Whether each byte may stand unescaped in a calendar's text.
 fn is_text(text: &[u8]) -> bool
     ensures { result ≡ list_all is_safe text.now }
 {
@@ -128,7 +128,7 @@ fn text(
     range: Range,
     tzid: &[u8],
     alias_of: Option<&[u8]>,
-    written: Written,
+    written: CalendarForm,
 ) -> Answer
     requires from { HasMeaning range.from.seconds }
     requires until { IsEndOf range.from.seconds (end_in range) }
@@ -140,8 +140,8 @@ fn text(
     let parts = parts(alloc, zone, range)?;
     let mut text = Bytes::new(alloc);
     match written {
-        Written::Lines => write(&mut text, tzid, alias_of, parts.as_slice(), range.until)?,
-        Written::Json => {
+        CalendarForm::Lines => write(&mut text, tzid, alias_of, parts.as_slice(), range.until)?,
+        CalendarForm::Json => {
             jcal::write(
                 alloc,
                 &mut text,

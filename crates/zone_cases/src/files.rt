@@ -1,11 +1,11 @@
-//! Zone files that are read.
+//! Parsing zone files.
 use case_lines::{Answer, CaseFault, Row, Told, printed};
 use std::alloc::Global;
 use td_base::texts;
 use td_civil::{Local, Moment};
 use tzif_reader::{LeapLine, TzifFault, ZoneFile, read};
 
-/// `file BYTES`: what it tells, or its fault.
+/// `file BYTES`: its content, or its fault.
 pub fn file(alloc: Global, row: &Row) -> Answer {
     match read(alloc, row.word(0)?) {
         Ok(file) => told(alloc, &file),
@@ -13,14 +13,14 @@ pub fn file(alloc: Global, row: &Row) -> Answer {
     }
 }
 
-/// `start BYTES LENGTH`: the fault of the first bytes of a file, so many.
+/// `start BYTES LENGTH`: the fault of the first LENGTH bytes of a file.
 pub fn start(alloc: Global, row: &Row) -> Answer {
     let length = row.number(1)? as usize;
     fault_of(alloc, texts::start(row.word(0)?, length))
 }
 
-/// `edited BYTES PLACE BYTES`, with more places: the fault of a file with these bytes from these
-/// places on.
+/// `edited BYTES PLACE BYTES`, with more places: the fault of a file in which these bytes replace
+/// those at these places.
 pub fn edited(alloc: Global, row: &Row) -> Answer {
     let mut bytes = Vec::from_slice(alloc, row.word(0)?)?;
     edit(bytes.as_mut_slice(), row)?;
@@ -45,7 +45,7 @@ fn replace(bytes: &mut [u8], place: usize, with: &[u8]) -> Result<(), CaseFault>
     Ok(())
 }
 
-/// `no-memory`: what is printed where there is none.
+/// `no-memory`: what is printed when memory runs out.
 pub fn no_memory(alloc: Global) -> Answer {
     printed(alloc, &TzifFault::NoMemory)
 }
@@ -57,7 +57,7 @@ fn fault_of(alloc: Global, bytes: &[u8]) -> Answer {
     }
 }
 
-/// What a file tells: its moments, numbers, types, leap lines and footer.
+/// The content of a file: its moments, numbers, types, leap lines and footer.
 fn told(alloc: Global, file: &ZoneFile) -> Answer {
     let mut told = Told::new(alloc);
     tell_moments(&mut told, file.moments.as_slice());

@@ -8,7 +8,7 @@ use posix_footer::{Date, DayForm, Edge, Footer, at, next_onset, onset, read};
 use std::alloc::Global;
 use td_civil::{HI, LO, Local, Moment};
 
-/// `rule TEXT`: the states and dates that a TZ string spells, or its fault.
+/// `rule TEXT`: the states and dates that a TZ string encodes, or its fault.
 pub fn rule(alloc: Global, row: &Row) -> Answer {
     match read(row.word(0)?) {
         Ok(footer) => told(alloc, &footer),
@@ -117,7 +117,7 @@ fn footer(row: &Row) -> Result<Footer, CaseFault>
     }
 }
 
-/// The moment of the second word, which must have a meaning.
+/// The moment of the second word, which must be within the supported range.
 fn moment(row: &Row) -> Result<Moment, CaseFault>
     ensures { IfOk result (λ m. HasMeaning m.seconds) }
 {

@@ -2,7 +2,7 @@
 use case_lines::Answer;
 use std::alloc::Global;
 
-/// `laws`: that each law can be called.
+/// `laws`: shows that each law can be called.
 pub fn laws(alloc: Global) -> Answer {
     tzif_reader::one_zone_file();
     tzif_reader::leap_lines_fit();

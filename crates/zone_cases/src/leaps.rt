@@ -8,7 +8,7 @@ use td_base::{Bytes, Items};
 use tzif_reader::{LeapLine, MOST_BYTES, ZoneFile};
 
 /// `leaps LINES`: the days from 1970-01-01 with their offsets, and the bytes and the date that were
-/// given with the lines; or the fault of these.
+/// given with the lines; or the fault of the lines.
 pub fn steps(alloc: Global, row: &Row) -> Answer {
     let file = file_with(alloc, row.word(0)?)?;
     steps_of(alloc, &file)

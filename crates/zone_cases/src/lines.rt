@@ -12,7 +12,7 @@ pub fn line(alloc: Global, row: &Row) -> Answer {
     Ok(out.into_vec())
 }
 
-/// `unfold TEXT`: its lines, each with a bar after it, or its fault.
+/// `unfold TEXT`: its lines, each followed by a bar, or its fault.
 pub fn unfold(alloc: Global, row: &Row) -> Answer {
     match ical_lines::unfold(alloc, row.word(0)?) {
         Ok(lines) => barred(alloc, lines.as_slice()),

@@ -1,6 +1,6 @@
-//! Tries what the crates of zone files, rules, calendars and readers of calendars offer over the
-//! cases of a table on standard input, and tells of each whose answer is not the expected one. The
-//! table explains its own lines.
+//! Tests the crates of zone files, rules, calendars and calendar readers over the cases of a table
+//! on standard input. Reports each case whose answer is not the expected one. The table explains
+//! its own lines.
 #![tactic(auto)]
 
 // Zone files, the leap seconds in them, and TZ strings.
@@ -19,11 +19,11 @@ mod calendars;
 mod observances;
 mod zones;
 
-// Calendars that are read.
+// Parsing calendars.
 mod reading;
 mod showing;
 
-use calendars::Written;
+use calendars::CalendarForm;
 use case_lines::{Answer, CaseFault, Row, Table};
 use std::alloc::Global;
 use std::io;
@@ -39,7 +39,7 @@ fn main(rt: HostRuntime) -> io::Result<()> {
     println!(rt; "{tally}")
 }
 
-/// Tries the next line, and tells of it if its answer is not the expected one.
+/// Runs the next line, and reports it if its answer is not the expected one.
 fn try_line(rt: &impl Print, alloc: Global, table: &mut Table, line: &str) -> io::Result<()> {
     let Some(row) = table.row(line)? else {
         return Ok(());
@@ -51,7 +51,7 @@ fn try_line(rt: &impl Print, alloc: Global, table: &mut Table, line: &str) -> io
     Ok(())
 }
 
-/// What is answered to a row.
+/// The answer to a row.
 fn answer(alloc: Global, row: &Row) -> Answer {
     match row.kind() {
         "slim" => plans::slim_file(alloc, row),
@@ -94,8 +94,8 @@ fn of_calendars(alloc: Global, row: &Row) -> Answer {
     match row.kind() {
         "line" => lines::line(alloc, row),
         "unfold" => lines::unfold(alloc, row),
-        "calendar" => calendars::calendar(alloc, row, Written::Lines),
-        "json-calendar" => calendars::calendar(alloc, row, Written::Json),
+        "calendar" => calendars::calendar(alloc, row, CalendarForm::Lines),
+        "json-calendar" => calendars::calendar(alloc, row, CalendarForm::Json),
         "read" => reading::read(alloc, row),
         "expand" => reading::expand(alloc, row),
         _ => Err(CaseFault::Strange),

@@ -9,7 +9,7 @@ use td_base::{Bytes, Items};
 use td_civil::{HI, LO, Moment, Observance};
 use zone_meaning::{Changes, Zone};
 
-/// The range whose beginning and end stand from a place on.
+/// The range whose beginning and end are at a position and the next.
 fn range_at(row: &Row, at: usize) -> Result<(Moment, Moment), CaseFault>
     ensures { IfOk result (λ range. IsRange range.0.seconds range.1.seconds) }
 {
@@ -22,14 +22,14 @@ fn range_at(row: &Row, at: usize) -> Result<(Moment, Moment), CaseFault>
 }
 
 /// `observances HEX FROM END`: onset, offset before it, offset, daylight saving time and name of
-/// each observance, with a bar at its end, as they are listed and as they are handed out.
+/// each observance, each followed by a bar. The list and the iteration must agree.
 pub fn observances(alloc: Global, row: &Row) -> Answer {
     let range = range_at(row, 1)?;
     let zone = zone_at(alloc, row, 0)?;
     listed(alloc, &zone, range)
 }
 
-/// The observances of a zone in a range, if they are handed out as they are listed.
+/// The observances of a zone in a range, if the iteration gives the same as the list.
 fn listed(alloc: Global, zone: &Zone, range: (Moment, Moment)) -> Answer
     requires { IsRange range.0.seconds range.1.seconds }
 {
@@ -47,12 +47,12 @@ fn list(alloc: Global, zone: &Zone, range: (Moment, Moment)) -> Result<Items<Obs
     Ok(zone_meaning::observances(alloc, zone, range.0, range.1)?)
 }
 
-/// What is answered where there are others.
+/// The answer when the two differ.
 fn other(alloc: Global) -> Answer {
     Ok(Vec::from_slice(alloc, b"other")?)
 }
 
-/// Whether these are handed out one at a time, and no others.
+/// Whether the iteration gives exactly these, one at a time.
 fn are_handed_out(zone: &Zone, range: (Moment, Moment), list: &[Observance]) -> bool
     requires { IsRange range.0.seconds range.1.seconds }
 {
@@ -88,8 +88,8 @@ fn append_observance(alloc: Global, out: &mut Bytes, o: &Observance) -> Result<(
     Ok(())
 }
 
-/// `same-observances HEX HEX FROM END`: how many there are of the first, if those of the second are
-/// the same.
+/// `same-observances HEX HEX FROM END`: how many observances the first zone has, if the second zone
+/// has the same.
 pub fn same(alloc: Global, row: &Row) -> Answer {
     let one = all(alloc, row, 0)?;
     let two = all(alloc, row, 1)?;

@@ -1,12 +1,12 @@
-//! Slim files of plans.
+//! Slim zone files made from plans.
 use case_lines::{Answer, CaseFault, Row, signed};
 use std::alloc::Global;
 use td_base::texts;
 use tzif_reader::{Plan, slim};
 
-/// `slim TIMES NUMBERS TYPES DESIGNATIONS LEAPS STANDARD UT FOOTER`: the file of a plan. Times have
-/// a comma between two; a type is `OFFSET:FLAG:PLACE`, and a leap line `TIME:CORRECTION`; a dash
-/// stands for none.
+/// `slim TIMES NUMBERS TYPES DESIGNATIONS LEAPS STANDARD UT FOOTER`: the file of a plan. Times,
+/// types and leap lines are separated by commas. A type is `OFFSET:FLAG:PLACE`, and a leap line
+/// `TIME:CORRECTION`. A dash means none.
 pub fn slim_file(alloc: Global, row: &Row) -> Answer {
     let (times, types, leaps) = (row.word(0)?, row.word(2)?, row.word(4)?);
     let times = self::times(alloc, times)?;

@@ -1,4 +1,4 @@
-//! Calendars that are read, and their observances.
+//! Parsing calendars, and their observances.
 ghost use Rattle.std.specs.Prelude.{◌≡◌, IfOk};
 ghost use Rattle.zone_meaning.specs.Observed.{IsRange};
 

@@ -8,8 +8,7 @@ use recurrence::{Carried, Form, Rule, occurrence};
 use std::alloc::Global;
 use td_base::Bytes;
 
-/// `carry TZ`: the rules that say what the TZ string does, the state that always holds, or
-/// `beyond`.
+/// `carry TZ`: the yearly rules for the TZ string, the state that always holds, or `beyond`.
 pub fn carry(alloc: Global, row: &Row) -> Answer {
     let Ok(footer) = posix_footer::read(row.word(0)?) else {
         return Err(CaseFault::Strange);
@@ -48,8 +47,8 @@ fn year_in(row: &Row) -> Result<i32, CaseFault>
     }
 }
 
-/// The rule that the words from a place on write: its second, the kind of its form and the numbers
-/// of the form.
+/// The rule in the words from a position on: its second, the kind of its form and the numbers of
+/// the form.
 fn rule_at(row: &Row, at: usize) -> Result<Rule, CaseFault> {
     let second = row.number(at)?;
     let form = form_at(row, at.saturating_add(1))?;
@@ -103,7 +102,7 @@ fn fixed_date(row: &Row, at: usize) -> Result<Form, CaseFault> {
     })
 }
 
-/// A number that a byte holds.
+/// A number that fits a byte.
 fn byte(row: &Row, at: usize) -> Result<u8, CaseFault> {
     match row.number(at)? {
         number @ 0..=255 => Ok(number as u8),

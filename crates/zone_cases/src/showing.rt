@@ -1,5 +1,5 @@
-//! How calendars and observances are shown: words with a blank between two, `-` where there is
-//! nothing, and a bar before each part and between two observances.
+//! How calendars and observances are printed: words separated by blanks, `-` for nothing, and a bar
+//! before each part and between two observances.
 use case_lines::Answer;
 use recurrence::{Part, Rule};
 use std::alloc::Global;
@@ -7,7 +7,7 @@ use td_base::{Bytes, NoMemory};
 use td_civil::{Moment, Name, Observance};
 use vtimezone_reader::Calendar;
 
-/// The identifier, that of which it is an alias, the end, and each part.
+/// The identifier, the zone whose alias it is, the end, and each part.
 pub fn calendar_text(alloc: Global, calendar: &Calendar) -> Answer {
     let mut out = Bytes::new(alloc);
     out.append(calendar.tzid.as_slice())?;

@@ -1,4 +1,4 @@
-//! Zones of files, and their states.
+//! Zones made from files, and their states.
 ghost use Rattle.std.specs.Prelude.{◌≡◌, IfOk};
 ghost use Rattle.td_civil.specs.Bounds.{HasMeaning};
 
@@ -14,12 +14,12 @@ use zone_meaning::{
     zone_from_lists, zone_of,
 };
 
-/// The bytes that the hex digits at a place write.
+/// The bytes that the hex digits at a position encode.
 fn bytes_at(alloc: Global, row: &Row, at: usize) -> Result<Bytes, CaseFault> {
     Ok(Bytes::from(row.hex(alloc, at)?))
 }
 
-/// The zone of the file whose hex digits stand at a place.
+/// The zone of the file whose hex digits are at a position.
 pub fn zone_at(alloc: Global, row: &Row, at: usize) -> Result<Zone, CaseFault> {
     match zone_of(alloc, bytes_at(alloc, row, at)?) {
         Ok(zone) => Ok(zone),
@@ -28,7 +28,7 @@ pub fn zone_at(alloc: Global, row: &Row, at: usize) -> Result<Zone, CaseFault> {
     }
 }
 
-/// The moment at a place, which has a meaning.
+/// The moment at a position, which must be within the supported range.
 pub fn moment_at(row: &Row, at: usize) -> Result<Moment, CaseFault>
     ensures { IfOk result (λ m. HasMeaning m.seconds) }
 {
@@ -39,7 +39,7 @@ pub fn moment_at(row: &Row, at: usize) -> Result<Moment, CaseFault>
     Ok(Moment { seconds })
 }
 
-/// `zone HEX`: what is told of a zone, or why the bytes are none.
+/// `zone HEX`: the facts of a zone, or why the bytes are not one.
 pub fn zone(alloc: Global, row: &Row) -> Answer {
     match zone_of(alloc, bytes_at(alloc, row, 0)?) {
         Ok(zone) => told(alloc, row, &zone),
@@ -62,7 +62,7 @@ fn told(alloc: Global, row: &Row, zone: &Zone) -> Answer {
     )?.into_bytes())
 }
 
-/// Whether the zone of lists that were read apart has the same file.
+/// Whether a zone made from lists that are parsed again has the same file.
 fn is_same_again(alloc: Global, zone: &Zone, bytes: Bytes) -> Result<bool, CaseFault> {
     match tzif_reader::read(alloc, bytes.as_slice()) {
         Ok(lists) => match zone_from_lists(bytes, lists) {
@@ -74,7 +74,7 @@ fn is_same_again(alloc: Global, zone: &Zone, bytes: Bytes) -> Result<bool, CaseF
     }
 }
 
-/// `printed FAULT`: its text.
+/// `printed FAULT`: the text of the fault.
 pub fn printed(alloc: Global, row: &Row) -> Answer {
     let fault = match row.word(0)? {
         b"NoMemory" => ZoneFault::NoMemory,
