@@ -8,6 +8,7 @@ import gzip
 import hashlib
 import os
 import re
+import shutil
 import subprocess
 import sys
 import tempfile
@@ -29,14 +30,28 @@ def output(*words, **more):
 
 
 def commit():
-    """The commit of the repository, and when it was made."""
+    """The commit of the repository, when it was made, and how many there are up to it."""
     when, name = output("git", "-C", ROOT, "log", "-1", "--format=%ct %h").split()
-    return name, int(when)
+    return name, int(when), output("git", "-C", ROOT, "rev-list", "--count", "HEAD")
 
 
-def version_of(name, when):
-    """The version of a package of a commit: by the second, so that later commits sort later."""
-    return time.strftime("0~%Y%m%d.%H%M%S.", time.gmtime(when)) + "g" + name
+def version():
+    """A version that rises: the date of the last commit, and the number of commits."""
+    _, when, count = commit()
+    return time.strftime("0~%Y%m%d.", time.gmtime(when)) + count
+
+
+def words_of(name, options):
+    """What a package says of itself and of its commit, for its texts, and when that was made."""
+    commit_name, when, _ = commit()
+    words = {
+        "name": name,
+        "version": options.version or version(),
+        "maintainer": options.maintainer,
+        "commit": commit_name,
+        "date": time.strftime("%a, %d %b %Y %H:%M:%S +0000", time.gmtime(when)),
+    }
+    return words, when
 
 
 def write(path, data, mode=0o644):
@@ -56,10 +71,17 @@ def packed(data):
     return gzip.compress(data, 9, mtime=0)
 
 
+def write_changes(stage, words):
+    """Writes the list of changes, which names the commit."""
+    path = os.path.join(stage, f"usr/share/doc/{words['name']}/changelog.gz")
+    write(path, packed(CHANGES.format(**words).encode()))
+
+
 def describe(stage, control, conffiles, scripts):
     """Writes what the package says of itself, the sums of its files, and its scripts."""
     walk = os.walk(stage)
     files = sorted(os.path.join(folder, name) for folder, _, names in walk for name in names)
+    files = [path for path in files if not os.path.islink(path)]
     sums = ""
     for path in files:
         with open(path, "rb") as file:
@@ -82,9 +104,11 @@ def build(stage, path, when):
 
 
 def lint(path):
-    """The errors that lintian finds, after all that it says was printed."""
+    """The errors that lintian finds, if it is installed, after all that it says was printed."""
+    if shutil.which("lintian") is None:
+        return []
     done = subprocess.run(["lintian", "--allow-root", path], capture_output=True, text=True)
-    print(done.stdout or "lintian: no error and no warning\n", end="")
+    print(done.stdout or "lintian: no error and no warning\n", end="", file=sys.stderr)
     return [line for line in done.stdout.splitlines() if line.startswith("E:")]
 
 
@@ -130,3 +154,17 @@ def in_root(root, *words, user=None, **values):
 def room():
     """A folder in which a package is put together."""
     return tempfile.TemporaryDirectory()
+
+
+def add_words(parser):
+    """Adds the words that each script understands."""
+    parser.add_argument("--to", metavar="FOLDER", default=".", help="where the package goes (default: here)")
+    parser.add_argument("--version", help="its version (default: the date of the last commit and the number of commits)")
+    parser.add_argument("--maintainer", default=MAINTAINER, help="who keeps it")
+
+
+def needed(*tools):
+    """Ends the script where one of these is not installed."""
+    for tool in tools:
+        if shutil.which(tool) is None:
+            sys.exit(f"{tool} is not installed: apt-get install dpkg-dev binutils")

@@ -16,19 +16,15 @@ files are put into a root, as `--into /` for a system without dpkg, and settings
 
 import argparse
 import ast
-import gzip
-import hashlib
 import os
 import shutil
-import subprocess
 import sys
-import tempfile
-import time
 
 sys.dont_write_bytecode = True
 HERE = os.path.dirname(os.path.abspath(__file__))
 sys.path.insert(0, os.path.join(os.path.dirname(HERE), "tools"))
 
+import deb
 from served import PROGRAM, ROOT
 
 # The units, each a file of this folder. Those of a mirror and of figures may be enabled, and are
@@ -68,17 +64,17 @@ FILES = [
 PACKED = [("deploy/tzdistd.8", "usr/share/man/man8"), ("deploy/tzdistd-install.8", "usr/share/man/man8")]
 LINKS = [("usr/sbin/tzdistd-install", "../lib/tzdistd/tzdistd-install")]
 SCRIPTS = ["postinst", "prerm", "postrm"]
+SETTINGS = ["/etc/default/tzdistd", "/etc/default/tzdistd-mirror"]
 # The zones of the machine are followed: dpkg calls `postinst triggered` after it changed something
 # there.
 TRIGGERS = "interest-noawait /usr/share/zoneinfo\n"
-MAINTAINER = "The authors of tzdistd <tzdistd@tz.example.org>"
 
 CONTROL = """\
 Package: tzdistd
 Version: {version}
 Architecture: {architecture}
 Maintainer: {maintainer}
-Installed-Size: {size}
+Installed-Size: {{size}}
 Depends: adduser, python3 (>= 3.8), {depends}
 Recommends: tzdata
 Suggests: nginx
@@ -96,56 +92,21 @@ Description: time zone data distribution server (RFC 7808)
  site of nginx, and a tool that keeps the zones of a device as a server has
  them.
 """
-CHANGES = """\
-tzdistd ({version}) unstable; urgency=medium
-
-  * Built from commit {commit}.
-
- -- {maintainer}  {date}
-"""
-
-
-def output(*words, **more):
-    return subprocess.run(words, check=True, capture_output=True, text=True, **more).stdout.strip()
-
-
-def commit():
-    """The commit of the repository, when it was made, and how many there are up to it."""
-    when, name = output("git", "-C", ROOT, "log", "-1", "--format=%ct %h").split()
-    return name, int(when), output("git", "-C", ROOT, "rev-list", "--count", "HEAD")
-
-
-def version():
-    """A version that rises: the date of the last commit, and the number of commits."""
-    _, when, count = commit()
-    return time.strftime("0~%Y%m%d.", time.gmtime(when)) + count
-
-
-def write(path, data, mode=0o644):
-    os.makedirs(os.path.dirname(path), exist_ok=True)
-    with open(path, "wb") as file:
-        file.write(data)
-    os.chmod(path, mode)
-
-
-def read(path):
-    with open(os.path.join(ROOT, path), "rb") as file:
-        return file.read()
 
 
 def depends(program, room):
     """The packages whose libraries the program uses."""
-    write(os.path.join(room, "debian/control"), b"Source: tzdistd\n\nPackage: tzdistd\nArchitecture: any\n")
-    found = output("dpkg-shlibdeps", "-O", "-e" + program, cwd=room)
+    deb.write(os.path.join(room, "debian/control"), b"Source: tzdistd\n\nPackage: tzdistd\nArchitecture: any\n")
+    found = deb.output("dpkg-shlibdeps", "-O", "-e" + program, cwd=room)
     return found.partition("shlibs:Depends=")[2] or "libc6"
 
 
 def modules_of(path):
     """The modules of this repository that a program and they import."""
-    if not read(path).startswith(b"#!/usr/bin/env python3") and not path.endswith(".py"):
+    if not deb.read(path).startswith(b"#!/usr/bin/env python3") and not path.endswith(".py"):
         return set()
     found = set()
-    for node in ast.walk(ast.parse(read(path))):
+    for node in ast.walk(ast.parse(deb.read(path))):
         names = [node.module] if isinstance(node, ast.ImportFrom) else []
         names += [one.name for one in node.names] if isinstance(node, ast.Import) else []
         for name in names:
@@ -159,17 +120,16 @@ def modules_of(path):
 def fill(stage, program, version):
     """Puts the files of the package into a folder."""
     for source in TOOLS:
-        write(os.path.join(stage, LIBRARY, os.path.basename(source)), read(source), 0o755)
+        deb.write(os.path.join(stage, LIBRARY, os.path.basename(source)), deb.read(source), 0o755)
         for module in modules_of(source) - set(TOOLS):
-            write(os.path.join(stage, LIBRARY, os.path.basename(module)), read(module))
-    write(os.path.join(stage, LIBRARY, "VERSION"), f"{version}\n".encode())
+            deb.write(os.path.join(stage, LIBRARY, os.path.basename(module)), deb.read(module))
+    deb.write(os.path.join(stage, LIBRARY, "VERSION"), f"{version}\n".encode())
     for source, folder, *name in FILES:
         target = os.path.join(stage, folder, name[0] if name else os.path.basename(source))
         if not (folder == "etc/default" and os.path.exists(target)):
-            write(target, read(source))
+            deb.write(target, deb.read(source))
     for source, folder in PACKED:
-        packed = gzip.compress(read(source), 9, mtime=0)
-        write(os.path.join(stage, folder, os.path.basename(source) + ".gz"), packed)
+        deb.write(os.path.join(stage, folder, os.path.basename(source) + ".gz"), deb.packed(deb.read(source)))
     for name, target in LINKS:
         os.makedirs(os.path.dirname(os.path.join(stage, name)), exist_ok=True)
         if not os.path.islink(os.path.join(stage, name)):
@@ -180,84 +140,52 @@ def fill(stage, program, version):
         # a program that runs cannot be written
         os.unlink(target)
     shutil.copyfile(program, target)
-    output("strip", "--strip-unneeded", "--remove-section=.comment", "--remove-section=.note", target)
+    deb.output("strip", "--strip-unneeded", "--remove-section=.comment", "--remove-section=.note", target)
     os.chmod(target, 0o755)
 
 
-def control(stage, words):
-    """Writes what the package says of itself, and its scripts."""
-    files = sorted(os.path.join(folder, name) for folder, _, names in os.walk(stage) for name in names)
-    files = [path for path in files if not os.path.islink(path)]
-    sums = ""
-    for path in files:
-        with open(path, "rb") as file:
-            sums += f"{hashlib.md5(file.read()).hexdigest()}  {os.path.relpath(path, stage)}\n"
-    size = sum(os.path.getsize(path) for path in files) // 1024 + 1
-    at = os.path.join(stage, "DEBIAN")
-    write(os.path.join(at, "control"), CONTROL.format(**words, size=size).encode())
-    write(os.path.join(at, "md5sums"), sums.encode())
-    write(os.path.join(at, "triggers"), TRIGGERS.encode())
-    write(os.path.join(at, "conffiles"), b"/etc/default/tzdistd\n/etc/default/tzdistd-mirror\n")
+def scripts():
+    """The scripts of the package, with the names of the units in them."""
+    found = {}
     for script in SCRIPTS:
-        text = read("deploy/debian/" + script).decode()
+        text = deb.read("deploy/debian/" + script).decode()
         for word, units in (("@UNITS@", UNITS), ("@ENABLED@", ENABLED), ("@OTHERS@", OTHERS)):
             text = text.replace(word, " ".join(units))
-        write(os.path.join(at, script), text.encode(), 0o755)
+        found[script] = text.encode()
+    return found
 
 
 def package(options):
     """Builds the package, and gives its path."""
-    name, when, _ = commit()
-    words = {
-        "version": options.version or version(),
-        "architecture": output("dpkg", "--print-architecture"),
-        "maintainer": options.maintainer,
-        "commit": name,
-        "date": time.strftime("%a, %d %b %Y %H:%M:%S +0000", time.gmtime(when)),
-    }
-    path = os.path.join(options.to, f"tzdistd_{words['version']}_{words['architecture']}.deb")
-    os.makedirs(options.to, exist_ok=True)
-    with tempfile.TemporaryDirectory() as room:
+    words, when = deb.words_of("tzdistd", options)
+    words["architecture"] = deb.output("dpkg", "--print-architecture")
+    os.umask(0o022)
+    with deb.room() as room:
         stage = os.path.join(room, "stage")
-        os.umask(0o022)
         fill(stage, options.program, words["version"])
-        changes = gzip.compress(CHANGES.format(**words).encode(), 9, mtime=0)
-        write(os.path.join(stage, "usr/share/doc/tzdistd/changelog.gz"), changes)
+        deb.write_changes(stage, words)
         words["depends"] = depends(os.path.join(stage, "usr/bin/tzdistd"), room)
-        control(stage, words)
-        # the same commit and program give the same package
-        environment = {**os.environ, "SOURCE_DATE_EPOCH": str(when)}
-        output("dpkg-deb", "--root-owner-group", "--build", stage, path, env=environment)
-    return path
-
-
-def lint(path):
-    """The errors that lintian finds, after all that it says is printed."""
-    done = subprocess.run(["lintian", "--allow-root", path], capture_output=True, text=True)
-    print(done.stdout or "lintian: no error and no warning\n", end="", file=sys.stderr)
-    return [line for line in done.stdout.splitlines() if line.startswith("E:")]
+        deb.describe(stage, CONTROL.format(**words), SETTINGS, scripts())
+        deb.write(os.path.join(stage, "DEBIAN/triggers"), TRIGGERS.encode())
+        path = os.path.join(options.to, f"tzdistd_{words['version']}_{words['architecture']}.deb")
+        return deb.build(stage, path, when)
 
 
 def main():
     parser = argparse.ArgumentParser(description="Makes a Debian package of the built program.")
     parser.add_argument("program", nargs="?", default=PROGRAM, help="the built program")
-    parser.add_argument("--to", metavar="FOLDER", default=".", help="where the package goes (default: here)")
+    deb.add_words(parser)
     parser.add_argument("--into", metavar="FOLDER", help="a root to put the files into, instead of a package")
-    parser.add_argument("--version", help="its version (default: the date of the last commit and the number of commits)")
-    parser.add_argument("--maintainer", default=MAINTAINER, help="who keeps it")
     options = parser.parse_args()
     if not os.path.exists(options.program):
         sys.exit(f"{options.program} is not built: README says how")
-    for tool in ("strip",) if options.into else ("dpkg-deb", "dpkg-shlibdeps", "strip"):
-        if shutil.which(tool) is None:
-            sys.exit(f"{tool} is not installed: apt-get install dpkg-dev binutils")
+    deb.needed("strip", *(() if options.into else ("dpkg-deb", "dpkg-shlibdeps")))
     if options.into:
         os.umask(0o022)
-        fill(options.into, options.program, options.version or version())
+        fill(options.into, options.program, options.version or deb.version())
         return
     path = package(options)
-    faults = lint(path) if shutil.which("lintian") else []
-    if faults:
+    if faults := deb.lint(path):
         sys.exit("\n".join(faults))
     print(path)
 

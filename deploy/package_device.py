@@ -18,7 +18,6 @@ import shutil
 import subprocess
 import sys
 import tempfile
-import time
 
 sys.dont_write_bytecode = True
 HERE = os.path.dirname(os.path.abspath(__file__))
@@ -66,14 +65,7 @@ Description: time zone files of a device, as a server has them (RFC 7808)
 
 def package(options):
     """Builds the package, and gives its path."""
-    name, when = deb.commit()
-    words = {
-        "name": "tzdistd-device",
-        "version": options.version or deb.version_of(name, when),
-        "maintainer": options.maintainer,
-        "commit": name,
-        "date": time.strftime("%a, %d %b %Y %H:%M:%S +0000", time.gmtime(when)),
-    }
+    words, when = deb.words_of("tzdistd-device", options)
     os.umask(0o022)
     with deb.room() as room:
         stage = os.path.join(room, "stage")
@@ -81,8 +73,7 @@ def package(options):
             deb.write(os.path.join(stage, path), deb.read(source), mode)
         for source, path in PACKED:
             deb.write(os.path.join(stage, path), deb.packed(deb.read(source)))
-        changes = deb.packed(deb.CHANGES.format(**words).encode())
-        deb.write(os.path.join(stage, "usr/share/doc/tzdistd-device/changelog.gz"), changes)
+        deb.write_changes(stage, words)
         scripts = {script: deb.read("deploy/device/" + script) for script in SCRIPTS}
         deb.describe(stage, CONTROL.format(**words), ["/etc/default/tzdistd-device"], scripts)
         path = os.path.join(options.to, f"tzdistd-device_{words['version']}_all.deb")
@@ -158,18 +149,15 @@ def main():
         epilog="Example: deploy/package_device.py --to packages",
     )
     parser.add_argument("program", nargs="?", default=PROGRAM, help="the built program, for --try")
-    parser.add_argument("--to", metavar="FOLDER", default=".", help="where it goes (default: here)")
-    parser.add_argument("--version", help="its version (default: by the last commit)")
-    parser.add_argument("--maintainer", default=deb.MAINTAINER, help="who keeps it")
+    deb.add_words(parser)
     trial = parser.add_argument("--try", dest="root", metavar="ROOT")
     trial.help = "a folder of debootstrap, to try it in"
     options = parser.parse_args()
-    if shutil.which("dpkg-deb") is None:
-        sys.exit("dpkg-deb is not installed: apt-get install dpkg-dev")
+    deb.needed("dpkg-deb")
     if options.root and not os.path.exists(options.program):
         sys.exit(f"{options.program} is not built: README says how")
     path = package(options)
-    faults = deb.lint(path) if shutil.which("lintian") else []
+    faults = deb.lint(path)
     if options.root:
         left = tried(path, options.root, os.path.abspath(options.program))
         print("left behind:", ", ".join(left) or "nothing")

@@ -138,7 +138,20 @@ def two_mirrors(site, ports):
     return site[:begin] + edited(text_of("nginx-mirrors.conf"), edits) + "\n" + site[end:]
 
 
-class Nginx:
+class Listening:
+    """A program that was started, and listens at a port of this machine."""
+
+    @property
+    def address(self):
+        return f"{HOST}:{self.port}"
+
+    def close(self):
+        if self.child.poll() is None:
+            self.child.send_signal(signal.SIGTERM)
+            self.child.wait(20)
+
+
+class Nginx(Listening):
     """nginx with a site in a folder, which listens at a port of this machine."""
 
     def __init__(self, at, site, port, workers=2):
@@ -158,15 +171,6 @@ class Nginx:
         except Failure:
             self.close()
             raise
-
-    @property
-    def address(self):
-        return f"{HOST}:{self.port}"
-
-    def close(self):
-        if self.child.poll() is None:
-            self.child.send_signal(signal.SIGTERM)
-            self.child.wait(20)
 
 
 def listens(what, port):
@@ -236,7 +240,7 @@ def tunnel(at, front, name=NAME):
     return Nginx(at, site, port)
 
 
-class Stunnel:
+class Stunnel(Listening):
     """stunnel with one part of the recipe for TLS to an upstream."""
 
     def __init__(self, at, part, edits):
@@ -248,15 +252,6 @@ class Stunnel:
             file.write(f"foreground = yes\npid =\noutput = {at}/log\n[" + edited(text, edits(self.port)) + "\n")
         self.child = subprocess.Popen(["stunnel4", f"{at}/conf"], stdin=subprocess.DEVNULL, stderr=subprocess.DEVNULL)
         listens("stunnel", self.port)
-
-    @property
-    def address(self):
-        return f"{HOST}:{self.port}"
-
-    def close(self):
-        if self.child.poll() is None:
-            self.child.send_signal(signal.SIGTERM)
-            self.child.wait(20)
 
 
 class Client(http.client.HTTPSConnection):

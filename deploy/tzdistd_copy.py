@@ -27,7 +27,8 @@ MOST_ZONE_BYTES = 65_536
 # How often a copy is begun again where the mirror installs a release meanwhile.
 TRIES = 5
 SILENCE = 20
-CHECK_SECONDS = 120
+# How long a slow machine may take to check a copy.
+CHECK_SECONDS = 600
 
 
 class Changed(Exception):

@@ -209,14 +209,16 @@ class Installer:
         return staged
 
     def _pack(self, tree, staged):
-        words = [sys.executable, "-B", packer(), tree, staged, *self.options]
+        current = self.releases.current()
+        # a zone whose new file is faulty stays as it is served
+        kept = ["--keep-from", current] if current and "--keep-from" not in self.options else []
+        words = [sys.executable, "-B", packer(), tree, staged, *kept, *self.options]
         done = subprocess.run(words, stdin=subprocess.DEVNULL, stdout=subprocess.PIPE, stderr=subprocess.PIPE, text=True)
         said = (done.stderr or done.stdout).strip()
         if done.returncode != 0:
             raise Failed(f"pack_zoneinfo.py makes no release of {tree}: {said}", 1)
-        if done.stderr.strip():
-            self.report(f"pack_zoneinfo.py: {done.stderr.strip()}", 4)
-        current = self.releases.current()
+        for line in done.stderr.splitlines():
+            self.report(f"pack_zoneinfo.py: {line}", 4)
         if current and "--stamp" not in self.options:
             lift_stamp(staged, manifest_of(current))
 

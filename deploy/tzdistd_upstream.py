@@ -24,7 +24,8 @@ MOST_HEAD_BYTES = 16_384
 MOST_REQUESTS = 8
 # Seconds of silence, after which the mirror itself gives up, too.
 SILENCE = 12
-READY_SECONDS = 60
+# How long a slow machine may take to check and serve a copy.
+READY_SECONDS = 600
 
 
 def mirror_settings(environment=None):
