@@ -9,7 +9,9 @@ have the same bytes are one zone. `docs/FORMATS.md` says what a release folder h
 
 A zone file is written in its slim form: its second block ends where the TZ string of the footer
 says the same. Before that its states are compared with those of the file that came. A file that
-would say anything else stays as it came.
+would say anything else stays as it came. A zone whose file the server would refuse in both forms,
+since its TZ string disagrees with its last transition, is left out with a warning. With
+`--keep-from` the zone stays as an older release has it.
 """
 
 import argparse
@@ -158,22 +160,60 @@ def first_named(names, tables):
 # ---- the files
 
 
+def disagrees(data, footer):
+    """Whether the server would refuse a file for its TZ string."""
+    return is_tz_string(footer) and not States(data).footer_agrees()
+
+
+class OlderFiles:
+    """The zone files of an older release, by each of their names."""
+
+    def __init__(self, folder):
+        self.paths = {}
+        if folder is None:
+            return
+        try:
+            manifest = json.loads(read_bytes(folder / "manifest.json"))
+            for zone in manifest["zones"]:
+                for name in (zone["tzid"], *zone.get("aliases", [])):
+                    self.paths[name] = folder / zone["file"]
+        except (ValueError, KeyError, TypeError) as error:
+            raise Refused(f"{folder}/manifest.json: no manifest of a release") from error
+
+    def of(self, zone):
+        """The bytes of a zone's file that the server accepts, or None."""
+        if zone not in self.paths:
+            return None
+        path = self.paths[zone]
+        data = read_bytes(path)
+        return None if disagrees(data, read_zone_file(data, path).footer) else data
+
+
 class Files:
     """The bytes of each zone's file in a release, and what became of their form."""
 
-    def __init__(self, as_they_are):
-        self.as_they_are = as_they_are
+    def __init__(self, as_they_are, older):
+        self.as_they_are, self.older = as_they_are, older
         self.contents, self.slim, self.unlike = {}, 0, []
+        self.left_out, self.kept = [], []
 
     def add(self, zone, path):
         data = read_bytes(path)
         parts = read_zone_file(data, path)
-        if is_tz_string(parts.footer) and not States(data).footer_agrees():
-            advice = "`zic -b fat` makes one that agrees"
-            raise Refused(f"{path}: its TZ string disagrees with its last transition; {advice}")
+        if disagrees(data, parts.footer):
+            self._keep_or_leave_out(zone)
+            return
         if not self.as_they_are:
             data = self._slim(zone, data, slim_form(data, parts))
         self.contents[zone] = data
+
+    def _keep_or_leave_out(self, zone):
+        data = self.older.of(zone)
+        if data is None:
+            self.left_out.append(zone)
+            return
+        self.contents[zone] = data
+        self.kept.append(zone)
 
     def _slim(self, zone, data, slim):
         """The slim form of a file, where it says what the file says."""
@@ -223,14 +263,27 @@ def check_labels(version, stamp, publisher):
         raise Refused(f"--stamp {stamp!r}: there is no such moment") from error
 
 
-def checked_files(tree, zones, as_they_are):
+def checked_files(tree, zones, options):
     """The files of the zones, in rising order of the names, all of which are checked too."""
-    files = Files(as_they_are)
+    older = OlderFiles(Path(options.keep_from) if options.keep_from else None)
+    files = Files(options.as_they_are, older)
     for zone in sorted(zones, key=str.encode):
         for name in (zone, *zones[zone]):
             check_name(name, tree / name)
         files.add(zone, tree / zone)
+    if files.left_out and not files.contents:
+        raise Refused(f"{tree}: no zone is left, since the TZ string of each disagrees with its file")
     return files
+
+
+def warn_of_faulty_files(files):
+    """Says on standard error which zones have a file that the server would refuse."""
+    cause = "its TZ string disagrees with its last transition"
+    advice = "`zic -b fat` makes one that agrees"
+    for zone in files.left_out:
+        print(f"warning: {zone}: left out, since {cause}: {advice}", file=sys.stderr)
+    for zone in files.kept:
+        print(f"warning: {zone}: kept as it was, since {cause}: {advice}", file=sys.stderr)
 
 
 def make_folder(folder):
@@ -312,6 +365,10 @@ def summary(target, zones, files, labels, leaps, seconds):
     yield f"{forms}; {weight} bytes, {seconds:.1f} seconds"
     if files.unlike:
         yield f"as they came, since the slim form would differ: {', '.join(files.unlike)}"
+    if files.left_out:
+        yield f"left out, since their files are faulty: {', '.join(files.left_out)}"
+    if files.kept:
+        yield f"as they were, since their files are faulty: {', '.join(files.kept)}"
 
 
 def pack(options):
@@ -325,10 +382,12 @@ def pack(options):
     text = read_bytes(source).decode() if options.tzdata_zi or source.is_file() else None
     zones = zones_of_files(tree) if text is None else zones_of_source(text, tree)
     check_limits(zones)
-    files = checked_files(tree, zones, options.as_they_are)
+    files = checked_files(tree, zones, options)
+    zones = {zone: aliases for zone, aliases in zones.items() if zone in files.contents}
     labels = labels_of(options, tree, text, zones)
     leaps = leaps_of(options, tree)
     write_whole(target, files, zones, labels, leaps)
+    warn_of_faulty_files(files)
     for line in summary(target, zones, files, labels, leaps, time.monotonic() - began):
         print(f"{target}: {line}")
 
@@ -351,6 +410,11 @@ def options_of(words):
     )
     add("--publisher", default="IANA", help="who published it (default: IANA)")
     add("--as-they-are", action="store_true", help="copies the zone files as they came")
+    add(
+        "--keep-from",
+        metavar="RELEASE",
+        help="takes a zone whose file is faulty from this release, if it has the zone",
+    )
     leaps = parser.add_mutually_exclusive_group()
     add = leaps.add_argument
     add("--leap-seconds", action="store_true", help="refuses a tree without a leap second table")

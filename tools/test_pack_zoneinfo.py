@@ -342,10 +342,66 @@ class Packing(unittest.TestCase):
                 unlike = "as they came, since the slim form would differ: A/Alpha, Etc/UTC\n"
                 self.assertIn(unlike, output.getvalue())
 
+    def test_a_file_whose_footer_disagrees(self):
+        """The zone is left out, or stays as an older release has it. Both are printed."""
+        faulty = [
+            ruled_file(NEW_YORK, b"EST4EDT,M3.2.0,M11.1.0"),
+            ruled_file(NEW_YORK, b"EXT5EDT,M3.2.0,M11.1.0"),
+            ruled_file(NEW_YORK[:3], b"EST5", slim_first=True),
+        ]
+        cause = "since its TZ string disagrees with its last transition: `zic -b fat`"
+        self.grow(TREE)
+        self.packed()
+        older = self.root / "older"
+        self.release.rename(older)
+        for data, flags in zip(faulty, ([], ["--as-they-are"], [])):
+            with self.subTest(data=data[-30:], flags=flags):
+                self.grow({"Etc/UTC": data})
+                shutil.rmtree(self.release, ignore_errors=True)
+                manifest = self.packed(*flags, warning=f"Etc/UTC: left out, {cause}")
+                self.assertEqual([zone["tzid"] for zone in manifest["zones"]], ["A/Alpha"])
+                self.assertIn("1 zones, 3 names", self.printed)
+                self.assertIn("left out, since their files are faulty: Etc/UTC\n", self.printed)
+                self.assertFalse((self.release / "Etc").exists())
+                shutil.rmtree(self.release)
+                flags = [*flags, "--keep-from", str(older)]
+                manifest = self.packed(*flags, warning=f"Etc/UTC: kept as it was, {cause}")
+                self.assertEqual(len(manifest["zones"]), 2)
+                self.assertEqual((self.release / "Etc/UTC").read_bytes(), UTC)
+                self.assertIn("as they were, since their files are faulty: Etc/UTC", self.printed)
+
+    def test_an_older_release_to_keep_from(self):
+        """A zone may be an alias there. Its file must be accepted, and nothing else is taken."""
+        faulty = ruled_file(NEW_YORK, b"EST4EDT,M3.2.0,M11.1.0")
+        older = self.root / "zoneinfo" / "older"
+        for zones, kept in (
+            ([{"tzid": "UTC", "file": "z", "aliases": ["Etc/UTC"]}], UTC),
+            ([{"tzid": "Etc/UTC", "file": "bad"}, {"tzid": "Gone", "file": "z"}], None),
+            ([], None),
+        ):
+            with self.subTest(kept):
+                shutil.rmtree(self.release, ignore_errors=True)
+                manifest = json.dumps({"zones": zones})
+                self.grow({**TREE, "Etc/UTC": faulty, "older/bad": faulty, "older/z": UTC})
+                (older / "manifest.json").write_text(manifest)
+                found = self.packed("--keep-from", str(older), warning="warning: Etc/UTC: ")
+                names = [zone["tzid"] for zone in found["zones"]]
+                self.assertEqual(names, ["A/Alpha", "Etc/UTC"] if kept else ["A/Alpha"])
+                if kept:
+                    self.assertEqual((self.release / "Etc/UTC").read_bytes(), kept)
+        shutil.rmtree(self.release)
+        for text in ("", "[]", '{"zones":[{"tzid":"A"}]}'):
+            (older / "manifest.json").write_text(text)
+            self.refused("no manifest of a release", "--keep-from", str(older))
+
+    def test_a_tree_of_which_no_zone_is_left(self):
+        faulty = ruled_file(NEW_YORK, b"EST4EDT,M3.2.0,M11.1.0")
+        self.grow({"Etc/UTC": faulty}, "# version 2025b\nZ Etc/UTC 0 - UTC\n")
+        self.refused("zoneinfo: no zone is left")
+
     def test_refusals(self):
         many = "".join(f"L A/Alpha B/{number}\n" for number in range(16_384))
         no_footer = "Etc/UTC: no TZ string between line feeds"
-        disagrees = "Etc/UTC: its TZ string disagrees with its last transition; `zic -b fat`"
         backwards = ruled_file(NEW_YORK[::-1], RULE)
         beyond = ruled_file([("2006-04-02 07:00", 2)], RULE)
         cases = [
@@ -357,9 +413,6 @@ class Packing(unittest.TestCase):
             ({"Etc/UTC": UTC[:-6]}, SOURCE, no_footer),
             ({"Etc/UTC": UTC + b"x"}, SOURCE, no_footer),
             ({"Etc/UTC": UTC[:-6] + b"x\nUTC0\n"}, SOURCE, no_footer),
-            ({"Etc/UTC": ruled_file(NEW_YORK, b"EST4EDT,M3.2.0,M11.1.0")}, SOURCE, disagrees),
-            ({"Etc/UTC": ruled_file(NEW_YORK, b"EXT5EDT,M3.2.0,M11.1.0")}, SOURCE, disagrees),
-            ({"Etc/UTC": ruled_file(NEW_YORK[:3], b"EST5", slim_first=True)}, SOURCE, disagrees),
             ({"Etc/UTC": backwards}, SOURCE, "Etc/UTC: a transition that is not after"),
             ({"Etc/UTC": beyond}, SOURCE, "Etc/UTC: a transition to a type"),
             ({"A/Old": BETA}, SOURCE, "A/Old: other bytes than its target"),

@@ -10,7 +10,8 @@ with what Python's zoneinfo says of the zone's file. A CalDAV server, Radicale, 
 such calendars and must find them at their time.
 
 A calendar that is read wrong is tried again in two other forms, which show the cause: with each
-date on an RDATE line of its own, and with the start of a part among these dates, too. A library
+date on an RDATE line of its own, and with the start of a part among these dates, too. Zones that
+still have RDATE lines from this year on are requested for each half of a year as well. A library
 that is not installed is passed over with a line that says so. It is run by hand and takes some
 minutes; the status is 1 only where nothing could be compared.
 """
@@ -35,14 +36,14 @@ sys.dont_write_bytecode = True
 import radicale_trial
 from checks import ZONES
 from served import PROGRAM, Client, Failure, Served
-from zone_states import DAY, States, daylight_of_year, days_before, footer_of
+from zone_states import DAY, States, daylight_of_year, footer_of
 
 HERE = Path(__file__).resolve().parent
 READERS = HERE / "readers"
 DEBIAN_PYTHON = "/usr/bin/python3"
 UTC = datetime.timezone.utc
 YEAR = datetime.datetime.now(UTC).year
-BEFORE, AFTER, NEW_YEAR = YEAR - 5, YEAR + 5, "01-01T00:00:00Z"
+BEFORE, AFTER, END = YEAR - 5, YEAR + 5, 2038
 
 # What is counted apart: a zone counts in each period in which it is wrong. Years before 1970 are
 # not compared.
@@ -54,13 +55,33 @@ PERIODS = (
 )
 HOUR = 3600
 
-# How a zone is requested, and the years that the calendar must be right for.
+
+def text_of(year, month=1):
+    """The beginning of a month as the text of a moment."""
+    return f"{year}-{month:02}-01T00:00:00Z"
+
+
+def begin_of(year, month=1):
+    return int(datetime.datetime(year, month, 1, tzinfo=UTC).timestamp())
+
+
+# How a zone is requested, and the time for which the calendar must be right, in seconds.
 Form = namedtuple("Form", "name query first last")
+TEN_YEARS = f"?start={text_of(BEFORE)}&end={text_of(AFTER)}"
 FORMS = (
-    Form("whole", "", 1970, 2038),
-    Form("from this year on", f"?start={YEAR}-{NEW_YEAR}", YEAR, 2038),
-    Form("ten years", f"?start={BEFORE}-{NEW_YEAR}&end={AFTER}-{NEW_YEAR}", BEFORE, AFTER),
+    Form("whole", "", begin_of(1970), begin_of(END)),
+    Form("from this year on", f"?start={text_of(YEAR)}", begin_of(YEAR), begin_of(END)),
+    Form("ten years", TEN_YEARS, begin_of(BEFORE), begin_of(AFTER)),
 )
+MIDDLES = [(year, month) for year in range(YEAR, END + 1) for month in (1, 7)][:-1]
+HALVES = [
+    Form("half a year", f"?start={text_of(*a)}&end={text_of(*b)}", begin_of(*a), begin_of(*b))
+    for a, b in zip(MIDDLES, MIDDLES[1:])
+]
+ALL_HALVES = Form("each half of a year", "", begin_of(YEAR), begin_of(END))
+
+# What a library says that is wrong in a period at first, and the last moment that is wrong.
+Fault = namedtuple("Fault", "text last")
 
 # A library: its name, the package whose version is printed, whether it is asked by the clocks of
 # the zone instead of UTC, and the words that read a file of work.
@@ -75,10 +96,6 @@ OTHER = "another cause"
 
 class Missing(Exception):
     """Why a library cannot be tried."""
-
-
-def begin_of(year):
-    return days_before(year) * DAY
 
 
 class Zone:
@@ -97,18 +114,18 @@ class Zone:
         yield from states.times
         last = states.times[-1] if states.times else begin_of(1969)
         if states.footer and footer_of(states.footer)[1]:
-            years = range(1969, 2039)
+            years = range(1969, END + 1)
             moments = {moment for year in years for moment in daylight_of_year(states.footer, year)}
             yield from (moment for moment in moments if moment > last)
 
     def _moments(self, states):
         """Moments before, at and after each change, and the beginning and middle of each year."""
-        first, last = begin_of(1970), begin_of(2038)
+        first, last = begin_of(1970), begin_of(END)
         for change in self._changes(states):
             for add in (-4 * HOUR, -1, 0, 4 * HOUR):
                 if first <= change + add < last:
                     yield change + add
-        for year in range(1970, 2038):
+        for year in range(1970, END):
             yield from (begin_of(year), begin_of(year) + 182 * DAY)
 
     def _state(self, moment):
@@ -126,7 +143,7 @@ class Zone:
         for moment in self.moments:
             offset, name, clocks = self.states[moment]
             given = clocks if by_clocks else moment
-            if begin_of(form.first) <= moment < begin_of(form.last) and given is not None:
+            if form.first <= moment < form.last and given is not None:
                 yield moment, given, (offset, name)
 
 
@@ -227,13 +244,14 @@ def periods_of(moment):
 def first_faults(answer, rows):
     """Of each period with a wrong state, the first: what is said, what is right, and when."""
     if answer.startswith("!"):
-        return {NOT_READ: answer[2:]}
+        return {NOT_READ: Fault(answer[2:], None)}
     faults = {}
     for said, (moment, _, wanted) in zip(answer.split(), rows):
         if not agrees(said, wanted):
             when = datetime.datetime.fromtimestamp(moment, UTC).strftime("%Y-%m-%d %H:%M")
+            first = Fault(f"{said} and not {wanted[0]}/{wanted[1]} at {when}", moment)
             for period in periods_of(moment):
-                faults.setdefault(period, f"{said} and not {wanted[0]}/{wanted[1]} at {when}")
+                faults[period] = faults.get(period, first)._replace(last=moment)
     return faults
 
 
@@ -281,14 +299,35 @@ def tried(reader, room, form, zones, texts):
     return found
 
 
+def has_dates(text):
+    """Whether a calendar has an RDATE line."""
+    return "\nRDATE" in text
+
+
+def tried_by_halves(reader, room, zones, halves):
+    """The same as `tried`, where each half of a year ahead is requested by itself."""
+    found = {}
+    for form, texts in halves:
+        for period, faults in tried(reader, room, form, zones, texts).items():
+            for name, fault in faults.items():
+                found.setdefault(period, {}).setdefault(name, fault)
+    return found
+
+
 def cells(form, found):
     """The numbers of a row: of zones wrong in each period that the form covers, and of those that
     are not read.
     """
     for name, first, last in PERIODS:
-        covered = form.first < last and first < form.last
+        covered = form.first < begin_of(last) and begin_of(first) < form.last
         yield str(len(found.get(name, {}))) if covered else ""
     yield str(len(found.get(NOT_READ, {})))
+
+
+def until(last):
+    """Until when a zone is wrong, of one that is right before the last years that are compared."""
+    day = datetime.datetime.fromtimestamp(last, UTC)
+    return f" until {day:%Y-%m-%d}" if last < begin_of(END - 2) else ""
 
 
 def print_causes(reader, form, found):
@@ -303,9 +342,10 @@ def print_causes(reader, form, found):
             print(f"\n{reader.name}, {form.name}, {period}, {len(faults)} zones: {cause}")
             if cause == OTHER:
                 for name, fault in list(faults.items())[:12]:
-                    print(f"    {name}: {fault}")
+                    print(f"    {name}: {fault.text}")
             elif period in (PERIODS[0][0], PERIODS[1][0]):
-                print(textwrap.indent(textwrap.fill(", ".join(faults), 96), "    "))
+                rows = [name + until(fault.last) for name, fault in faults.items()]
+                print(textwrap.indent(textwrap.fill(", ".join(rows), 96), "    "))
 
 
 def texts_of(client, names, form):
@@ -328,26 +368,39 @@ def readers_in(room, options):
 
 
 def asked_of(server, options):
-    """The zones of a server, and of each form the calendars."""
+    """The zones of a server and of each form the calendars; then those zones of which a calendar
+    from this year on has an RDATE line, and the calendars of each half of a year."""
     with Client(server.port) as client:
         names = sorted(zone["tzid"] for zone in json.loads(client.ask(ZONES).body)["timezones"])
         forms = [(form, texts_of(client, names, form)) for form in FORMS]
-    return [Zone(name, Path(options.tree, name)) for name in names], forms
+        dated = [name for name in names if has_dates(forms[1][1][name])]
+        halves = [(form, texts_of(client, dated, form)) for form in HALVES]
+    zones = [Zone(name, Path(options.tree, name)) for name in names]
+    return zones, forms, [zone for zone in zones if zone.name in dated], halves
 
 
-def try_all(room, options, zones, forms):
+def row_of(reader, form, found):
+    version = f"{reader.name} {version_of(reader.package)}"
+    return "| " + " | ".join([version, form.name, *cells(form, found)]) + " |"
+
+
+def try_all(room, options, zones, forms, dated, halves):
     """Tries each reader with each form, and prints a row of each."""
     for form, texts in forms:
         print(f"{form.name}: {len(texts)} calendars, {sum(map(len, texts.values()))} bytes")
+    lines = sum(has_dates(text) for _, texts in halves for text in texts.values())
+    count = sum(len(texts) for _, texts in halves)
+    names = ", ".join(zone.name for zone in dated)
+    print(f"with RDATE lines from this year on: {names}; of {count} half years {lines} have them")
     print("| Library | Requested | " + " | ".join(name for name, _, _ in PERIODS) + " | not read |")
     print("|---|---|" + "---|" * (len(PERIODS) + 1), flush=True)
     rows = []
     for reader in readers_in(room, options):
         for form, texts in forms:
-            found = tried(reader, room, form, zones, texts)
-            version = f"{reader.name} {version_of(reader.package)}"
-            print("| " + " | ".join([version, form.name, *cells(form, found)]) + " |", flush=True)
-            rows.append((reader, form, found))
+            rows.append((reader, form, tried(reader, room, form, zones, texts)))
+            print(row_of(*rows[-1]), flush=True)
+        rows.append((reader, ALL_HALVES, tried_by_halves(reader, room, dated, halves)))
+        print(row_of(*rows[-1]), flush=True)
     for row in rows:
         print_causes(*row)
     return len(rows)
