@@ -164,14 +164,16 @@ class Running:
         return self.child.poll() is not None
 
     def stop(self):
-        """Ends rt, and what is left of what it started."""
-        if not self.is_over():
-            self.child.send_signal(signal.SIGTERM)
-            with contextlib.suppress(subprocess.TimeoutExpired):
-                self.child.wait(20)
-        with contextlib.suppress(ProcessLookupError):
-            os.killpg(self.child.pid, signal.SIGKILL)
-        self.child.wait()
+        """Ends rt, and what is left of what it started, also where a signal ends this."""
+        try:
+            if not self.is_over():
+                self.child.send_signal(signal.SIGTERM)
+                with contextlib.suppress(subprocess.TimeoutExpired):
+                    self.child.wait(20)
+        finally:
+            with contextlib.suppress(ProcessLookupError):
+                os.killpg(self.child.pid, signal.SIGKILL)
+            self.child.wait()
 
     def last_lines(self, most=15):
         self.reader.join(5)

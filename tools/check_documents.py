@@ -351,7 +351,7 @@ def run_block(top, program, lines):
         environment = {**os.environ, "PATH": f"{room}:{os.environ['PATH']}", "ROOM": room}
         return subprocess.run(
             ["sh", "-eu", "-c", "\n".join(lines)], cwd=top, env=environment, stdin=subprocess.DEVNULL,
-            capture_output=True, text=True, errors="replace", timeout=120,
+            capture_output=True, text=True, errors="replace", timeout=600,
         )
 
 

@@ -1,19 +1,23 @@
-"""What the trials of the built program share: what a check says, runs that end by themselves, releases
-that are made for them, and a run of many checks, which are one another's load.
+"""What the tests and trials share: what a check says, runs that end by themselves, releases that are
+made for them, a server of made answers, and many checks or tests beside one another.
 
-Python's standard library alone.
+Python's standard library only.
 """
 
 import json
+import multiprocessing
 import os
 import signal
 import subprocess
 import sys
+import threading
 import traceback
+import unittest
 from concurrent.futures import ThreadPoolExecutor
+from http.server import BaseHTTPRequestHandler, ThreadingHTTPServer
 
 from formats import usage_line
-from served import DATA, PROGRAM, Failure, slim_zone
+from served import DATA, HOST, PROGRAM, Failure, address_of, slim_zone
 
 # What a busy machine may add to a time, and how long anything else may take. No check measures speed.
 SLACK, LONG = 40, 60
@@ -39,7 +43,7 @@ def token_of(reply):
     return json.loads(reply.body)["synctoken"]
 
 
-def ran(program, *words, timeout=20):
+def ran(program, *words, timeout=LONG):
     """Status, output and standard error of a run without input, which is to end by itself."""
     try:
         done = subprocess.run(
@@ -62,6 +66,87 @@ def release(at, version, zones, stamp="2025-06-01T00:00:00Z"):
     with open(os.path.join(at, "manifest.json"), "w") as file:
         json.dump(manifest, file)
     return at
+
+
+class Answering:
+    """A server of HTTP until the end of a `with` block, by threads. It answers as `answer` returns,
+    which has the target and the fields of a request: status and body."""
+
+    def __init__(self, answer):
+        class Handler(BaseHTTPRequestHandler):
+            def do_GET(self):
+                status, data = answer(self.path, self.headers)
+                self.send_response(status)
+                self.send_header("Content-Length", str(len(data)))
+                self.end_headers()
+                self.wfile.write(data)
+
+            def log_message(self, *_):
+                pass
+
+        self.server = ThreadingHTTPServer((HOST, 0), Handler)
+        self.address = address_of(self.server.server_address[1])
+        threading.Thread(target=self.server.serve_forever, args=(0.01,), daemon=True).start()
+
+    def __enter__(self):
+        return self
+
+    def __exit__(self, *_):
+        self.server.shutdown()
+        self.server.server_close()
+
+
+# ---- tests of unittest beside one another
+
+
+def tasks_of(module, slow):
+    """The names of the tests of a module, the slow ones first. Those of a class that makes something
+    for all of its tests stay together."""
+    tasks = []
+    for name, kind in vars(module).items():
+        if isinstance(kind, type) and issubclass(kind, unittest.TestCase):
+            tests = unittest.defaultTestLoader.getTestCaseNames(kind)
+            shares = "setUpClass" in dir(kind) and kind.setUpClass.__func__ is not unittest.TestCase.setUpClass.__func__
+            tasks += [name] if shares and tests else [f"{name}.{test}" for test in tests]
+    return sorted(tasks, key=lambda task: not task.endswith(tuple(slow)))
+
+
+def run_task(task):
+    """Runs a test, or those of a class: how many ran, what failed, and why others were skipped."""
+    result = unittest.TestResult()
+    unittest.defaultTestLoader.loadTestsFromName(task, sys.modules["__main__"]).run(result)
+    faults = [f"{test.id()}\n{text}" for test, text in result.failures + result.errors]
+    return result.testsRun, faults, [reason for _, reason in result.skipped]
+
+
+def ended_by_signal(number, _):
+    raise SystemExit(f"ended by {signal.Signals(number).name}")
+
+
+def begin_worker():
+    """A worker ends with the run, and not by what the run does at a signal."""
+    for number in (signal.SIGTERM, signal.SIGALRM):
+        signal.signal(number, signal.SIG_DFL)
+
+
+def run_tests_beside(whole, slow=(), beside=16):
+    """Runs the tests of the script, so many beside one another, and returns the status: 1 where one
+    failed. They wait for programs and for requests more than they compute. After so many seconds in
+    all it ends in any case."""
+    for number in (signal.SIGTERM, signal.SIGALRM):
+        signal.signal(number, ended_by_signal)
+    signal.alarm(whole)
+    tasks = tasks_of(sys.modules["__main__"], slow)
+    count, failed, skipped = 0, 0, []
+    with multiprocessing.get_context("fork").Pool(beside, begin_worker) as pool:
+        for tests, faults, reasons in pool.imap_unordered(run_task, tasks):
+            count, failed, skipped = count + tests, failed + len(faults), skipped + reasons
+            for fault in faults:
+                print(f"FAIL: {fault}", flush=True)
+    for reason in sorted(set(skipped)):
+        print(f"skipped {skipped.count(reason)}: {reason}")
+    print(f"{count} tests, {f'{failed} failed' if failed else 'all well'}")
+    return 1 if failed else 0
 
 
 def fault_of(check, program):
@@ -98,6 +183,8 @@ def run_checks(name, checks, whole, beside):
         print(f"{name}: stopped after {whole} seconds", flush=True)
         os._exit(1)
 
+    # a job in the background ignores this signal, and so would what it starts
+    signal.signal(signal.SIGINT, signal.default_int_handler)
     signal.signal(signal.SIGALRM, stopped)
     signal.alarm(whole)
     with ThreadPoolExecutor(beside) as pool:

@@ -4,6 +4,7 @@ measurements.
 Every wait has a bound; what is started ends with its `with` block. Python's standard library alone.
 """
 
+import collections
 import os
 import queue
 import socket
@@ -16,6 +17,8 @@ ROOT = os.path.dirname(os.path.dirname(os.path.abspath(__file__)))
 PROGRAM = os.path.join(ROOT, "crates/tzdistd/out/tzdistd")
 DATA = os.path.join(ROOT, "crates/tzdistd")
 HOST = "127.0.0.1"
+# How long anything may take on a busy machine, in seconds.
+PATIENCE = 60
 
 
 class Failure(Exception):
@@ -27,11 +30,22 @@ def address_of(port, host=HOST):
     return f"[{host}]:{port}" if ":" in host else f"{host}:{port}"
 
 
+# Descriptors of sockets that keep the last ports of `free_port` from other processes.
+HELD = collections.deque()
+MOST_HELD = 256
+
+
 def free_port(host=HOST):
-    """A port at which nothing listens at the moment."""
-    with socket.socket(socket.AF_INET6 if ":" in host else socket.AF_INET) as probe:
-        probe.bind((host, 0))
-        return probe.getsockname()[1]
+    """A port at which nothing listens, and which nobody else gets while this process runs. A server
+    may listen there, since it and the socket here allow that the address is used twice."""
+    with socket.socket(socket.AF_INET6 if ":" in host else socket.AF_INET) as held:
+        held.setsockopt(socket.SOL_SOCKET, socket.SO_REUSEADDR, 1)
+        held.bind((host, 0))
+        port = held.getsockname()[1]
+        HELD.append(held.detach())
+    if len(HELD) > MOST_HELD:
+        os.close(HELD.popleft())
+    return port
 
 
 class Served:
@@ -40,7 +54,7 @@ class Served:
 
     command = "serve"
 
-    def __init__(self, folders, workers=2, program=PROGRAM, at=DATA, host=HOST, by=(), within=30):
+    def __init__(self, folders, workers=2, program=PROGRAM, at=DATA, host=HOST, by=(), within=2 * PATIENCE):
         for again in (True, True, False):
             self.port = free_port(host)
             self.address = address_of(self.port, host)
@@ -82,7 +96,7 @@ class Served:
         for line in stream:
             self.errors += line
 
-    def line(self, timeout=10):
+    def line(self, timeout=PATIENCE):
         """The next line that the console says, without its line feed."""
         try:
             line = self._lines.get(timeout=timeout)
@@ -101,7 +115,7 @@ class Served:
         self.child.stdin.write(text)
         self.child.stdin.flush()
 
-    def say(self, line, timeout=30):
+    def say(self, line, timeout=PATIENCE):
         """Writes a line to the console, and gives its reply."""
         self.write(line.encode() + b"\n")
         return self.line(timeout)
@@ -110,7 +124,7 @@ class Served:
         """Ends the input of the console."""
         self.child.stdin.close()
 
-    def ended(self, timeout=15):
+    def ended(self, timeout=PATIENCE):
         """The status with which the server ended, and what the console said that was not read."""
         try:
             status = self.child.wait(timeout)
@@ -119,11 +133,11 @@ class Served:
         for reader in self._readers:
             reader.join(5)
         rest = []
-        while (line := self._lines.get(timeout=5)) is not None:
+        while (line := self._lines.get(timeout=PATIENCE)) is not None:
             rest.append(line)
         return status, b"".join(rest)
 
-    def quit(self, timeout=15):
+    def quit(self, timeout=PATIENCE):
         """Ends the server by its console, and gives its status."""
         if (said := self.say("quit")) != "bye":
             raise Failure(f"quit was answered {said!r}")
@@ -174,7 +188,7 @@ class Reply:
 class Client:
     """A connection to a server."""
 
-    def __init__(self, port, host=HOST, timeout=10):
+    def __init__(self, port, host=HOST, timeout=PATIENCE):
         self.socket = socket.create_connection((host, port), timeout)
         self.socket.setsockopt(socket.IPPROTO_TCP, socket.TCP_NODELAY, 1)
         self.held = b""
@@ -195,7 +209,7 @@ class Client:
             raise Failure(f"the connection ended inside a reply: {self.held[:200]!r}")
         self.held += piece
 
-    def reply(self, head_only=False, timeout=10):
+    def reply(self, head_only=False, timeout=PATIENCE):
         """The next reply; of a request for a head alone no body is awaited."""
         until = time.monotonic() + timeout
         while (end := self.held.find(b"\r\n\r\n")) < 0:
@@ -209,7 +223,7 @@ class Client:
         self.held = self.held[end + 4 + size :]
         return reply
 
-    def ask(self, target, *lines, method="GET", timeout=10):
+    def ask(self, target, *lines, method="GET", timeout=PATIENCE):
         """The reply to one request."""
         self.send(request(target, *lines, method=method))
         return self.reply(method == "HEAD", timeout)

@@ -23,7 +23,9 @@ from test_mirror import zones_at
 HERE = os.path.dirname(os.path.abspath(__file__))
 TREE = "/usr/share/zoneinfo"
 # After how many seconds all is given up.
-WHOLE = 240
+WHOLE = 900
+# How long a run over all zones may take on a busy machine.
+ALL_ZONES = 300
 
 NEW_YORK = """zone America/New_York
 2025-01-01T00:00:00Z -18000 -18000 std EST
@@ -35,7 +37,7 @@ zone Etc/UTC
 
 def printed(program, port, start, end):
     """What a run prints that ends well: the rows of each zone, by its name, in their order."""
-    status, output, errors = ran(program, "calmirror", address_of(port), start, end, timeout=LONG)
+    status, output, errors = ran(program, "calmirror", address_of(port), start, end, timeout=ALL_ZONES)
     same("status and standard error", (status, errors), (0, b""))
     zones = {}
     for line in output.decode().splitlines():
@@ -88,7 +90,7 @@ def all_zones(program):
     with tempfile.TemporaryDirectory() as room:
         folder = os.path.join(room, "release")
         packer = os.path.join(HERE, "pack_zoneinfo.py")
-        status, _, errors = ran(sys.executable, packer, TREE, folder, timeout=LONG)
+        status, _, errors = ran(sys.executable, packer, TREE, folder, timeout=ALL_ZONES)
         same(f"the packer: {errors.decode()}", status, 0)
         with Served([folder], program=program) as server:
             rows = compare(program, server, "1800-01-01T00:00:00Z", "2060-01-01T00:00:00Z")

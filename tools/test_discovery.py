@@ -25,6 +25,7 @@ from pathlib import Path
 sys.dont_write_bytecode = True
 
 import test_fetch_zoneinfo as cases
+from checks import run_tests_beside
 from discovery import Candidate, Record, Undiscovered, address_of, candidates, in_order, path_in
 from served import free_port
 from test_fetch_zoneinfo import FIRST, SECOND, Fake
@@ -32,6 +33,10 @@ from test_fetch_zoneinfo import FIRST, SECOND, Fake
 TOOLS = Path(__file__).resolve().parent
 DOMAIN = "zones.test"
 LONG = 120
+# After how many seconds all is given up.
+WHOLE = 600
+# The tests that take longest, which start first.
+SLOW = "another_server_of_the_domain", "no_dns", "test_weights", "next_server"
 
 
 def interpreter():
@@ -168,8 +173,8 @@ class Dnsmasq:
 
     def listens(self):
         """Whether it listens at its port within a while."""
-        for _ in range(100):
-            time.sleep(0.1)
+        for _ in range(500):
+            time.sleep(0.02)
             if self.child.poll() is not None:
                 return False
             with contextlib.suppress(OSError):
@@ -351,4 +356,6 @@ class Found(cases.Room):
 
 
 if __name__ == "__main__":
+    if len(sys.argv) == 1:
+        sys.exit(run_tests_beside(WHOLE, SLOW))
     unittest.main()

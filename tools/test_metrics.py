@@ -15,19 +15,17 @@ import socket
 import subprocess
 import sys
 import tempfile
-import threading
 import time
-from http.server import BaseHTTPRequestHandler, ThreadingHTTPServer
 
 sys.dont_write_bytecode = True
 DEPLOY = os.path.join(os.path.dirname(os.path.dirname(os.path.abspath(__file__))), "deploy")
 
-from checks import LONG, holds, release, run_checks, same
+from checks import LONG, Answering, holds, release, run_checks, same
 from served import HOST, Client, Served
 
 SCRIPT = os.path.join(DEPLOY, "tzdistd-metrics")
 # After how many seconds all is given up.
-WHOLE = 120
+WHOLE = 900
 
 # The text format: a comment, or a name, labels and a number.
 COMMENT = re.compile(r"# (HELP [a-z_]+ [^\n]+|TYPE [a-z_]+ (gauge|counter))")
@@ -63,32 +61,14 @@ def samples(text):
     return found
 
 
-class Fake:
-    """A server of answers by their targets."""
+def fake(**answers):
+    """A server of answers by the last part of a target."""
 
-    def __init__(self, **answers):
-        class Handler(BaseHTTPRequestHandler):
-            def do_GET(self):
-                status, document = answers.get(self.path.rpartition("/")[2], (400, {}))
-                data = document if isinstance(document, bytes) else json.dumps(document).encode()
-                self.send_response(status)
-                self.send_header("Content-Length", str(len(data)))
-                self.end_headers()
-                self.wfile.write(data)
+    def answer(target, _):
+        status, document = answers.get(target.rpartition("/")[2], (400, {}))
+        return status, document if isinstance(document, bytes) else json.dumps(document).encode()
 
-            def log_message(self, *_):
-                pass
-
-        self.server = ThreadingHTTPServer((HOST, 0), Handler)
-        self.address = f"{HOST}:{self.server.server_address[1]}"
-        threading.Thread(target=self.server.serve_forever, daemon=True).start()
-
-    def __enter__(self):
-        return self
-
-    def __exit__(self, *_):
-        self.server.shutdown()
-        self.server.server_close()
+    return Answering(answer)
 
 
 @contextlib.contextmanager
@@ -116,7 +96,7 @@ def figures(words):
 def reports_the_release(program):
     leaps = {"expires": "2026-06-28", "leapseconds": [], "publisher": "IANA", "version": "2025b"}
     listed = {"synctoken": "17-0123456789abcdef", "timezones": ZONES}
-    with Fake(zones=(200, listed), leapseconds=(200, leaps)) as fake, folders(fake.address) as (words, _, _):
+    with fake(zones=(200, listed), leapseconds=(200, leaps)) as server, folders(server.address) as (words, _, _):
         found, one = figures(words), 'service="tzdistd"'
         wanted = {"up": 1, "zones": 2, "token_place": 17, "leap_table": 1, "release_timestamp_seconds": STAMP,
                   "leap_table_expiry_timestamp_seconds": EXPIRY}
@@ -129,7 +109,7 @@ def reports_the_release(program):
 
 def reports_a_missing_leap_table(program):
     listed = {"synctoken": "1-0123456789abcdef", "timezones": []}
-    with Fake(zones=(200, listed)) as fake, folders(fake.address) as (words, _, _):
+    with fake(zones=(200, listed)) as server, folders(server.address) as (words, _, _):
         found, one = figures(words), '{service="tzdistd"}'
         same("a release without zones", (found[f"tzdistd_up{one}"], found[f"tzdistd_zones{one}"]), (1, 0))
         same("no table", found[f"tzdistd_leap_table{one}"], 0)
@@ -141,7 +121,7 @@ def reports_a_server_that_is_down(program):
     with socket.socket() as silent:
         silent.bind((HOST, 0))
         cases = [f"{HOST}:{silent.getsockname()[1]}"]
-        with Fake(zones=(503, b"")) as full, Fake(zones=(200, b"no list")) as other, Fake(zones=(200, {"synctoken": 1})) as odd:
+        with fake(zones=(503, b"")) as full, fake(zones=(200, b"no list")) as other, fake(zones=(200, {"synctoken": 1})) as odd:
             cases += [full.address, other.address, odd.address]
             for address in cases:
                 with folders(address) as (words, _, _):

@@ -30,7 +30,7 @@ BACK = "refused 3 StampBack 2025-03-22T00:00:00Z 2025-01-20T00:00:00Z"
 PROGRESS, EXCHANGE = 10, 60
 MOST = 8_388_608
 # After how many seconds all is given up.
-WHOLE = 420
+WHOLE = 1800
 
 
 # ---- other servers
@@ -519,7 +519,7 @@ def names(program):
 # ---- a first sync that comes to nothing
 
 
-def first_sync(program, address, line, status=7, timeout=20):
+def first_sync(program, address, line, status=7, timeout=LONG):
     """Fails where a mirror does not end at once with this line, and with one on standard error where the
     system refused."""
     words = ["mirror", address_of(free_port()), "1", address]

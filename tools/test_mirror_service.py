@@ -17,21 +17,19 @@ import signal
 import subprocess
 import sys
 import tempfile
-import threading
 import time
-from http.server import BaseHTTPRequestHandler, ThreadingHTTPServer
 
 sys.dont_write_bytecode = True
 DEPLOY = os.path.join(os.path.dirname(os.path.dirname(os.path.abspath(__file__))), "deploy")
 sys.path.append(DEPLOY)
 
-from checks import LONG, SLACK, TZIF, ZONES, holds, ran, release, run_checks, same
+from checks import LONG, SLACK, TZIF, ZONES, Answering, holds, ran, release, run_checks, same
 from served import HOST, Client, Failure, Served, free_port
 from tzdistd_copy import Copies, manifest_of, tag_of
 from tzdistd_service import Failed
 
 # After how many seconds all is given up.
-WHOLE = 600
+WHOLE = 1800
 ONE, TWO = {"Test/One": 1}, {"Test/One": 2, "Test/Two": 3}
 GONE = "refused 1 UpstreamFault\n"
 
@@ -271,46 +269,24 @@ def upstream_is_refused(program):
         same("SIGTERM", mirror.stop(), 0)
 
 
-class Fake:
+class Fake(Answering):
     """A server of one list, of which nothing changes, and for each zone what `body` returns."""
 
     token = "1-0123456789abcdef"
 
     def __init__(self, zones, body):
         self.zones, self.body, self.hosts = zones, body, set()
-        fake = self
+        super().__init__(self.answer)
 
-        class Handler(BaseHTTPRequestHandler):
-            def do_GET(self):
-                fake.hosts.add(self.headers["Host"])
-                status, data = fake.answer(self.path)
-                self.send_response(status)
-                self.send_header("Content-Length", str(len(data)))
-                self.end_headers()
-                self.wfile.write(data)
-
-            def log_message(self, *_):
-                pass
-
-        self.server = ThreadingHTTPServer((HOST, 0), Handler)
-        self.address = f"{HOST}:{self.server.server_address[1]}"
-        threading.Thread(target=self.server.serve_forever, daemon=True).start()
-
-    def answer(self, target):
-        """Status and body for a target."""
+    def answer(self, target, fields):
+        """Status and body for a request, whose Host field is kept."""
+        self.hosts.add(fields["Host"])
         if target.startswith("/tzdist/zones/"):
             return 200, self.body()
         token = target.partition("?changedsince=")[2]
         if token not in ("", self.token):
             return 400, b'{"status":400,"type":"urn:ietf:params:tzdist:error:invalid-changedsince"}'
         return 200, json.dumps({"synctoken": self.token, "timezones": [] if token else self.zones}).encode()
-
-    def __enter__(self):
-        return self
-
-    def __exit__(self, *_):
-        self.server.shutdown()
-        self.server.server_close()
 
 
 def copy_is_of_one_release(program):
@@ -349,7 +325,16 @@ def program_ends_with_the_script(program):
             pid = int(file.read())
         mirror.child.kill()
         mirror.child.wait()
-        awaited("the end of the program", lambda: not os.path.exists(f"/proc/{pid}"), SLACK)
+        awaited("the end of the program", lambda: has_ended(pid), SLACK)
+
+
+def has_ended(pid):
+    """Whether a process has ended, though nobody may have asked for its status yet."""
+    try:
+        with open(f"/proc/{pid}/stat", encoding="ascii", errors="replace") as file:
+            return file.read().rpartition(")")[2].split()[0] == "Z"
+    except OSError:
+        return True
 
 
 CHECKS = [

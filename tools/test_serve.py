@@ -37,7 +37,7 @@ BACK = "refused 3 StampBack 2025-03-22T00:00:00Z 2025-01-20T00:00:00Z"
 # time a request must be whole; for how long peers are still sent what is owed to them at the end.
 IDLE, PROGRESS, HEAD, OWED = 60, 10, 30, 2
 # After how many seconds all is given up.
-WHOLE = 420
+WHOLE = 1800
 
 
 def replies(program):
@@ -737,6 +737,30 @@ def kept_beside_new(program):
         server.child.kill()
 
 
+def quick_before_costly(program):
+    """A new client's quick request is answered before costly ones of new clients that came first,
+    also where each of these sends a quick one in front."""
+    count = 200
+    for front in (b"", request(ZONES)):
+        with Served(["data/b"], workers=1, program=program) as server:
+            os.kill(server.pid, signal.SIGSTOP)
+            others = []
+            for head in expansions("America%2FNew_York", count):
+                others.append(Client(server.port, timeout=LONG))
+                others[-1].send(front + head)
+            with Client(server.port, timeout=LONG) as good:
+                good.send(request(ZONES))
+                os.kill(server.pid, signal.SIGCONT)
+                good.reply(timeout=LONG)
+                os.kill(server.pid, signal.SIGSTOP)
+            answered = sum(has_bytes(other) for other in others)
+            os.kill(server.pid, signal.SIGCONT)
+            holds(f"{answered} of {count} costly requests were answered first", answered < count // 10)
+            for other in others:
+                other.close()
+            server.child.kill()
+
+
 def has_bytes(client):
     """Whether something has come that was not read."""
     client.socket.setblocking(False)
@@ -857,6 +881,7 @@ CHECKS = [
     sixth_version,
     turns,
     kept_beside_new,
+    quick_before_costly,
     backlog,
     downloads_stay,
     odd_files,

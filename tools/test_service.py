@@ -8,12 +8,14 @@ A small script replaces the program or the console where either is to fail.
 """
 
 import contextlib
+import fcntl
 import json
 import os
 import shutil
 import signal
 import socket
 import stat
+import struct
 import subprocess
 import sys
 import tempfile
@@ -29,8 +31,11 @@ import tzdistd_service
 from checks import release
 from served import PROGRAM, address_of, free_port, slim_zone
 
-TREE = {"Test/Alpha": 1, "Test/Beta": 2}
 FIRST, SECOND = "2025-06-01T00:00:00Z", "2025-07-01T00:00:00Z"
+
+
+# How long anything may take on a busy machine, in seconds. No test measures speed.
+LONG = 120
 
 
 def text_of(path):
@@ -54,6 +59,15 @@ def edit(folder, **members):
     write(path, json.dumps({name: value for name, value in manifest.items() if value is not None}))
 
 
+def faulty_zone():
+    """A zone file whose TZ string gives another offset than its last transition."""
+    data = slim_zone(1)
+    second = data.index(b"TZif", 4)
+    header, rest = data[second : second + 44], data[second + 44 :]
+    header = header[:32] + struct.pack(">I", 1) + header[36:]
+    return data[:second] + header + struct.pack(">qB", 0, 0) + rest.replace(b">-1\n", b">-5\n")
+
+
 class Running:
     """A server that tzdistd-serve started."""
 
@@ -65,7 +79,7 @@ class Running:
             stderr=subprocess.STDOUT,
         )
 
-    def wait(self, seconds=60):
+    def wait(self, seconds=LONG):
         status = self.child.wait(seconds)
         self.output.close()
         return status
@@ -122,12 +136,20 @@ class Trial(unittest.TestCase):
         running = Running(self, self.environment(**more))
         self.addCleanup(self.end, running)
         console, replies = (os.path.join(self.run_folder, name) for name in ("console", "replies"))
-        for _ in range(600):
-            if running.child.poll() is not None or (os.path.exists(console) and os.path.getsize(replies)):
-                break
-            time.sleep(0.05)
-        self.assertIsNone(running.child.poll(), self.journal())
+
+        def is_ready():
+            self.assertIsNone(running.child.poll(), self.journal())
+            return os.path.exists(console) and os.path.getsize(replies)
+
+        self.until("ready", is_ready)
         return running
+
+    def until(self, what, holds):
+        """Waits until something holds."""
+        end = time.monotonic() + LONG
+        while not holds():
+            self.assertLess(time.monotonic(), end, f"it was not {what} in time")
+            time.sleep(0.05)
 
     @staticmethod
     def end(running):
@@ -140,7 +162,7 @@ class Trial(unittest.TestCase):
     def script(self, name, *words, **more):
         done = subprocess.run(
             [os.path.join(DEPLOY, name), *words], env=self.environment(**more), stdin=subprocess.DEVNULL, cwd=self.at,
-            stdout=subprocess.PIPE, stderr=subprocess.STDOUT, text=True, timeout=120,
+            stdout=subprocess.PIPE, stderr=subprocess.STDOUT, text=True, timeout=LONG,
         )
         return done.returncode, done.stdout
 
@@ -209,6 +231,64 @@ class Start(Trial):
         self.assertEqual(self.last(), self.last("run"))
         self.assertIn("3-older", self.last()["reason"])
         self.assertEqual(running.stop(), 0)
+
+    def test_odd_folders(self):
+        """What cannot be read is left out by name, and what comes after it is served."""
+        self.add("1")
+        for name in ("2-torn", "3-loop", "4-folder"):
+            self.add(name, stamp=SECOND)
+        os.unlink(os.path.join(self.releases, "2-torn/z1"))
+        os.mkdir(os.path.join(self.releases, "2-torn/z1"))
+        for name in ("3-loop", "4-folder"):
+            os.unlink(os.path.join(self.releases, name, "manifest.json"))
+        os.symlink("manifest.json", os.path.join(self.releases, "3-loop/manifest.json"))
+        os.mkdir(os.path.join(self.releases, "4-folder/manifest.json"))
+        os.mkdir(os.fsencode(self.releases) + b"/5-\xff")
+        self.add("6", stamp=SECOND)
+        # a mark that cannot be written, and what watched the run before
+        os.mkdir(os.path.join(self.releases, "6.accepted"))
+        write(os.path.join(self.run_folder, "watch-mine.number"), "1")
+        self.start()
+        self.assertEqual(self.console("status")[1][:10], "serving 2-")
+        self.assertFalse(os.path.exists(os.path.join(self.run_folder, "watch-mine.number")))
+        journal = self.journal()
+        for line in (
+            "left out 2-torn: 9 ReadFault (z1: Is a directory)",
+            "passed over 3-loop: its manifest: Too many levels of symbolic links",
+            "passed over 4-folder: its manifest is no regular file",
+            "passed over 5-?: its name is not UTF-8",
+            "6 cannot be marked as accepted: Is a directory; the rules apply to it at a start",
+        ):
+            self.assertIn(line + "\n", journal)
+        self.assertEqual(self.marks(), ["1", "6"])
+
+    def test_folders_that_are_none(self):
+        """Each fault of the folders of the service is told, by each script."""
+        file = os.path.join(self.at, "file")
+        write(file, "")
+        self.add("1")
+        status, said = self.script("tzdistd-serve", TZDISTD_SETTINGS=self.at)
+        self.assertEqual((status, said), (1, f"{self.at}: Is a directory\n"))
+        self.assertEqual(self.script("tzdistd-serve", "--has-release", RELEASES=os.path.join(self.at, "none"))[0], 1)
+        status, said = self.script("tzdistd-serve", "--has-release", RELEASES=file)
+        self.assertEqual((status, said), (0, f"{file}: Not a directory\n"))
+        status, said = self.script("tzdistd-serve", RELEASES=file, STATE_DIRECTORY=self.at)
+        self.assertEqual(status, 2)
+        self.assertIn(f"{file}: Not a directory: make the folder, or set RELEASES", said)
+        status, said = self.script("tzdistd-serve", RUNTIME_DIRECTORY=os.path.join(self.at, "none"))
+        self.assertEqual(status, 3)
+        self.assertIn("none: No such file or directory", said)
+        self.tree()
+        for name, words, status in (("tzdistd-install", ["tree"], 2), ("tzdistd-follow", [], 1)):
+            seen, said = self.script(name, *words, RELEASES=os.path.join(file, "releases"))
+            self.assertEqual(seen, status)
+            self.assertIn("Not a directory", said)
+
+    def test_a_record_that_cannot_be_written(self):
+        self.add("1")
+        os.mkdir(os.path.join(self.at, "state/last"))
+        self.start()
+        self.assertIn("the record of an event is not written: ", self.journal())
 
     def test_no_folder_is_good(self):
         edit(self.add("1"), stamp=None)
@@ -280,15 +360,13 @@ class Console(Trial):
         self.add("1")
         with socket.socket(socket.AF_UNIX, socket.SOCK_DGRAM) as notices:
             notices.bind(os.path.join(self.at, "notify"))
-            notices.settimeout(20)
+            notices.settimeout(LONG)
             running = self.start(NOTIFY_SOCKET=os.path.join(self.at, "notify"))
             seen = [notices.recv(4096).decode() for _ in range(2)]
             self.assertEqual((seen[0][:17], seen[1]), ("STATUS=serving 1-", "READY=1"))
             running.child.send_signal(signal.SIGHUP)
             self.assertEqual(self.console("status")[0], 0)
-            begin = time.monotonic()
             self.assertEqual(running.stop(), 0)
-            self.assertLess(time.monotonic() - begin, 10)
             self.assertEqual(notices.recv(4096), b"STOPPING=1")
         self.assertEqual(self.console("status"), (1, "tzdistd-console: no server runs: systemctl status says why\n"))
         self.start()
@@ -299,16 +377,16 @@ class Console(Trial):
         running = self.start()
         with open(os.path.join(self.run_folder, "console"), "wb", buffering=0) as fifo:
             fifo.write(b"status\nhello\n" + b"x" * 3000 + b"\nwatch any\n")
-        for _ in range(200):
-            if text_of(os.path.join(self.run_folder, "replies")).count("\n") == 5:
-                break
-            time.sleep(0.05)
-        replies = text_of(os.path.join(self.run_folder, "replies")).splitlines()
+        path = os.path.join(self.run_folder, "replies")
+        self.until("answered", lambda: text_of(path).count("\n") == 5)
+        replies = text_of(path).splitlines()
         self.assertEqual([line.split()[0] for line in replies], ["ready", "serving", "unknown", "unknown", "watching"])
         self.add("2", stamp=SECOND, Alpha=3, Beta=4)
         self.assertEqual(self.console("install", "state/releases/2")[0], 0)
         self.assertEqual(self.console("news", "1"), (0, "news 2 Test/Alpha Test/Beta\nend\n"))
         self.assertEqual(self.console()[0], 1)
+        status, reply = self.console("install", "/no/a\x1b[31mb\x7f")
+        self.assertEqual((status, reply), (1, "refused 8 Absent /no/a?[31mb?/manifest.json\n"))
         self.assertEqual(self.console("quit"), (0, "bye\n"))
         self.assertEqual(running.wait(), 0)
 
@@ -328,13 +406,38 @@ class Console(Trial):
         self.assertEqual(self.console("status"), (1, "tzdistd-console: the server ended before its reply\n"))
         self.assertEqual(running.wait(), 4)
 
+    def test_a_line_while_a_server_starts(self):
+        """A start that is refused a folder begins another process; a line waits for that one."""
+        self.program = os.path.join(self.at, "program")
+        write(self.program, f"""#!/bin/sh
+case $1 in check) exec "{PROGRAM}" "$@" ;; esac
+[ -e "{self.at}/second" ] || {{ touch "{self.at}/second"; sleep 2; echo refused 1 Manifest 2; exit 2; }}
+sleep 1
+exec "{PROGRAM}" "$@"
+""", 0o755)
+        self.add("1")
+        running = Running(self, self.environment())
+        self.addCleanup(self.end, running)
+        self.until("begun", lambda: os.path.exists(os.path.join(self.run_folder, "pid")))
+        self.assertEqual(self.console("status")[1][:10], "serving 1-")
+
+    def test_a_program_without_memory(self):
+        self.program = os.path.join(self.at, "program")
+        write(self.program, "#!/bin/sh\necho ready 1-0\nread line\necho no memory\nread line\necho bye\n", 0o755)
+        self.add("1")
+        running = self.start()
+        self.assertEqual(self.console("install", "state/releases/1"), (1, "no memory\n"))
+        self.assertIn("not installed, no memory: ", self.journal())
+        self.assertEqual((self.last()["result"], self.last()["reason"]), ("failed", "no memory"))
+        self.assertEqual(self.console("quit"), (0, "bye\n"))
+        self.assertEqual(running.wait(), 0)
+
     def test_a_program_that_does_not_end(self):
         self.program = os.path.join(self.at, "program")
-        write(self.program, "#!/bin/sh\necho ready 1-0\nexec sleep 60\n", 0o755)
+        write(self.program, f"#!/bin/sh\necho ready 1-0\nexec sleep {2 * LONG}\n", 0o755)
         self.add("1")
-        running, begin = self.start(), time.monotonic()
+        running = self.start()
         self.assertEqual(running.stop(), 0)
-        self.assertLess(time.monotonic() - begin, 10)
         self.assertIn("did not end in time", self.journal())
 
     def test_rules(self):
@@ -485,6 +588,46 @@ class Install(Trial):
         self.assertEqual((self.last()["result"], len(self.refusals())), ("refused", 1))
         self.assertEqual(self.install("--force", "2")[0], 0)
 
+    def test_leap_seconds_stay_at_a_rollback(self):
+        self.add("1", "2025a")
+        self.start()
+        source = self.source("2", "2025b", SECOND, Alpha=3, Beta=2)
+        write(os.path.join(source, "leaps"), leap_file())
+        edit(source, leapseconds={"file": "leaps", "expires": "2030-01-01"})
+        self.assertEqual(self.install("2")[0], 0)
+        self.assertEqual(self.install("--rollback")[0], 0)
+        folder = os.path.join(self.releases, self.names()[-1])
+        leaps = json.loads(text_of(os.path.join(folder, "manifest.json")))["leapseconds"]
+        with open(os.path.join(folder, leaps["file"]), "rb") as file:
+            self.assertEqual((file.read(), leaps["expires"]), (leap_file(), "2030-01-01"))
+
+    def test_an_install_beside_another(self):
+        """It waits for the other one, and removes what one left that was killed."""
+        os.makedirs(os.path.join(self.releases, ".incoming-killed"))
+        with open(os.path.join(self.at, "state/install.lock"), "w") as lock:
+            fcntl.flock(lock, fcntl.LOCK_EX)
+            words = [os.path.join(DEPLOY, "tzdistd-install"), self.source("a")]
+            quiet = {"stdin": subprocess.DEVNULL, "stdout": subprocess.DEVNULL, "stderr": subprocess.DEVNULL}
+            with subprocess.Popen(words, env=self.environment(), **quiet) as child:
+                time.sleep(2)
+                self.assertEqual((child.poll(), self.names()), (None, [".incoming-killed"]))
+                fcntl.flock(lock, fcntl.LOCK_UN)
+                self.assertEqual(child.wait(LONG), 0)
+        self.assertEqual(len(self.names()), 1)
+        self.assertNotIn(".incoming-killed", self.names())
+
+    def test_a_program_that_judges_nothing(self):
+        self.add("1")
+        self.source("2", stamp=SECOND, Alpha=3, Beta=2)
+        self.program = "/nonexistent/tzdistd"
+        status, said = self.install("2")
+        self.assertEqual((status, said), (2, "tzdistd-install: /nonexistent/tzdistd: the program is not installed\n"))
+        self.program = os.path.join(self.at, "program")
+        write(self.program, "#!/bin/sh\necho no thread >&2\nexit 5\n", 0o755)
+        status, said = self.install("2")
+        self.assertEqual((status, said), (5, "tzdistd-install: the judgement of folders ended with the status 5: no thread\n"))
+        self.assertEqual((self.names(), self.marks()), (["1"], []))
+
     def test_without_a_server(self):
         self.assertEqual(self.install(self.source("a"))[0], 0)
         self.assertEqual((len(self.names()), self.marks()), (1, []))
@@ -619,9 +762,51 @@ class Follow(Trial):
         self.assertEqual((status, self.names()), (1, []))
         self.assertIn("failed: pack_zoneinfo.py makes no release of", said)
 
-    def test_a_tree_that_changes(self):
+    def test_a_zone_whose_file_is_faulty(self):
+        """The zone is left out, or stays as it is served. The others follow the tree."""
+        faulty = faulty_zone()
         tree = self.tree("2025a")
+        write(os.path.join(tree, "Test/Beta"), faulty)
+        cause = "since its TZ string disagrees with its last transition"
+        status, said = self.follow()
+        self.assertEqual((status, len(self.names())), (0, 1), said)
+        self.assertIn(f"pack_zoneinfo.py: warning: Test/Beta: left out, {cause}", said)
+        self.start()
+        self.assertRegex(self.console("status")[1], "^serving 1-[0-9a-f]{16} 1\n")
+        self.tree("2025b", Alpha=1, Beta=2)
+        self.assertEqual(self.follow()[0], 0)
+        write(os.path.join(self.tree("2025c", Alpha=3, Beta=4), "Test/Beta"), faulty)
+        status, said = self.follow()
+        self.assertEqual(status, 0, said)
+        self.assertIn(f"pack_zoneinfo.py: warning: Test/Beta: kept as it was, {cause}", said)
+        newest = os.path.join(self.releases, self.names()[-1])
+        files = [(hours, os.path.join(newest, f"Test/{name}")) for name, hours in (("Alpha", 3), ("Beta", 2))]
+        for hours, path in files:
+            with open(path, "rb") as file:
+                self.assertEqual(file.read(), slim_zone(hours))
+        self.assertRegex(self.console("status")[1], "^serving 3-[0-9a-f]{16} 2\n")
+
+    def test_a_tree_that_changes_during_an_install(self):
+        tree = self.tree("2025a")
+        self.follow()
+        self.start()
+        newer = self.tree("2025c", Alpha=4, Beta=2)
+        os.rename(newer, os.path.join(self.at, "newer"))
+        self.tree("2025b", Alpha=3, Beta=2)
+        console = os.path.join(self.at, "console")
+        write(console, f"""#!/bin/sh
+[ ! -d "{self.at}/newer" ] || {{ rm -r "{tree}"; mv "{self.at}/newer" "{tree}"; }}
+exec "{DEPLOY}/tzdistd-console" "$@"
+""", 0o755)
+        status, said = self.follow(TZDISTD_CONSOLE=console)
+        self.assertEqual((status, said.count("installed ")), (0, 2))
+        self.assertEqual(self.names()[-1][-5:], "2025c")
+        self.assertEqual(self.console("status")[1][:10], "serving 3-")
+        self.assertIn("nothing to do", self.follow()[1])
+
+    def test_a_tree_that_changes(self):
         begin = time.monotonic()
+        tree = self.tree("2025a")
         self.assertEqual(self.follow(TZDISTD_QUIET="2")[0], 0)
         self.assertGreater(time.monotonic() - begin, 1)
         self.assertEqual(len(self.names()), 1)
@@ -634,7 +819,7 @@ class Follow(Trial):
               f"import shutil, sys\nshutil.copytree({self.source('x')!r}, sys.argv[2])\nopen({tree!r} + '/new', 'w')\n")
         write(os.path.join(tree, "changed"), "")
         done = subprocess.run([os.path.join(tools, "tzdistd-follow")], env=self.environment(), stdout=subprocess.PIPE,
-                              text=True, timeout=60)
+                              text=True, timeout=LONG)
         self.assertEqual(done.returncode, 1)
         self.assertIn("changed while a release was made of it", done.stdout)
         self.assertEqual(len(self.names()), 1)

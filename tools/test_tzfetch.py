@@ -5,7 +5,8 @@ curl, and once with busybox, whose shell, applets and wget are then all that is 
     tools/test_tzfetch.py [PROGRAM] [unittest's words]
 
 Where a PROGRAM is given, a release of it is fetched from end to end as well. What is missing is
-skipped, and the output says so. Needs Python's standard library only.
+skipped, and the output says so. Without further words the tests run beside one another. Needs
+Python's standard library only.
 """
 
 import faulthandler
@@ -20,6 +21,7 @@ from pathlib import Path
 sys.dont_write_bytecode = True
 
 import test_fetch_zoneinfo as cases
+from checks import run_tests_beside
 from fetch_zoneinfo import Failed
 from test_fetch_zoneinfo import FIRST, SECOND, ZONES, tree_of, tree_wanted
 
@@ -27,7 +29,12 @@ SCRIPT = Path(__file__).resolve().with_name("tzfetch.sh")
 WHOLE = 1800
 
 # The seconds that one run may take on a busy machine.
-LONG = 120
+LONG = 600
+
+# The tests that take longest, which start first.
+SLOW = "for_a_list", "for_a_zone", "of_zones", "of_aliases", "a_later_run", "the_first_run"
+SLOW += "bad_files", "no_json", "bad_lists"
+SLOW += "killed_at_any_time", "from_end_to_end", "comes_meanwhile", "comes_and_goes"
 
 
 def write_program(path, text):
@@ -239,6 +246,15 @@ class FetchingByBusybox(Fetching):
     kind = Busybox
 
 
+class Connections(Shell, cases.Faked):
+    """With curl all files of a run come over one connection."""
+
+    def test_files_of_a_run(self):
+        self.fetch()
+        files = [peer for target, peer in self.fake.peers if target.startswith(ZONES + "/")]
+        self.assertEqual((len(files), len(set(files))), (len(FIRST), 1))
+
+
 class Secure(Shell, cases.Secure):
     pass
 
@@ -261,10 +277,15 @@ class SecureByBusybox(Shell, cases.Secure):
             self.bring(self.fake.url, cacert=self.authority)
 
 
-class Killed(Shell, cases.Faked):
-    """A run that is killed before a program that changes the disk leaves an old or a new tree."""
+class Killed(Shell, cases.Killed):
+    """A run that is killed before a program that changes the disk leaves an old or a new tree.
 
-    def step(self, number):
+    Three classes have a third of the steps each, so that these go beside one another.
+    """
+
+    STRIDE, FEW = 3, (3, 0)
+
+    def kill(self, step):
         """A run that is killed before its program of this number, from 1; whether it was."""
         first, counter = self.box / "first", self.box / "count"
         shutil.rmtree(first, ignore_errors=True)
@@ -274,8 +295,12 @@ class Killed(Shell, cases.Faked):
             real = shutil.which(name, path=self.path)
             text = f"""#!/bin/sh
 echo >> {counter}
-group=$(/usr/bin/cut -d ' ' -f 5 /proc/self/stat)
-[ $(/usr/bin/wc -l < {counter}) -ne {number} ] || /bin/kill -9 -- -$group
+count=0
+while read -r _; do count=$((count + 1)); done < {counter}
+if [ $count -eq {step} ]; then
+    read -r _ _ _ _ group _ < /proc/self/stat
+    kill -9 -$group
+fi
 exec {real} "$@"
 """
             write_program(first / name, text)
@@ -286,45 +311,20 @@ exec {real} "$@"
         shutil.rmtree(first)
         return status == -9
 
-    def each_step(self, begin, wanted):
-        old = new = 0
-        for number in range(1, 400):
-            shutil.rmtree(self.home)
-            begin()
-            before = tree_of(self.dir)
-            if not self.step(number):
-                self.holds(wanted)
-                return old, new
-            seen = tree_of(self.dir)
-            if seen == before:
-                old += 1
-            else:
-                self.assertEqual(seen, tree_wanted(wanted), f"step {number}")
-                new += 1
-            self.bring(self.fake.url)
-            self.holds(wanted)
-        raise AssertionError("it never ended")
 
-    def test_the_first_run(self):
-        old, new = self.each_step(self.home.mkdir, FIRST)
-        self.assertGreater(old, 10)
-        self.assertGreater(new, 1)
+class KilledBeforeTheSecond(Killed):
+    BEGIN = 2
 
-    def test_a_later_run(self):
-        third = {**SECOND, "Plain": (["Plainer"], cases.OTHER)}
-        for _ in range(2):
-            self.bring(self.fake.url)
-            self.fake.releases.append(SECOND)
-        shutil.copytree(self.home, self.root / "base", symlinks=True)
-        self.fake.releases.append(third)
-        begin = lambda: shutil.copytree(self.root / "base", self.home, symlinks=True)
-        old, new = self.each_step(begin, third)
-        self.assertGreater(old, 10)
-        self.assertGreater(new, 1)
+
+class KilledBeforeTheThird(Killed):
+    BEGIN = 3
 
 
 class ServedAndFetched(Shell, cases.ServedAndFetched):
-    """From the built program to a tree of a device."""
+    """From the built program to a tree of a device, which has some zones with their aliases. The
+    tests of the other client have all zones of the system."""
+
+    SOME = "Etc/UTC", "America/New_York", "Asia/Kolkata", "Europe/Dublin", "Pacific/Apia"
 
 
 class ServedAndFetchedByBusybox(ServedAndFetched):
@@ -337,6 +337,8 @@ def main():
         cases.PROGRAM = os.path.abspath(words.pop(1))
         if not os.path.exists(cases.PROGRAM):
             sys.exit(f"{cases.PROGRAM} is not built: README says how")
+    if len(words) == 1:
+        sys.exit(run_tests_beside(WHOLE, SLOW))
     # what waits for ever ends the tests
     faulthandler.dump_traceback_later(WHOLE, exit=True)
     unittest.main(argv=words)
