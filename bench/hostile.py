@@ -1,11 +1,15 @@
 #!/usr/bin/env python3
-"""Attacks `tzdistd` as it is built, over the loopback, and tells what was seen.
+"""Attacks `tzdistd` as it is built, over the loopback, and prints what was seen.
 
-    bench/hostile.py RELEASE_DIR [--program PATH] [--only PART,..] [--count N] [--seconds N]
+    bench/hostile.py RELEASE_DIR [--program PATH] [--only PART,..] [--page FILE] [--count N] [--seconds N]
 
-For example, what a good client sees beside floods, with nginx in the same run:
+For example, what a good client sees during floods, with nginx in the same run, and the tables of
+the page on hostile use with these figures:
 
-    bench/hostile.py /srv/tzdist/2025b --only floods,costly,memory,backlog
+    bench/hostile.py /srv/tzdist/2025b --only floods,costly,memory,backlog --page docs/SECURITY.md
+
+With --page, the table of each part replaces what stands between `<!-- PART -->` and `<!-- end -->`
+in that file. The marks, and whether they are met, are printed last.
 
 The parts, each of them rows of a table:
 
@@ -35,6 +39,7 @@ is no part of the gate. It needs Linux and Python's standard library alone.
 import collections
 import contextlib
 import itertools
+import math
 import multiprocessing
 import os
 import random
@@ -190,12 +195,21 @@ class Times:
     def __init__(self, times, faults):
         self.times, self.faults = sorted(time * 1e3 for time in times), faults
 
+    @property
+    def late(self):
+        """The 99th percentile."""
+        return self.times[len(self.times) * 99 // 100] if self.times else math.inf
+
+    @property
+    def longest(self):
+        return self.times[-1] if self.times else math.inf
+
     def row(self):
+        """Median, 99th percentile and longest wait, and failures."""
         if not self.times:
-            return f"0 | - | - | - | {len(self.faults)}"
-        middle, late = statistics.median(self.times), self.times[len(self.times) * 99 // 100]
-        seen = (len(self.times), f"{middle:.2f}", f"{late:.2f}", f"{self.times[-1]:.1f}")
-        return " | ".join(map(str, (*seen, len(self.faults))))
+            return f"no reply | {len(self.faults)}"
+        waits = f"{statistics.median(self.times):.2f}, {self.late:.1f}, {self.longest:.1f}"
+        return f"{waits} | {len(self.faults)}"
 
 
 def ask_on(port, target, is_fresh, done, pipe):
@@ -389,23 +403,75 @@ FLOODS = {
     "10,000 idle and 500 slow": lambda port, target: running(stay, port, target, 10_000, 500),
 }
 COSTLY = {
-    "256 that open, send a costly one and close": lambda port: running(
+    "256 that open, send a costly one and close": lambda port, _: running(
         open_and_ask, port, list(costly_heads(20_000, 1)), 256
     ),
-    "64 that send 1,000 costly ones at once": lambda port: running(
+    "64 that send 1,000 costly ones at once": lambda port, _: running(
         send_all, port, costly_streams(64), True
     ),
-    "20 that send 1,000 costly ones once": lambda port: running(send_all, port, costly_streams(20)),
+    "20 that send 1,000 costly ones once": lambda port, _: running(send_all, port, costly_streams(20)),
 }
-# What is said above the tables of floods, and the columns of a good client.
-OF_EACH = "Of each good client: requests, median, 99th percentile and longest wait, and failures.\n"
-BESIDE = "requests | 50th, ms | 99th, ms | longest, ms | failures"
+# The columns of the tables of floods: what two good clients saw, in milliseconds.
+OF_FLOODS = (
+    "Flood", "Server", "Kept: median, 99th, longest", "Failed",
+    "New: median, 99th, longest", "Failed", "MiB",
+)
+OF_READERS = (
+    "Readers", "Taken first", "Workers", "Still open", "Most MiB",
+    "New: median, 99th, longest", "Failed",
+)
+OF_BACKLOG = ("Connections at once", "Server", "Opened", "Longest, ms", "Over half a second")
+OF_MARKS = ("Mark", "Seen", "Met")
+
+# The marks, in milliseconds, KiB and as a multiple of nginx.
+LONGEST, LATE_BESIDE_COSTLY, TIMES_NGINX = 100, 50, 2
+MOST_OF_ONE_WORKER, MOST_OF_ANOTHER = 100_000, 70_000
 
 
 class Bench:
     def __init__(self, words):
         self.folder, self.program = os.path.abspath(words.folder), os.path.abspath(words.program)
         self.count, self.seconds, self.faults = words.count, words.seconds, 0
+        self.page, self.lines, self.marks = words.page, [], []
+
+    # -- tables
+
+    def row(self, *columns):
+        """Prints a row of the present table, and keeps it for the page."""
+        self.lines.append(f"| {' | '.join(map(str, columns))} |")
+        print(self.lines[-1], flush=True)
+
+    def table(self, columns):
+        self.lines = []
+        self.row(*columns)
+        self.lines.append("|---" * len(columns) + "|")
+        print(self.lines[-1], flush=True)
+
+    def fill_page(self, part):
+        """Writes the table that was printed last into the page, between the part's marks."""
+        if not self.page or not self.lines:
+            return
+        with open(self.page, encoding="utf-8") as file:
+            text = file.read()
+        begin = f"<!-- {part} -->\n"
+        front, found, rest = text.partition(begin)
+        _, ended, after = rest.partition("<!-- end -->")
+        if not found or not ended:
+            self.fault(f"{self.page} has no place for the part {part}")
+            return
+        table = "\n".join(self.lines)
+        with open(self.page, "w", encoding="utf-8") as file:
+            file.write(f"{front}{begin}\n{table}\n\n{ended}{after}")
+
+    def mark(self, name, seen, is_met):
+        self.marks.append((name, seen, "yes" if is_met else "NO"))
+
+    def print_marks(self):
+        if self.marks:
+            print()
+            self.table(OF_MARKS)
+            for mark in self.marks:
+                self.row(*mark)
 
     def served(self, folders=None, workers=2, by=()):
         return Served(folders or [self.folder], workers=workers, program=self.program, by=by)
@@ -459,39 +525,44 @@ class Bench:
 
     # -- floods
 
-    @staticmethod
-    def beside(name, server, port, pid, target, flood):
+    def beside(self, name, server, port, pid, target, flood):
         """A row of what the two good clients saw beside a flood."""
         with flood:
             good = Watched(port, target)
             time.sleep(BESIDE_SECONDS)
             seen = good.end()
         memory = f"{status_of(pid, 'VmRSS') // 1024}" if pid else "-"
-        columns = (name, server, WORKERS, seen[0].row(), seen[1].row(), memory)
-        print(f"| {' | '.join(map(str, columns))} |", flush=True)
+        self.row(name, server, seen[0].row(), seen[1].row(), memory)
         return seen
 
     def floods(self):
-        print(OF_EACH)
-        print(f"| Flood | Server | Workers | kept: {BESIDE} | new: {BESIDE} | Resident, MiB |")
-        print("|---|---|---|" + "---|" * 11)
+        self.table(OF_FLOODS)
+        times, resets, longest = 0.0, 0, 0.0
         for name, flood in FLOODS.items():
             with self.served(workers=WORKERS) as server:
                 act = flood(server.port, SEARCH)
                 seen = self.beside(name, "tzdistd", server.port, server.pid, SEARCH, act)
+                self.judge(name, seen)
                 with Client(server.port, timeout=60) as client:
                     asked = Asked("search", SEARCH)
                     asked.body = client.ask(SEARCH, timeout=60).body
-                self.judge(name, seen)
                 server.quit(60)
+            resets += sum(len(one.faults) for one in seen)
+            longest = max([longest, *(one.longest for one in seen)])
             if shutil.which("nginx"):
-                self.beside_nginx(name, flood, asked)
+                theirs = self.beside_nginx(name, flood, asked)
+                times = max([times, *(own.late / of.late for own, of in zip(seen, theirs))])
+        self.mark("floods: failures of a good client", resets, resets == 0)
+        self.mark(f"floods: longest wait, at most {LONGEST} ms", f"{longest:.1f}", longest <= LONGEST)
+        if times:
+            name = f"floods: 99th percentile, at most {TIMES_NGINX} times nginx's"
+            self.mark(name, f"{times:.2f}", times <= TIMES_NGINX)
 
     def beside_nginx(self, name, flood, asked):
         """The same of nginx, with a file of the same body."""
         with Nginx("nginx", [asked], WORKERS) as site:
             target = site.asked(0, asked).target
-            self.beside(name, "nginx", site.port, None, target, flood(site.port, target))
+            return self.beside(name, "nginx", site.port, None, target, flood(site.port, target))
 
     def judge(self, name, seen):
         for times, kind in zip(seen, ("kept", "new")):
@@ -500,21 +571,27 @@ class Bench:
                 self.fault(f"{name}: the good client ({kind}) had {count} failures: {first}")
 
     def costly(self):
-        print(OF_EACH)
-        print(f"| Flood | Server | Workers | kept: {BESIDE} | new: {BESIDE} | Resident, MiB |")
-        print("|---|---|---|" + "---|" * 11)
+        self.table(OF_FLOODS)
+        resets, late, longest = 0, 0.0, 0.0
         for name, flood in COSTLY.items():
             with self.served(workers=WORKERS) as server:
-                act = flood(server.port)
+                act = flood(server.port, SEARCH)
                 seen = self.beside(name, "tzdistd", server.port, server.pid, SEARCH, act)
                 self.judge(name, seen)
                 server.quit(60)
+            resets += sum(len(one.faults) for one in seen)
+            late = max([late, *(one.late for one in seen)])
+            longest = max([longest, *(one.longest for one in seen)])
+        self.mark("costly requests: failures of a good client", resets, resets == 0)
+        name = f"costly requests: 99th percentile, at most {LATE_BESIDE_COSTLY} ms"
+        self.mark(name, f"{late:.1f}", late <= LATE_BESIDE_COSTLY)
+        name = f"costly requests: longest wait, at most {LONGEST} ms"
+        self.mark(name, f"{longest:.1f}", longest <= LONGEST)
 
     # -- memory
 
     def memory(self):
-        print(f"| Readers | Taken first | Workers | Still open | Most MiB | new: {BESIDE} |")
-        print("|---" * 10 + "|")
+        self.table(OF_READERS)
         for workers, part in ((1, 0.0), (WORKERS, 0.0), (1, 0.9)):
             with self.served(workers=workers) as server:
                 self.sipped(server, workers, part)
@@ -540,9 +617,11 @@ class Bench:
         for peer in peers:
             peer.close()
         self.judge(f"600 readers, {workers} workers", seen)
-        columns = (600, f"{part:.0%}", workers, left, f"{most / 1024:.0f}", seen[1].row())
-        print(f"| {' | '.join(map(str, columns))} |", flush=True)
-        if most > 100_000 + (workers - 1) * 70_000:
+        self.row(600, f"{part:.0%}", workers, left, f"{most / 1024:.0f}", seen[1].row())
+        limit = MOST_OF_ONE_WORKER + (workers - 1) * MOST_OF_ANOTHER
+        name = f"600 readers, {workers} workers, {part:.0%} taken: resident, at most {limit // 1024} MiB"
+        self.mark(name, f"{most / 1024:.0f}", most <= limit)
+        if most > limit:
             self.fault(f"600 readers of {workers} workers: {most} KiB were resident")
 
     @staticmethod
@@ -556,10 +635,10 @@ class Bench:
     # -- backlog
 
     def backlog(self):
-        print("| Connections at once | Server | Workers | Open | Longest, ms | Half a second |")
-        print("|---|---|---|---|---|---|")
+        self.table(OF_BACKLOG)
         with self.served(workers=WORKERS) as server:
             late = self.opened_at_once(server.port, "tzdistd", 2_000)
+            self.mark("2,000 connections at once: over half a second", late, late == 0)
             if late:
                 self.fault(f"{late} of 2,000 connections waited for half a second")
             server.quit(60)
@@ -567,10 +646,14 @@ class Bench:
             with Nginx("nginx", [Asked("nothing", "/")], WORKERS) as site:
                 self.opened_at_once(site.port, "nginx", 2_000)
 
-    @staticmethod
-    def opened_at_once(port, name, count):
+    def opened_at_once(self, port, name, count):
         """Opens so many connections at once, and returns how many waited for half a second."""
         poll, peers, waits = select.epoll(), {}, []
+
+        def gather(seconds):
+            for descriptor, _ in poll.poll(seconds):
+                waits.append(time.monotonic() - peers[descriptor][1])
+
         begin = time.monotonic()
         for _ in range(count):
             peer = socket.socket()
@@ -578,15 +661,14 @@ class Bench:
             peers[peer.fileno()] = (peer, time.monotonic())
             peer.connect_ex((HOST, port))
             poll.register(peer, select.EPOLLOUT | select.EPOLLONESHOT)
+            gather(0)
         while len(waits) < count and time.monotonic() < begin + 20:
-            for descriptor, _ in poll.poll(0.1):
-                waits.append(time.monotonic() - peers[descriptor][1])
+            gather(0.1)
         for peer, _ in peers.values():
             peer.close()
         late = sum(wait >= 0.5 for wait in waits) + count - len(waits)
         longest = f"{max(waits, default=0) * 1e3:.1f}"
-        columns = (count, name, WORKERS, len(waits), longest, late)
-        print(f"| {' | '.join(map(str, columns))} |", flush=True)
+        self.row(count, name, len(waits), longest, late)
         return late
 
     # -- descriptors
@@ -792,6 +874,7 @@ def main():
     parser = parser_of(__doc__, PARTS)
     parser.add_argument("--count", type=int, default=10_000, help="connections of each kind that ends")
     parser.add_argument("--seconds", type=int, default=120, help="for each kind at most")
+    parser.add_argument("--page", help="a page whose tables get these figures")
     words = parser.parse_args()
     parts = parts_of(words, PARTS)
     hard = resource.getrlimit(resource.RLIMIT_NOFILE)[1]
@@ -800,7 +883,11 @@ def main():
     for number, part in enumerate(parts):
         if number:
             print()
+        bench.lines = []
         getattr(bench, part)()
+        if bench.lines:
+            bench.fill_page(part)
+    bench.print_marks()
     print(f"\n{bench.faults} wrong" if bench.faults else "\nnothing was wrong")
     return 1 if bench.faults else 0
 

@@ -2,7 +2,10 @@
 """Measures `tzdistd serve` as it is built, over a release folder.
 
     bench/serve.py RELEASE_DIR [--program PATH] [--beside PATH] [--only PART,..] [--seconds N]
-                   [--rounds N] [--installs N] [--idle N] [--slow N] [--zone TZID] [--no-nginx] [--no-wrk]
+                   [--rounds N] [--installs N] [--idle N] [--slow N] [--zone TZID] [--no-nginx] [--no-limit]
+                   [--no-wrk]
+
+    example: bench/serve.py release --only rates --seconds 1 --rounds 3
 
 The parts:
 
@@ -10,7 +13,8 @@ The parts:
              workers and as many connections, and with 64 connections on 4 workers; by turns with the
              program at --beside, over as many connections as it has workers; and of nginx, which serves
              files of the same bodies by as many processes, at the better of as many and eight times as
-             many connections
+             many connections; and of bench/limit.c, a C program that only receives a head and sends the
+             bytes of the reply, by as many processes and over as many connections
     opened   connections that are opened for one request each and closed, by turns with the program at
              --beside and nginx, each with 4 workers
     crowd    --idle connections that rest, half of which asked once, and --slow ones that send or take a
@@ -32,7 +36,7 @@ The program at --beside is one that was built before and kept, to be measured in
 crowd needs as many descriptors as connections and some, and takes what the system allows.
 
 Requests come from `wrk` where it is installed, and else from processes of this script. nginx is
-used where it is installed. Everything is on the loopback, every loop is bounded in count and time,
+used where it is installed, and bench/limit.c where there is a C compiler as `cc`. Everything is on the loopback, every loop is bounded in count and time,
 and what is started ends with the script. It is run by hand on an idle machine, and is no part of
 the gate.
 """
@@ -64,6 +68,7 @@ from served import HOST, PROGRAM, Client, Failure, Served, free_port, request, s
 
 YEAR = "start=2025-01-01T00:00:00Z&end=2026-01-01T00:00:00Z"
 TICKS = os.sysconf("SC_CLK_TCK")
+LIMIT = os.path.join(os.path.dirname(os.path.abspath(__file__)), "limit.c")
 
 
 # --- what is asked -----------------------------------------------------------------------------
@@ -74,7 +79,7 @@ class Asked:
 
     def __init__(self, name, target, fields=(), status=200):
         self.name, self.target, self.fields, self.status = name, target, list(fields), status
-        self.body = b""
+        self.body = self.reply = b""
 
     @property
     def bytes(self):
@@ -90,6 +95,7 @@ def requests_of(port, zone):
             zone = "America/New_York" if "America/New_York" in names else names[0]
         path = "/tzdist/zones/" + quote(zone, safe="")
         tag = client.ask(path, "Accept: application/tzif").fields["ETag"]
+        token = quote(listing["synctoken"], safe="")
         asked = [
             Asked("full list", "/tzdist/zones"),
             Asked("get as calendar, a year", f"{path}?{YEAR}"),
@@ -97,13 +103,17 @@ def requests_of(port, zone):
             Asked("get with its tag", path, ["Accept: application/tzif", f"If-None-Match: {tag}"], 304),
             Asked("expand, a year", f"{path}/observances?{YEAR}"),
             Asked("find `*york`", "/tzdist/zones?pattern=*york"),
+            Asked("change list", f"/tzdist/zones?changedsince={token}"),
+            Asked("get as JSON, a year", f"{path}?{YEAR}", ["Accept: application/calendar+json"]),
+            Asked("capabilities", "/tzdist/capabilities"),
         ]
         for one in asked:
             reply = client.ask(one.target, *one.fields)
             if reply.status != one.status:
                 raise Failure(f"{one.name} was answered {reply.status}")
             one.body = reply.body
-            one.size = len(reply.head) + 4 + len(reply.body)
+            one.reply = reply.head + b"\r\n\r\n" + reply.body
+            one.size = len(one.reply)
     return zone, len(names), asked
 
 
@@ -246,9 +256,9 @@ def made_release(folder, zones, names, data):
     return folder
 
 
-def largest_zone():
-    """A TZif file of 65,536 bytes with 4,096 transitions, of which the last leads to what its footer says."""
-    count, letters = 4096, b"+01\0+02\0"
+def largest_zone(size=65_536, count=4096):
+    """A TZif file of so many bytes and transitions, of which the last leads to what its footer says."""
+    letters = b"+01\0+02\0"
     moments = struct.pack(f">{count}q", *(86_400 * (number - count) for number in range(count)))
     numbers = bytes((number + 1) % 2 for number in range(count))
     kinds = struct.pack(">iBBiBB", 3600, 0, 0, 7200, 0, 4)
@@ -258,7 +268,7 @@ def largest_zone():
         return b"TZif2" + bytes(15) + struct.pack(">6I", 0, 0, 0, times, types, size)
 
     # the first block is not looked at, so it fills the file
-    filled = 65_536 - 2 * len(header(0, 0, 0)) - 6 - len(second) - len(footer)
+    filled = size - 2 * len(header(0, 0, 0)) - 6 - len(second) - len(footer)
     return header(0, 1, filled) + bytes(6 + filled) + header(count, 2, len(letters)) + second + footer
 
 
@@ -318,6 +328,52 @@ class Nginx:
         self.close()
 
 
+class Limit:
+    """bench/limit.c, built for this run, which sends the replies of requests by so many processes."""
+
+    def __init__(self, asked, workers):
+        self.room = tempfile.TemporaryDirectory()
+        at = self.room.name
+        built = subprocess.run(["cc", "-O2", "-o", f"{at}/limit", LIMIT], capture_output=True, text=True)
+        if built.returncode != 0:
+            self.room.cleanup()
+            raise Failure(f"cc does not build {LIMIT}: {built.stderr.strip()[-500:]}")
+        for number, one in enumerate(asked):
+            put_file(f"{at}/{number}", one.reply)
+        self.port = free_port()
+        words = [f"{at}/limit", str(self.port), str(workers), *(f"{at}/{number}" for number in range(len(asked)))]
+        nowhere = {name: subprocess.DEVNULL for name in ("stdin", "stdout")}
+        self.child = subprocess.Popen(words, stderr=subprocess.PIPE, **nowhere)
+        for _ in range(100):
+            try:
+                Client(self.port).close()
+                return
+            except OSError:
+                time.sleep(0.05)
+        self.close()
+        raise Failure("the program of bench/limit.c does not listen")
+
+    def asked(self, number, one):
+        """The same request by the number of its reply, as long as the one to tzdistd."""
+        return Asked(one.name, f"/{number}{one.target}", list(one.fields), one.status)
+
+    def processes(self):
+        return children_of(self.child.pid)
+
+    def close(self):
+        for pid in self.processes():
+            os.kill(pid, signal.SIGKILL)
+        self.child.kill()
+        self.child.communicate()
+        self.room.cleanup()
+
+    def __enter__(self):
+        return self
+
+    def __exit__(self, *_):
+        self.close()
+
+
 # --- the parts ---------------------------------------------------------------------------------
 
 
@@ -331,6 +387,7 @@ class Bench:
             self.programs["beside"] = os.path.abspath(words.beside)
         self.wrk = None if words.no_wrk else shutil.which("wrk")
         self.nginx = None if words.no_nginx else shutil.which("nginx")
+        self.compiler = None if words.no_limit else shutil.which("cc")
         self.drive = by_wrk if self.wrk else by_processes
         with self.served([self.folder], 1) as server:
             self.zone, self.zones, self.asked = requests_of(server.port, words.zone)
@@ -355,8 +412,9 @@ class Bench:
 
     def rates(self):
         print("| Request | Bytes | Workers | Connections | Requests a second | Processor microseconds | p99, ms "
-              "| beside | its microseconds | of beside | nginx | its microseconds | of nginx |")
-        print("|---|---|---|---|---|---|---|---|---|---|---|---|---|")
+              "| beside | its microseconds | of beside | nginx | its microseconds | of nginx "
+              "| limit | its microseconds | of limit |")
+        print("|---" * 16 + "|")
         names, others = list(self.programs), {}
         for workers, connections in ((1, 1), (2, 2), (4, 4), (4, 64)):
             # others are asked over as many connections as there are workers, and nginx also over more
@@ -365,6 +423,7 @@ class Bench:
             if not alone:
                 others = {key: row for key, row in rows.items() if key[1] != "this"}
                 others.update(self.of_nginx(workers, (workers, 8 * workers), self.asked))
+            others.update(self.of_limit(workers, connections))
             for one in self.asked:
                 print(self.row(one, rows[one.name, "this"], others, workers, connections), flush=True)
 
@@ -373,7 +432,7 @@ class Bench:
         cells = [one.name, one.size, workers, connections, f"{rate:.0f}", f"{cost:.1f}", f"{driven.late:.2f}"]
         if driven.faults:
             cells[4] += f" ({driven.faults} faults)"
-        for name in ("beside", "nginx"):
+        for name in ("beside", "nginx", "limit"):
             other = others.get((one.name, name))
             cells += [f"{other[0]:.0f}", f"{other[1]:.1f}", f"{rate / max(other[0], 1):.2f}"] if other else ["-"] * 3
         return f"| {' | '.join(map(str, cells))} |"
@@ -390,6 +449,15 @@ class Bench:
                         (self.median(site.port, site.processes(), same, count) for count in counts), key=lambda it: it[0])
         return found
 
+    def of_limit(self, workers, connections):
+        """For each request the median of rounds of the C program that sends the same bytes."""
+        if not self.compiler:
+            return {}
+        with Limit(self.asked, workers) as limit:
+            pids = limit.processes()
+            asked = [(one.name, limit.asked(number, one)) for number, one in enumerate(self.asked)]
+            return {(name, "limit"): self.median(limit.port, pids, one, connections) for name, one in asked}
+
     def median(self, port, pids, asked, connections):
         """The median of rounds, by the rate."""
         rows = [self.once(port, pids, asked, connections) for _ in range(self.words.rounds)]
@@ -404,8 +472,9 @@ class Bench:
     def opened(self):
         workers, connections = 4, 8
         print("| Request | Bytes | Workers | Clients | Connections a second | Processor microseconds | p99, ms "
-              "| beside | its microseconds | of beside | nginx | its microseconds | of nginx |")
-        print("|---|---|---|---|---|---|---|---|---|---|---|---|---|")
+              "| beside | its microseconds | of beside | nginx | its microseconds | of nginx "
+              "| limit | its microseconds | of limit |")
+        print("|---" * 16 + "|")
         closing = ["Connection: close"]
         asked = [Asked(one.name, one.target, one.fields + closing, one.status) for one in self.asked]
         for one, kept in zip(asked, self.asked):
@@ -904,9 +973,10 @@ def processor():
 
 def parser_of(page, parts):
     """A parser of what every such script takes: a release, a program and parts of it."""
-    parser = argparse.ArgumentParser(description=page.split("\n")[0])
-    parser.add_argument("folder", metavar="RELEASE_DIR")
-    parser.add_argument("--program", default=PROGRAM)
+    example = re.search(r"example: .+", page)
+    parser = argparse.ArgumentParser(description=page.split("\n")[0], epilog=example and example[0])
+    parser.add_argument("folder", metavar="RELEASE_DIR", help="as tools/pack_zoneinfo.py makes it")
+    parser.add_argument("--program", default=PROGRAM, help=f"the tzdistd to measure (default: {PROGRAM})")
     parser.add_argument("--only", default=",".join(parts), help=f"parts of {','.join(parts)}")
     return parser
 
@@ -931,6 +1001,7 @@ def main():
     parser.add_argument("--slow", type=int, default=500, help="of the part crowd")
     parser.add_argument("--zone")
     parser.add_argument("--no-nginx", action="store_true")
+    parser.add_argument("--no-limit", action="store_true", help="without the C program of bench/limit.c")
     parser.add_argument("--no-wrk", action="store_true")
     words = parser.parse_args()
     parts = parts_of(words, PARTS)
