@@ -15,6 +15,7 @@ import shutil
 import subprocess
 import sys
 import tempfile
+import time
 import unittest
 from pathlib import Path
 
@@ -277,6 +278,18 @@ class SecureByBusybox(Shell, cases.Secure):
             self.bring(self.fake.url, cacert=self.authority)
 
 
+def group_runs(group):
+    """Whether a process of the group has not ended."""
+    for name in os.listdir("/proc"):
+        try:
+            state, _, its, *_ = Path("/proc", name, "stat").read_text().rpartition(")")[2].split()
+        except (OSError, ValueError):
+            continue
+        if its == str(group) and state not in "ZX":
+            return True
+    return False
+
+
 class Killed(Shell, cases.Killed):
     """A run that is killed before a program that changes the disk leaves an old or a new tree.
 
@@ -308,6 +321,11 @@ exec {real} "$@"
         quiet = {"stdout": subprocess.DEVNULL, "stderr": subprocess.DEVNULL}
         with subprocess.Popen(words, env=environment, start_new_session=True, **quiet) as child:
             status = child.wait(LONG)
+        # the others of its group hold its lock until they have ended, too
+        end = time.monotonic() + LONG
+        while group_runs(child.pid):
+            self.assertLess(time.monotonic(), end)
+            time.sleep(0.01)
         shutil.rmtree(first)
         return status == -9
 
