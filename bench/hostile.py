@@ -535,18 +535,24 @@ class Bench:
         self.row(name, server, seen[0].row(), seen[1].row(), memory)
         return seen
 
+    def seen_beside(self, name, flood, asked=None):
+        """What the good clients saw of a new server. The body of what is asked is kept."""
+        with self.served(workers=WORKERS) as server:
+            act = flood(server.port, SEARCH)
+            seen = self.beside(name, "tzdistd", server.port, server.pid, SEARCH, act)
+            self.judge(name, seen)
+            if asked:
+                with Client(server.port, timeout=60) as client:
+                    asked.body = client.ask(SEARCH, timeout=60).body
+            server.quit(60)
+        return seen
+
     def floods(self):
         self.table(OF_FLOODS)
         times, resets, longest = 0.0, 0, 0.0
         for name, flood in FLOODS.items():
-            with self.served(workers=WORKERS) as server:
-                act = flood(server.port, SEARCH)
-                seen = self.beside(name, "tzdistd", server.port, server.pid, SEARCH, act)
-                self.judge(name, seen)
-                with Client(server.port, timeout=60) as client:
-                    asked = Asked("search", SEARCH)
-                    asked.body = client.ask(SEARCH, timeout=60).body
-                server.quit(60)
+            asked = Asked("search", SEARCH)
+            seen = self.seen_beside(name, flood, asked)
             resets += sum(len(one.faults) for one in seen)
             longest = max([longest, *(one.longest for one in seen)])
             if shutil.which("nginx"):
@@ -574,11 +580,7 @@ class Bench:
         self.table(OF_FLOODS)
         resets, late, longest = 0, 0.0, 0.0
         for name, flood in COSTLY.items():
-            with self.served(workers=WORKERS) as server:
-                act = flood(server.port, SEARCH)
-                seen = self.beside(name, "tzdistd", server.port, server.pid, SEARCH, act)
-                self.judge(name, seen)
-                server.quit(60)
+            seen = self.seen_beside(name, flood)
             resets += sum(len(one.faults) for one in seen)
             late = max([late, *(one.late for one in seen)])
             longest = max([longest, *(one.longest for one in seen)])
