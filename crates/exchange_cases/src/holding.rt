@@ -4,8 +4,8 @@ ghost use Rattle.std.specs.Prelude.{◌≡◌, []};
 use case_lines::{Answer, Told};
 use release_manifest::{Manifest, ManifestZone};
 use std::alloc::Global;
-use sync_core::Mirror;
-use td_base::{Ask, Bytes, FileRead, MemoryStore, Store};
+use sync_core::{Mirror, MirrorFiles};
+use td_base::{Ask, Bytes, FileRead, Store};
 use td_civil::{HI, LO, Moment, utc_text};
 
 /// `mirror-held`: the release that is held, as lines, or that files are pending. The lines are
@@ -26,7 +26,7 @@ fn release(alloc: Global, mirror: &Mirror) -> Answer
     told.answer()
 }
 
-fn tell_manifest(alloc: Global, told: &mut Told, manifest: &Manifest, store: &mut MemoryStore) {
+fn tell_manifest(alloc: Global, told: &mut Told, manifest: &Manifest, store: &mut MirrorFiles<'_>) {
     tell_stamp(told, manifest.stamp);
     tell_word(told, &manifest.publisher);
     tell_word(told, &manifest.version);
@@ -48,7 +48,7 @@ fn tell_word(told: &mut Told, word: &Bytes) {
     told.bytes(word.as_slice());
 }
 
-fn tell_zone(alloc: Global, told: &mut Told, zone: &ManifestZone, store: &mut MemoryStore) {
+fn tell_zone(alloc: Global, told: &mut Told, zone: &ManifestZone, store: &mut MirrorFiles<'_>) {
     told.bytes(b"\n");
     told.bytes(zone.tzid.as_slice());
     for alias in zone.aliases.as_slice() {

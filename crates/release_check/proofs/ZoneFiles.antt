@@ -19,7 +19,8 @@ use Rattle.zone_meaning.specs.Agreement.{footer_agrees}
 use Rattle.zone_meaning.specs.State.{footer_meant}
 use Rattle.zone_meaning.specs.Sound.{IsSoundFile}
 use Rattle.td_base.specs.FirstFault.{◌or_else◌, when}
-use Rattle.release_check.specs.Judged.{of_reader}
+use Rattle.zone_meaning.specs.declared.zone_fault.ZoneFault.{ZoneFault}
+use Rattle.release_check.specs.Judged.{of_reader, of_zone}
 use Rattle.release_check.specs.Faults.{file_fault, meaning_fault}
 use Rattle.release_check.specs.declared.check_fault.CheckFault.{CheckFault}
 use Rattle.release_check.specs.declared.check_fault.CheckFault.TheVariants as fault
@@ -89,6 +90,19 @@ pub judged_by_reader : (n : ℕ) (bytes : List ℕ) (f : TzifFault) → (f ≢ t
     → (of_reader n f ≢ fault.ReadFault) × (of_reader n f ≢ fault.NoMemory → file_fault n bytes ≡ Some (of_reader n f))
 judged_by_reader n bytes tzif.NoMemory h = (λ e. cc, λ ne. absurd (ne refl))
 judged_by_reader n bytes f h = (λ e. cc, λ _. file_fault-tzif n bytes _ (h (λ e. cc)))
+
+-- what the zone is refused for, where its lists were read
+no_tzif_of_zone : (o : Option FooterFault) (f : TzifFault) → option_map zone.Footer o ≡ Some (zone.Tzif f) → ⊥
+no_tzif_of_zone None f e = cc
+no_tzif_of_zone (Some g) f e = cc
+
+pub judged_by_zone : (n : ℕ) (bytes : List ℕ) (f : ZoneFault) → first_fault bytes ≡ None → (lists_of bytes).leaps ≡ []
+    → (f ≢ zone.NoMemory → zone_fault bytes ≡ Some f)
+    → (of_zone n f ≢ fault.ReadFault) × (of_zone n f ≢ fault.NoMemory → file_fault n bytes ≡ Some (of_zone n f))
+judged_by_zone n bytes zone.NoMemory none leaps h = (λ e. cc, λ ne. absurd (ne refl))
+judged_by_zone n bytes (zone.Tzif f) none leaps h =
+    absurd (no_tzif_of_zone _ f (sym (zone_fault-read bytes none) ∙ h (λ e. cc)))
+judged_by_zone n bytes (zone.Footer f) none leaps h = (λ e. cc, λ _. file_fault-footer n bytes f none leaps (h (λ e. cc)))
 
 -- a file whose meaning has no fault
 abbrev in_meaning : ℕ → Bool → Bool → Bool → Option CheckFault

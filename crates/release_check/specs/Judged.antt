@@ -8,6 +8,8 @@ use Rattle.release_manifest.specs.declared.manifest_fault.ManifestFault.{Manifes
 use Rattle.release_manifest.specs.declared.manifest_fault.ManifestFault.TheVariants as manifest
 use Rattle.leap_table.specs.declared.leap_fault.LeapFault.{LeapFault}
 use Rattle.leap_table.specs.declared.leap_fault.LeapFault.TheVariants as table
+use Rattle.zone_meaning.specs.declared.zone_fault.ZoneFault.{ZoneFault}
+use Rattle.zone_meaning.specs.declared.zone_fault.ZoneFault.TheVariants as zone
 use Rattle.release_check.specs.declared.check_fault.LeapFileFault.TheVariants as leap
 use Rattle.release_check.specs.declared.check_fault.CheckFault.{CheckFault}
 use Rattle.release_check.specs.declared.check_fault.CheckFault.TheVariants as fault
@@ -16,6 +18,12 @@ use Rattle.release_check.specs.declared.check_fault.CheckFault.TheVariants as fa
 abbrev pub of_reader : ℕ → TzifFault → CheckFault
 of_reader n tzif.NoMemory = fault.NoMemory
 of_reader n f = fault.Tzif n f
+
+-- the fault of the zone with this number
+abbrev pub of_zone : ℕ → ZoneFault → CheckFault
+of_zone n zone.NoMemory = fault.NoMemory
+of_zone n (zone.Tzif f) = fault.Tzif n f
+of_zone n (zone.Footer f) = fault.FooterText n f
 
 -- the reader's fault of the file of leap seconds, and that of its lines
 abbrev pub of_leap_reader : TzifFault → CheckFault

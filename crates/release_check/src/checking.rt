@@ -129,7 +129,7 @@ fn release_of<S: Store>(
         (release_data zone_bytes r)) }
 {
     judge(alloc, manifest, last)?;
-    let zones = read_zones(alloc, dir, manifest.zones.as_slice(), store)?;
+    let zones = read_zones(alloc, dir, manifest.zones.as_slice(), store, last)?;
     let leaps = read_table(alloc, dir, &manifest.leaps, store)?;
     Ok(Release {
         stamp: manifest.stamp,

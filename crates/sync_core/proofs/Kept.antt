@@ -18,7 +18,7 @@ use Rattle.json_forms.specs.declared.zone_list.ListZone.{ListZone}
 use Rattle.sync_core.specs.Keeping.{by_name, has_listed_name}
 use Rattle.sync_core.specs.Mirrors.{MirrorState, ZoneFile, entry_name, file_name, files_kept}
 use Rattle.sync_core.specs.Names.{put_in, put_all, at_text}
-use Rattle.sync_core.specs.Published.{bytes_of, file_bytes}
+use Rattle.sync_core.specs.Published.{bytes_of, file_bytes, stored_file}
 use Rattle.sync_core.specs.Steps.{after_file, is_alias, kept_entries, kept_files, rising_zones}
 use Rattle.sync_core.specs.Steps.{with_changes}
 use Rattle.sync_core.proofs.lemmas.Puts.{turned, same_text, Rising, rising_filter, rising_put_all}
@@ -226,33 +226,15 @@ changes_heard token coming entries kept listed merged zones es fs ps names ks ne
     ∙ ap (λ (f : List ZoneFile). state token (Some new) (put_all entry_name zones (kept_entries zones entries)) f names) files
     ∙ ap (λ (n : List (List ℕ)). state token (Some new) (put_all entry_name zones (kept_entries zones entries)) (kept_files zones (files_kept es)) n) named
 
--- a file put into the store
-pub file_stored : (path name bytes n b : List ℕ) (left rest : List (List ℕ × List ℕ)) (old new : List File) (whole : Option (List ℕ))
-    → left ≡ rest ++ (name, bytes) ∷ []
-    → n ≡ name → b ≡ bytes → file_at new path ≡ (if bytes_eq n path then Some b else file_at old path)
-    → option_or (option_map bytes_of (at_text file_name (files_kept left) path)) (file_at old path) ≡ whole
-    → option_or (option_map bytes_of (at_text file_name (files_kept rest) path)) (file_at new path) ≡ whole
-file_stored path name bytes n b left rest old new whole is same bytes_are put before =
-    ap (option_or (option_map bytes_of (at_text file_name (files_kept rest) path))) (put ∙ rw (same, bytes_are, nat_list_eq_equiv.symm name path) refl)
-    ∙ more rest ∙ sym (ap (λ l. option_or (option_map bytes_of (at_text file_name (files_kept l) path)) (file_at old path)) is) ∙ before
+-- the files of a mirror as those of a store
+pub files_stored : (fs : List ZoneFile) (path : List ℕ) → file_at (map stored_file fs) path ≡ file_bytes fs path
+files_stored [] path = refl
+files_stored (f ∷ fs) path = rw (nat_list_eq_equiv.symm f.tzid path) (by (bytes_eq path f.tzid) (at_text file_name fs path) (files_stored fs path))
   where
-    last : (t : Bool) → cond t (Some bytes) (file_at old path) ≡ option_or (option_map bytes_of (cond t (Some (one_file (name, bytes))) None))
-        (file_at old path)
-    last true = refl
-    last false = refl
-
-    step : (t : Bool) (e : List ℕ × List ℕ) (o p : Option ZoneFile) (f : Option (List ℕ))
-        → option_or (option_map bytes_of o) f ≡ option_or (option_map bytes_of p) (file_at old path)
-        → option_or (option_map bytes_of (cond t (Some (one_file e)) o)) f ≡ option_or (option_map bytes_of (cond t (Some (one_file e)) p)) (file_at old path)
-    step true e o p f h = refl
-    step false e o p f h = h
-
-    more : (es : List (List ℕ × List ℕ))
-        → option_or (option_map bytes_of (at_text file_name (files_kept es) path)) (if bytes_eq path name then Some bytes else file_at old path)
-        ≡ option_or (option_map bytes_of (at_text file_name (files_kept (es ++ (name, bytes) ∷ [])) path)) (file_at old path)
-    more [] = last (bytes_eq path name)
-    more (e ∷ es) = step (bytes_eq path e.0) e (at_text file_name (files_kept es) path) (at_text file_name (files_kept (es ++ (name, bytes) ∷ [])) path)
-        (if bytes_eq path name then Some bytes else file_at old path) (more es)
+    by : (b : Bool) (o : Option ZoneFile) → file_at (map stored_file fs) path ≡ option_map bytes_of o
+        → cond b (Some f.bytes) (file_at (map stored_file fs) path) ≡ option_map bytes_of (cond b (Some f) o)
+    by true o again = refl
+    by false o again = again
 
 pub merged_rises : (listed kept merged : List ListZone) → Rising entry_name kept → merged ≡ put_all entry_name listed kept → Rising entry_name merged
 merged_rises listed kept merged r is = subst (Rising entry_name) (sym is) (rising_put_all entry_name listed kept r)

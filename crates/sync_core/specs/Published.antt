@@ -49,6 +49,10 @@ bytes_of f = f.bytes
 abbrev pub file_bytes : List ZoneFile → List ℕ → Option (List ℕ)
 file_bytes files tzid = option_map bytes_of (at_text file_name files tzid)
 
+-- a file of a mirror as one of a store, under the identifier of its zone
+abbrev pub stored_file : ZoneFile → File
+stored_file f = record { path = f.tzid; bytes = f.bytes }
+
 -- the store has the files by their names, and no others
 abbrev pub HasFiles : List File → List ZoneFile → Type 0
 HasFiles stored files = (path : List ℕ) → file_at stored path ≡ file_bytes files path

@@ -19,6 +19,7 @@ mod listed;
 mod merging;
 
 // The release that it serves.
+mod mirror_files;
 mod publishing;
 
 // What may cross threads.
@@ -26,3 +27,4 @@ mod send_sync;
 
 pub use heard_type::{Heard, Settled};
 pub use mirror::Mirror;
+pub use mirror_files::MirrorFiles;

@@ -10,7 +10,8 @@ ghost use Rattle.sync_core.specs.declared.heard_type.Settled.TheVariants.{Holds}
 use crate::aliases::{aliases_in, drop_entries, drop_files};
 use crate::listed::in_order;
 use crate::merging::merged;
-use crate::publishing::{manifest, store};
+use crate::mirror_files::MirrorFiles;
+use crate::publishing::manifest;
 use crate::{Heard, Settled};
 use json_forms::{ListDoc, ListZone};
 use release_manifest::Manifest;
@@ -18,7 +19,7 @@ use std::alloc::Global;
 use std::collections::{BTreeMap, VecDeque};
 use std::marker::Model;
 use std::mem::replace;
-use td_base::{Ask, Bytes, MemoryStore, NoMemory};
+use td_base::{Ask, Bytes, NoMemory};
 
 /// The state of a secondary that follows a primary.
 #[derive(Drop)]
@@ -115,13 +116,13 @@ impl Mirror {
 
     /// The release that is held: its manifest, and a store that has each zone's file under the
     /// zone's identifier.
-    pub fn manifest(&self, alloc: Global) -> Result<(Manifest, MemoryStore), NoMemory>
+    pub fn manifest(&self, alloc: Global) -> Result<(Manifest, MirrorFiles<'_>), NoMemory>
         requires { self.now.pending ≡ [] }
         ensures manifest { IfOk result (λ r. r.0 ≡ manifest_of self.now) }
         ensures files { IfOk result (λ r. HasFiles r.1 self.now.files) }
     {
-        let told = manifest(alloc, self.entries.as_slice())?;
-        Ok((told, store(alloc, &self.files)?))
+        let stated = manifest(alloc, self.entries.as_slice())?;
+        Ok((stated, MirrorFiles::new(&self.files)))
     }
 
     /// Whether the list shows that the mirror holds the release of the primary.

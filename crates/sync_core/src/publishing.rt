@@ -1,14 +1,12 @@
 ghost use Rattle.std.specs.Prelude.{◌≡◌, map, IfOk, option_copied};
 ghost use Rattle.sync_core.specs.Keeping.{later_of};
-ghost use Rattle.sync_core.specs.Mirrors.{files_kept};
-ghost use Rattle.sync_core.specs.Published.{HasFiles, manifest_with, manifest_zone};
+ghost use Rattle.sync_core.specs.Published.{manifest_with, manifest_zone};
 ghost use Rattle.sync_core.specs.Published.{newest as newest_of};
 
 use json_forms::ListZone;
 use release_manifest::{Manifest, ManifestZone};
 use std::alloc::Global;
-use std::collections::BTreeMap;
-use td_base::{Bytes, Items, MemoryStore, NoMemory};
+use td_base::{Bytes, Items, NoMemory};
 use td_civil::{LO, Moment};
 
 /// The manifest of a release with these zones.
@@ -78,16 +76,4 @@ fn copies(alloc: Global, texts: &[Bytes]) -> Result<Items<Bytes>, NoMemory>
         copies.push(text.clone_in(alloc)?)?;
     }
     Ok(copies)
-}
-
-/// A store with the files, under their names.
-pub fn store(alloc: Global, files: &BTreeMap<Bytes, Bytes>) -> Result<MemoryStore, NoMemory>
-    ensures { IfOk result (λ stored. HasFiles stored (files_kept files.now.entries)) }
-{
-    let mut stored = MemoryStore::new(alloc);
-    let mut rest = files.iter();
-    while let Some((tzid, bytes)) = rest.next_back() {
-        stored.put(tzid.clone_in(alloc)?, bytes.clone_in(alloc)?)?;
-    }
-    Ok(stored)
 }

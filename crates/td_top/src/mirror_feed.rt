@@ -20,8 +20,8 @@ use mirror::sync;
 use release_manifest::Manifest;
 use std::alloc::Global;
 use std::sync::Wait;
-use sync_core::Mirror;
-use td_base::{MemoryStore, NoMemory, Upstream};
+use sync_core::{Mirror, MirrorFiles};
+use td_base::{NoMemory, Upstream};
 
 /// A mirror, the server that it follows, and the host name for its requests.
 pub struct Follow<'h, U: Upstream> {
@@ -89,7 +89,7 @@ fn publish_stated<R: Wait>(
     session: &mut Session,
     asked: &InstallPolicy<'_>,
     manifest: &Manifest,
-    store: &mut MemoryStore,
+    store: &mut MirrorFiles<'_>,
 ) -> ConsoleReply
     ensures { (s : MirrorState) → manifest.now ≡ manifest_of s → HasFiles store.old s.files
         → PublishesStated s session.old session.new (reply_bytes result) }
@@ -108,7 +108,7 @@ fn install<R: Wait>(
     session: &mut Session,
     asked: &InstallPolicy<'_>,
     manifest: &Manifest,
-    store: &mut MemoryStore,
+    store: &mut MirrorFiles<'_>,
 ) -> ConsoleReply
     ensures { (s : MirrorState) → manifest.now ≡ manifest_of s → HasFiles store.old s.files
         → (StatesLast (history_of session.old.installer.list) s → ⊥)

@@ -65,7 +65,7 @@ fn told(alloc: Global, row: &Row, zone: &Zone) -> Answer {
 /// Whether a zone made from lists that are parsed again has the same file.
 fn is_same_again(alloc: Global, zone: &Zone, bytes: Bytes) -> Result<bool, CaseFault> {
     match tzif_reader::read(alloc, bytes.as_slice()) {
-        Ok(lists) => match zone_from_lists(bytes, lists) {
+        Ok(lists) => match zone_from_lists(alloc, bytes, lists) {
             Ok(again) => Ok(file(&again) == file(zone)),
             Err(_) => Ok(false),
         },

@@ -8,6 +8,7 @@ use Rattle.posix_footer.specs.declared.rule_types.Footer.{Footer}
 use Rattle.posix_footer.specs.Lawful.{IsLawful, IsLawfulOffset}
 use Rattle.zone_meaning.specs.Faults.{zone_fault}
 use Rattle.zone_meaning.specs.State.{footer_meant}
+use Rattle.zone_meaning.specs.declared.zone_type.ZoneParts.{ZoneParts}
 
 -- the lists and the footer are those of the file, which has no fault
 pub record IsReadFrom (file : List ℕ) (lists : ZoneFile) (footer : Option Footer) : Type 0 where
@@ -15,6 +16,10 @@ pub record IsReadFrom (file : List ℕ) (lists : ZoneFile) (footer : Option Foot
   pub lists_are : lists ≡ lists_of file
   pub footer_is : footer ≡ footer_meant lists.footer
   pub lawful : IfSome footer IsLawful
+
+-- the parts of a zone are those of its file
+abbrev pub AreReadParts : ZoneParts → Type 0
+AreReadParts parts = IsReadFrom parts.file parts.lists parts.footer
 
 -- there is a type for each transition, and for the time before them, each offset is less than a
 -- day, and the transitions rise

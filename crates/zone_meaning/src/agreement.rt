@@ -13,6 +13,7 @@ ghost use Rattle.zone_meaning.specs.State.{after};
 
 use crate::Zone;
 use crate::lookup::state_after;
+use crate::zone_type::parts_of;
 use posix_footer::Footer;
 use td_civil::{HI, LO, Moment};
 use tzif_reader::ZoneFile;
@@ -24,9 +25,10 @@ use tzif_reader::ZoneFile;
 pub fn footer_agrees(zone: &Zone) -> bool
     ensures { result ≡ spec.footer_agrees (cut.lists_of zone.now) }
 {
-    match &zone.footer {
+    let parts = parts_of(zone);
+    match &parts.footer {
         None => true,
-        Some(footer) => last_goes_on(&zone.lists, footer),
+        Some(footer) => last_goes_on(&parts.lists, footer),
     }
 }
 

@@ -8,6 +8,7 @@ ghost use Rattle.zone_meaning.specs.State.{zone_state};
 
 use crate::Zone;
 use crate::lookup::type_after;
+use crate::zone_type::parts_of;
 use td_civil::{LO, Moment};
 use tzif_reader::ZoneFile;
 
@@ -16,7 +17,7 @@ use tzif_reader::ZoneFile;
 pub(crate) fn alike_until(one: &Zone, two: &Zone) -> Moment
     ensures { AreAlike (zone_state one.now) (zone_state two.now) LO result.seconds }
 {
-    alike_until_lists(&one.lists, &two.lists)
+    alike_until_lists(&parts_of(one).lists, &parts_of(two).lists)
 }
 
 /// The same for the lists of two files.

@@ -11,6 +11,7 @@ ghost use Rattle.zone_meaning.specs.State.{footer_meant, zone_state};
 ghost use Rattle.zone_meaning.specs.Walks.{HaveBegun};
 
 use crate::Zone;
+use crate::zone_type::parts_of;
 use td_civil::{HI, LO, Moment};
 use tzif_reader::ZoneFile;
 
@@ -22,7 +23,7 @@ pub(crate) fn decided_by(one: &Zone, two: &Zone) -> Moment
     ensures range { IsRange LO result.seconds }
     ensures decided { Decides (zone_state one.now) (zone_state two.now) result.seconds }
 {
-    decided_by_lists(&one.lists, &two.lists)
+    decided_by_lists(&parts_of(one).lists, &parts_of(two).lists)
 }
 
 /// The same for the lists of two files. After the last transition of both, the footers decide. With

@@ -11,6 +11,7 @@ ghost use Rattle.zone_meaning.specs.Rules.{FollowsRules};
 ghost use Rattle.zone_meaning.specs.State as state;
 
 use crate::Zone;
+use crate::zone_type::parts_of;
 use posix_footer::Footer;
 use td_civil::{Local, Moment};
 use tzif_reader::ZoneFile;
@@ -25,7 +26,8 @@ pub fn at(zone: &Zone, t: Moment) -> Local
         (state.footer_meant (cut.lists_of zone.now).footer) t.seconds result }
     ensures offset { IsWithin 86_399 result.offset }
 {
-    state_at(&zone.lists, &zone.footer, t)
+    let parts = parts_of(zone);
+    state_at(&parts.lists, &parts.footer, t)
 }
 
 /// The state that a file's lists and its footer give at a moment.

@@ -7,6 +7,7 @@ ghost use Rattle.zone_meaning.specs.WalkLeft.{HandsOut};
 use crate::Zone;
 use crate::lookup::{begun, state_when};
 use crate::walk::Walk;
+use crate::zone_type::parts_of;
 use std::alloc::Global;
 use std::marker::Model;
 use td_base::{Items, NoMemory};
@@ -42,8 +43,9 @@ impl<'a> Changes<'a> {
         requires { IsRange a.seconds b.seconds }
         ensures { result ≡ observed (zone_state zone.now) a.seconds b.seconds }
     {
-        let begun = begun(&zone.lists, a);
-        let state = state_when(&zone.lists, &zone.footer, begun, a);
+        let parts = parts_of(zone);
+        let begun = begun(&parts.lists, a);
+        let state = state_when(&parts.lists, &parts.footer, begun, a);
         let first = Observance {
             onset: a,
             from: state.offset,
@@ -52,8 +54,8 @@ impl<'a> Changes<'a> {
             name: state.name.copy(),
         };
         let walk = Walk {
-            lists: &zone.lists,
-            footer: &zone.footer,
+            lists: &parts.lists,
+            footer: &parts.footer,
             end: b,
             at: a,
             begun,

@@ -8,6 +8,7 @@ ghost use Rattle.tzif_reader.specs.declared.tzif_fault.TzifFault.{TzifFault};
 ghost use Rattle.zone_meaning.specs.Faults.{footer_text_fault, in_file, zone_fault};
 ghost use Rattle.zone_meaning.specs.State.{footer_meant};
 
+use crate::zone_type::{ZoneParts, zone_of_parts};
 use crate::{Zone, ZoneFault};
 use posix_footer::{Footer, FooterFault};
 use std::alloc::Global;
@@ -25,25 +26,28 @@ pub fn zone_of(alloc: Global, file: Bytes) -> Result<Zone, ZoneFault>
     ensures judged { (e : TzifFault) → first_fault file ≡ Some e → result ≡ Err (in_file e) }
 {
     let lists = tzif_reader::read(alloc, file.as_slice())?;
-    let zone = zone_from_lists(file, lists)?;
+    let zone = zone_from_lists(alloc, file, lists)?;
     Ok(zone)
 }
 
-/// The zone of a file whose lists have been read already. It allocates nothing.
+/// The zone of a file whose lists have been read already. `Footer` is returned where its footer is
+/// neither empty nor a TZ string.
 #[tactic(auto, using(crate::proofs::Refusals::zone_clear, crate::proofs::Refusals::footer_refused))]
-pub fn zone_from_lists(file: Bytes, lists: ZoneFile) -> Result<Zone, FooterFault>
+pub fn zone_from_lists(alloc: Global, file: Bytes, lists: ZoneFile) -> Result<Zone, ZoneFault>
     requires no_fault { first_fault file ≡ None }
     requires lists { lists ≡ cut.lists_of file }
     ensures found { IfOk result (λ z. z ≡ file) }
     ensures no_fault { OnOk result (zone_fault file ≡ None) }
-    ensures fault { IfErr result (λ e. zone_fault file ≡ Some (ZoneFault.Footer e)) }
+    ensures fault { IfErr result (λ e. e ≢ ZoneFault.NoMemory → zone_fault file ≡ Some e) }
 {
     let footer = footer_in(&lists.footer)?;
-    Ok(Zone {
+    let parts = ZoneParts {
         file,
         lists,
         footer,
-    })
+    };
+    let zone = zone_of_parts(alloc, parts)?;
+    Ok(zone)
 }
 
 /// The footer that a text encodes; None for an empty text.

@@ -1,5 +1,5 @@
 //! Zones as data of releases.
-use crate::Zone;
+use crate::{Zone, file};
 use catalogue::ZoneData;
 
 impl ZoneData for Zone {
@@ -11,7 +11,7 @@ impl ZoneData for Zone {
     ghost sound = { IsSound };
 
     fn file_bytes(&self) -> &[u8] {
-        self.file.as_slice()
+        file(self)
     }
 
     ghost lengths = { sound_lengths };

@@ -1,24 +1,32 @@
-ghost use Rattle.std.specs.Prelude.{◌≡◌, length, None};
+ghost use Rattle.std.specs.Prelude.{◌≡◌, IfOk, length, None};
 ghost use Rattle.tzif_reader.specs.Cut as cut;
 ghost use Rattle.std.specs.Option.{IfSome};
 ghost use Rattle.posix_footer.specs.Lawful.{IsLawful};
 ghost use Rattle.zone_meaning.specs.Faults.{zone_fault};
-ghost use Rattle.zone_meaning.specs.Kept.{HasTypes};
+ghost use Rattle.zone_meaning.specs.Kept.{AreReadParts, HasTypes};
 ghost use Rattle.zone_meaning.specs.State.{footer_meant};
 
 use posix_footer::Footer;
+use std::alloc::{AllocError, Global};
 use std::marker::Model;
-use td_base::Bytes;
+use std::sync::Arc;
+use td_base::{Bytes, NoMemory};
 use tzif_reader::ZoneFile;
 
-/// A time zone: its file, with the lists and the footer that were read from it. Contracts see it as
-/// the bytes of the file.
+/// A zone's file, with the lists and the footer that were read from it.
 #[derive(Drop)]
-pub struct Zone {
+pub(crate) struct ZoneParts {
     pub(crate) file: Bytes,
     pub(crate) lists: ZoneFile,
     /// None where the footer's text is empty.
     pub(crate) footer: Option<Footer>,
+}
+
+/// A time zone: its file, with the lists and the footer that were read from it. Contracts see it as
+/// the bytes of the file. What was read is shared by all that [`Zone::share`] gives.
+#[derive(Drop)]
+pub struct Zone {
+    parts: Arc<ZoneParts>,
 }
 
 impl Model for Zone {
@@ -26,26 +34,56 @@ impl Model for Zone {
 
     ghost Value = { List ℕ };
 
-    ghost use Rattle.zone_meaning.specs.Faults.{zone_fault};
-    ghost use Rattle.zone_meaning.specs.Kept.{IsReadFrom};
+    ghost use Rattle.std.specs.Arc.{arc_value};
+    ghost use Rattle.zone_meaning.specs.Kept.{AreReadParts};
 
-    ghost view = { λ z. z.file };
+    ghost view = { λ z. (arc_value z.parts).file };
 
-    ghost invariant = { λ z. IsReadFrom z.file z.lists z.footer };
+    ghost invariant = { λ z. AreReadParts (arc_value z.parts) };
+}
+
+impl Zone {
+    /// The same zone once more. It copies nothing, and is refused as out of memory if the zone has
+    /// too many owners.
+    pub fn share(&self) -> Result<Zone, NoMemory>
+        ensures { IfOk result (λ zone. zone ≡ self.now) }
+    {
+        match Arc::try_clone(&self.parts) {
+            Ok(parts) => Ok(Zone { parts }),
+            Err(AllocError) => Err(NoMemory),
+        }
+    }
+}
+
+/// The zone of a file, from the lists and the footer that were read from it.
+pub(crate) fn zone_of_parts(alloc: Global, parts: ZoneParts) -> Result<Zone, NoMemory>
+    requires { AreReadParts parts }
+    ensures { IfOk result (λ zone. zone ≡ parts.file) }
+{
+    let parts = Arc::new(alloc, parts)?;
+    Ok(Zone { parts })
+}
+
+/// The zone's file, with what was read from it.
+pub(crate) fn parts_of(zone: &Zone) -> &ZoneParts
+    ensures file { result.now.file ≡ zone.now }
+    ensures read { AreReadParts result.now }
+{
+    &zone.parts
 }
 
 /// The bytes of the zone's file.
 pub fn file(zone: &Zone) -> &[u8]
     ensures { result.now ≡ zone.now }
 {
-    zone.file.as_slice()
+    parts_of(zone).file.as_slice()
 }
 
 /// How many leap-second records the zone's file has.
 pub fn leap_count(zone: &Zone) -> usize
     ensures { result ≡ length (cut.lists_of zone.now).leaps }
 {
-    zone.lists.leaps.len()
+    parts_of(zone).lists.leaps.len()
 }
 
 /// The lists that were read from the zone's file.
@@ -54,7 +92,7 @@ pub fn lists(zone: &Zone) -> &ZoneFile
     ensures lists { result.now ≡ cut.lists_of zone.now }
     ensures types { HasTypes result.now }
 {
-    &zone.lists
+    &parts_of(zone).lists
 }
 
 /// The rule that the TZ string of the zone's file encodes, or None where it is empty.
@@ -63,5 +101,5 @@ pub fn footer(zone: &Zone) -> &Option<Footer>
     ensures footer { result.now ≡ footer_meant (cut.lists_of zone.now).footer }
     ensures lawful { IfSome result.now IsLawful }
 {
-    &zone.footer
+    &parts_of(zone).footer
 }

@@ -26,12 +26,12 @@ returns-clause-found g c =
     finds_as _ _ _ _ _ _
     (λ files. zone_read files c.args.dir.now c.args.number c.args.zone.now c.as_slice.result.now c.in_ok-file.file _ c.as_slice.ensures
     c.in_ok-meant.ensures.judged
-    (c.in_ok-from_slice.ensures ∙ c.as_slice-2.ensures) (c.in_ok-copy_texts.ensures ∙ c.as_slice-3.ensures) c.in_ok-meant.ensures.zone.0)
+    (c.in_ok-from_slice.ensures ∙ c.as_slice-3.ensures) (c.in_ok-copy_texts.ensures ∙ c.as_slice-4.ensures) c.in_ok-meant.ensures.zone.0)
     (λ e. absurd (ok_is_no_err _ _ e)) c.in_ok-file.ensures
 
 pub returns-clause-of : goal.returns-clause-of
 returns-clause-of g c = record {
-  tzid = c.in_ok-from_slice.ensures ∙ c.as_slice-2.ensures;
-  aliases = ap (rising_by (λ a. a)) (c.in_ok-copy_texts.ensures ∙ c.as_slice-3.ensures);
+  tzid = c.in_ok-from_slice.ensures ∙ c.as_slice-3.ensures;
+  aliases = ap (rising_by (λ a. a)) (c.in_ok-copy_texts.ensures ∙ c.as_slice-4.ensures);
   file = rw c.in_ok-meant.ensures.zone.0 c.in_ok-meant.ensures.zone.1;
 }

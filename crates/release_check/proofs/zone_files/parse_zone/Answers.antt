@@ -3,9 +3,9 @@ use Rattle.tzif_reader.specs.Cut.{lists_of}
 use Rattle.tzif_reader.specs.Faults.{first_fault}
 use Rattle.std.proofs.lemmas.Result.{err_from_is_err_and}
 use Rattle.release_check.specs.Faults.{meaning_fault}
-use Rattle.release_check.proofs.ZoneFiles.{file_fault-leaps, file_fault-footer, file_fault-meant}
-use Rattle.release_check.proofs.ZoneFiles.{judged_by_reader, no_leaps, sound_zone}
-use Rattle.release_check.proofs.zone_files.zone_in.Goals as goal
+use Rattle.release_check.proofs.ZoneFiles.{file_fault-leaps, file_fault-meant}
+use Rattle.release_check.proofs.ZoneFiles.{judged_by_reader, judged_by_zone, no_leaps, sound_zone}
+use Rattle.release_check.proofs.zone_files.parse_zone.Goals as goal
 
 pub returns-in-Err-clause-judged : goal.returns-in-Err-clause-judged
 returns-in-Err-clause-judged c =
@@ -19,12 +19,10 @@ returns-then-len-gt0-clause-judged c =
 
 pub returns-in-Err-zone_from_lists-clause-judged : goal.returns-in-Err-zone_from_lists-clause-judged
 returns-in-Err-zone_from_lists-clause-judged c =
-    let none : first_fault c.args.file ≡ None = ap first_fault (sym c.as_slice.ensures) ∙ c.in-Ok.ensures.no_fault in (
-      λ e. cc,
-      λ _. file_fault-footer c.args.number c.args.file _ none
-          (no_leaps c.args.file c.in-Ok.lists (c.in-Ok.ensures.exact ∙ ap lists_of c.as_slice.ensures) (omega arith))
-          c.in-Err-zone_from_lists.ensures.fault,
-    )
+    let none : first_fault c.args.file ≡ None = ap first_fault (sym c.as_slice.ensures) ∙ c.in-Ok.ensures.no_fault in
+    rw (c.of_zone.ensures) (judged_by_zone c.args.number c.args.file c.in-Err-zone_from_lists.fault none
+      (no_leaps c.args.file c.in-Ok.lists (c.in-Ok.ensures.exact ∙ ap lists_of c.as_slice.ensures) (omega arith))
+      c.in-Err-zone_from_lists.ensures.fault)
 
 pub returns-in_err-judge_zone-clause-judged : goal.returns-in_err-judge_zone-clause-judged
 returns-in_err-judge_zone-clause-judged c =
