@@ -31,7 +31,8 @@ answer_among fs H role head ask.Capabilities = answer_for H role head ask.Capabi
 answer_among fs H role head (ask.List since) = answer_for H role head (ask.List since)
 answer_among fs H role head (ask.Find pattern) = answer_for H role head (ask.Find pattern)
 answer_among fs H role head (ask.Get tzid start end) =
-    zone_answer_among fs tzid (option_and_then (slice_get (meta H)) (place_named H tzid)) head.accept
+    zone_answer_among fs tzid (option_and_then (slice_get (meta H)) (place_named H tzid))
+    head.accept
     head.none_match start end
 answer_among fs H role head (ask.Expand tzid start end) =
     answer_for H role head (ask.Expand tzid start end)

@@ -101,7 +101,7 @@ pub nothing_left : (old : List ContentData) (done all : List Changed) (cs : List
 nothing_left old done all cs i end left =
     sym (append-nil done) ∙ ap (λ xs. done ++ content_changes old xs) (sym (drop_all i cs end)) ∙ left
 
--- where zones are lent
+-- where zones are borrowed
 pub all_listed : {R : Type 0} (seen : R → ContentData) (old : List ContentData) (done all : List Changed) (zones : List R) (i : ℕ) → length zones ≤ i
     → done ++ content_changes old (drop i (map seen zones)) ≡ all → done ≡ all
 all_listed seen old done all zones i end left = nothing_left old done all (map seen zones) i (rw (length-map zones seen) end) left

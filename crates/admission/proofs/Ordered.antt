@@ -1,4 +1,4 @@
--- Items in rising order, where they are lent.
+-- Items in rising order, where they are borrowed.
 use Rattle.std.proofs.Common.{◌≡◌, ℕ, suc, ◌+◌, ◌<◌, ◌≤◌, Bool, true, false, ◌&&◌, List, [], ◌∷◌, map, drop, length, get_or, refl, sym, ap, ◌∙◌, arith, drop-cons, add-one}
 use Rattle.std.specs.List.Sorted.{IsSortedBy, IsStableBy}
 use Rattle.std.specs.Cmp.Lexicographic.{pointwise}
@@ -9,11 +9,11 @@ use Rattle.catalogue.specs.Releases.{ContentData, content_data}
 use Rattle.catalogue.specs.declared.release.Content.{Content}
 use Rattle.catalogue.proofs.Sorting.{earlier, map-rising_by, sorted_is}
 
-pub lent_rising : {R X : Type 0} (now : R → X) (text : X → List ℕ) (lent sorted : List R) (items : List X)
-    → IsSortedBy (earlier (λ (r : R). text (now r))) sorted → IsStableBy (earlier (λ (r : R). text (now r))) lent sorted → map now lent ≡ items
+pub borrowed_rising : {R X : Type 0} (now : R → X) (text : X → List ℕ) (borrowed sorted : List R) (items : List X)
+    → IsSortedBy (earlier (λ (r : R). text (now r))) sorted → IsStableBy (earlier (λ (r : R). text (now r))) borrowed sorted → map now borrowed ≡ items
     → map now sorted ≡ rising_by text items
-lent_rising {R = R} now text lent sorted items in_order stable are =
-    ap (map now) (sorted_is (λ (r : R). text (now r)) lent sorted in_order stable) ∙ map-rising_by now text lent ∙ ap (rising_by text) are
+borrowed_rising {R = R} now text borrowed sorted items in_order stable are =
+    ap (map now) (sorted_is (λ (r : R). text (now r)) borrowed sorted in_order stable) ∙ map-rising_by now text borrowed ∙ ap (rising_by text) are
 
 -- zones in rising order, as they are seen
 pub contents_rise : {Z : Type 0} (bytes : Z → List ℕ) (sorted zones : List (Content Z)) → sorted ≡ rising_by (λ (c : Content Z). c.tzid) zones
@@ -54,19 +54,19 @@ lengths_apart (x ∷ xs) (y ∷ ys) h = by (bytes_eq x y) (lengths_apart xs ys (
     by true rest = rest
     by false rest = refl
 
--- the same where one row is lent
-read_at : {R : Type 0} (now : R → List ℕ) (lent : List R) (i : ℕ) (r : R) → i < length lent → r ≡ get_or lent i r
-    → now r ≡ get_or (map now lent) i (now r)
-read_at now lent i r lt is = sym (get_or-map now lent i r (now r) lt ∙ ap now (sym is))
+-- the same where one row is borrowed
+read_at : {R : Type 0} (now : R → List ℕ) (borrowed : List R) (i : ℕ) (r : R) → i < length borrowed → r ≡ get_or borrowed i r
+    → now r ≡ get_or (map now borrowed) i (now r)
+read_at now borrowed i r lt is = sym (get_or-map now borrowed i r (now r) lt ∙ ap now (sym is))
 
-pub lent_next : {R : Type 0} (now : R → List ℕ) (lent : List R) (ys : List (List ℕ)) (i : ℕ) (r : R) (y : List ℕ) → length ys ≡ length lent
-    → i < length lent → r ≡ get_or lent i r → y ≡ get_or ys i y → bytes_eq (now r) y ≡ true → SameLeft (map now lent) ys i
-    → SameLeft (map now lent) ys (i + 1)
-lent_next now lent ys i r y same lt hr hy equal left =
-    same_next (map now lent) ys i (now r) y (rw (length-map lent now) lt) (omega arith) (read_at now lent i r lt hr) hy equal left
+pub borrowed_next : {R : Type 0} (now : R → List ℕ) (borrowed : List R) (ys : List (List ℕ)) (i : ℕ) (r : R) (y : List ℕ) → length ys ≡ length borrowed
+    → i < length borrowed → r ≡ get_or borrowed i r → y ≡ get_or ys i y → bytes_eq (now r) y ≡ true → SameLeft (map now borrowed) ys i
+    → SameLeft (map now borrowed) ys (i + 1)
+borrowed_next now borrowed ys i r y same lt hr hy equal left =
+    same_next (map now borrowed) ys i (now r) y (rw (length-map borrowed now) lt) (omega arith) (read_at now borrowed i r lt hr) hy equal left
 
-pub lent_other : {R : Type 0} (now : R → List ℕ) (lent : List R) (ys : List (List ℕ)) (i : ℕ) (r : R) (y : List ℕ) → length ys ≡ length lent
-    → i < length lent → r ≡ get_or lent i r → y ≡ get_or ys i y → bytes_eq (now r) y ≡ false → SameLeft (map now lent) ys i
-    → false ≡ pointwise bytes_eq (map now lent) ys
-lent_other now lent ys i r y same lt hr hy other left =
-    other_at (map now lent) ys i (now r) y (rw (length-map lent now) lt) (omega arith) (read_at now lent i r lt hr) hy other left
+pub borrowed_other : {R : Type 0} (now : R → List ℕ) (borrowed : List R) (ys : List (List ℕ)) (i : ℕ) (r : R) (y : List ℕ) → length ys ≡ length borrowed
+    → i < length borrowed → r ≡ get_or borrowed i r → y ≡ get_or ys i y → bytes_eq (now r) y ≡ false → SameLeft (map now borrowed) ys i
+    → false ≡ pointwise bytes_eq (map now borrowed) ys
+borrowed_other now borrowed ys i r y same lt hr hy other left =
+    other_at (map now borrowed) ys i (now r) y (rw (length-map borrowed now) lt) (omega arith) (read_at now borrowed i r lt hr) hy other left

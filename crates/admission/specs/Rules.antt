@@ -1,6 +1,6 @@
 -- What each kind of rule allows, and which of some chosen rules is the first that refuses.
-use Rattle.std.specs.Prelude.{◌≡◌, ℕ, ◌<◌, ◌^◌, List, length, Bool, true, false, not, ℤ, pos, int_le}
-use Rattle.std.specs.Prelude.{Option, None, Some}
+use Rattle.std.specs.Prelude.{◌≡◌, ℕ, ◌<◌, ◌^◌, List, length, Bool, true, false, not, ℤ, pos}
+use Rattle.std.specs.Prelude.{int_le, Option, None, Some}
 use Rattle.std.specs.List.{list_all, list_any, position_from}
 use Rattle.td_civil.specs.declared.moment_type.Moment.{Moment}
 use Rattle.admission.specs.declared.delta.Delta.{Delta}

@@ -127,14 +127,14 @@ fn is_same(alloc: Global, zone: &Content<Zone>, had: &Content<Zone>) -> Result<b
 }
 
 /// Whether borrowed texts equal these, one for one.
-fn are_texts(lent: &[&Bytes], texts: &[Bytes]) -> bool
-    ensures { result ≡ pointwise bytes_eq (map (λ a. a.now) lent.now) texts.now }
+fn are_texts(borrowed: &[&Bytes], texts: &[Bytes]) -> bool
+    ensures { result ≡ pointwise bytes_eq (map (λ a. a.now) borrowed.now) texts.now }
 {
-    if lent.len() != texts.len() {
+    if borrowed.len() != texts.len() {
         return false;
     }
-    for at in 0..lent.len() {
-        if !is_text(lent[at], &texts[at]) {
+    for at in 0..borrowed.len() {
+        if !is_text(borrowed[at], &texts[at]) {
             return false;
         }
     }

@@ -57,7 +57,8 @@ pub record IsKeyNow (desk : DeskView (Catalogue (List ℕ))) (role : Role) (key 
 -- each of these answers is that to its key
 abbrev pub AreAnswers : DeskView (Catalogue (List ℕ)) → Role → List (Key × Answer) → Type 0
 AreAnswers desk role pairs =
-    (key : Key) (answer : Answer) → Contains pairs (key, answer) → IsAnswerToKey desk role key answer
+    (key : Key) (answer : Answer) → Contains pairs (key, answer)
+    → IsAnswerToKey desk role key answer
 
 -- each kept answer is that to its key
 pub record KeepsAnswers (desk : DeskView (Catalogue (List ℕ))) (role : Role) (k : KeptAnswers)

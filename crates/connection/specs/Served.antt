@@ -163,8 +163,8 @@ EndsSo answer s before now end.NoMemory = IsOutOfMemory answer s before now
 
 -- The connection was served over a history of so many releases, while its counts of failed reads
 -- and failed writes went from the first to the second.
-pub record Served (answer : ℕ → Head → Answer) (count : ℕ) (s : Transcript) (before now : FaultCounts)
-    (e : End) : Type 0 where
+pub record Served (answer : ℕ → Head → Answer) (count : ℕ) (s : Transcript)
+    (before now : FaultCounts) (e : End) : Type 0 where
   pub needed : IsNeeded s.read
   pub places : ArePlaces count s.places
   pub ends : EndsSo answer s before now e

@@ -46,7 +46,8 @@ pub record Request : Type 0 where
 -- the requests of a stretch, the first of which comes after so many
 abbrev pub numbered_requests : ℕ → List Head → List Request
 numbered_requests n [] = []
-numbered_requests n (head ∷ heads) = record { before = n; head = head } ∷ numbered_requests (n + 1) heads
+numbered_requests n (head ∷ heads) =
+    record { before = n; head = head } ∷ numbered_requests (n + 1) heads
 
 -- the replies to requests, each answered at its place
 abbrev pub replies_to : (answer : ℕ → Head → Answer) → List Request → List ℕ → List ℕ

@@ -13,8 +13,8 @@ use http_request::gives;
 /// decrease. The whole connection was then served as the last stretch says, after the requests of
 /// the stretches before it.
 pub fn stretches_join()
-    ensures { (answer : ℕ → Head → Answer) (count : ℕ) (stretches : List Transcript) (last : Transcript)
-        (before now : FaultCounts) (end : End)
+    ensures { (answer : ℕ → Head → Answer) (count : ℕ) (stretches : List Transcript)
+        (last : Transcript) (before now : FaultCounts) (end : End)
         → AllGoOn answer stretches → Served answer count last before now end
         → NeverFall (joined_transcripts stretches last).places
         → IsServedWhole answer count (joined_transcripts stretches last) before now end }

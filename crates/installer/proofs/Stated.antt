@@ -202,9 +202,9 @@ stated_count files (z ∷ zs) [] e = absurd (some_more (stated_content files z) 
 stated_count files (z ∷ zs) (c ∷ cs) e =
     omega (arith, stated_count files zs cs ((both (stated_content files z) (stated_contents files zs) c cs e).1))
 
-pub zones_differ : {R : Type 0} (f : R → ManifestZone) (lent : List R) (cs : List ContentData) → (length lent ≡ length cs → ⊥)
-    → (files : List File) → stated_contents files (map f lent) ≡ Some cs → ⊥
-zones_differ f lent cs other files e = other (sym (length-map lent f) ∙ stated_count files (map f lent) cs e)
+pub zones_differ : {R : Type 0} (f : R → ManifestZone) (borrowed : List R) (cs : List ContentData) → (length borrowed ≡ length cs → ⊥)
+    → (files : List File) → stated_contents files (map f borrowed) ≡ Some cs → ⊥
+zones_differ f borrowed cs other files e = other (sym (length-map borrowed f) ∙ stated_count files (map f borrowed) cs e)
 
 -- ---- the last release
 
@@ -220,9 +220,9 @@ served_as files m H r last = by (last_release H) last
 
 -- ---- two rows, item by item
 
--- an item of a row that is lent
-pub lent_at : {R X : Type 0} (f : R → X) (lent : List R) (i : ℕ) (r : R) → i < length lent → r ≡ get_or lent i r → slice_get (map f lent) i ≡ Some (f r)
-lent_at f lent i r less is = slice_get-map f lent i ∙ ap (option_map f) (slice_get_read lent (length lent) i r refl less is)
+-- an item of a row that is borrowed
+pub borrowed_at : {R X : Type 0} (f : R → X) (borrowed : List R) (i : ℕ) (r : R) → i < length borrowed → r ≡ get_or borrowed i r → slice_get (map f borrowed) i ≡ Some (f r)
+borrowed_at f borrowed i r less is = slice_get-map f borrowed i ∙ ap (option_map f) (slice_get_read borrowed (length borrowed) i r refl less is)
 
 abbrev pub Agree : {X : Type 0} → List X → List X → ℕ → Type 0
 Agree xs ys i = (xs ≡ ys) ↔ (drop i xs ≡ drop i ys)
@@ -255,16 +255,16 @@ pub texts_differ : (xs ys : List (List ℕ)) (i : ℕ) (x y : List ℕ) (so : Bo
 texts_differ xs ys i x y so hx hy test is =
     (λ t. absurd (cc), λ e. absurd (differ_at xs ys i x y hx hy (λ same. let t = test.1 same in cc (t, is)) e))
 
-pub lengths_differ : {R : Type 0} (f : R → List ℕ) (lent : List R) (ys : List (List ℕ)) → (length lent ≡ length ys → ⊥) → IsTrue false ↔ (map f lent ≡ ys)
-lengths_differ f lent ys other = (λ t. absurd (cc), λ e. absurd (other (sym (length-map lent f) ∙ ap length e)))
+pub lengths_differ : {R : Type 0} (f : R → List ℕ) (borrowed : List R) (ys : List (List ℕ)) → (length borrowed ≡ length ys → ⊥) → IsTrue false ↔ (map f borrowed ≡ ys)
+lengths_differ f borrowed ys other = (λ t. absurd (cc), λ e. absurd (other (sym (length-map borrowed f) ∙ ap length e)))
 
--- ---- in rising order, where the items are lent
+-- ---- in rising order, where the items are borrowed
 
-pub lent_rising : {R X : Type 0} (now : R → X) (text : X → List ℕ) (lent sorted : List R) (items : List X)
-    → IsSortedBy (earlier (λ (r : R). text (now r))) sorted → IsStableBy (earlier (λ (r : R). text (now r))) lent sorted → map now lent ≡ items
+pub borrowed_rising : {R X : Type 0} (now : R → X) (text : X → List ℕ) (borrowed sorted : List R) (items : List X)
+    → IsSortedBy (earlier (λ (r : R). text (now r))) sorted → IsStableBy (earlier (λ (r : R). text (now r))) borrowed sorted → map now borrowed ≡ items
     → map now sorted ≡ rising_by text items
-lent_rising {R = R} now text lent sorted items in_order stable are =
-    ap (map now) (sorted_is (λ (r : R). text (now r)) lent sorted in_order stable) ∙ map-rising_by now text lent ∙ ap (rising_by text) are
+borrowed_rising {R = R} now text borrowed sorted items in_order stable are =
+    ap (map now) (sorted_is (λ (r : R). text (now r)) borrowed sorted in_order stable) ∙ map-rising_by now text borrowed ∙ ap (rising_by text) are
 
 -- ---- an item that is held
 

@@ -34,8 +34,8 @@ RefusedBy gives rules H (fault.Check f) = Blames f (gives (before_of H) (Err f))
 RefusedBy gives rules H (fault.Policy k) =
     (r : ReleaseData) × gives (before_of H) (Ok r) × (refusal rules H r ≡ Some k)
 
--- the release that it gives after the history, which no rule refuses, has joined it, or it gives the
--- fault
+-- the release that it gives after the history, which no rule refuses, has joined it, or it gives
+-- the fault
 abbrev pub InstalledBy : {A : Type 0} → (Before → Result ReleaseData CheckFault → Type 0)
     → List Chosen → List ReleaseData → (A → List ReleaseData) → Result A InstallFault → Type 0
 InstalledBy gives rules H history (Ok a) =

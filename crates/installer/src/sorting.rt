@@ -42,21 +42,21 @@ fn compare<T: Ranked>(a: &T, b: &T) -> Ordering
 }
 
 /// The items, borrowed one by one.
-fn lent<T>(alloc: Global, items: &[T]) -> Result<Vec<&T>, NoMemory>
-    ensures { IfOk result (λ lent. map (λ x. x.now) lent.items ≡ items.now) }
+fn borrow_all<T>(alloc: Global, items: &[T]) -> Result<Vec<&T>, NoMemory>
+    ensures { IfOk result (λ borrowed. map (λ x. x.now) borrowed.items ≡ items.now) }
 {
-    let mut lent = Vec::with_capacity(alloc, items.len())?;
+    let mut borrowed = Vec::with_capacity(alloc, items.len())?;
     for item in items {
-        lent.push(item)?;
+        borrowed.push(item)?;
     }
-    Ok(lent)
+    Ok(borrowed)
 }
 
 /// The items in rising order. Items of the same text keep their order.
 pub fn rising<T: Ranked>(alloc: Global, items: &[T]) -> Result<Vec<&T>, NoMemory>
     ensures { IfOk result (λ sorted. map (λ x. x.now) sorted.items ≡ rising_by T.text items.now) }
 {
-    let mut sorted = lent(alloc, items)?;
+    let mut sorted = borrow_all(alloc, items)?;
     sorted.sort_by(|a, b| compare(*a, *b))?;
     Ok(sorted)
 }

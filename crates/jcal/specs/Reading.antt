@@ -58,7 +58,8 @@ one_property_read read (p ∷ []) = read p
 one_property_read read properties = None
 
 -- and of the property, if there is one
-abbrev pub one_property_if_any : {B : Type 0} → (Property → Option B) → List Property → Option (Option B)
+abbrev pub one_property_if_any : {B : Type 0} → (Property → Option B) → List Property
+    → Option (Option B)
 one_property_if_any read [] = Some None
 one_property_if_any read (p ∷ []) = option_map Some (read p)
 one_property_if_any read properties = None
@@ -111,7 +112,8 @@ pub record Entry : Type 0 where
 
 abbrev pub entries_of_data : Members → List Entry
 entries_of_data no_members = []
-entries_of_data (member name value rest) = record { name = name; value = value } ∷ entries_of_data rest
+entries_of_data (member name value rest) =
+    record { name = name; value = value } ∷ entries_of_data rest
 
 -- what is read of the value of that name, if there is one
 abbrev pub entry_read : {B : Type 0} → (Data → Option B) → List Entry → Option (Option B)
@@ -150,7 +152,8 @@ abbrev pub recur_of_entries : List Entry → Option Recur
 recur_of_entries entries =
     if list_all is_rule_entry entries
     then yearly (entry_named (codes "freq") (word_in (codes "YEARLY")) entries)
-    (recur_with_fields (form_in_entries entries) (entry_named (codes "until") (string_in jcal_utc_in) entries))
+    (recur_with_fields (form_in_entries entries)
+    (entry_named (codes "until") (string_in jcal_utc_in) entries))
     else None
 
 unfoldable pub recur_in_data : Data → Option Recur
@@ -175,14 +178,18 @@ unfoldable pub part_of_properties : Bool → List Property → Option Part
 part_of_properties dst ps =
     if list_all is_part_property ps
     then part_with_fields dst
-    (one_property_read (value_in_property (codes "date-time") (string_in jcal_local_in)) (properties_named (codes "dtstart") ps))
+    (one_property_read (value_in_property (codes "date-time") (string_in jcal_local_in))
+    (properties_named (codes "dtstart") ps))
     (one_property_read (value_in_property (codes "utc-offset") (string_in jcal_offset_in))
     (properties_named (codes "tzoffsetfrom") ps))
-    (one_property_read (value_in_property (codes "utc-offset") (string_in jcal_offset_in)) (properties_named (codes "tzoffsetto") ps))
-    (one_property_read (value_in_property (codes "text") (string_in Some)) (properties_named (codes "tzname") ps))
+    (one_property_read (value_in_property (codes "utc-offset") (string_in jcal_offset_in))
+    (properties_named (codes "tzoffsetto") ps))
+    (one_property_read (value_in_property (codes "text") (string_in Some))
+    (properties_named (codes "tzname") ps))
     (dates_or_none (one_property_if_any (values_in (codes "date-time") (string_in jcal_local_in))
     (properties_named (codes "rdate") ps)))
-    (one_property_if_any (value_in_property (codes "recur") recur_in_data) (properties_named (codes "rrule") ps))
+    (one_property_if_any (value_in_property (codes "recur") recur_in_data)
+    (properties_named (codes "rrule") ps))
     else None
 
 -- the part of a component with no component in it
@@ -194,7 +201,8 @@ part_in_properties name properties [] =
 part_in_properties name properties (d ∷ ds) = None
 
 unfoldable pub part_in : Data → Option Part
-part_in d = option_and_then (λ c. part_in_properties c.name c.properties c.components) (component_in d)
+part_in d =
+    option_and_then (λ c. part_in_properties c.name c.properties c.components) (component_in d)
 
 -- ---- the time zone and the calendar
 
@@ -207,7 +215,8 @@ unfoldable pub zone_of : Component → Option Spelling
 zone_of c =
     if bytes_eq c.name (codes "vtimezone") && list_all is_zone_property c.properties
     then spelling_with
-    (one_property_read (value_in_property (codes "text") (string_in Some)) (properties_named (codes "tzid") c.properties))
+    (one_property_read (value_in_property (codes "text") (string_in Some))
+    (properties_named (codes "tzid") c.properties))
     (one_property_if_any (value_in_property (codes "text") (string_in Some))
     (properties_named (codes "tzid-alias-of") c.properties))
     (one_property_if_any (value_in_property (codes "date-time") (string_in jcal_utc_in))

@@ -47,5 +47,6 @@ jcal_signed_by sign size = if sign == 45 then neg_ℤ (pos size) else pos size
 unfoldable pub jcal_offset_in : List ℕ → Option ℤ
 jcal_offset_in text =
     let offset = jcal_signed_by (slice_index text 0) (jcal_size_in text) in
-    if nat_le (unsigned_abs offset) 86399 && bytes_eq text (jcal_offset_text offset) then Some offset
+    if nat_le (unsigned_abs offset) 86399 && bytes_eq text (jcal_offset_text offset)
+    then Some offset
     else None

@@ -19,7 +19,8 @@ abbrev pub content_stated : List ZoneFile → ListZone → Option ContentData
 content_stated files z =
     option_map (content_with z) (option_map bytes_of (at_text file_name files z.tzid))
 
-abbrev pub joined_contents : Option ContentData → Option (List ContentData) → Option (List ContentData)
+abbrev pub joined_contents : Option ContentData → Option (List ContentData)
+    → Option (List ContentData)
 joined_contents (Some c) (Some cs) = Some (c ∷ cs)
 joined_contents c cs = None
 

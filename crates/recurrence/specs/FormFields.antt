@@ -1,5 +1,5 @@
--- The fields of a rule of each year, and the form that they name (RFC 5545, section 3.3.10): months,
--- days of the month, days of the year, and weekdays.
+-- The fields of a rule of each year, and the form that they name (RFC 5545, section 3.3.10):
+-- months, days of the month, days of the year, and weekdays.
 use Rattle.std.specs.Prelude.{ℕ, ◌==◌, List, [], ◌∷◌, length, Bool, true, ◌&&◌, if◌then◌else◌, ℤ}
 use Rattle.std.specs.Prelude.{pos, ◌+ℤ◌, Option, None, Some}
 use Rattle.std.specs.Option.{option_map}

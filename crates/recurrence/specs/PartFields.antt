@@ -26,7 +26,8 @@ abbrev pub rule_at_offset : ℤ → Recur → Rule
 rule_at_offset start r = record { form = r.form; second = second_in_day start }
 
 -- the start and the dates are shown by the clocks before them
-abbrev pub part_with_fields : Bool → Option ℤ → Option ℤ → Option ℤ → Option (List ℕ) → Option (List ℤ)
+abbrev pub part_with_fields : Bool → Option ℤ → Option ℤ → Option ℤ → Option (List ℕ)
+    → Option (List ℤ)
     → Option (Option Recur) → Option Part
 part_with_fields dst (Some start) (Some from) (Some to) (Some name) (Some dates) (Some recur) =
     Some (record {

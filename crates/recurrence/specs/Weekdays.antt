@@ -49,4 +49,5 @@ nth_of_text (b ∷ bs) = option_map Some (number_of_text 2 53 (b ∷ bs))
 
 unfoldable pub day_of_text : List ℕ → Option Day
 day_of_text text =
-    day_of (nth_of_text (take (length text - 2) text)) (weekday_of_text (drop (length text - 2) text))
+    day_of (nth_of_text (take (length text - 2) text))
+    (weekday_of_text (drop (length text - 2) text))

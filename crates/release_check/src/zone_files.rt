@@ -17,8 +17,8 @@ use td_base::{Bytes, Items, Store};
 use tzif_reader::TzifFault;
 use zone_meaning::{Zone, ZoneFault, file as file_of, lists, zone_from_lists};
 
-/// The zones of a manifest with their files, in its order, or the first fault. A zone whose file has
-/// the bytes of the last release's is shared with it, and not parsed again.
+/// The zones of a manifest with their files, in its order, or the first fault. A zone whose file
+/// has the bytes of the last release's is shared with it, and not parsed again.
 pub fn read_zones<S: Store>(
     alloc: Global,
     dir: &[u8],

@@ -48,7 +48,8 @@ pub record ServesNobody (before after : World) (doors : List DoorView) (up : Opt
 
 -- how a run ends: with the doors that were served, with the server that was followed, if there was
 -- one, and with a status
-abbrev pub RunEnds : Option PlainCommand → World → World → List DoorView → Option UpstreamView → Status
+abbrev pub RunEnds : Option PlainCommand → World → World → List DoorView → Option UpstreamView
+    → Status
     → Type 0
 RunEnds None before after doors up end =
     Printed status.Usage usage_line before.outside.output after.outside.output end
@@ -80,12 +81,14 @@ pub record RunEndsLater (asked : Option PlainCommand) (before after : World) (do
   pub later : LaterWorld before after
 
 -- the same as the clauses of calls tell it, which no proof by search opens
-unfoldable pub HasRun : Option PlainCommand → World → World → List DoorView → Option UpstreamView → Status
+unfoldable pub HasRun : Option PlainCommand → World → World → List DoorView → Option UpstreamView
+    → Status
     → Type 0
 HasRun asked before after doors up end = RunEndsLater asked before after doors up end
 
 -- a run ended as one that is asked for so does
-abbrev pub RunsAs : Option PlainCommand → World → World → List DoorView → Option UpstreamView → Status
+abbrev pub RunsAs : Option PlainCommand → World → World → List DoorView → Option UpstreamView
+    → Status
     → Type 0
 RunsAs spelled before after doors up end =
     (asked : Option PlainCommand) → spelled ≡ asked → HasRun asked before after doors up end

@@ -1,5 +1,5 @@
--- The parts of a VTIMEZONE (RFC 5545, section 3.6.5): those of the changes before a year, alike ones
--- in one part, and from that year on the rules of a footer.
+-- The parts of a VTIMEZONE (RFC 5545, section 3.6.5): those of the changes before a year, alike
+-- ones in one part, and from that year on the rules of a footer.
 use Rattle.std.specs.Prelude.{ℕ, zero, suc, List, [], ◌∷◌, ◌++◌, if◌then◌else◌, ℤ, pos, ◌+ℤ◌}
 use Rattle.std.specs.Prelude.{◌-ℤ◌, ◌*ℤ◌, int_lt, unsigned_abs, Option, None, Some}
 use Rattle.jiff_core.specs.Calendar.{days_from_civil}
@@ -81,8 +81,8 @@ abbrev pub rules_of : Option Footer → ℤ → Option ℤ → List Part
 rules_of None y0 b = []
 rules_of (Some footer) y0 b = rules_if_any footer.std footer.dst y0 b
 
--- where the parts of the changes end: at the turn of a year, or at the end of the range where that comes
--- first
+-- where the parts of the changes end: at the turn of a year, or at the end of the range where that
+-- comes first
 abbrev pub changes_end : ℤ → Option ℤ → ℤ
 changes_end turn None = turn
 changes_end turn (Some b) = if int_lt b turn then b else turn

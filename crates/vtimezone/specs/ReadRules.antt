@@ -46,7 +46,8 @@ is_rule_word w =
 abbrev pub recur_of_named : List Named → Option Recur
 recur_of_named words =
     if list_all is_rule_word words && only_is (codes "YEARLY") (values_of (codes "FREQ") words)
-    then recur_with_fields (form_in words) (one_if_any utc_in (values_of (codes "UNTIL") words)) else None
+    then recur_with_fields (form_in words)
+    (one_if_any utc_in (values_of (codes "UNTIL") words)) else None
 
 unfoldable pub recur_in_value : List ℕ → Option Recur
 recur_in_value text = option_and_then recur_of_named (all_read (cut_first 61) (cut_at 59 text))

@@ -194,7 +194,8 @@ fn append_offset(out: &mut Bytes, name: &[u8], offset: i32) -> Result<(), NoMemo
 fn append_dates(out: &mut Bytes, dates: &Moments, offset: i32) -> Result<(), NoMemory>
     requires dates { All (λ d. IsWithinBounds d.seconds) dates.now }
     requires offset { IsWithin 86_399 offset }
-    ensures ok { OnOk result (out.new ≡ out.old ++ lines_written (text.date_lines dates.now offset)) }
+    ensures ok { OnOk result
+        (out.new ≡ out.old ++ lines_written (text.date_lines dates.now offset)) }
     ensures kept { take (length out.old) out.new ≡ out.old }
 {
     match dates.as_slice() {

@@ -1,6 +1,6 @@
 -- A calendar with one time zone, read line by line (RFC 5545, sections 3.4 and 3.6.5; TZUNTIL and
--- TZID-ALIAS-OF are those of RFC 7808, section 7): VCALENDAR, in it one VTIMEZONE, and in that one or
--- more of STANDARD and DAYLIGHT, each from its BEGIN to its END.
+-- TZID-ALIAS-OF are those of RFC 7808, section 7): VCALENDAR, in it one VTIMEZONE, and in that one
+-- or more of STANDARD and DAYLIGHT, each from its BEGIN to its END.
 use Rattle.std.specs.Prelude.{ℕ, ◌+◌, nat_lt, List, [], ◌∷◌, ◌++◌, length, codes, Bool, true, false}
 use Rattle.std.specs.Prelude.{◌&&◌, ◌||◌, if◌then◌else◌, Option, None, Some, Result, Ok, Err}
 use Rattle.td_base.specs.FirstFault.{◌>>=◌}
@@ -88,7 +88,8 @@ in_zone z name value =
 
 unfoldable pub in_part : OpenZone → OpenPart → List ℕ → List ℕ → Result Standing LineFault
 in_part z p name value =
-    if ends name value (kind_of p.dst) then (part_of p >>= λ part. Ok (at.InZone (with_part z part)))
+    if ends name value (kind_of p.dst)
+    then (part_of p >>= λ part. Ok (at.InZone (with_part z part)))
     else if is_mark name then Err fault.Frame
     else part_line p name value >>= λ now. Ok (at.InPart z now)
 

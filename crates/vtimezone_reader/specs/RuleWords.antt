@@ -71,7 +71,8 @@ is_next first count (Some z) = int_eq z (first +ℤ pos count)
 unfoldable pub days_after : ℕ → ℤ → ℕ → List (List ℕ) → Option Days
 days_after places first count [] = days_ended first count
 days_after places first count (t ∷ ts) =
-    if is_next first count (number_in places t) then days_after places first (count + 1) ts else None
+    if is_next first count (number_in places t) then days_after places first (count + 1) ts
+    else None
 
 abbrev pub days_among : ℕ → List (List ℕ) → Option Days
 days_among places [] = None

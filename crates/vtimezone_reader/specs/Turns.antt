@@ -21,7 +21,8 @@ pub record IsTurnOf (test : ℤ → Bool) (place : ℕ) (t end : ℤ) (x : PartO
   pub before : x.onset.seconds <ℤ end
 
 -- the list has grown by turns at that place, one at each moment that passes the test
-pub record AddsTurns (test : ℤ → Bool) (place : ℕ) (t end : ℤ) (old new : List PartOnset) : Type 0 where
+pub record AddsTurns (test : ℤ → Bool) (place : ℕ) (t end : ℤ)
+    (old new : List PartOnset) : Type 0 where
   pub added : List PartOnset
   pub is : new ≡ old ++ added
   pub each : (x : PartOnset) → Contains added x → IsTurnOf test place t end x
@@ -61,7 +62,8 @@ pub record HaveCome (turns : List PartOnset) (m : ℤ) (n : ℕ) : Type 0 where
 pub record AreAt (turns : List PartOnset) (from to : ℕ) (m : ℤ) (part : ℕ) : Type 0 where
   pub after : from < to
   pub bound : to ≤ length turns
-  pub same : (k : ℕ) (d : PartOnset) → from ≤ k → k < to → (slice_index_or turns k d).onset.seconds ≡ m
+  pub same : (k : ℕ) (d : PartOnset) → from ≤ k → k < to
+      → (slice_index_or turns k d).onset.seconds ≡ m
   pub most : (k : ℕ) (d : PartOnset) → from ≤ k → k < to → (slice_index_or turns k d).part ≤ part
   pub one : Contains turns (turn_at m part)
 

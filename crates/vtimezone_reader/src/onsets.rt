@@ -96,7 +96,8 @@ pub(crate) fn next_of_rule(part: &Part, rule: &Rule, t: Moment, end: Moment) -> 
     requires from { part.now.start.seconds ≤ℤ t.seconds }
     requires range { t.seconds <ℤ end.seconds }
     requires end { end.seconds ≤ℤ HI }
-    ensures { next.IsNextWhere (onsets.is_rule_onset part.now rule.now) t.seconds end.seconds result }
+    ensures { next.IsNextWhere (onsets.is_rule_onset part.now rule.now)
+        t.seconds end.seconds result }
 {
     let year = year_shown(part.from, t);
     let this = onset_in(rule, part.from, year);
@@ -161,7 +162,8 @@ fn late_in(part: &Part, rule: &Rule, year: i32, last: Moment) -> Option<Moment>
 
 /// The moment, if it is not before a first one and not after a last one; else None.
 fn within(moment: Moment, first: Moment, last: Moment) -> Option<Moment>
-    ensures { IfSome result (λ m. next.IsFromTo moment.seconds first.seconds last.seconds m.seconds) }
+    ensures { IfSome result
+        (λ m. next.IsFromTo moment.seconds first.seconds last.seconds m.seconds) }
 {
     if first.seconds <= moment.seconds && moment.seconds <= last.seconds {
         Some(moment)

@@ -21,8 +21,8 @@ pub returns-in-Err-zone_from_lists-clause-judged : goal.returns-in-Err-zone_from
 returns-in-Err-zone_from_lists-clause-judged c =
     let none : first_fault c.args.file ≡ None = ap first_fault (sym c.as_slice.ensures) ∙ c.in-Ok.ensures.no_fault in
     rw (c.of_zone.ensures) (judged_by_zone c.args.number c.args.file c.in-Err-zone_from_lists.fault none
-      (no_leaps c.args.file c.in-Ok.lists (c.in-Ok.ensures.exact ∙ ap lists_of c.as_slice.ensures) (omega arith))
-      c.in-Err-zone_from_lists.ensures.fault)
+    (no_leaps c.args.file c.in-Ok.lists (c.in-Ok.ensures.exact ∙ ap lists_of c.as_slice.ensures) (omega arith))
+    c.in-Err-zone_from_lists.ensures.fault)
 
 pub returns-in_err-judge_zone-clause-judged : goal.returns-in_err-judge_zone-clause-judged
 returns-in_err-judge_zone-clause-judged c =

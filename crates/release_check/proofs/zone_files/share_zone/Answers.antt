@@ -6,9 +6,11 @@ use Rattle.release_check.proofs.ZoneFiles.{file_fault-leaps, file_fault-meant, n
 use Rattle.release_check.proofs.zone_files.share_zone.Goals as goal
 
 pub returns-then-len-gt0-clause-judged : goal.returns-then-len-gt0-clause-judged
-returns-then-len-gt0-clause-judged c =
-    (λ e. cc, λ _. file_fault-leaps c.args.number c.args.zone.now c.lists.result.now (file_clear _ c.lists.ensures.no_fault)
-      c.lists.ensures.lists (omega arith))
+returns-then-len-gt0-clause-judged c = (
+  λ e. cc,
+  λ _. file_fault-leaps c.args.number c.args.zone.now c.lists.result.now (file_clear _ c.lists.ensures.no_fault)
+      c.lists.ensures.lists (omega arith),
+)
 
 pub returns-in_err-judge_zone-clause-judged : goal.returns-in_err-judge_zone-clause-judged
 returns-in_err-judge_zone-clause-judged c =
