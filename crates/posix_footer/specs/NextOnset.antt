@@ -3,7 +3,10 @@ use Rattle.std.specs.Prelude.{◌≡◌, Bool, false, if◌then◌else◌, ℤ, 
 use Rattle.jiff_core.specs.Calendar.{IsBetween}
 use Rattle.td_civil.specs.declared.moment_type.Moment.{Moment}
 use Rattle.posix_footer.specs.declared.rule_types.Edge.{Edge}
+use Rattle.posix_footer.specs.declared.rule_types.Edge.TheVariants as edge
 use Rattle.posix_footer.specs.declared.rule_types.DstRule.{DstRule}
+use Rattle.posix_footer.specs.declared.ahead.YearOnset.{YearOnset}
+use Rattle.posix_footer.specs.declared.ahead.Ahead.{Ahead}
 use Rattle.posix_footer.specs.Onset.{onset_of}
 
 -- m is an onset after t, and no other one after t comes before it
@@ -66,3 +69,31 @@ IsQuietIfAny (Some rule) std t u = IsQuiet rule std t u
 abbrev pub ComesAfter : Option Moment → ℤ → Type 0
 ComesAfter None u = Unit {0}
 ComesAfter (Some m) u = u <ℤ m.seconds
+
+-- an onset of an edge, with its year
+pub record IsYearOnset (rule : DstRule) (std : ℤ) (at : Edge) (o : YearOnset) : Type 0 where
+  pub year_in : IsBetween (pos 1798) (pos 9999) o.year
+  pub onset_is : o.at.seconds ≡ onset_of rule std o.year at
+
+-- an onset after t, where those of all earlier years have come by t
+pub record IsFirstYear (rule : DstRule) (std : ℤ) (at : Edge) (t : ℤ) (o : YearOnset) : Type 0 where
+  pub onset : IsYearOnset rule std at o
+  pub after : t <ℤ o.at.seconds
+  pub before : (other : ℤ) → IsBetween (pos 1798) (pos 9999) other → other <ℤ o.year
+      → onset_of rule std other at ≤ℤ t
+
+-- the first onset of an edge after t, if there is one
+abbrev pub IsFirstYearIfAny : DstRule → ℤ → Edge → ℤ → Option YearOnset → Type 0
+IsFirstYearIfAny rule std at t None =
+    (year : ℤ) → IsBetween (pos 1798) (pos 9999) year → onset_of rule std year at ≤ℤ t
+IsFirstYearIfAny rule std at t (Some o) = IsFirstYear rule std at t o
+
+-- the first onset of each edge after the moment that is kept with them
+pub record IsAheadBy (rule : DstRule) (std : ℤ) (ahead : Ahead) : Type 0 where
+  pub start : IsFirstYearIfAny rule std edge.Start ahead.after.seconds ahead.start
+  pub end : IsFirstYearIfAny rule std edge.End ahead.after.seconds ahead.end
+
+-- the same, where there is a rule
+abbrev pub IsAhead : Option DstRule → ℤ → Ahead → Type 0
+IsAhead None std ahead = Unit {0}
+IsAhead (Some rule) std ahead = IsAheadBy rule std ahead

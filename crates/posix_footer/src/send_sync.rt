@@ -1,5 +1,5 @@
 //! The types of this crate are `Send` and `Sync`.
-use crate::{Date, DayForm, DstRule, Edge, Footer, FooterFault};
+use crate::{Ahead, Date, DayForm, DstRule, Edge, Footer, FooterFault, YearOnset};
 
 fn is_shared<T: Send + Sync>() {}
 
@@ -9,5 +9,7 @@ fn types_are_shared() {
     is_shared::<Date>();
     is_shared::<DayForm>();
     is_shared::<Edge>();
+    is_shared::<YearOnset>();
+    is_shared::<Ahead>();
     is_shared::<FooterFault>();
 }

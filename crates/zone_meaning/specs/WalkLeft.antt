@@ -10,7 +10,7 @@ abbrev pub left : Walk → List Observance
 left w = changes_between (state_at w.lists.now w.footer.now) w.at.seconds w.end.seconds
 
 abbrev pub IsSoundWalk : Walk → Type 0
-IsSoundWalk w = IsWalk w.lists.now w.footer.now w.at.seconds w.end.seconds w.begun w.state
+IsSoundWalk w = IsWalk w.lists.now w.footer.now w.at.seconds w.end.seconds w.begun w.state w.ahead
 
 abbrev pub StopsAt : Walk → ℤ → Type 0
 StopsAt w m = IsStop w.lists.now w.footer.now w.at.seconds w.end.seconds w.begun m

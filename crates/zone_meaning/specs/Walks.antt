@@ -7,7 +7,9 @@ use Rattle.td_civil.specs.declared.moment_type.TheConstants.{LO, HI}
 use Rattle.td_civil.specs.declared.local_time.Local.{Local}
 use Rattle.tzif_reader.specs.declared.zone_file.ZoneFile.{ZoneFile}
 use Rattle.posix_footer.specs.declared.rule_types.Footer.{Footer}
+use Rattle.posix_footer.specs.declared.ahead.Ahead.{Ahead}
 use Rattle.posix_footer.specs.Lawful.{IsLawful}
+use Rattle.posix_footer.specs.NextOnset.{IsAhead}
 use Rattle.zone_meaning.specs.Kept.{HasTypes}
 use Rattle.zone_meaning.specs.State.{state_at}
 
@@ -17,10 +19,19 @@ pub record HaveBegun (moments : List Moment) (t : ℤ) (n : ℕ) : Type 0 where
   pub last : (k : ℕ) (d : Moment) → suc k ≡ n → (slice_index_or moments k d).seconds ≤ℤ t
   pub next : (d : Moment) → n < length moments → t <ℤ (slice_index_or moments n d).seconds
 
--- what a walk keeps: the moment that it has reached, with the transitions that have come by then,
--- and its end
+-- the onsets of a footer that are ahead of t
+pub record IsAheadOf (footer : Footer) (t : ℤ) (ahead : Ahead) : Type 0 where
+  pub after : ahead.after.seconds ≡ t
+  pub onsets : IsAhead footer.dst footer.std.offset ahead
+
+-- the onsets that are known, if they are, are those of the footer, if there is one
+abbrev pub IsKnownAhead : Option Footer → ℤ → Option Ahead → Type 0
+IsKnownAhead footer t known = IfSome known (λ ahead. IfSome footer (λ f. IsAheadOf f t ahead))
+
+-- what a walk keeps: the moment that it has reached, with the transitions that have come by then
+-- and the onsets that are known to come, and its end
 pub record IsWalk (lists : ZoneFile) (footer : Option Footer) (t end : ℤ) (count : ℕ)
-    (state : Local) : Type 0 where
+    (state : Local) (known : Option Ahead) : Type 0 where
   pub types : HasTypes lists
   pub lawful : IfSome footer IsLawful
   pub from : LO ≤ℤ t
@@ -28,6 +39,7 @@ pub record IsWalk (lists : ZoneFile) (footer : Option Footer) (t end : ℤ) (cou
   pub end_in : end ≤ℤ HI
   pub begun : HaveBegun lists.moments t count
   pub state_is : state ≡ state_at lists footer t
+  pub ahead : IsKnownAhead footer t known
 
 -- from t to before u the state stays
 abbrev pub StaysUntil : (ℤ → Local) → ℤ → ℤ → Type 0

@@ -60,6 +60,7 @@ impl<'a> Changes<'a> {
             at: a,
             begun,
             state,
+            ahead: None,
         };
         Changes {
             first: Some(first),

@@ -2,7 +2,7 @@
 ghost use Rattle.std.specs.Prelude.{◌≡◌, ◌≤◌, ◌+◌, min, length, [], None};
 ghost use Rattle.std.specs.Option.{IfSome, option_map};
 ghost use Rattle.zone_meaning.specs.State.{state_at};
-ghost use Rattle.zone_meaning.specs.Turns.{IsKnown};
+ghost use Rattle.zone_meaning.specs.Turns.{IsKnown, KnowsAhead};
 ghost use Rattle.zone_meaning.specs.Walks.{IsNextStop};
 ghost use Rattle.zone_meaning.specs.WalkLeft.{left, HandsOut, IsFurther, IsSoundWalk, StopsAt};
 
@@ -40,8 +40,9 @@ impl<'a> Walk<'a> {
         ensures stop { IsNextStop self.now.lists.now self.now.footer.now self.now.at.seconds
             self.now.end.seconds self.now.begun (option_map (λ turn. turn.at) result) }
         ensures state { IfSome result (IsKnown self.now.lists.now self.now.footer.now) }
+        ensures ahead { IfSome result (KnowsAhead self.now.footer.now) }
     {
-        match next_turn(self.lists, self.footer, self.begun, self.at) {
+        match next_turn(self.lists, self.footer, self.begun, self.at, &self.ahead) {
             Some(turn) if turn.at.seconds < self.end.seconds => Some(turn),
             _ => None,
         }
@@ -53,12 +54,14 @@ impl<'a> Walk<'a> {
         requires sound { IsSoundWalk self.old }
         requires stop { StopsAt self.old stop.at.seconds }
         requires known { IsKnown self.old.lists.now self.old.footer.now stop }
+        requires ahead { KnowsAhead self.old.footer.now stop }
         ensures sound { IsSoundWalk self.new }
         ensures further { IsFurther self.old self.new }
         ensures left { HandsOut (left self.old) result (left self.new) }
     {
         let begun = one_more(self.begun, self.lists.moments.len());
         let onset = stop.at;
+        let ahead = stop.ahead;
         let state = self.state_from(stop, begun);
         let same = state.is_same(&self.state);
         let change = Observance {
@@ -71,6 +74,7 @@ impl<'a> Walk<'a> {
         self.at = onset;
         self.begun = begun;
         self.state = state;
+        self.ahead = ahead;
         if same { None } else { Some(change) }
     }
 

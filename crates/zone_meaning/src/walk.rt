@@ -7,10 +7,10 @@ ghost use Rattle.posix_footer.specs.Lawful.{IsLawful};
 ghost use Rattle.zone_meaning.specs.Kept.{HasTypes};
 ghost use Rattle.posix_footer.specs.NextOnset.{IsNext};
 ghost use Rattle.posix_footer.specs.StateAt.{state_of};
-ghost use Rattle.zone_meaning.specs.Turns.{IsKnown};
-ghost use Rattle.zone_meaning.specs.Walks.{HaveBegun, IsNextTurn};
+ghost use Rattle.zone_meaning.specs.Turns.{IsKnown, KnowsAhead};
+ghost use Rattle.zone_meaning.specs.Walks.{HaveBegun, IsAheadOf, IsKnownAhead, IsNextTurn};
 
-use posix_footer::{Footer, next_change};
+use posix_footer::{Ahead, Footer, ahead_after, ahead_of, change_ahead};
 use td_civil::{Local, Moment};
 use tzif_reader::ZoneFile;
 
@@ -25,59 +25,84 @@ pub(crate) struct Walk<'a> {
     pub(crate) at: Moment,
     pub(crate) begun: usize,
     pub(crate) state: Local,
+    /// The footer's onsets ahead of that moment, if they are known.
+    pub(crate) ahead: Option<Ahead>,
 }
 
-/// A moment at which the state may change. The state from it on is given if it is known, as it is
-/// for an onset of the footer.
+/// A moment at which the state may change. The state from it on, and the footer's onsets ahead of
+/// it, are given if they are known, as they are for an onset of the footer.
 #[derive(Drop)]
 pub(crate) struct StateTurn {
     pub(crate) at: Moment,
     pub(crate) state: Option<Local>,
+    pub(crate) ahead: Option<Ahead>,
 }
 
 /// The next moment at which the state may change, after one by which this number of transitions
-/// have passed.
+/// have passed, and whose onsets ahead may be known.
 pub(crate) fn next_turn(
     lists: &ZoneFile,
     footer: &Option<Footer>,
     begun: usize,
     t: Moment,
+    known: &Option<Ahead>,
 ) -> Option<StateTurn>
     requires types { HasTypes lists.now }
     requires lawful { IfSome footer.now IsLawful }
     requires meaning { HasMeaning t.seconds }
     requires begun { HaveBegun lists.now.moments t.seconds begun }
+    requires known { IsKnownAhead footer.now t.seconds known.now }
     ensures turn { IsNextTurn lists.now footer.now t.seconds begun
         (option_map (λ turn. turn.at) result) }
     ensures state { IfSome result (IsKnown lists.now footer.now) }
+    ensures ahead { IfSome result (KnowsAhead footer.now) }
 {
     let moments = lists.moments.as_slice();
     if begun < moments.len() {
         return Some(StateTurn {
             at: moments[begun],
             state: None,
+            ahead: None,
         });
     }
     match footer {
-        Some(footer) => next_turn_of(footer, t),
+        Some(footer) => next_turn_of(footer, t, known),
         None => None,
     }
 }
 
-/// The next onset of a footer, with the state from it on.
-fn next_turn_of(footer: &Footer, t: Moment) -> Option<StateTurn>
+/// The next onset of a footer, with the state from it on and the onsets ahead of it.
+fn next_turn_of(footer: &Footer, t: Moment, known: &Option<Ahead>) -> Option<StateTurn>
     requires lawful { IsLawful footer.now }
     requires meaning { HasMeaning t.seconds }
+    requires known { IfSome known.now (IsAheadOf footer.now t.seconds) }
     ensures next { IsNext footer.now.dst footer.now.std.offset t.seconds
         (option_map (λ turn. turn.at) result) }
     ensures state { IfSome result (λ turn. turn.state
         ≡ Some (state_of footer.now turn.at.seconds)) }
+    ensures ahead { IfSome result (λ turn. IfSome turn.ahead
+        (IsAheadOf footer.now turn.at.seconds)) }
 {
-    match next_change(footer, t) {
+    let ahead = onsets_ahead(footer, t, known);
+    match change_ahead(footer, &ahead) {
         Some(change) => Some(StateTurn {
             at: change.at,
             state: Some(change.state),
+            ahead: Some(ahead_after(footer, &ahead, change.at)),
         }),
         None => None,
+    }
+}
+
+/// The onsets ahead of a moment, computed if they are not known yet.
+fn onsets_ahead(footer: &Footer, t: Moment, known: &Option<Ahead>) -> Ahead
+    requires lawful { IsLawful footer.now }
+    requires meaning { HasMeaning t.seconds }
+    requires known { IfSome known.now (IsAheadOf footer.now t.seconds) }
+    ensures { IsAheadOf footer.now t.seconds result }
+{
+    match known {
+        Some(ahead) => *ahead,
+        None => ahead_of(footer, t),
     }
 }

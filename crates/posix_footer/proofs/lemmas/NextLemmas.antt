@@ -1,5 +1,5 @@
 -- The first onset after a moment is the earlier of those of the two edges, and until it the state stays.
-use Rattle.std.proofs.Common.{◌≡◌, Option, None, Some, arith, ℤ, pos, ◌≤ℤ◌, ◌<ℤ◌, int_le}
+use Rattle.std.proofs.Common.{◌≡◌, sym, subst, Option, None, Some, arith, ℤ, pos, ◌+ℤ◌, ◌≤ℤ◌, ◌<ℤ◌, int_le, to_z, of_z, to_z-of_z, w32, FitsSigned}
 use Rattle.std.proofs.lemmas.Bool.{cond_both}
 use Rattle.std.proofs.lemmas.Int.{by_lt_z, ints}
 use Rattle.jiff_core.specs.Calendar.{IsBetween}
@@ -10,7 +10,10 @@ use Rattle.posix_footer.specs.declared.rule_types.Edge.TheVariants as edge
 use Rattle.posix_footer.specs.declared.rule_types.DstRule.{DstRule}
 use Rattle.posix_footer.specs.Lawful.{IsLawfulRule}
 use Rattle.posix_footer.specs.Onset.{onset_of}
+use Rattle.std.specs.Option.{option_map, IfSome}
+use Rattle.posix_footer.specs.declared.ahead.YearOnset.{YearOnset}
 use Rattle.posix_footer.specs.NextOnset.{IsNextOnset, NoneAfter, IsNext, IsNextOf, IsNextIfAny, IsQuietIfAny, ComesAfter, earlier}
+use Rattle.posix_footer.specs.NextOnset.{IsYearOnset, IsFirstYear, IsFirstYearIfAny}
 use Rattle.posix_footer.proofs.lemmas.StateLemmas.{onset_rises, year_of}
 
 -- an onset after the moment, where each of an earlier year is not, is the first of its edge
@@ -28,6 +31,49 @@ next_is rule std y t m at h year is after early = record {
       (λ gt. let rises = onset_rises rule std y other at h (year_of y year) (year_of other there) gt in omega (arith, signed_arith))
       (λ ge. let same : other ≡ y = omega (arith, signed_arith) in rw same (omega (arith, signed_arith, is))));
 }
+
+-- which is that of the first year whose onset is after the moment
+pub first_year_next : (rule : DstRule) (std t : ℤ) (at : Edge) (o : Option YearOnset) → IsLawfulRule std rule → IsFirstYearIfAny rule std at t o
+    → IsNextIfAny rule std at t (option_map (λ (x : YearOnset). x.at) o)
+first_year_next rule std t at None h is = is
+first_year_next rule std t at (Some o) h is = next_is rule std o.year t o.at.seconds at h is.onset.year_in is.onset.onset_is is.after is.before
+
+-- an onset at the offset that was passed
+pub passed_onset : (rule : DstRule) (std : ℤ) (at : Edge) (o : YearOnset) → FitsSigned w32 std → IsYearOnset rule (to_z w32 (of_z w32 std)) at o
+    → IsYearOnset rule std at o
+passed_onset rule std at o fits is =
+    let P : ℤ → Type 0 = λ k. IsYearOnset rule k at o in
+    subst P (to_z-of_z fits) is
+
+-- with the onset of a year those of all earlier years have come
+pub none_later : (rule : DstRule) (std : ℤ) (at : Edge) (come : YearOnset) (other : ℤ) → IsLawfulRule std rule → IsYearOnset rule std at come
+    → IsBetween (pos 1798) (pos 9999) other → other ≤ℤ come.year → onset_of rule std other at ≤ℤ come.at.seconds
+none_later rule std at come other h was there le =
+    by_lt_z other come.year
+    (λ lt.
+    let rises = onset_rises rule std other come.year at h (year_of other there) (year_of come.year was.year_in) lt in
+    omega (arith, signed_arith, was.onset_is))
+    (λ ge. let same : other ≡ come.year = omega (arith, signed_arith) in rw same (omega (arith, signed_arith, was.onset_is)))
+
+-- and the first after it is that of the next year
+pub next_year : (rule : DstRule) (std : ℤ) (at : Edge) (come o : YearOnset) → IsLawfulRule std rule → IsYearOnset rule std at come
+    → IsYearOnset rule std at o → o.year ≡ come.year +ℤ pos 1 → IsFirstYear rule std at come.at.seconds o
+next_year rule std at come o h was is next = record {
+  onset = is;
+  after =
+      let rises = onset_rises rule std come.year o.year at h (year_of come.year was.year_in) (year_of o.year is.year_in) (omega (arith, signed_arith, next)) in
+      omega (arith, signed_arith, was.onset_is, is.onset_is);
+  before = λ other there lt. none_later rule std at come other h was there (omega (arith, signed_arith, next));
+}
+
+-- no onset ahead comes before the first of both edges
+pub nearest : (rule : DstRule) (std t m : ℤ) (at : Edge) (o : Option YearOnset) → IsFirstYearIfAny rule std at t o → IsNextOnset rule std t m
+    → IfSome o (λ (x : YearOnset). m ≤ℤ x.at.seconds)
+nearest rule std t m at None is next = tt
+nearest rule std t m at (Some o) is next =
+    let P : ℤ → Type 0 = λ k. m ≤ℤ k in
+    let Q : ℤ → Type 0 = λ k. t <ℤ k in
+    subst P (sym is.onset.onset_is) (next.least o.year at is.onset.year_in (subst Q is.onset.onset_is is.after))
 
 -- where the other edge has none before it, the first of an edge is the first of all
 start_first : (rule : DstRule) (std t m : ℤ) → IsNextOf rule std edge.Start t m

@@ -4,8 +4,8 @@ use Rattle.std.specs.Option.{option_map, IfSome}
 use Rattle.std.proofs.lemmas.List.{get_or_default}
 use Rattle.td_civil.specs.declared.moment_type.Moment.{Moment}
 use Rattle.posix_footer.specs.declared.rule_types.Footer.{Footer}
-use Rattle.zone_meaning.specs.Turns.{IsKnown}
-use Rattle.zone_meaning.specs.Walks.{IsNextTurn}
+use Rattle.zone_meaning.specs.Turns.{IsKnown, KnowsAhead}
+use Rattle.zone_meaning.specs.Walks.{IsKnownAhead, IsNextTurn}
 use Rattle.zone_meaning.specs.declared.walk.StateTurn.{StateTurn}
 use Rattle.zone_meaning.proofs.Walking.{transition_turn, no_turn, onset_turn, onset_known}
 use Rattle.zone_meaning.proofs.walk.next_turn.Goals as goal
@@ -42,3 +42,13 @@ returns-in-None-clause-turn c =
     let all : length c.args.lists.now.moments ≤ c.args.begun = omega (arith, ap (length {A = Moment}) moments) in
     let P : Option Footer → Type 0 = λ footer. IsNextTurn c.args.lists.now footer c.args.t.seconds c.args.begun None in
     subst P (sym c.in-None.is) (no_turn c.args.lists.now c.args.t.seconds c.args.begun c.requires.types c.requires.begun all)
+
+pub next_turn_of-requires-clause-known : goal.next_turn_of-requires-clause-known
+next_turn_of-requires-clause-known c =
+    let P : Option Footer → Type 0 = λ footer. IsKnownAhead footer c.args.t.seconds c.args.known.now in
+    subst P c.in-Some.is c.requires.known
+
+pub returns-in-Some-clause-ahead : goal.returns-in-Some-clause-ahead
+returns-in-Some-clause-ahead c =
+    let P : Option Footer → Type 0 = λ footer. IfSome c.next_turn_of.result (KnowsAhead footer) in
+    subst P (sym c.in-Some.is) c.next_turn_of.ensures.ahead

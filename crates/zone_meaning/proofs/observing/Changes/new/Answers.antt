@@ -23,6 +23,7 @@ invariant_of-result c = record {
   end_in = c.requires.2;
   begun = c.begun-begun.ensures.place;
   state_is = c.state_when-state.ensures;
+  ahead = tt;
 }
 
 pub returns : goal.returns

@@ -1,7 +1,7 @@
 use Rattle.std.proofs.Common.{ℤ, pos, ◌+ℤ◌, ◌<ℤ◌, ◌≤ℤ◌}
 use Rattle.jiff_core.specs.Calendar.{IsBetween}
 use Rattle.posix_footer.specs.Onset.{onset_of}
-use Rattle.posix_footer.proofs.next_edge.next_of_edge.Given as goal
+use Rattle.posix_footer.proofs.ahead.next_of_edge.Given as goal
 
 -- the years looked at so far, and all before them, have come
 abbrev pub invariant-loop-ahead : goal.invariant-loop-ahead

@@ -4,12 +4,12 @@ use Rattle.posix_footer.specs.declared.next_edge.Change.{Change}
 use Rattle.posix_footer.specs.declared.rule_types.DstRule.{DstRule}
 use Rattle.posix_footer.specs.NextOnset.{IsNext}
 use Rattle.posix_footer.specs.StateAt.{state_by}
-use Rattle.posix_footer.proofs.next_edge.next_change.Goals as goal
+use Rattle.posix_footer.proofs.next_edge.change_ahead.Goals as goal
 
 pub returns-in-Some-clause-next : goal.returns-in-Some-clause-next
 returns-in-Some-clause-next c =
     let P : Option DstRule → Type 0 =
-    λ rule. IsNext rule c.args.footer.now.std.offset c.args.t.seconds (option_map (λ (x : Change). x.at) c.change_by_rule.result) in
+    λ rule. IsNext rule c.args.footer.now.std.offset c.args.ahead.now.after.seconds (option_map (λ (x : Change). x.at) c.change_by_rule.result) in
     subst P (sym c.in-Some.is) c.change_by_rule.ensures.next
 
 pub returns-in-Some-clause-state : goal.returns-in-Some-clause-state

@@ -3,12 +3,10 @@ use Rattle.jiff_core.proofs.SignedLemmas.{signed_arith}
 use Rattle.jiff_core.specs.Calendar.{IsBetween}
 use Rattle.std.proofs.lemmas.Bool.{cases_lt}
 use Rattle.std.proofs.lemmas.Int.{by_lt_z}
-use Rattle.posix_footer.specs.declared.rule_types.Edge.{Edge}
-use Rattle.posix_footer.specs.declared.rule_types.DstRule.{DstRule}
 use Rattle.posix_footer.specs.Onset.{onset_of}
 use Rattle.posix_footer.proofs.lemmas.StateLemmas.{onset_after, onset_before, onset_before_late, year_of}
-use Rattle.posix_footer.proofs.lemmas.NextLemmas.{next_is}
-use Rattle.posix_footer.proofs.next_edge.next_of_edge.Goals as goal
+use Rattle.posix_footer.proofs.lemmas.NextLemmas.{passed_onset}
+use Rattle.posix_footer.proofs.ahead.next_of_edge.Goals as goal
 
 pub loop-ahead-init : goal.loop-ahead-init
 loop-ahead-init c = λ year there lt.
@@ -27,34 +25,31 @@ candidate_is : (year : ℤ) (ahead : ℕ) (from : ℤ) → FitsSigned w32 year �
     → to_z w32 (of_z w32 (to_z w32 (of_z w32 (to_z w32 (of_z w32 year) -ℤ pos 1)) +ℤ to_z w32 (of_z w32 from))) ≡ candidate_year year ahead
 candidate_is year ahead from fits is e lt = omega (arith, signed_arith)
 
-onset_at : (rule : DstRule) (std asked is : ℤ) (at : Edge) (m : ℤ) → FitsSigned w32 std → asked ≡ is → m ≡ onset_of rule (to_z w32 (of_z w32 std)) asked at
-    → m ≡ onset_of rule std is at
-onset_at rule std asked is at m fits e h =
-    h ∙ ap (λ k. onset_of rule (to_z w32 (of_z w32 std)) k at) e ∙ ap (λ k. onset_of rule k is at) (to_z-of_z fits)
-
 pub returns-then-t-candidate : goal.returns-then-t-candidate
 returns-then-t-candidate c =
-    let fits : FitsSigned w64 c.onset-candidate.result.seconds = search rules in
+    let fits : FitsSigned w64 c.onset_in-candidate.result.at.seconds = search rules in
     let fits_t : FitsSigned w64 c.args.t.seconds = search rules in
     let y = candidate_year c.args.year c.loop-ahead.ahead in
-    let is = onset_at c.args.rule.now c.args.std _ y c.args.edge _ c.ranges.std
-    (candidate_is c.args.year c.loop-ahead.ahead c.from.result c.ranges.year c.requires.year_in c.from.ensures c.loop-ahead-test.true)
-    c.onset-candidate.ensures in
-    next_is c.args.rule.now c.args.std y c.args.t.seconds c.onset-candidate.result.seconds c.args.edge c.requires.lawful
-    (omega (arith, signed_arith, c.loop-ahead-test.true)) is (omega (arith, signed_arith))
-    (λ other there lt. rw (to_z-of_z c.ranges.std) at (c.loop-ahead.invariant other there (omega (arith, signed_arith))))
+    let year : c.onset_in-candidate.result.year ≡ y = c.onset_in-candidate.ensures.year ∙
+    candidate_is c.args.year c.loop-ahead.ahead c.from.result c.ranges.year c.requires.year_in c.from.ensures c.loop-ahead-test.true in
+    record {
+      onset = passed_onset c.args.rule.now c.args.std c.args.edge c.onset_in-candidate.result c.ranges.std c.onset_in-candidate.ensures.onset;
+      after = omega (arith, signed_arith);
+      before = λ other there lt. rw (to_z-of_z c.ranges.std) at (c.loop-ahead.invariant other there (omega (arith, signed_arith, year)));
+    }
 
 pub loop-ahead-preserved : goal.loop-ahead-preserved
 loop-ahead-preserved c = λ year there lt.
-    let fits : FitsSigned w64 c.onset-candidate.result.seconds = search rules in
+    let fits : FitsSigned w64 c.onset_in-candidate.result.at.seconds = search rules in
     let fits_t : FitsSigned w64 c.args.t.seconds = search rules in
     let y = candidate_year c.args.year c.loop-ahead.ahead in
     by_lt_z year y
     (λ earlier. c.loop-ahead.invariant year there (omega (arith, signed_arith)))
     (λ le.
     let same : year ≡ y = omega (arith, signed_arith) in
-    let is = c.onset-candidate.ensures ∙ ap (λ k. onset_of c.args.rule.now (to_z w32 (of_z w32 c.args.std)) k c.args.edge)
-    (candidate_is c.args.year c.loop-ahead.ahead c.from.result c.ranges.year c.requires.year_in c.from.ensures c.loop-ahead-test.true ∙ sym same) in
+    let asked : c.onset_in-candidate.result.year ≡ year = c.onset_in-candidate.ensures.year ∙
+    candidate_is c.args.year c.loop-ahead.ahead c.from.result c.ranges.year c.requires.year_in c.from.ensures c.loop-ahead-test.true ∙ sym same in
+    let is = c.onset_in-candidate.ensures.onset.onset_is ∙ ap (λ k. onset_of c.args.rule.now (to_z w32 (of_z w32 c.args.std)) k c.args.edge) asked in
     omega (arith, signed_arith, is))
 
 pub returns-else-year-lt9998 : goal.returns-else-year-lt9998
@@ -63,12 +58,19 @@ returns-else-year-lt9998 c = λ year there.
 
 pub returns-then-year-lt9998 : goal.returns-then-year-lt9998
 returns-then-year-lt9998 c =
-    let fits : FitsSigned w64 c.onset.result.seconds = search rules in
+    let fits : FitsSigned w64 c.onset_in.result.at.seconds = search rules in
     let y = c.args.year +ℤ pos 2 in
-    let year : IsBetween (pos 1798) (pos 9999) y = (omega (arith, signed_arith), omega (arith, signed_arith, c.if-year-lt9998.true)) in
+    let there : IsBetween (pos 1798) (pos 9999) y = (omega (arith, signed_arith), omega (arith, signed_arith, c.if-year-lt9998.true)) in
     let asked : to_z w32 (of_z w32 (to_z w32 (of_z w32 c.args.year) +ℤ pos 2)) ≡ y = omega (arith, signed_arith) in
-    let is = onset_at c.args.rule.now c.args.std _ y c.args.edge _ c.ranges.std asked c.onset.ensures in
+    let year : c.onset_in.result.year ≡ y = c.onset_in.ensures.year ∙ asked in
+    let onset = passed_onset c.args.rule.now c.args.std c.args.edge c.onset_in.result c.ranges.std c.onset_in.ensures.onset in
+    let is : c.onset_in.result.at.seconds ≡ onset_of c.args.rule.now c.args.std y c.args.edge =
+    onset.onset_is ∙ ap (λ k. onset_of c.args.rule.now c.args.std k c.args.edge) year in
     let late = onset_after c.args.rule.now c.args.std c.args.year (c.args.year +ℤ pos 1) y c.args.t.seconds c.args.edge c.requires.lawful
-    (omega (arith, signed_arith)) (year_of y year) refl (omega (arith, signed_arith)) c.requires.ahead in
-    next_is c.args.rule.now c.args.std y c.args.t.seconds c.onset.result.seconds c.args.edge c.requires.lawful year is (rw is late)
-    (λ other there lt. rw (to_z-of_z c.ranges.std) at (c.loop-ahead.invariant other there (omega (arith, signed_arith, c.loop-ahead-test.false))))
+    (omega (arith, signed_arith)) (year_of y there) refl (omega (arith, signed_arith)) c.requires.ahead in
+    record {
+      onset = onset;
+      after = rw is late;
+      before = λ other there lt.
+          rw (to_z-of_z c.ranges.std) at (c.loop-ahead.invariant other there (omega (arith, signed_arith, c.loop-ahead-test.false, year)));
+    }
