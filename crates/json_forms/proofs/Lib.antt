@@ -1,10 +1,12 @@
 pub mod Begun
 pub mod CapabilitiesReads
 pub mod ExpansionReads
+pub mod ExpansionSteps
 pub mod Integers
 pub mod lemmas
 pub mod LeapReads
 pub mod ListTaken
 pub mod ListUtf8
+pub mod ObservanceText
 pub mod ReadBack
 pub mod TreeTokens

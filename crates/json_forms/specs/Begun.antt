@@ -1,5 +1,6 @@
 -- A document that is being written, one item of its array after another.
-use Rattle.std.specs.Prelude.{◌≡◌, ℕ, ℤ, List, [], ◌∷◌, ◌++◌, flat_map, map, codes}
+use Rattle.std.specs.Prelude.{◌≡◌, ℕ, ℤ, Bool, List, [], ◌∷◌, ◌++◌, flat_map, map, codes}
+use Rattle.json.specs.Print.{ends_value, print}
 use Rattle.json.specs.Token as token
 use Rattle.json.specs.Token.{Token}
 use Rattle.json.specs.Written.{Written}
@@ -33,8 +34,20 @@ expansion_opening until =
     token.begin_object ∷ token.key (codes "end") ∷ token.string (text_of until)
     ∷ token.key (codes "observances") ∷ token.begin_array ∷ []
 
+-- the tokens of that document as far as these observances
+abbrev pub expansion_tokens : ℤ → List Observance → List Token
+expansion_tokens until observances =
+    expansion_opening until ++ flat_map tree_tokens (map observance_data observances)
+
+-- a text that is being written, and whether a value was written last, so that a comma comes before
+-- the next one
+pub record TextSoFar : Type 0 where
+  pub text : List ℕ
+  pub after_value : Bool
+
 -- the bytes stand there, and after them the document of a range with this end as far as these
 -- observances
-abbrev pub IsExpansionBegun : List ℕ → ℤ → List Observance → Written → Type 0
-IsExpansionBegun before until observances w =
-    HasBegun before (expansion_opening until) (map observance_data observances) w
+pub record IsExpansionBegun
+    (before : List ℕ) (until : ℤ) (observances : List Observance) (w : TextSoFar) : Type 0 where
+  pub so_far : w.text ≡ before ++ print (expansion_tokens until observances)
+  pub place : w.after_value ≡ ends_value (expansion_tokens until observances)

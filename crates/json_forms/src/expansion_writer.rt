@@ -4,11 +4,11 @@ ghost use Rattle.td_base.specs.Names.{IsPlain};
 ghost use Rattle.td_civil.specs.Bounds.{IsWithinBounds};
 ghost use Rattle.td_civil.specs.declared.local_time.Observance.{Observance};
 ghost use Rattle.json_forms.specs.Begun.{IsExpansionBegun};
-ghost use Rattle.json_forms.specs.ExpansionDocument.{observance_data, expansion_document};
+ghost use Rattle.json_forms.specs.ExpansionDocument.{expansion_document};
 ghost use Rattle.json_forms.specs.PlainTexts.{IsPlainObservance};
-ghost use Rattle.json_forms.specs.TreeTokens.{tree_tokens};
 
-use crate::tree_writer::{put_integer, put_member, put_moment};
+use crate::observance_text::put_observance;
+use crate::tree_writer::{put_member, put_moment};
 use json::Writer;
 use std::alloc::Global;
 use std::marker::Model;
@@ -20,15 +20,17 @@ use td_civil::{Moment, Observance};
 /// a document.
 #[derive(Drop)]
 pub struct ExpansionWriter {
-    out: Writer,
+    out: Bytes,
+    /// Whether a value was written last, so that a comma comes before the next one.
+    after_value: bool,
 }
 
 impl Model for ExpansionWriter {
-    ghost use Rattle.json.specs.Written.{Written};
+    ghost use Rattle.json_forms.specs.Begun.{TextSoFar};
 
-    ghost Value = { Written };
+    ghost Value = { TextSoFar };
 
-    ghost view = { λ w. w.out };
+    ghost view = { λ w. record { text = w.out; after_value = w.after_value } };
 }
 
 impl ExpansionWriter {
@@ -42,7 +44,10 @@ impl ExpansionWriter {
         put_moment(&mut out, "end", until)?;
         out.key("observances")?;
         out.begin_array()?;
-        Ok(ExpansionWriter { out })
+        Ok(ExpansionWriter {
+            out: Bytes::from(out.into_inner()),
+            after_value: false,
+        })
     }
 
     /// Writes one more observance.
@@ -53,7 +58,8 @@ impl ExpansionWriter {
             → OnOk result
             (IsExpansionBegun before until (observances ++ observance.now ∷ []) self.new) }
     {
-        put_observance(&mut self.out, observance)?;
+        put_observance(&mut self.out, self.after_value, observance)?;
+        self.after_value = true;
         Ok(())
     }
 
@@ -67,7 +73,8 @@ impl ExpansionWriter {
             → IfOk result
             (λ text. text ≡ before ++ expansion_document tzid.now from.seconds until observances) }
     {
-        let ExpansionWriter { mut out } = self;
+        let ExpansionWriter { out, .. } = self;
+        let mut out = Writer::new(out.into_vec());
         out.end_array()?;
         put_moment(&mut out, "start", from)?;
         put_member(&mut out, "tzid", tzid)?;
@@ -118,21 +125,4 @@ fn expansion_of(
         expansion.observance(observance)?;
     }
     expansion.end(tzid, from)
-}
-
-/// Writes one observance.
-#[tactic(auto, unfolding(crate::specs::ExpansionDocument::observance_data))]
-fn put_observance(out: &mut Writer, observance: &Observance) -> Result<(), NoMemory>
-    requires { IsPlainObservance observance.now }
-    ensures tokens { OnOk result
-        (out.new.tokens ≡ out.old.tokens ++ tree_tokens (observance_data observance.now)) }
-    ensures before { out.new.before ≡ out.old.before }
-{
-    out.begin_object()?;
-    put_member(out, "name", observance.name.as_slice())?;
-    put_moment(out, "onset", observance.onset)?;
-    put_integer(out, "utc-offset-from", observance.from)?;
-    put_integer(out, "utc-offset-to", observance.to)?;
-    out.end_object()?;
-    Ok(())
 }

@@ -20,6 +20,7 @@ mod capabilities_writer;
 mod expansion_writer;
 mod leap_writer;
 mod list_writer;
+mod observance_text;
 mod plain;
 mod problem_writer;
 mod tree_writer;

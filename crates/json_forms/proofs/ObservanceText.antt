@@ -1,0 +1,77 @@
+-- The text of an observance, and the pieces that are appended for it.
+use Rattle.std.proofs.Common.{◌≡◌, ◌≢◌, ℕ, ◌+◌, ◌%◌, Bool, true, false, IsTrue, List, [], ◌∷◌, ◌++◌, cond, codes, nat_le, refl, ap, ◌∙◌, append_assoc, arith, ℤ}
+use Rattle.std.proofs.lemmas.Bool.Decides.{nat_tests}
+use Rattle.std.proofs.lemmas.Bool.{and_parts}
+use Rattle.td_base.specs.Names.{is_printable}
+use Rattle.json.specs.Print.{escape, escape_byte, print_from}
+use Rattle.json.specs.Token as token
+use Rattle.td_civil.specs.Stamp.{Stamp, spelling}
+use Rattle.td_civil.specs.Calendar.{stamp_of, text_of}
+
+-- a printable byte but a quote and a backslash needs no escape
+pub byte_stays : (b : ℕ) → IsTrue (is_printable b) → b ≢ 34 → b ≢ 92 → escape_byte b ≡ b ∷ []
+unfolding escape_byte
+byte_stays b plain no_quote no_backslash =
+    let least : IsTrue (nat_le 32 b) = (and_parts (nat_le 32 b) (nat_le b 126) plain).0 in
+    grind (arith, nat_tests)
+
+digit_stays : (n : ℕ) → escape_byte (48 + n % 10) ≡ (48 + n % 10) ∷ []
+unfolding escape_byte
+digit_stays n = grind (arith, nat_tests)
+
+-- nor do the other bytes of a moment
+hyphen_stays : escape_byte 45 ≡ 45 ∷ []
+unfolding escape_byte
+hyphen_stays = refl
+
+colon_stays : escape_byte 58 ≡ 58 ∷ []
+unfolding escape_byte
+colon_stays = refl
+
+time_stays : escape_byte 84 ≡ 84 ∷ []
+unfolding escape_byte
+time_stays = refl
+
+zone_stays : escape_byte 90 ≡ 90 ∷ []
+unfolding escape_byte
+zone_stays = refl
+
+spelling_stays : (s : Stamp) → escape (spelling s) ≡ spelling s
+spelling_stays s = simp (digit_stays, hyphen_stays, colon_stays, time_stays, zone_stays)
+
+pub stamp_stays : (m : ℤ) → escape (text_of m) ≡ text_of m
+unfolding text_of
+stamp_stays m = spelling_stays (stamp_of m)
+
+-- the pieces, one after another
+abbrev pub pieces : Bool → List ℕ → List ℕ → List ℕ → List ℕ → List ℕ
+pieces after name stamp from to =
+    cond after (44 ∷ []) []
+    ++ (codes "{\"name\":\"" ++ (escape name ++ (codes "\",\"onset\":\"" ++ (stamp ++ (codes "\",\"utc-offset-from\":"
+    ++ (from ++ (codes ",\"utc-offset-to\":" ++ (to ++ codes "}"))))))))
+
+-- what comes after the name, and after the moment, before each closing quote is drawn to it
+offsets : List ℕ → List ℕ → List ℕ
+offsets from to = codes ",\"utc-offset-from\":" ++ (from ++ (codes ",\"utc-offset-to\":" ++ (to ++ codes "}")))
+
+strings_joined : (name stamp from to : List ℕ) → escape stamp ≡ stamp
+    → (escape name ++ 34 ∷ []) ++ (codes ",\"onset\":\"" ++ ((escape stamp ++ 34 ∷ []) ++ offsets from to))
+    ≡ escape name ++ (codes "\",\"onset\":\"" ++ (stamp ++ (codes "\",\"utc-offset-from\":"
+    ++ (from ++ (codes ",\"utc-offset-to\":" ++ (to ++ codes "}"))))))
+unfolding offsets
+strings_joined name stamp from to stays =
+    append_assoc (escape name) (34 ∷ []) _
+    ∙ ap (λ l. escape name ++ (codes "\",\"onset\":\"" ++ l)) (append_assoc (escape stamp) (34 ∷ []) _ ∙ ap (λ s. s ++ 34 ∷ offsets from to) stays)
+
+pub observance_printed : (after : Bool) (name stamp from to : List ℕ) → escape stamp ≡ stamp
+    → print_from after
+    (token.begin_object ∷ token.key (codes "name") ∷ token.string name ∷ token.key (codes "onset") ∷ token.string stamp
+    ∷ token.key (codes "utc-offset-from") ∷ token.number from ∷ token.key (codes "utc-offset-to") ∷ token.number to ∷ token.end_object ∷ [])
+    ≡ pieces after name stamp from to
+unfolding print_from escape_byte offsets
+observance_printed true name stamp from to stays = ap (λ l. codes ",{\"name\":\"" ++ l) (strings_joined name stamp from to stays)
+observance_printed false name stamp from to stays = ap (λ l. codes "{\"name\":\"" ++ l) (strings_joined name stamp from to stays)
+
+pub joined : (a b c d e f g h i j k : List ℕ)
+    → (((((((((a ++ b) ++ c) ++ d) ++ e) ++ f) ++ g) ++ h) ++ i) ++ j) ++ k ≡ a ++ (b ++ (c ++ (d ++ (e ++ (f ++ (g ++ (h ++ (i ++ (j ++ k)))))))))
+joined a b c d e f g h i j k = simp append_assoc

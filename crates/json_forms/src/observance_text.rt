@@ -1,0 +1,77 @@
+//! The text of an observance, appended in pieces that are mostly fixed. It is the text that a
+//! `Writer` gives for the observance's tokens.
+ghost use Rattle.std.specs.Prelude.{◌≡◌, ◌++◌, [], ◌∷◌, IsTrue, cond, OnOk};
+ghost use Rattle.json.specs.Print.{escape, escape_byte, print_from};
+ghost use Rattle.serde_json.specs.Find.{of_integer};
+ghost use Rattle.serde_json.specs.Written.{number_text};
+ghost use Rattle.td_base.specs.Names.{is_printable, IsPlain};
+ghost use Rattle.json_forms.specs.ExpansionDocument.{observance_data};
+ghost use Rattle.json_forms.specs.PlainTexts.{IsPlainObservance};
+ghost use Rattle.json_forms.specs.TreeTokens.{tree_tokens};
+
+use td_base::{Bytes, NoMemory, put_decimal};
+use td_civil::{Observance, utc_text};
+
+/// Appends an observance, with a comma before it if it comes after a value.
+pub(crate) fn put_observance(
+    out: &mut Bytes,
+    after_value: bool,
+    observance: &Observance,
+) -> Result<(), NoMemory>
+    requires { IsPlainObservance observance.now }
+    ensures { OnOk result (out.new
+        ≡ out.old ++ print_from after_value (tree_tokens (observance_data observance.now))) }
+{
+    put_comma(out, after_value)?;
+    out.append(b"{\"name\":\"")?;
+    put_escaped(out, observance.name.as_slice())?;
+    out.append(b"\",\"onset\":\"")?;
+    out.append(&utc_text(observance.onset))?;
+    out.append(b"\",\"utc-offset-from\":")?;
+    put_signed(out, observance.from)?;
+    out.append(b",\"utc-offset-to\":")?;
+    put_signed(out, observance.to)?;
+    out.append(b"}")?;
+    Ok(())
+}
+
+/// Appends a comma where one is wanted.
+fn put_comma(out: &mut Bytes, wanted: bool) -> Result<(), NoMemory>
+    ensures { OnOk result (out.new ≡ out.old ++ cond wanted (44 ∷ []) []) }
+{
+    if wanted { out.push(b',') } else { Ok(()) }
+}
+
+/// Appends an integer in decimal.
+fn put_signed(out: &mut Bytes, n: i32) -> Result<(), NoMemory>
+    ensures { OnOk result (out.new ≡ out.old ++ number_text (of_integer n)) }
+{
+    if n < 0 {
+        out.push(b'-')?;
+    }
+    put_decimal(out, n.unsigned_abs() as u64)
+}
+
+/// Appends a plain text as it stands within a JSON string.
+fn put_escaped(out: &mut Bytes, text: &[u8]) -> Result<(), NoMemory>
+    requires { IsPlain text.now }
+    ensures { OnOk result (out.new ≡ out.old ++ escape text.now) }
+{
+    for &byte in text {
+        put_escaped_byte(out, byte)?;
+    }
+    Ok(())
+}
+
+/// Appends a byte as it stands there: a quote and a backslash have a backslash before them.
+#[tactic(auto, using(crate::proofs::ObservanceText::byte_stays), unfolding(json::specs::Print::escape_byte))]
+fn put_escaped_byte(out: &mut Bytes, byte: u8) -> Result<(), NoMemory>
+    requires { IsTrue (is_printable byte) }
+    ensures { OnOk result (out.new ≡ out.old ++ escape_byte byte) }
+{
+    match byte {
+        b'"' => out.append(b"\\\""),
+        b'\\' => out.append(b"\\\\"),
+        _ => out.push(byte),
+    }
+}
