@@ -5,13 +5,12 @@ use Rattle.std.proofs.lemmas.Bool.Decides.{nat_tests}
 use Rattle.std.proofs.lemmas.Int.{ints}
 use Rattle.std.specs.Prelude.{ℤ, ◌≤ℤ◌, ◌<ℤ◌}
 use Rattle.std.specs.List.{AllByRecursion, Contains, list_all}
-use Rattle.json.specs.Written.{Written}
 use Rattle.td_base.specs.Names.{IsPlain, is_printable}
 use Rattle.td_civil.specs.Bounds.{IsWithinBounds}
 use Rattle.td_civil.specs.declared.moment_type.TheConstants.{LO, HI}
 use Rattle.td_civil.specs.declared.local_time.Local.{Local}
 use Rattle.td_civil.specs.declared.local_time.Observance.{Observance}
-use Rattle.json_forms.specs.Begun.{IsExpansionBegun}
+use Rattle.json_forms.specs.Begun.{IsExpansionBegun, TextSoFar}
 use Rattle.json_forms.specs.PlainTexts.{IsPlainObservance}
 use Rattle.posix_footer.specs.Items.{is_designation_byte}
 use Rattle.zone_meaning.specs.Names.{is_printable_name}
@@ -76,13 +75,13 @@ plain_observances file a b sound range =
 -- ---- the document
 
 -- some of the observances are written, and these are left
-pub record IsWritten (all : List Observance) (until : ℤ) (rest : List Observance) (w : Written) : Type 0 where
+pub record IsWritten (all : List Observance) (until : ℤ) (rest : List Observance) (w : TextSoFar) : Type 0 where
   pub done : List Observance
   pub begun : IsExpansionBegun [] until done w
   pub whole : all ≡ done ++ rest
   pub plain : AllByRecursion IsPlainObservance rest
 
-pub one_more : (all : List Observance) (until : ℤ) (rest : List Observance) (o : Observance) (left : List Observance) (old new : Written)
+pub one_more : (all : List Observance) (until : ℤ) (rest : List Observance) (o : Observance) (left : List Observance) (old new : TextSoFar)
     → rest ≡ o ∷ left → (w : IsWritten all until rest old) → IsExpansionBegun [] until (w.done ++ o ∷ []) new → IsWritten all until left new
 one_more all until rest o left old new is w begun = record {
   done = w.done ++ o ∷ [];
@@ -91,7 +90,7 @@ one_more all until rest o left old new is w begun = record {
   plain = (subst (AllByRecursion IsPlainObservance) is w.plain).1;
 }
 
-pub all_written : (all : List Observance) (until : ℤ) (rest : List Observance) (w : Written) → rest ≡ [] → IsWritten all until rest w
+pub all_written : (all : List Observance) (until : ℤ) (rest : List Observance) (w : TextSoFar) → rest ≡ [] → IsWritten all until rest w
     → IsExpansionBegun [] until all w
 all_written all until rest w none h =
     subst (λ xs. IsExpansionBegun [] until xs w)
