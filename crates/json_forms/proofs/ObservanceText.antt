@@ -1,8 +1,11 @@
 -- The text of an observance, and the pieces that are appended for it.
-use Rattle.std.proofs.Common.{◌≡◌, ◌≢◌, ℕ, ◌+◌, ◌%◌, Bool, true, false, IsTrue, List, [], ◌∷◌, ◌++◌, cond, codes, nat_le, refl, ap, ◌∙◌, append_assoc, arith, ℤ}
+use Rattle.std.proofs.Common.{◌≡◌, ◌≢◌, ℕ, ◌+◌, ◌%◌, Bool, true, false, IsTrue, List, [], ◌∷◌, ◌++◌, cond, codes, nat_le, refl, sym, ap, ap₂, ◌∙◌, append_assoc, arith, ℤ}
 use Rattle.std.proofs.lemmas.Bool.Decides.{nat_tests}
 use Rattle.std.proofs.lemmas.Bool.{and_parts}
-use Rattle.td_base.specs.Names.{is_printable}
+use Rattle.std.specs.Prelude.{not, ◌&&◌, ◌==◌}
+use Rattle.std.specs.List.{list_all}
+use Rattle.td_base.specs.Names.{is_printable, IsPlain}
+use Rattle.json_forms.specs.Escapes.{is_unescaped}
 use Rattle.json.specs.Print.{escape, escape_byte, print_from}
 use Rattle.json.specs.Token as token
 use Rattle.td_civil.specs.Stamp.{Stamp, spelling}
@@ -14,6 +17,20 @@ unfolding escape_byte
 byte_stays b plain no_quote no_backslash =
     let least : IsTrue (nat_le 32 b) = (and_parts (nat_le 32 b) (nat_le b 126) plain).0 in
     grind (arith, nat_tests)
+
+unescaped_stays : (b : ℕ) → IsTrue (is_printable b) → IsTrue (is_unescaped b) → escape_byte b ≡ b ∷ []
+unfolding is_unescaped
+unescaped_stays b plain own =
+    let parts = and_parts (not (b == 34)) (not (b == 92)) own in
+    byte_stays b plain (grind (arith, nat_tests)) (grind (arith, nat_tests))
+
+-- nor does a text of such bytes
+pub text_stays : (text : List ℕ) → IsPlain text → list_all is_unescaped text ≡ true → escape text ≡ text
+text_stays [] plain own = refl
+text_stays (b ∷ bs) plain own =
+    let parts = and_parts (is_printable b) (list_all is_printable bs) plain in
+    let owns = and_parts (is_unescaped b) (list_all is_unescaped bs) own in
+    ap₂ (λ x y. x ++ y) (unescaped_stays b parts.0 owns.0) (text_stays bs parts.1 owns.1)
 
 digit_stays : (n : ℕ) → escape_byte (48 + n % 10) ≡ (48 + n % 10) ∷ []
 unfolding escape_byte
@@ -44,13 +61,13 @@ unfolding text_of
 stamp_stays m = spelling_stays (stamp_of m)
 
 -- the pieces, one after another
-abbrev pub pieces : Bool → List ℕ → List ℕ → List ℕ → List ℕ → List ℕ
+abbrev pieces : Bool → List ℕ → List ℕ → List ℕ → List ℕ → List ℕ
 pieces after name stamp from to =
     cond after (44 ∷ []) []
     ++ (codes "{\"name\":\"" ++ (escape name ++ (codes "\",\"onset\":\"" ++ (stamp ++ (codes "\",\"utc-offset-from\":"
     ++ (from ++ (codes ",\"utc-offset-to\":" ++ (to ++ codes "}"))))))))
 
--- what comes after the name, and after the moment, before each closing quote is drawn to it
+-- what comes after the moment and its closing quote
 offsets : List ℕ → List ℕ → List ℕ
 offsets from to = codes ",\"utc-offset-from\":" ++ (from ++ (codes ",\"utc-offset-to\":" ++ (to ++ codes "}")))
 
@@ -63,7 +80,7 @@ strings_joined name stamp from to stays =
     append_assoc (escape name) (34 ∷ []) _
     ∙ ap (λ l. escape name ++ (codes "\",\"onset\":\"" ++ l)) (append_assoc (escape stamp) (34 ∷ []) _ ∙ ap (λ s. s ++ 34 ∷ offsets from to) stays)
 
-pub observance_printed : (after : Bool) (name stamp from to : List ℕ) → escape stamp ≡ stamp
+observance_printed : (after : Bool) (name stamp from to : List ℕ) → escape stamp ≡ stamp
     → print_from after
     (token.begin_object ∷ token.key (codes "name") ∷ token.string name ∷ token.key (codes "onset") ∷ token.string stamp
     ∷ token.key (codes "utc-offset-from") ∷ token.number from ∷ token.key (codes "utc-offset-to") ∷ token.number to ∷ token.end_object ∷ [])
@@ -72,6 +89,18 @@ unfolding print_from escape_byte offsets
 observance_printed true name stamp from to stays = ap (λ l. codes ",{\"name\":\"" ++ l) (strings_joined name stamp from to stays)
 observance_printed false name stamp from to stays = ap (λ l. codes "{\"name\":\"" ++ l) (strings_joined name stamp from to stays)
 
-pub joined : (a b c d e f g h i j k : List ℕ)
-    → (((((((((a ++ b) ++ c) ++ d) ++ e) ++ f) ++ g) ++ h) ++ i) ++ j) ++ k ≡ a ++ (b ++ (c ++ (d ++ (e ++ (f ++ (g ++ (h ++ (i ++ (j ++ k)))))))))
+joined : (a b c d e f g h i j k : List ℕ)
+    → ((((((((a ++ (b ++ c)) ++ d) ++ e) ++ f) ++ g) ++ h) ++ i) ++ j) ++ k ≡ a ++ (b ++ (c ++ (d ++ (e ++ (f ++ (g ++ (h ++ (i ++ (j ++ k)))))))))
 joined a b c d e f g h i j k = simp append_assoc
+
+-- as they are appended one after another
+pub observance_appended : (out : List ℕ) (after : Bool) (name stamp from to : List ℕ) → escape stamp ≡ stamp
+    → ((((((((out ++ (cond after (44 ∷ []) [] ++ codes "{\"name\":\"")) ++ escape name) ++ codes "\",\"onset\":\"") ++ stamp)
+    ++ codes "\",\"utc-offset-from\":") ++ from) ++ codes ",\"utc-offset-to\":") ++ to) ++ codes "}"
+    ≡ out ++ print_from after
+    (token.begin_object ∷ token.key (codes "name") ∷ token.string name ∷ token.key (codes "onset") ∷ token.string stamp
+    ∷ token.key (codes "utc-offset-from") ∷ token.number from ∷ token.key (codes "utc-offset-to") ∷ token.number to ∷ token.end_object ∷ [])
+observance_appended out after name stamp from to stays =
+    joined out (cond after (44 ∷ []) []) (codes "{\"name\":\"") (escape name) (codes "\",\"onset\":\"") stamp (codes "\",\"utc-offset-from\":")
+    from (codes ",\"utc-offset-to\":") to (codes "}")
+    ∙ ap (λ l. out ++ l) (sym (observance_printed after name stamp from to stays))

@@ -1,6 +1,7 @@
 pub mod AliasTokens
 pub mod Begun
 pub mod CapabilitiesDocument
+pub mod Escapes
 pub mod ExpansionDocument
 pub mod FaultText
 pub mod JsonTexts

@@ -1,10 +1,12 @@
 //! The text of an observance, appended in pieces that are mostly fixed. It is the text that a
 //! `Writer` gives for the observance's tokens.
-ghost use Rattle.std.specs.Prelude.{◌≡◌, ◌++◌, [], ◌∷◌, IsTrue, cond, OnOk};
+ghost use Rattle.std.specs.Prelude.{◌≡◌, ◌++◌, [], ◌∷◌, IsTrue, codes, cond, OnOk};
+ghost use Rattle.std.specs.List.{list_all};
 ghost use Rattle.json.specs.Print.{escape, escape_byte, print_from};
 ghost use Rattle.serde_json.specs.Find.{of_integer};
 ghost use Rattle.serde_json.specs.Written.{number_text};
 ghost use Rattle.td_base.specs.Names.{is_printable, IsPlain};
+ghost use Rattle.json_forms.specs.Escapes.{is_unescaped};
 ghost use Rattle.json_forms.specs.ExpansionDocument.{observance_data};
 ghost use Rattle.json_forms.specs.PlainTexts.{IsPlainObservance};
 ghost use Rattle.json_forms.specs.TreeTokens.{tree_tokens};
@@ -22,8 +24,7 @@ pub(crate) fn put_observance(
     ensures { OnOk result (out.new
         ≡ out.old ++ print_from after_value (tree_tokens (observance_data observance.now))) }
 {
-    put_comma(out, after_value)?;
-    out.append(b"{\"name\":\"")?;
+    put_opening(out, after_value)?;
     put_escaped(out, observance.name.as_slice())?;
     out.append(b"\",\"onset\":\"")?;
     out.append(&utc_text(observance.onset))?;
@@ -35,11 +36,16 @@ pub(crate) fn put_observance(
     Ok(())
 }
 
-/// Appends a comma where one is wanted.
-fn put_comma(out: &mut Bytes, wanted: bool) -> Result<(), NoMemory>
-    ensures { OnOk result (out.new ≡ out.old ++ cond wanted (44 ∷ []) []) }
+/// Appends what stands before the name.
+fn put_opening(out: &mut Bytes, after_value: bool) -> Result<(), NoMemory>
+    ensures { OnOk result (out.new
+        ≡ out.old ++ (cond after_value (44 ∷ []) [] ++ codes "{\"name\":\"")) }
 {
-    if wanted { out.push(b',') } else { Ok(()) }
+    if after_value {
+        out.append(b",{\"name\":\"")
+    } else {
+        out.append(b"{\"name\":\"")
+    }
 }
 
 /// Appends an integer in decimal.
@@ -53,7 +59,40 @@ fn put_signed(out: &mut Bytes, n: i32) -> Result<(), NoMemory>
 }
 
 /// Appends a plain text as it stands within a JSON string.
+#[tactic(auto, using(crate::proofs::ObservanceText::text_stays))]
 fn put_escaped(out: &mut Bytes, text: &[u8]) -> Result<(), NoMemory>
+    requires { IsPlain text.now }
+    ensures { OnOk result (out.new ≡ out.old ++ escape text.now) }
+{
+    if are_unescaped(text) {
+        out.append(text)
+    } else {
+        put_escaped_bytes(out, text)
+    }
+}
+
+/// Whether no byte has a backslash before it there.
+fn are_unescaped(text: &[u8]) -> bool
+    ensures { result ≡ list_all is_unescaped text.now }
+{
+    for &byte in text {
+        if !is_unescaped(byte) {
+            return false;
+        }
+    }
+    true
+}
+
+/// Whether a plain byte has no backslash before it there.
+#[tactic(auto, unfolding(crate::specs::Escapes::is_unescaped))]
+fn is_unescaped(byte: u8) -> bool
+    ensures { result ≡ is_unescaped byte }
+{
+    byte != b'"' && byte != b'\\'
+}
+
+/// Appends the text byte by byte.
+fn put_escaped_bytes(out: &mut Bytes, text: &[u8]) -> Result<(), NoMemory>
     requires { IsPlain text.now }
     ensures { OnOk result (out.new ≡ out.old ++ escape text.now) }
 {
