@@ -5,9 +5,10 @@
 //! zone `expansion_document`, the capabilities `capabilities_document`, the leap seconds
 //! `leap_document`, and a refusal `problem_document`.
 //!
-//! Documents that grow with the data are written token by token: `ListWriter` and `ExpansionWriter`
-//! take one item at a time. The others are built as a `Value` and printed. The server writes these
-//! documents (`actions`), and its clients read them (`mirror`, `made_load`).
+//! Documents that grow with the data are not built first: `ListWriter` and `ExpansionWriter` take
+//! one item at a time. A zone is written token by token, an observance in pieces that are mostly
+//! fixed. The others are built as a `Value` and printed. The server writes these documents
+//! (`actions`), and its clients read them (`mirror`, `made_load`).
 #![tactic(auto)]
 
 // What a list and a problem hold, and why bytes are not a list.
