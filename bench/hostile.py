@@ -535,15 +535,15 @@ class Bench:
         self.row(name, server, seen[0].row(), seen[1].row(), memory)
         return seen
 
-    def seen_beside(self, name, flood, asked=None):
-        """What the good clients saw of a new server. The body of what is asked is kept."""
+    def seen_beside(self, name, flood, asked=()):
+        """What the good clients saw of a new server. The bodies of what is asked are kept."""
         with self.served(workers=WORKERS) as server:
             act = flood(server.port, SEARCH)
             seen = self.beside(name, "tzdistd", server.port, server.pid, SEARCH, act)
             self.judge(name, seen)
-            if asked:
+            for one in asked:
                 with Client(server.port, timeout=60) as client:
-                    asked.body = client.ask(SEARCH, timeout=60).body
+                    one.body = client.ask(one.target, timeout=60).body
             server.quit(60)
         return seen
 
@@ -551,7 +551,7 @@ class Bench:
         self.table(OF_FLOODS)
         times, resets, longest = 0.0, 0, 0.0
         for name, flood in FLOODS.items():
-            asked = Asked("search", SEARCH)
+            asked = [Asked("search", SEARCH), Asked("list", ZONES)]
             seen = self.seen_beside(name, flood, asked)
             resets += sum(len(one.faults) for one in seen)
             longest = max([longest, *(one.longest for one in seen)])
@@ -565,9 +565,11 @@ class Bench:
             self.mark(name, f"{times:.2f}", times <= TIMES_NGINX)
 
     def beside_nginx(self, name, flood, asked):
-        """The same of nginx, with a file of the same body."""
-        with Nginx("nginx", [asked], WORKERS) as site:
-            target = site.asked(0, asked).target
+        """The same of nginx, with files of the same bodies. Slow clients ask for the list by name."""
+        search, listing = asked
+        with Nginx("nginx", [search], WORKERS) as site:
+            site.put(listing.target, listing.body)
+            target = site.asked(0, search).target
             return self.beside(name, "nginx", site.port, None, target, flood(site.port, target))
 
     def judge(self, name, seen):

@@ -301,6 +301,13 @@ class Nginx:
             self.close()
             raise Failure("nginx does not listen")
 
+    def put(self, path, body):
+        """Serves a body at a path of tzdistd, so that a client asks both servers for the same."""
+        at = f"{self.room.name}/files{path}"
+        os.makedirs(os.path.dirname(at), mode=0o755, exist_ok=True)
+        with open(at, "wb") as file:
+            file.write(body)
+
     def asked(self, number, one):
         """The request for a file, with its tag where none of its bytes are wanted."""
         same = Asked(one.name, f"/{number}", [], one.status)

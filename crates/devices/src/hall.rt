@@ -14,7 +14,7 @@ use std::os::fd::AsRawFd;
 use std::sync::Arc;
 use std::time::{Clock, Duration};
 use stretches::{
-    FailureWindow, Fate, LONG_TURN_MICROS, Queue, SHORT_TURN_MICROS, Shared, WorkerTurn,
+    FailureWindow, Fate, Queue, SHORT_TURN_MICROS, Shared, WorkerTurn, is_long, turn_limit,
 };
 use td_base::End;
 
@@ -143,10 +143,7 @@ impl<R: Clock + Eprint + Copy> Hall<R> {
         self.tick();
         match self.coming(self.idled.saturating_add(IDLE_ANSWER_MILLIS)) {
             Ok(Some(mut wire)) => {
-                let limit = match wire.queue() {
-                    Queue::Heavy => LONG_TURN_MICROS,
-                    Queue::Fresh | Queue::Light => SHORT_TURN_MICROS,
-                };
+                let limit = self.limit(wire.queue());
                 let turn = WorkerTurn::new(self.micros, limit);
                 wire.begin(self.resting.allowance(), turn);
                 Ok(Some(wire))
@@ -166,7 +163,8 @@ impl<R: Clock + Eprint + Copy> Hall<R> {
         let now = self.now();
         let cost = self.cost(wire.turn());
         self.shared.charge(self.queue, cost);
-        wire.weigh(cost >= SHORT_TURN_MICROS);
+        let unfinished = wire.is_unfinished();
+        wire.weigh(is_long(self.queue, cost, unfinished));
         if wire.finish(end, now) == Fate::Breaks {
             return;
         }
@@ -182,6 +180,15 @@ impl<R: Clock + Eprint + Copy> Hall<R> {
             return;
         }
         self.resting.keep(self.poll.registry(), wire, rest, now);
+    }
+
+    /// For how many microseconds a connection is served that was taken from the present queue, by
+    /// where it would wait.
+    fn limit(&self, queue: Queue) -> u64 {
+        match queue {
+            Queue::Heavy => turn_limit(queue, 0),
+            Queue::Fresh | Queue::Light => turn_limit(self.queue, self.resting.light()),
+        }
     }
 
     /// What a turn cost, in microseconds. The thread's own clock is read only for a long one.

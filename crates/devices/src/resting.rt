@@ -65,6 +65,11 @@ impl Resting {
         }
     }
 
+    /// How many keys are in the queue of quick requests.
+    pub fn light(&self) -> u64 {
+        u64::try_from(self.light.len()).unwrap_or(u64::MAX)
+    }
+
     /// How many keys are in the queue of costly requests.
     pub fn heavy(&self) -> usize {
         self.heavy.len()

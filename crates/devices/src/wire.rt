@@ -138,6 +138,15 @@ impl<S> Wire<S> {
         self.turn
     }
 
+    /// Whether it holds a further head that is whole.
+    pub fn is_unfinished(&mut self) -> bool
+        ensures waits { result ≡ false → front_length self.new.incoming.intake.bytes ≡ 0 }
+        ensures incoming { self.new.incoming.intake.bytes ≡ self.old.incoming.intake.bytes }
+        ensures outgoing { self.new.outgoing.unsent.rest ≡ self.old.outgoing.unsent.rest }
+    {
+        self.incoming.is_ready()
+    }
+
     /// Notes whether its last turn was a long one.
     pub fn weigh(&mut self, was_long: bool)
         ensures { self.new ≡ record self.old { was_long = was_long } }

@@ -1,10 +1,10 @@
 //! What a listener decides about connections that no worker serves. A worker gets a connection for
 //! a *stretch* of whole heads, and so waits for no peer. [`Intake`] says which received bytes may
-//! be given in it, [`WorkerTurn`] when it ends by the clock, [`fate_after`] what becomes of the
-//! connection then. [`Shared`] says which queue is served next, and [`is_costly`] which requests
-//! wait in the queue of costly ones. [`Life`] says how long a connection may rest, [`Roll`] which
-//! one is closed when descriptors or memory run short. [`FailureWindow`] says when a listener is
-//! broken, [`accepts`] which of several takes a new connection.
+//! be given in it, [`turn_limit`] and [`WorkerTurn`] when it ends by the clock, [`fate_after`] what
+//! becomes of the connection then. [`Shared`] says which queue is served next, [`is_costly`] and
+//! [`is_long`] what waits in the queue of costly requests. [`Life`] says how long a connection may
+//! rest, [`Roll`] which one is closed when descriptors or memory run short. [`FailureWindow`] says
+//! when a listener is broken, [`accepts`] which of several takes a new connection.
 //!
 //! It stands on `http_request`, which finds the end of a head; `devices` calls it. Nothing here
 //! waits or calls the system.
@@ -46,7 +46,10 @@ pub use looking::{Look, look_at};
 pub use queues::{Queue, Shared, Waiting};
 pub use roll::Roll;
 pub use share::{GRACE_MILLIS, accepts};
-pub use turn::{LONG_TURN_MICROS, SHORT_TURN_MICROS, WorkerTurn};
+pub use turn::{
+    FIRST_TURN_MICROS, LONG_TURN_MICROS, ROUND_MICROS, SHORT_TURN_MICROS, WorkerTurn, is_long,
+    turn_limit,
+};
 
 #[cfg(test)]
 mod tests;

@@ -1,5 +1,7 @@
-ghost use Rattle.std.specs.Prelude.{◌≡◌, max};
-ghost use Rattle.stretches.specs.Turns.{is_spent, turn_cost};
+ghost use Rattle.std.specs.Prelude.{◌≡◌, ◌<◌, ◌≤◌, ◌+◌, ◌*◌, max};
+ghost use Rattle.stretches.specs.Turns.{is_long, is_spent, turn_cost, turn_limit};
+
+use crate::queues::Queue;
 
 /// For how many microseconds a worker serves a connection before it turns to others: a request or a
 /// few.
@@ -7,6 +9,38 @@ pub const SHORT_TURN_MICROS: u64 = 2_000;
 
 /// The same for a connection that requests something costly or whose last turn was long.
 pub const LONG_TURN_MICROS: u64 = 10_000;
+
+/// The same for the first turn of a new connection: how many wait behind it is not known.
+pub const FIRST_TURN_MICROS: u64 = 50;
+
+/// In how many microseconds all connections that wait for quick requests have a turn, if a request
+/// of each takes no longer than its turn.
+pub const ROUND_MICROS: u64 = 20_000;
+
+/// For how many microseconds a worker serves a connection of a queue, in which so many others wait.
+pub fn turn_limit(queue: Queue, others: u64) -> u64
+    ensures limit { result ≡ turn_limit queue others }
+    ensures round { queue ≡ Queue.Light → others < ROUND_MICROS
+        → result * (others + 1) ≤ ROUND_MICROS }
+    ensures some { 0 < result }
+{
+    match queue {
+        Queue::Fresh => FIRST_TURN_MICROS,
+        Queue::Light => {
+            let share = ROUND_MICROS / others.saturating_add(1);
+            share.clamp(1, SHORT_TURN_MICROS)
+        }
+        Queue::Heavy => LONG_TURN_MICROS,
+    }
+}
+
+/// Whether a connection waits for its next turn with those of costly requests: its turn in a queue
+/// cost much, or was over before all was served that had been requested.
+pub fn is_long(queue: Queue, micros: u64, unfinished: bool) -> bool
+    ensures { result ≡ is_long queue micros unfinished }
+{
+    micros >= SHORT_TURN_MICROS || (unfinished && queue != Queue::Fresh)
+}
 
 /// A turn of a connection at a worker. Times are in microseconds, by one monotonic clock.
 #[derive(Clone, Copy, PartialEq, Eq)]
