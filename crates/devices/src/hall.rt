@@ -164,7 +164,7 @@ impl<R: Clock + Eprint + Copy> Hall<R> {
         let cost = self.cost(wire.turn());
         self.shared.charge(self.queue, cost);
         let unfinished = wire.is_unfinished();
-        wire.weigh(is_long(self.queue, cost, unfinished));
+        wire.weigh(is_long(cost, unfinished));
         if wire.finish(end, now) == Fate::Breaks {
             return;
         }
@@ -182,12 +182,13 @@ impl<R: Clock + Eprint + Copy> Hall<R> {
         self.resting.keep(self.poll.registry(), wire, rest, now);
     }
 
-    /// For how many microseconds a connection is served that was taken from the present queue, by
-    /// where it would wait.
+    /// For how many microseconds a connection is served that would wait in this queue. A new one
+    /// with quick requests has a first turn.
     fn limit(&self, queue: Queue) -> u64 {
+        let others = self.resting.waiting_in(queue);
         match queue {
-            Queue::Heavy => turn_limit(queue, 0),
-            Queue::Fresh | Queue::Light => turn_limit(self.queue, self.resting.light()),
+            Queue::Heavy => turn_limit(queue, others),
+            Queue::Fresh | Queue::Light => turn_limit(self.queue, others),
         }
     }
 

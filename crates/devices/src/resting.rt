@@ -65,9 +65,13 @@ impl Resting {
         }
     }
 
-    /// How many keys are in the queue of quick requests.
-    pub fn light(&self) -> u64 {
-        u64::try_from(self.light.len()).unwrap_or(u64::MAX)
+    /// How many keys are in the queue of such connections.
+    pub fn waiting_in(&self, queue: Queue) -> u64 {
+        let count = match queue {
+            Queue::Heavy => self.heavy.len(),
+            Queue::Fresh | Queue::Light => self.light.len(),
+        };
+        u64::try_from(count).unwrap_or(u64::MAX)
     }
 
     /// How many keys are in the queue of costly requests.

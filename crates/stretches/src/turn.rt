@@ -1,4 +1,4 @@
-ghost use Rattle.std.specs.Prelude.{◌≡◌, ◌<◌, ◌≤◌, ◌+◌, ◌*◌, max};
+ghost use Rattle.std.specs.Prelude.{◌≡◌, ◌≢◌, ◌<◌, ◌≤◌, ◌+◌, ◌*◌, max};
 ghost use Rattle.stretches.specs.Turns.{is_long, is_spent, turn_cost, turn_limit};
 
 use crate::queues::Queue;
@@ -13,33 +13,32 @@ pub const LONG_TURN_MICROS: u64 = 10_000;
 /// The same for the first turn of a new connection: how many wait behind it is not known.
 pub const FIRST_TURN_MICROS: u64 = 50;
 
-/// In how many microseconds all connections that wait for quick requests have a turn, if a request
-/// of each takes no longer than its turn.
-pub const ROUND_MICROS: u64 = 20_000;
+/// Within how many microseconds each connection of a queue has a turn, if no request takes longer
+/// than a turn.
+pub const ROUND_MICROS: u64 = 10_000;
 
-/// For how many microseconds a worker serves a connection of a queue, in which so many others wait.
+/// For how many microseconds a worker serves a connection of this queue, if so many others wait in
+/// it. The more wait, the shorter it is.
 pub fn turn_limit(queue: Queue, others: u64) -> u64
     ensures limit { result ≡ turn_limit queue others }
-    ensures round { queue ≡ Queue.Light → others < ROUND_MICROS
+    ensures round { queue ≢ Queue.Fresh → others < ROUND_MICROS
         → result * (others + 1) ≤ ROUND_MICROS }
     ensures some { 0 < result }
 {
+    let share = (ROUND_MICROS / others.saturating_add(1)).max(1);
     match queue {
         Queue::Fresh => FIRST_TURN_MICROS,
-        Queue::Light => {
-            let share = ROUND_MICROS / others.saturating_add(1);
-            share.clamp(1, SHORT_TURN_MICROS)
-        }
-        Queue::Heavy => LONG_TURN_MICROS,
+        Queue::Light => share.min(SHORT_TURN_MICROS),
+        Queue::Heavy => share.min(LONG_TURN_MICROS),
     }
 }
 
-/// Whether a connection waits for its next turn with those of costly requests: its turn in a queue
-/// cost much, or was over before all was served that had been requested.
-pub fn is_long(queue: Queue, micros: u64, unfinished: bool) -> bool
-    ensures { result ≡ is_long queue micros unfinished }
+/// Whether a turn was a long one: it cost much, or ended before all was served that had been
+/// requested.
+pub fn is_long(micros: u64, unfinished: bool) -> bool
+    ensures { result ≡ is_long micros unfinished }
 {
-    micros >= SHORT_TURN_MICROS || (unfinished && queue != Queue::Fresh)
+    micros >= SHORT_TURN_MICROS || unfinished
 }
 
 /// A turn of a connection at a worker. Times are in microseconds, by one monotonic clock.
