@@ -1,7 +1,10 @@
 //! What a door decides about the connections that it keeps.
 use case_lines::{Answer, CaseFault, Row, Told, shown};
 use std::alloc::Global;
-use stretches::{FailureWindow, Life, Phase, Queue, Roll, Shared, Waiting, WorkerTurn, is_costly};
+use stretches::{
+    FailureWindow, Life, Phase, Queue, Roll, Shared, Waiting, WorkerTurn, is_costly, is_long_turn,
+    turn_limit,
+};
 
 /// How many words of a row describe what a connection waits for, and since when.
 const LIFE_WORDS: usize = 5;
@@ -119,6 +122,24 @@ pub fn turn(alloc: Global, row: &Row) -> Answer {
     let mut turn = WorkerTurn::new(began, limit);
     turn.see(seen);
     shown(alloc, &(turn.is_spent(), turn.cost(seen, ran)))
+}
+
+/// `limit OTHERS`: for how long a connection of each queue is served in which so many others wait:
+/// of new ones, of those with quick requests, and of those with costly ones.
+pub fn limit(alloc: Global, row: &Row) -> Answer {
+    let others = row.number(0)?;
+    let limits = (
+        turn_limit(Queue::Fresh, others),
+        turn_limit(Queue::Light, others),
+        turn_limit(Queue::Heavy, others),
+    );
+    shown(alloc, &limits)
+}
+
+/// `long MICROS LEFT`: whether a turn was a long one that took so long, and left so many requests
+/// unserved.
+pub fn long(alloc: Global, row: &Row) -> Answer {
+    shown(alloc, &is_long_turn(row.number(0)?, row.number(1)? > 0))
 }
 
 /// `costly BYTES`: whether received bytes request something costly.

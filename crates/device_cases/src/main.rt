@@ -102,6 +102,8 @@ fn alone(alloc: Global, row: &Row) -> Answer {
         "roll" => decisions::roll(alloc, row),
         "queues" => decisions::queues(alloc, row),
         "turn" => decisions::turn(alloc, row),
+        "limit" => decisions::limit(alloc, row),
+        "long" => decisions::long(alloc, row),
         "costly" => decisions::costly(alloc, row),
         "failures" => decisions::failures(alloc, row),
         "words" => edge::words(alloc, row),

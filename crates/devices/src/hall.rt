@@ -14,7 +14,7 @@ use std::os::fd::AsRawFd;
 use std::sync::Arc;
 use std::time::{Clock, Duration};
 use stretches::{
-    FailureWindow, Fate, Queue, SHORT_TURN_MICROS, Shared, WorkerTurn, is_long, turn_limit,
+    FailureWindow, Fate, Queue, SHORT_TURN_MICROS, Shared, WorkerTurn, is_long_turn, turn_limit,
 };
 use td_base::End;
 
@@ -59,11 +59,12 @@ pub struct Hall<R> {
     /// The recent failures, and the one that broke the listener.
     failures: FailureWindow,
     broken: Option<ErrorKind>,
-    /// The time by the clock in microseconds, and in milliseconds. Then the times of the last poll,
-    /// of the last sweep, and of the last return that no connection waits.
+    /// The time by the clock and the time of the last poll, in microseconds. Then in milliseconds
+    /// the time by the clock, and those of the last sweep and of the last return that no connection
+    /// waits.
     micros: u64,
-    time: u64,
     polled: u64,
+    time: u64,
     swept: u64,
     idled: u64,
     /// The number of the last turn.
@@ -110,8 +111,8 @@ impl<R: Clock + Eprint + Copy> Hall<R> {
             failures: FailureWindow::NONE,
             broken: None,
             micros: 0,
-            time: 0,
             polled: 0,
+            time: 0,
             swept: 0,
             idled: 0,
             turns: 0,
@@ -164,7 +165,7 @@ impl<R: Clock + Eprint + Copy> Hall<R> {
         let cost = self.cost(wire.turn());
         self.shared.charge(self.queue, cost);
         let unfinished = wire.is_unfinished();
-        wire.weigh(is_long(cost, unfinished));
+        wire.weigh(is_long_turn(cost, unfinished));
         if wire.finish(end, now) == Fate::Breaks {
             return;
         }

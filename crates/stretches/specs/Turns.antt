@@ -17,8 +17,8 @@ turn_limit queue.Light others = min (share others) SHORT_TURN_MICROS
 turn_limit queue.Heavy others = min (share others) LONG_TURN_MICROS
 
 -- a turn was a long one: it cost much, or left something unserved that had been requested
-abbrev pub is_long : (micros : ℕ) → (unfinished : Bool) → Bool
-is_long micros unfinished = nat_le SHORT_TURN_MICROS micros || unfinished
+abbrev pub is_long_turn : (micros : ℕ) → (unfinished : Bool) → Bool
+is_long_turn micros unfinished = nat_le SHORT_TURN_MICROS micros || unfinished
 
 -- by the last reading of the clock the turn took its time
 abbrev pub is_spent : WorkerTurn → Bool

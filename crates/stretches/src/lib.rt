@@ -2,7 +2,7 @@
 //! a *stretch* of whole heads, and so waits for no peer. [`Intake`] says which received bytes may
 //! be given in it, [`turn_limit`] and [`WorkerTurn`] when it ends by the clock, [`fate_after`] what
 //! becomes of the connection then. [`Shared`] says which queue is served next, [`is_costly`] and
-//! [`is_long`] what waits in the queue of costly requests. [`Life`] says how long a connection may
+//! [`is_long_turn`] what waits in the queue of costly requests. [`Life`] says how long a connection may
 //! rest, [`Roll`] which one is closed when descriptors or memory run short. [`FailureWindow`] says
 //! when a listener is broken, [`accepts`] which of several takes a new connection.
 //!
@@ -47,7 +47,7 @@ pub use queues::{Queue, Shared, Waiting};
 pub use roll::Roll;
 pub use share::{GRACE_MILLIS, accepts};
 pub use turn::{
-    FIRST_TURN_MICROS, LONG_TURN_MICROS, ROUND_MICROS, SHORT_TURN_MICROS, WorkerTurn, is_long,
+    FIRST_TURN_MICROS, LONG_TURN_MICROS, ROUND_MICROS, SHORT_TURN_MICROS, WorkerTurn, is_long_turn,
     turn_limit,
 };
 

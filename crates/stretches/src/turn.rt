@@ -1,5 +1,5 @@
 ghost use Rattle.std.specs.Prelude.{◌≡◌, ◌≢◌, ◌<◌, ◌≤◌, ◌+◌, ◌*◌, max};
-ghost use Rattle.stretches.specs.Turns.{is_long, is_spent, turn_cost, turn_limit};
+ghost use Rattle.stretches.specs.Turns.{is_long_turn, is_spent, turn_cost, turn_limit};
 
 use crate::queues::Queue;
 
@@ -35,8 +35,8 @@ pub fn turn_limit(queue: Queue, others: u64) -> u64
 
 /// Whether a turn was a long one: it cost much, or ended before all was served that had been
 /// requested.
-pub fn is_long(micros: u64, unfinished: bool) -> bool
-    ensures { result ≡ is_long micros unfinished }
+pub fn is_long_turn(micros: u64, unfinished: bool) -> bool
+    ensures { result ≡ is_long_turn micros unfinished }
 {
     micros >= SHORT_TURN_MICROS || unfinished
 }

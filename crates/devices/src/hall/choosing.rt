@@ -9,6 +9,9 @@ use std::net::TcpStream;
 use std::time::{Clock, Duration};
 use stretches::{GRACE_MILLIS, Queue, Waiting};
 
+/// How often events are polled while connections can be served, in microseconds.
+const POLL_MICROS: u64 = 250;
+
 /// How often expired connections are closed, in milliseconds.
 const SWEEP_MILLIS: u64 = 250;
 
@@ -17,13 +20,13 @@ const MOST_LOOKS: u32 = 65_536;
 
 impl<R: Clock + Eprint + Copy> Hall<R> {
     /// The next connection that can be served, if one comes before this time in milliseconds. The
-    /// loop polls at least once a millisecond, even while others can be served.
+    /// loop polls between two turns once in 250 microseconds, even while others can be served.
     pub(super) fn coming(&mut self, end: u64) -> io::Result<Option<Wire<TcpStream>>> {
         for _ in 0..MOST_LOOKS {
             if self.time >= end {
                 break;
             }
-            if self.time != self.polled {
+            if self.micros.saturating_sub(self.polled) >= POLL_MICROS {
                 self.wait(0)?;
             }
             match self.choose()? {
@@ -85,7 +88,7 @@ impl<R: Clock + Eprint + Copy> Hall<R> {
             _ => {}
         }
         self.tick();
-        self.polled = self.time;
+        self.polled = self.micros;
         self.read_ran();
         let now = self.now();
         if self.resting.stir_all(&self.events, now) && !self.comes {
