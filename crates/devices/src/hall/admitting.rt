@@ -11,7 +11,7 @@ use std::io::{Eprint, ErrorKind};
 use std::net::TcpStream;
 use std::os::fd::AsRawFd;
 use std::time::Clock;
-use stretches::Queue;
+use stretches::{Queue, WorkerTurn};
 
 /// How many connections are accepted before others have their turn.
 const MOST_ACCEPTED: u32 = 16;
@@ -27,13 +27,13 @@ pub(super) enum Admitted {
 }
 
 impl<R: Clock + Eprint + Copy> Hall<R> {
-    /// Accepts connections. The time that it takes is charged to new connections in every case.
+    /// Accepts connections. What it costs is charged to new connections in every case.
     pub(super) fn admit_new(&mut self) -> io::Result<Admitted> {
-        let began = self.micros;
+        let turn = WorkerTurn::new(self.micros, 0);
         let admitted = self.admit_some()?;
         self.tick();
-        let took = self.micros.saturating_sub(began);
-        self.shared.charge(Queue::Fresh, took);
+        let cost = self.cost(turn);
+        self.shared.charge(Queue::Fresh, cost);
         Ok(admitted)
     }
 
