@@ -764,24 +764,26 @@ def quick_before_costly(program):
 def one_beside_many(program):
     """A new client's request is answered before most of those of new clients that came first, and
     send many at once."""
-    count, each = 100, 50
-    with Served(["data/a"], workers=1, program=program) as server:
-        os.kill(server.pid, signal.SIGSTOP)
-        others = []
-        for _ in range(count):
-            others.append(Client(server.port, timeout=LONG))
-            others[-1].send(request(ZONES) * each)
-        with Client(server.port, timeout=LONG) as good:
-            good.send(request(ZONES))
-            os.kill(server.pid, signal.SIGCONT)
-            good.reply(timeout=LONG)
+    count, each = 100, 12
+    with tempfile.TemporaryDirectory() as room:
+        with Served([large_release(room)], workers=1, program=program) as server:
             os.kill(server.pid, signal.SIGSTOP)
-        answered = sum(replies_held(other) - 1 for other in others)
-        os.kill(server.pid, signal.SIGCONT)
-        holds(f"{answered} of {count * each} requests were answered first", answered < count * each // 2)
-        for other in others:
-            other.close()
-        server.child.kill()
+            others = []
+            for _ in range(count):
+                others.append(Client(server.port, timeout=LONG))
+                others[-1].send(request(ZONES) * each)
+            with Client(server.port, timeout=LONG) as good:
+                good.send(request(ZONES))
+                os.kill(server.pid, signal.SIGCONT)
+                good.reply(timeout=LONG)
+                os.kill(server.pid, signal.SIGSTOP)
+            answered = sum(replies_held(other) - 1 for other in others)
+            os.kill(server.pid, signal.SIGCONT)
+            said = f"{answered} of {count * each} requests were answered first"
+            holds(said, answered < count * each * 3 // 4)
+            for other in others:
+                other.close()
+            server.child.kill()
 
 
 def has_bytes(client):
