@@ -2,8 +2,10 @@ mod Askable
 mod Coming
 mod Following
 mod LastChanges
+mod ListSizes
 mod Latest
 mod Lengths
 mod Named
+mod ReplySizes
 mod Settling
 mod Statuses
