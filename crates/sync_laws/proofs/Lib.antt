@@ -9,3 +9,4 @@ mod Named
 mod ReplySizes
 mod Settling
 mod Statuses
+mod WholeAnswers

@@ -2,3 +2,4 @@ pub mod Fields
 pub mod LastChange
 pub mod Responses
 pub mod SyncEnds
+pub mod WorldAnswers

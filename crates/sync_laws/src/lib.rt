@@ -15,6 +15,6 @@ pub use exchanges::{
 };
 pub use limits::limits_are_these;
 pub use releases::{held_releases_state_their_last_change, later_releases_may_follow};
-pub use replies::replies_fit;
+pub use replies::{answered_syncs_are_understood, replies_fit};
 pub use syncs::{only_empty_changes_settle, syncs_end_with_empty_changes};
 pub use worlds::{mirrors_come_to_hold, requests_can_be_sent};
