@@ -7,6 +7,7 @@ mod Latest
 mod Lengths
 mod Named
 mod ReplySizes
+mod Restarting
 mod Settling
 mod Statuses
 mod WholeAnswers

@@ -7,6 +7,7 @@ mod exchanges;
 mod limits;
 mod releases;
 mod replies;
+mod restarts;
 mod syncs;
 mod worlds;
 
@@ -16,5 +17,6 @@ pub use exchanges::{
 pub use limits::limits_are_these;
 pub use releases::{held_releases_state_their_last_change, later_releases_may_follow};
 pub use replies::{answered_syncs_are_understood, replies_fit};
+pub use restarts::restarted_primaries_are_followed;
 pub use syncs::{only_empty_changes_settle, syncs_end_with_empty_changes};
 pub use worlds::{mirrors_come_to_hold, requests_can_be_sent};
