@@ -79,7 +79,7 @@ of_framing body pairs head e = by (length (field_values (codes "transfer-encodin
     }
     by false is e = absurd (cc)
 
-not_failed : (place : Option ℕ) (reply made : Reply) → Ok reply ≡ reply_unless place made → place ≡ None
+pub not_failed : (place : Option ℕ) (reply made : Reply) → Ok reply ≡ reply_unless place made → place ≡ None
 not_failed None reply made e = refl
 not_failed (Some place) reply made e = absurd (cc)
 

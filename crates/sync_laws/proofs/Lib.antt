@@ -1,11 +1,14 @@
 mod Askable
 mod Coming
+mod Cutting
 mod Following
 mod LastChanges
 mod ListSizes
 mod Latest
 mod Lengths
+mod Meeting
 mod Named
+mod ReplyHeads
 mod ReplySizes
 mod Restarting
 mod Settling

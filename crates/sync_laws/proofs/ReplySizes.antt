@@ -2,11 +2,17 @@
 use Rattle.std.proofs.Common.{◌≡◌, ◌↔◌, ◌<◌, ◌≤◌, ◌+◌, ◌||◌, ◌==◌, ◌++◌, ℕ, Bool, true, false, cond, Option, None, Some, List, [], ◌∷◌, length, take}
 use Rattle.std.proofs.Common.{refl, sym, ap, ◌∙◌, subst, arith, codes, length-append, decimal, option_map, option_and_then, Ok, Err, Result, filter, nat_lt}
 use Rattle.std.specs.Prelude.{⊤}
-use Rattle.std.proofs.lemmas.Bool.{ltb-false}
+use Rattle.std.proofs.lemmas.Bool.{and_parts, ltb-false}
+use Rattle.std.proofs.lemmas.Bool.Decides.{nat_tests}
+use Rattle.std.proofs.lemmas.List.Folds.{list_all-append}
+use Rattle.std.specs.Char.{is_ascii_digit}
+use Rattle.std.specs.Str.Parse.{digits_value}
+use Rattle.httparse.specs.Grammar.{is_value_byte}
+use Rattle.td_base.specs.Names.{IsPlain, is_printable}
 use Rattle.std.proofs.lemmas.Fmt.{length-decimal-le}
 use Rattle.std.proofs.lemmas.Grind.{flat_map-append}
 use Rattle.std.proofs.lemmas.List.Concat.{flat_map-cons}
-use Rattle.std.specs.List.{AllByRecursion, flat_map, find, slice_get}
+use Rattle.std.specs.List.{AllByRecursion, flat_map, list_all, slice_get}
 use Rattle.http.specs.StatusCode.{code_digits}
 use Rattle.td_base.specs.declared.report.Ask.{Ask}
 use Rattle.td_base.specs.declared.report.Ask.TheVariants as ask
@@ -85,7 +91,7 @@ type_size (Some k) =
 
 abbrev pub IsShortTag : Option (List ℕ) → Type 0
 IsShortTag None = ⊤
-IsShortTag (Some tag) = length tag ≤ 100
+IsShortTag (Some tag) = (length tag ≤ 100) × (list_all is_value_byte tag ≡ true)
 
 tag_size : (tag : Option (List ℕ)) → IsShortTag tag → lines_size (tag_lines tag) ≤ 130
 unfolding tag_lines
@@ -93,7 +99,7 @@ tag_size None short = omega arith
 tag_size (Some tag) short =
     omega (
       arith,
-      short,
+      short.0,
       size_first (codes "ETag: " ++ tag) (codes "Vary: Accept" ∷ []),
       length-append (codes "ETag: ") tag,
       size_first (codes "Vary: Accept") [],
@@ -128,8 +134,21 @@ unless_size status most lines few = by (is_unchanged status)
 
 -- ---- the reply
 
+-- what a status is written as
+pub record IsWrittenStatus (status : ℕ) : Type 0 where
+  pub changed : is_unchanged status ≡ false
+  pub three : length (code_digits status) ≡ 3
+  pub digits : list_all is_ascii_digit (code_digits status) ≡ true
+  pub value : list_all is_value_byte (phrase status) ≡ true
+  pub few : length (phrase status) ≤ 40
+  pub code : digits_value 10 (code_digits status) ≡ status
+
+-- an answer with a type, and nothing moved
 pub record IsShortAnswer (a : Answer) : Type 0 where
-  pub phrase : length (phrase a.status) ≤ 40
+  pub written : IsWrittenStatus a.status
+  pub media : Kind
+  pub typed : a.kind ≡ Some media
+  pub moved : a.moved ≡ false
   pub tag : IsShortTag a.tag
   pub body : length a.body ≤ 5_000_000
 
@@ -177,7 +196,7 @@ reply_size a head_only close short =
       arith,
       few,
       sent_size a head_only,
-      status_size a.status short.phrase,
+      status_size a.status short.written.few,
       fields_size a close short,
       size_first (status_line a.status) (fields a close),
       length-append (flat_map ended lines) (codes "\r\n" ++ body_sent a head_only),
@@ -186,9 +205,20 @@ reply_size a head_only close short =
 
 -- ---- the answers to a mirror
 
-document_short : (body : List ℕ) → length body ≤ 5_000_000 → IsShortAnswer (with_document body)
+written_200 : IsWrittenStatus 200
 unfolding phrase
-document_short body few = record { phrase = omega arith; tag = tt; body = few }
+written_200 = record { changed = refl; three = refl; digits = refl; value = refl; few = omega arith; code = refl }
+
+pub written_400 : IsWrittenStatus 400
+unfolding phrase
+written_400 = record { changed = refl; three = refl; digits = refl; value = refl; few = omega arith; code = refl }
+
+written_404 : IsWrittenStatus 404
+unfolding phrase
+written_404 = record { changed = refl; three = refl; digits = refl; value = refl; few = omega arith; code = refl }
+
+document_short : (body : List ℕ) → length body ≤ 5_000_000 → IsShortAnswer (with_document body)
+document_short body few = record { written = written_200; media = kind.Json; typed = refl; moved = refl; tag = tt; body = few }
 
 title_short : (p : Problem) → IsShort 40 (title_of p)
 title_short problem.InvalidAction = record { plain = refl; few = omega arith }
@@ -237,16 +267,14 @@ problem_size p =
       member_size true (codes "type") (string (type_of p)) no_members,
     )
 
-problem_short : (p : Problem) → length (phrase (status_of p)) ≤ 40 → IsShortAnswer (with_problem p)
-problem_short p few = record { phrase = few; tag = tt; body = problem_size p }
+problem_short : (p : Problem) → IsWrittenStatus (status_of p) → IsShortAnswer (with_problem p)
+problem_short p written = record { written = written; media = kind.Problem; typed = refl; moved = refl; tag = tt; body = problem_size p }
 
 token_problem : IsShortAnswer (with_problem problem.InvalidChangedsince)
-unfolding phrase
-token_problem = problem_short problem.InvalidChangedsince (omega arith)
+token_problem = problem_short problem.InvalidChangedsince written_400
 
 zone_problem : IsShortAnswer (with_problem problem.TzidNotFound)
-unfolding phrase
-zone_problem = problem_short problem.TzidNotFound (omega arith)
+zone_problem = problem_short problem.TzidNotFound written_404
 
 changes_short : (G : List ReleaseData) (o : Option ℕ) → IsHistory IsSound G → 1 ≤ length G → IsShortAnswer (changes_since G o)
 unfolding change_list delta
@@ -261,25 +289,70 @@ list_short G head (Some token) history some = changes_short G (place_of G token)
 
 -- ---- the data of zones
 
-tag_fits : (tag mark : List ℕ) → length tag ≤ 32 → length mark ≤ 2 → length (codes "\"" ++ tag ++ codes "." ++ mark ++ [] ++ codes "\"") ≤ 100
+value_byte : (b : ℕ) → is_printable b ≡ true → is_value_byte b ≡ true
+value_byte b h = grind (arith, nat_tests)
+
+plain_passes : (text : List ℕ) → IsPlain text → list_all is_value_byte text ≡ true
+plain_passes [] h = refl
+plain_passes (b ∷ bs) h =
+    let parts = and_parts (is_printable b) (list_all is_printable bs) h in
+    rw (value_byte b parts.0, plain_passes bs parts.1) refl
+
+-- a tag of an entry, with the mark of a format
+abbrev marked : List ℕ → List ℕ → List ℕ
+marked tag mark = codes "\"" ++ tag ++ codes "." ++ mark ++ [] ++ codes "\""
+
+marked_plain : (tag mark : List ℕ) → IsPlain tag → IsPlain mark → IsPlain (marked tag mark)
+marked_plain tag mark h k =
+    list_all-append is_printable (codes "\"" ++ tag ++ codes "." ++ mark ++ []) (codes "\"")
+    ∙ rw (list_all-append is_printable (codes "\"" ++ tag ++ codes "." ++ mark) [])
+    (rw (list_all-append is_printable (codes "\"" ++ tag ++ codes ".") mark)
+    (rw (list_all-append is_printable (codes "\"" ++ tag) (codes ".")) (rw (list_all-append is_printable (codes "\"") tag) (rw (h, k) refl))))
+
+tag_fits : (tag mark : List ℕ) → IsShort 32 tag → IsShort 2 mark → IsShortTag (Some (marked tag mark))
 tag_fits tag mark short few =
-    omega (
-      arith,
-      short,
-      few,
-      length-append (codes "\"" ++ tag ++ codes "." ++ mark ++ []) (codes "\""),
-      length-append (codes "\"" ++ tag ++ codes "." ++ mark) [],
-      length-append (codes "\"" ++ tag ++ codes ".") mark,
-      length-append (codes "\"" ++ tag) (codes "."),
-      length-append (codes "\"") tag,
+    let one = short.few in
+    let two = few.few in (
+      omega (
+        arith,
+        one,
+        two,
+        length-append (codes "\"" ++ tag ++ codes "." ++ mark ++ []) (codes "\""),
+        length-append (codes "\"" ++ tag ++ codes "." ++ mark) [],
+        length-append (codes "\"" ++ tag ++ codes ".") mark,
+        length-append (codes "\"" ++ tag) (codes "."),
+        length-append (codes "\"") tag,
+      ),
+      plain_passes (marked tag mark) (marked_plain tag mark short.plain few.plain),
     )
 
-data_short : (f : Format) (name : List ℕ) (e : EntryData) → length e.tag ≤ 32 → length (whole_data f name e.content) ≤ 5_000_000
+data_short : (f : Format) (name : List ℕ) (e : EntryData) → IsShort 32 e.tag → length (whole_data f name e.content) ≤ 5_000_000
     → IsShortAnswer (whole_answer f name e)
-unfolding phrase data_tag
-data_short format.Calendar name e tag body = record { phrase = omega arith; tag = tag_fits e.tag (codes "c2") tag (omega arith); body = body }
-data_short format.Tzif name e tag body = record { phrase = omega arith; tag = tag_fits e.tag (codes "t") tag (omega arith); body = body }
-data_short format.CalendarJson name e tag body = record { phrase = omega arith; tag = tag_fits e.tag (codes "j") tag (omega arith); body = body }
+unfolding data_tag
+data_short format.Calendar name e tag body = record {
+  written = written_200;
+  media = kind.Calendar;
+  typed = refl;
+  moved = refl;
+  tag = tag_fits e.tag (codes "c2") tag (record { plain = refl; few = omega arith });
+  body = body;
+}
+data_short format.Tzif name e tag body = record {
+  written = written_200;
+  media = kind.Tzif;
+  typed = refl;
+  moved = refl;
+  tag = tag_fits e.tag (codes "t") tag (record { plain = refl; few = omega arith });
+  body = body;
+}
+data_short format.CalendarJson name e tag body = record {
+  written = written_200;
+  media = kind.CalendarJson;
+  typed = refl;
+  moved = refl;
+  tag = tag_fits e.tag (codes "j") tag (record { plain = refl; few = omega arith });
+  body = body;
+}
 
 -- the entry of the zone that has the name
 abbrev entry_named : List ReleaseData → List ℕ → Option EntryData
@@ -293,9 +366,9 @@ got_is f G head name k =
     ap (answer_for G Primary head) k.target ∙ ap (λ a. zone_answer name o a head.none_match param.Absent param.Absent) k.accept
     ∙ ap (λ l. zone_answer name o (Some (type_of_format f)) l param.Absent param.Absent) k.none_match
 
-tag_found : (es : List EntryData) (place : Option ℕ) (e : EntryData) → AreShort es → option_and_then (slice_get es) place ≡ Some e → length e.tag ≤ 32
+tag_found : (es : List EntryData) (place : Option ℕ) (e : EntryData) → AreShort es → option_and_then (slice_get es) place ≡ Some e → IsShort 32 e.tag
 tag_found es None e all h = absurd (cc)
-tag_found es (Some i) e all h = (each_at (λ (x : EntryData). IsShortZone (list_zone x)) es i e all h).etag.few
+tag_found es (Some i) e all h = (each_at (λ (x : EntryData). IsShortZone (list_zone x)) es i e all h).etag
 
 -- by how long the data of a zone are
 module _ (f : Format) (small : (G : List ReleaseData) (name : List ℕ) (head : Head) (bytes : List ℕ) → IsHistory IsSound G → 1 ≤ length G
@@ -315,7 +388,7 @@ module _ (f : Format) (small : (G : List ReleaseData) (name : List ℕ) (head : 
           in
           subst IsShortAnswer (sym whole) (data_short f name e tag body)
 
-  answer_short : (G : List ReleaseData) (a : Ask) (head : Head) → IsHistory IsSound G → 1 ≤ length G → IsDataHeadOf f a head
+  pub answer_short : (G : List ReleaseData) (a : Ask) (head : Head) → IsHistory IsSound G → 1 ≤ length G → IsDataHeadOf f a head
       → IsShortAnswer (action G Primary head)
   unfolding action
   answer_short G (ask.List token) head history some k =

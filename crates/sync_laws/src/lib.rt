@@ -3,6 +3,8 @@
 //! not over the steps of the code.
 #![tactic(auto)]
 
+mod connections;
+mod cuts;
 mod exchanges;
 mod limits;
 mod releases;
@@ -11,6 +13,8 @@ mod restarts;
 mod syncs;
 mod worlds;
 
+pub use connections::{connections_answer_mirrors, mirrors_answer_as_primaries};
+pub use cuts::{only_whole_replies_are_taken, refusals_are_not_taken};
 pub use exchanges::{
     requests_name_their_host, responses_are_taken_by_status, responses_end_by_their_length,
 };
