@@ -1,0 +1,2 @@
+pub mod Onsets
+pub mod Runs
