@@ -1,5 +1,5 @@
 -- The syncs before one of several, and that one.
-use Rattle.std.proofs.Common.{ℕ, List, [], ◌∷◌, ◌++◌, refl}
+use Rattle.std.proofs.Common.{ℕ, List, [], ◌∷◌, ◌++◌, refl, subst, sym}
 use Rattle.td_base.specs.declared.report.Ask.{Ask}
 use Rattle.mirror.specs.Shares.{SyncEnds}
 use Rattle.mirror.specs.declared.understood_type.Understood.{Understood}
@@ -19,3 +19,15 @@ module _ (written : Ask → List ℕ) (means : Ask → List ℕ → Understood �
   comes_to (first ∷ before) s t share after syncs =
       let rest = comes_to before first.after t share after syncs.1 in
       record { state = rest.state; syncs = (syncs.0, rest.syncs); ends = rest.ends }
+
+  -- the first of several
+  pub front : (shares : List Share) (s t : MirrorState) (after : List Share) → SyncsInTurn written means s (shares ++ after) t
+      → (u : MirrorState) × SyncsInTurn written means s shares u
+  front [] s t after syncs = (s, refl)
+  front (share ∷ shares) s t after syncs = let rest = front shares share.after t after syncs.1 in (rest.0, (syncs.0, rest.1))
+
+  -- and the others, from where they come to
+  pub back : (shares : List Share) (s t u : MirrorState) (after : List Share) → SyncsInTurn written means s (shares ++ after) t
+      → SyncsInTurn written means s shares u → SyncsInTurn written means u after t
+  back [] s t u after syncs reaches = subst (λ m. SyncsInTurn written means m after t) (sym reaches) syncs
+  back (share ∷ shares) s t u after syncs reaches = back shares share.after t u after syncs.1 reaches.1

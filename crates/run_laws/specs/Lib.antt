@@ -1,2 +1,3 @@
 pub mod Onsets
 pub mod Runs
+pub mod Stretches

@@ -11,4 +11,4 @@ mod syncs;
 
 pub use limits::serving_limits_are_these;
 pub use printing::printed_onsets_are_in_range;
-pub use syncs::runs_understand_their_primary;
+pub use syncs::{another_history_is_served, runs_understand_their_primary};

@@ -1,13 +1,12 @@
 -- Bytes that begin as a reply with a length, and are not the whole of it, are no reply.
-use Rattle.std.proofs.Common.{◌≡◌, ℕ, ◌==◌, ◌≤◌, ◌<◌, List, [], ◌∷◌, ◌++◌, length, map, take, drop, Bool, true, false, cond, Option, None, Some, Result, Ok, Err}
-use Rattle.std.proofs.Common.{◌⊎◌, ◌&&◌, inl, inr, take-append-drop, ap, append_assoc, arith, refl, subst, sym, ◌∙◌, length-append}
+use Rattle.std.proofs.Common.{◌≡◌, ℕ, ◌==◌, ◌≤◌, List, [], ◌++◌, length, map, take, drop, Bool, true, false, cond, Option, None, Some, Ok, Err}
+use Rattle.std.proofs.Common.{◌&&◌, inl, inr, take-append-drop, ap, append_assoc, arith, refl, subst, sym, ◌∙◌}
 use Rattle.std.proofs.lemmas.Bool.{eqb-true}
 use Rattle.std.proofs.lemmas.List.{take_at}
 use Rattle.httparse.specs.Grammar.{ReadsResponse, ResponseHead, print_response, status_code}
 use Rattle.httparse.specs.Spans.{name_and_value}
 use Rattle.httparse.proofs.GrammarLemmas.{response_unique}
 use Rattle.http_client.specs.Replies.{Framing, IsReading, Sized, fault_place, framing, headed, headless, reply_unless}
-use Rattle.http_client.specs.declared.reply.BadReply.{BadReply}
 use Rattle.http_client.specs.declared.reply.Reply.{Reply}
 use Rattle.std.specs.Str.{chars, is_utf8}
 use Rattle.json.specs.Json.{value}

@@ -1,13 +1,13 @@
 -- How long the text of a list is: a byte of a plain text takes two bytes at the most.
 use Rattle.std.proofs.Common.{◌≡◌, ℕ, suc, ◌+◌, ◌-◌, ◌*◌, ◌≤◌, Bool, true, false, cond, Option, None, Some, List, [], ◌∷◌, ◌++◌, length, map, filter, codes}
-use Rattle.std.proofs.Common.{◌&&◌, ℤ, take, refl, sym, ap, ◌∙◌, subst, arith, append_assoc, length-append, length-take, zero, decimal, IsTrue, nat_le, nat_lt}
+use Rattle.std.proofs.Common.{◌&&◌, ℤ, refl, sym, ap, ◌∙◌, subst, arith, append_assoc, length-append, length-take, zero, decimal, nat_le, nat_lt}
 use Rattle.std.proofs.lemmas.Bool.{and_parts, leb-true}
 use Rattle.std.proofs.lemmas.Bool.Decides.{nat_tests}
 use Rattle.std.proofs.lemmas.List.Concat.{flat_map-cons}
 use Rattle.std.proofs.lemmas.List.Folds.{list_all-append}
 use Rattle.std.specs.List.{AllByRecursion, list_all, slice_index_or}
 use Rattle.json.specs.Print.{escape, escape_byte, escape_letter, quoted}
-use Rattle.serde_json.specs.Data.{Data, Members, array, member, no_members, object, string}
+use Rattle.serde_json.specs.Data.{Data, Members, array, member, no_members, string}
 use Rattle.serde_json.specs.View.{items_of}
 use Rattle.serde_json.specs.Written.{comma_if, compact_text, items_text, members_text}
 use Rattle.td_base.specs.Names.{IsPlain, is_identifier, is_label, is_path, is_printable, is_segment, segments}

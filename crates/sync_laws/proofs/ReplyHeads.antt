@@ -1,10 +1,10 @@
 -- The head that a reply is written with, and that it states the length of the body.
-use Rattle.std.proofs.Common.{◌≡◌, ℕ, ◌+◌, ◌<◌, ◌≤◌, ◌^◌, ◌%◌, ◌||◌, ◌&&◌, List, [], ◌∷◌, ◌++◌, length, map, Bool, true, false, cond, not, codes, Option, None, Some}
-use Rattle.std.proofs.Common.{All, ap, append_assoc, arith, decimal, refl, reverse, subst, sym, ◌∙◌}
+use Rattle.std.proofs.Common.{◌≡◌, ℕ, ◌+◌, ◌<◌, ◌^◌, ◌%◌, ◌||◌, ◌&&◌, List, [], ◌∷◌, ◌++◌, length, map, Bool, true, false, cond, not, codes, Option, None, Some}
+use Rattle.std.proofs.Common.{All, ap, append_assoc, arith, decimal, refl, reverse, sym, ◌∙◌}
 use Rattle.std.specs.Char.{is_ascii_digit}
 use Rattle.std.specs.List.{AllByRecursion, flat_map, list_all}
 use Rattle.std.specs.Str.Parse.{digits_value}
-use Rattle.std.proofs.lemmas.Bool.{and_parts, eq-eqb, ne_eqb}
+use Rattle.std.proofs.lemmas.Bool.{and_parts, ne_eqb}
 use Rattle.std.proofs.lemmas.Bool.Decides.{nat_tests}
 use Rattle.std.proofs.lemmas.Fmt.{decimal_by_steps, decimal_is_IsNumeral, decimal_nonempty}
 use Rattle.std.proofs.lemmas.List.{reverse-append}
@@ -13,12 +13,12 @@ use Rattle.std.proofs.lemmas.List.Elements.{All-cons, All-nil}
 use Rattle.std.proofs.lemmas.List.Folds.{list_all-append}
 use Rattle.std.proofs.lemmas.List.Sums.{AllPass-from_list_all}
 use Rattle.http.specs.StatusCode.{code_digits}
-use Rattle.httparse.specs.Grammar.{Field, IsField, IsResponseHead, ReadsResponse, ResponseHead, crlf, is_ows, is_token_byte, is_value_byte, print_field}
+use Rattle.httparse.specs.Grammar.{Field, IsField, ReadsResponse, ResponseHead, crlf, is_ows, is_token_byte, is_value_byte, print_field}
 use Rattle.httparse.specs.Grammar.{print_response, skip_ows, trim_ows}
 use Rattle.httparse.specs.Spans.{name_and_value}
 use Rattle.httparse.proofs.TrimLemmas.{trim_ows_space}
-use Rattle.http_answer.specs.Replies.{allow_lines, body_sent, close_lines, ended, fields, fixed, is_unchanged, length_lines, location_lines, media_type, message, phrase}
-use Rattle.http_answer.specs.Replies.{reply, status_line, tag_lines, type_lines, unless_unchanged}
+use Rattle.http_answer.specs.Replies.{allow_lines, close_lines, ended, fixed, is_unchanged, length_lines, location_lines, media_type, message, phrase}
+use Rattle.http_answer.specs.Replies.{reply, status_line, tag_lines, type_lines}
 use Rattle.http_answer.specs.declared.answer.Answer.{Answer}
 use Rattle.http_answer.specs.declared.answer.Kind.{Kind}
 use Rattle.http_answer.specs.declared.answer.Kind.TheVariants as kind

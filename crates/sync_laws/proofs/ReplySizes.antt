@@ -1,6 +1,6 @@
 -- How long a reply to a mirror is: its head is short, and so is its body.
-use Rattle.std.proofs.Common.{◌≡◌, ◌↔◌, ◌<◌, ◌≤◌, ◌+◌, ◌||◌, ◌==◌, ◌++◌, ℕ, Bool, true, false, cond, Option, None, Some, List, [], ◌∷◌, length, take}
-use Rattle.std.proofs.Common.{refl, sym, ap, ◌∙◌, subst, arith, codes, length-append, decimal, option_map, option_and_then, Ok, Err, Result, filter, nat_lt}
+use Rattle.std.proofs.Common.{◌≡◌, ◌↔◌, ◌<◌, ◌≤◌, ◌+◌, ◌||◌, ◌++◌, ℕ, Bool, true, false, cond, Option, None, Some, List, [], ◌∷◌, length}
+use Rattle.std.proofs.Common.{refl, sym, ap, ◌∙◌, subst, arith, codes, length-append, decimal, option_map, option_and_then, Ok, Err, nat_lt}
 use Rattle.std.specs.Prelude.{⊤}
 use Rattle.std.proofs.lemmas.Bool.{and_parts, ltb-false}
 use Rattle.std.proofs.lemmas.Bool.Decides.{nat_tests}
@@ -53,7 +53,7 @@ use Rattle.sync_world.proofs.Telling.{whole_answer, zone_told}
 use Rattle.mirror_world.specs.Answers.{reply_over}
 use Rattle.calendar_world.specs.Reading.{IsCalendarAnswer}
 use Rattle.sync_laws.proofs.ListSizes.{AreShort, IsShort, IsShortZone, few_in_history, list_size, member_size, text_size}
-use Rattle.http_answer.specs.Replies.{body_sent, close_lines, ended, fields, is_unchanged, length_lines, line_if, location_lines, media_type, message, phrase}
+use Rattle.http_answer.specs.Replies.{body_sent, close_lines, ended, fields, is_unchanged, length_lines, location_lines, media_type, phrase}
 use Rattle.http_answer.specs.Replies.{reply, status_line, tag_lines, type_lines, unless_unchanged}
 use Rattle.http_answer.specs.declared.answer.Answer.{Answer}
 use Rattle.http_answer.specs.declared.answer.Kind.{Kind}
