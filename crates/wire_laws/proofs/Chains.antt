@@ -1,6 +1,5 @@
 -- One call after another.
 use Rattle.std.proofs.Common.{◌≡◌, ℕ, Option, None, Some, List, [], ◌∷◌, ◌++◌, take, refl, sym, ap, ◌∙◌, subst, append_assoc, append-nil}
-use Rattle.std.specs.Io.KnownBytes.{Consumes, Keeps, Appends}
 use Rattle.td_base.specs.Outside.{WriteTells}
 use Rattle.td_base.specs.declared.outside.ReadStep.{ReadStep}
 use Rattle.td_base.specs.declared.outside.ReadStep.TheVariants as read
