@@ -1,5 +1,5 @@
 -- The entries of a release that is held have the labels of the releases in which their zones last changed.
-use Rattle.std.proofs.Common.{◌≡◌, suc, inl, inr, ◌+◌, ◌-◌, ◌<◌, ◌≤◌, ℤ, true, Option, None, Some, List}
+use Rattle.std.proofs.Common.{◌≡◌, suc, inl, inr, ◌-◌, ◌<◌, ◌≤◌, true, Option, None, Some, List}
 use Rattle.std.proofs.Common.{[], ◌∷◌, ◌++◌, length, map, get_or, refl, sym, ap, ◌∙◌, subst, arith, length-append}
 use Rattle.std.specs.Prelude.{◌≤ℤ◌}
 use Rattle.std.specs.List.{AllByRecursion, Contains, list_all, slice_get}

@@ -1,5 +1,5 @@
 -- The newest of the entries that a mirror knows, and the stamp of its manifest.
-use Rattle.std.proofs.Common.{◌≡◌, inl, inr, ◌<◌, ◌≤◌, ℤ, Bool, true, false, ◌&&◌, cond}
+use Rattle.std.proofs.Common.{◌≡◌, inl, inr, ◌<◌, ℤ, Bool, true, false, ◌&&◌, cond}
 use Rattle.std.proofs.Common.{Option, None, Some, List, [], ◌∷◌, length, find, refl, subst, arith, int_le}
 use Rattle.std.specs.Prelude.{◌≤ℤ◌}
 use Rattle.std.specs.List.{Contains, list_all}

@@ -1,6 +1,6 @@
 -- What a primary's connection wrote of a mirror's request is an answer of the world, or is not taken.
-use Rattle.std.proofs.Common.{◌≡◌, ◌⊎◌, inl, inr, ℕ, ◌+◌, ◌<◌, ◌≤◌, ◌==◌, ◌||◌, List, [], ◌∷◌, ◌++◌, length, take, drop, Bool, true, false, None, Some}
-use Rattle.std.proofs.Common.{append-nil, append_assoc, arith, take-append-drop, length-append, length-take, refl, subst, sym, ap, ◌∙◌}
+use Rattle.std.proofs.Common.{◌≡◌, ◌⊎◌, inl, inr, ℕ, ◌≤◌, ◌||◌, List, [], ◌∷◌, ◌++◌, length, take, drop, Bool, true, false, None, Some}
+use Rattle.std.proofs.Common.{append-nil, arith, take-append-drop, length-append, length-take, refl, subst, sym, ap, ◌∙◌}
 use Rattle.std.proofs.lemmas.List.{take_all}
 use Rattle.std.proofs.lemmas.Bool.{true≢false}
 use Rattle.std.specs.List.{AllByRecursion}
@@ -11,20 +11,19 @@ use Rattle.td_base.specs.declared.report.End.{End}
 use Rattle.td_base.specs.declared.report.End.TheVariants as end
 use Rattle.td_base.specs.declared.report.Role.{Role}
 use Rattle.td_base.specs.declared.report.Role.TheVariants.{Primary}
-use Rattle.td_base.specs.declared.report.TheConstants.{MOST_PLACES}
 use Rattle.td_base.specs.declared.upstream.Exchange.{Exchange}
 use Rattle.catalogue.specs.Histories.{IsHistory}
 use Rattle.catalogue.specs.Releases.{ReleaseData}
 use Rattle.http_answer.specs.Replies.{IsFixedStatus, fixed, reply}
 use Rattle.http_answer.specs.declared.answer.Answer.{Answer}
 use Rattle.http_request.specs.Asks.{Asks, Bad, Ending, Gives, IsPrefixOf, Rest}
-use Rattle.http_request.specs.Steps.{IsStep, Outcome, Refused, Taken, Waiting}
+use Rattle.http_request.specs.Steps.{IsStep, Outcome, Taken, Waiting}
 use Rattle.http_request.specs.declared.head.Head.{Head}
 use Rattle.negotiate.specs.declared.choosing.Format.{Format}
 use Rattle.zone_meaning.specs.Sound.{IsSound}
 use Rattle.actions.specs.Action.{action, answer_for}
 use Rattle.connection.specs.FaultCounts.{FaultCounts}
-use Rattle.connection.specs.Replies.{is_last, replies, replies_after, reply_at}
+use Rattle.connection.specs.Replies.{replies, replies_after, reply_at}
 use Rattle.connection.specs.Served.{Begins, ByInput, ByRefusal, ByRequest, CutsRefusal, CutsReply, EndsSo, Finish, FinishesBy, IsStarved, IsTold}
 use Rattle.connection.specs.Served.{Served, Transcript, farewell}
 use Rattle.connection.specs.Serving.{answer_at}
@@ -35,7 +34,7 @@ use Rattle.mirror.specs.declared.limits.TheConstants.{MOST_ANSWER}
 use Rattle.mirror.specs.declared.understood_type.Understood.TheVariants as understood
 use Rattle.sync_world.specs.Hearing.{IsDataHeadOf, action_asked}
 use Rattle.sync_world.specs.Primaries.{IsPlace}
-use Rattle.mirror_world.specs.Answers.{IsDataAnsweredOver, IsDataRequestFor, reply_over}
+use Rattle.mirror_world.specs.Answers.{IsDataRequestFor, reply_over}
 use Rattle.mirror_world.proofs.lemmas.Histories.{front_history}
 use Rattle.sync_laws.specs.WorldAnswers.{IsAnswerAtPlace, IsNotTaken}
 use Rattle.sync_laws.proofs.Cutting.{IsPartOf, part_taken}

@@ -6,14 +6,12 @@ use Rattle.td_base.specs.declared.report.Ask.TheVariants as ask
 use Rattle.td_base.specs.declared.upstream.Exchange.{Exchange}
 use Rattle.catalogue.specs.Releases.{ReleaseData}
 use Rattle.json_forms.specs.declared.zone_list.ListDoc.{ListDoc}
-use Rattle.json_forms.specs.declared.zone_list.ListZone.{ListZone}
 use Rattle.sync_core.specs.Mirrors.{MirrorState, ask_for, ask_of, empty_mirror}
 use Rattle.sync_core.specs.Steps.{IsAnswerTo, after_full, after_list, list_settles, settled as settled_state, settles, sync_step}
 use Rattle.sync_core.specs.declared.heard_type.Heard.{Heard}
 use Rattle.sync_core.specs.declared.heard_type.Heard.TheVariants as heard
-use Rattle.sync_core.specs.declared.heard_type.Settled.{Settled}
 use Rattle.sync_core.specs.declared.heard_type.Settled.TheVariants.{Holds, More}
-use Rattle.mirror.specs.Shares.{IsFor, SyncEnds, WalksOn, failed, lists_in, not_settled, refused, settled, starved, unreadable}
+use Rattle.mirror.specs.Shares.{SyncEnds, WalksOn, failed, lists_in, not_settled, refused, settled, starved, unreadable}
 use Rattle.mirror.specs.declared.limits.TheConstants.{MOST_LISTS}
 use Rattle.mirror.specs.declared.sync_fault.SyncFault.{SyncFault}
 use Rattle.mirror.specs.declared.understood_type.Understood.{Understood}
@@ -22,7 +20,7 @@ use Rattle.sync_world.specs.Holding.{HoldsLast, SaysHolds}
 use Rattle.sync_world.specs.Primaries.{Service}
 use Rattle.mirror_world.specs.Follows.{FollowsFrom, HearsAt}
 use Rattle.mirror_world.specs.Runs.{HoldInTurn, HoldsAt, LastIsOver, Share, SyncsInTurn, all_taken}
-use Rattle.mirror_world.proofs.lemmas.Syncing.{OneMeaning, Reached, in_turn, walked}
+use Rattle.mirror_world.proofs.lemmas.Syncing.{OneMeaning, in_turn, walked}
 
 -- ---- a state that asks for a list without a token
 

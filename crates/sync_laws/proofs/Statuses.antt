@@ -14,7 +14,6 @@ use Rattle.json_forms.specs.declared.problem_type.Problem.{Problem}
 use Rattle.json_forms.specs.declared.problem_type.Problem.TheVariants as problem
 use Rattle.json_forms.specs.declared.zone_list.ListDoc.{ListDoc}
 use Rattle.http_client.specs.Replies.{IsReading, fault_place, framing, headed, headless, reply_unless}
-use Rattle.http_client.specs.declared.reply.BadReply.{BadReply}
 use Rattle.http_client.specs.declared.reply.BadReply.TheVariants as bad_reply
 use Rattle.http_client.specs.declared.reply.Reply.{Reply}
 use Rattle.sync_core.specs.declared.heard_type.Heard.{Heard}

@@ -1,5 +1,5 @@
 -- The release in which a zone last changed, and what a manifest states of it.
-use Rattle.std.specs.Prelude.{◌≡◌, ◌-◌, List, Some, ℤ, ◌≤ℤ◌}
+use Rattle.std.specs.Prelude.{◌≡◌, ◌-◌, List, Some, ◌≤ℤ◌}
 use Rattle.std.specs.List.{Contains, slice_get}
 use Rattle.catalogue.specs.Histories.{last_change}
 use Rattle.catalogue.specs.Lookups.{zones_of}

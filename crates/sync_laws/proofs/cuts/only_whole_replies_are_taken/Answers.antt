@@ -1,5 +1,3 @@
-use Rattle.std.proofs.Common.{false, subst, sym}
-use Rattle.td_base.specs.declared.report.Role.TheVariants.{Primary}
 use Rattle.negotiate.specs.declared.choosing.Format.TheVariants.{Calendar, Tzif}
 use Rattle.sync_laws.proofs.Cutting.{replies_taken_whole}
 use Rattle.sync_laws.proofs.ReplySizes.{calendars_small, files_small}
