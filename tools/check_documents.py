@@ -37,7 +37,7 @@ SIZES = {
     "docs/ARCHITECTURE.md": 12, "docs/PROVING.md": 20, "docs/DECISIONS.md": 20, "docs/FORMATS.md": 28,
     "docs/SECURITY.md": 10,
 }
-LARGE_CRATES = {"td_top", "connection", "installer", "mirror"}
+LARGE_CRATES = {"run_ends", "connection", "installer", "mirror"}
 CRATE_SIZE, LARGE_CRATE_SIZE, WHOLE_SIZE = 4, 6, 190
 WIDTH, TABLE_WIDTH, CELL_WORDS = 100, 160, 40
 

@@ -21,13 +21,15 @@ use Rattle.subscribers.specs.Views.{SubscriberView, changed_numbered, emptied, n
 use Rattle.subscribers.specs.declared.subscribe_fault.SubscribeFault.TheVariants as fault
 use Rattle.subscribers.specs.declared.subscriber_list.TheConstants.{MOST_SUBSCRIBERS}
 use Rattle.subscribers.specs.declared.wish.Wish.{Wish}
-use Rattle.td_top.specs.Growth.{GrowthView}
-use Rattle.td_top.specs.Replies.{SaysWhy, nobody_text}
-use Rattle.td_top.specs.Sessions.{AnswersLine, LaterSession}
-use Rattle.td_top.specs.Operator.{ChangesHearing, TakesMemory, audience, changed, no_memory}
-use Rattle.td_top.specs.declared.session.Session.{Session}
-use Rattle.td_top.proofs.GrowthLemmas.{growth_refl}
-use Rattle.td_top.proofs.LineLemmas.{session_refl, stays, tells_on}
+use Rattle.run_ends.specs.Growth.{GrowthView}
+use Rattle.td_top.specs.Replies.{SaysWhy}
+use Rattle.run_ends.specs.Replies.{nobody_text}
+use Rattle.run_ends.specs.Sessions.{AnswersLine, LaterSession}
+use Rattle.run_ends.specs.Operator.{ChangesHearing, TakesMemory, audience, changed, no_memory}
+use Rattle.run_ends.specs.declared.session.Session.{Session}
+use Rattle.td_top.proofs.lemmas.GrowthLemmas.{growth_refl}
+use Rattle.run_ends.proofs.lemmas.SessionLemmas.{session_refl}
+use Rattle.td_top.proofs.LineLemmas.{stays, tells_on}
 
 -- ---- sessions
 

@@ -9,16 +9,16 @@ use Rattle.connection.specs.declared.door_work.DoorDone.{DoorDone}
 use Rattle.desk_pool.specs.Pool.{DoesEach}
 use Rattle.catalogue.specs.Holdings.{history_of}
 use Rattle.td_top.specs.ConsoleBeside.{BesideView, Halted, Ran}
-use Rattle.td_top.specs.Running.Server.{OpenedEnds, OpensDoors, ServesDoors, not_started, out_of_memory, served}
-use Rattle.td_top.specs.Running.Server.ServerSteps.{Concludes, ServesBeside, ServesOpened}
-use Rattle.td_top.specs.Site.{ConsoleView, LaterConsole, LaterSite, site}
-use Rattle.td_top.specs.Talking.{ComesTo, Scene, Talked}
+use Rattle.run_ends.specs.Running.Server.{OpenedEnds, OpensDoors, ServesDoors, not_started, out_of_memory, served}
+use Rattle.td_top.specs.ServerSteps.{Concludes, ServesBeside, ServesOpened}
+use Rattle.run_ends.specs.Site.{ConsoleView, LaterConsole, LaterSite, site}
+use Rattle.run_ends.specs.Talking.{ComesTo, Scene, Talked}
 use Rattle.td_top.specs.Works.{AreWorks, HasWorks}
-use Rattle.td_top.specs.declared.session.Session.{Session}
-use Rattle.td_top.specs.declared.status.Status.{Status}
-use Rattle.td_top.specs.declared.status.Status.TheVariants as status
-use Rattle.td_top.specs.declared.talking.TalkEnd.{TalkEnd}
-use Rattle.td_top.proofs.RunLemmas.{console_refl, given_up}
+use Rattle.run_ends.specs.declared.session.Session.{Session}
+use Rattle.run_ends.specs.declared.status.Status.{Status}
+use Rattle.run_ends.specs.declared.status.Status.TheVariants as status
+use Rattle.run_ends.specs.declared.talk_end.TalkEnd.{TalkEnd}
+use Rattle.td_top.proofs.OpenedLemmas.{console_refl, given_up}
 use Rattle.catalogue.proofs.lemmas.HistoryLemmas.{history_length}
 use Rattle.td_top.proofs.ServerLemmas.{Does, all_served, came, comes_later, operated, same_pairs}
 

@@ -15,7 +15,7 @@ use Rattle.mirror_world.proofs.lemmas.Rising.{stays}
 use Rattle.release_check.specs.Folder.{release_with}
 use Rattle.sync_core.specs.Mirrors.{MirrorState, ZoneFile}
 use Rattle.sync_core.specs.Published.{HasFiles, manifest_of, manifest_with, manifest_zone, newest}
-use Rattle.td_top.specs.Following.{StatesLast}
+use Rattle.run_ends.specs.Following.{StatesLast}
 use Rattle.zone_meaning.specs.Sound.{IsSound}
 
 abbrev tzid_of : ContentData → List ℕ

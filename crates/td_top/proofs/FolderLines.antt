@@ -13,13 +13,14 @@ use Rattle.installer.specs.declared.install_fault.InstallFault.{InstallFault}
 use Rattle.installer.specs.declared.install_fault.InstallFault.TheVariants as install
 use Rattle.release_check.specs.declared.check_fault.CheckFault.TheVariants as fault
 use Rattle.subscribers.specs.Hearing.{all_hear}
-use Rattle.td_top.specs.Folders.{InstallsFolder, installed, refused, starved, unread}
-use Rattle.td_top.specs.Growth.{AsksFolder, folders}
-use Rattle.td_top.specs.Replies.{SaysRefused, last_token}
-use Rattle.td_top.specs.Sessions.{AnswersLine, LaterSession}
-use Rattle.td_top.specs.Operator.{heard_by, with_joined}
-use Rattle.td_top.specs.declared.session.Session.{Session}
-use Rattle.td_top.proofs.Installing.{gives, gives_fault}
+use Rattle.run_ends.specs.Folders.{InstallsFolder, installed, refused, starved, unread}
+use Rattle.run_ends.specs.Growth.{AsksFolder, folders}
+use Rattle.td_top.specs.Replies.{SaysRefused}
+use Rattle.run_ends.specs.Replies.{last_token}
+use Rattle.run_ends.specs.Sessions.{AnswersLine, LaterSession}
+use Rattle.run_ends.specs.Operator.{heard_by, with_joined}
+use Rattle.run_ends.specs.declared.session.Session.{Session}
+use Rattle.run_ends.proofs.lemmas.Installing.{gives, gives_fault}
 use Rattle.td_top.proofs.LineLemmas.{is_done}
 
 -- a folder was looked into

@@ -1,5 +1,5 @@
 -- What the line that syncs a mirror makes of a talk, and what publishing what it states comes to.
-use Rattle.std.proofs.Common.{◌≡◌, ◌≢◌, ◌≤◌, ℕ, List, [], ◌∷◌, ◌++◌, length, inl, inr, ◌⊎◌, Option, None, Some, Result, Ok, Err, true, false, refl, sym}
+use Rattle.std.proofs.Common.{◌≡◌, ◌≢◌, ◌≤◌, ℕ, List, [], ◌∷◌, ◌++◌, length, inl, inr, ◌⊎◌, Option, None, Some, Ok, Err, true, false, refl, sym}
 use Rattle.std.proofs.Common.{ap, ◌∙◌, subst, arith}
 use Rattle.std.specs.Option.{option_map, IsSomeAnd}
 use Rattle.std.proofs.lemmas.Bool.{true≢false}
@@ -26,21 +26,20 @@ use Rattle.release_manifest.specs.declared.manifest_type.ManifestZone.{ManifestZ
 use Rattle.subscribers.specs.Hearing.{all_hear}
 use Rattle.sync_core.specs.Mirrors.{MirrorState, ZoneFile}
 use Rattle.sync_core.specs.Published.{HasFiles, manifest_of}
-use Rattle.td_top.specs.Folders.{IsRefusal}
-use Rattle.td_top.specs.Following.{StatesAfter, StatesLast, SyncsAs, faulted, faulted_starved, installed, refused, settled, starved, unchanged}
+use Rattle.run_ends.specs.Folders.{IsRefusal}
+use Rattle.run_ends.specs.Following.{StatesAfter, StatesLast, SyncsAs, faulted, faulted_starved, installed, refused, settled, starved, unchanged}
 use Rattle.td_top.specs.FollowingSteps.{OpensStated, PublishesStated}
-use Rattle.td_top.specs.Growth.{Grows, LaterGrowth, following}
-use Rattle.td_top.specs.Replies.{SaysFaulted, SaysRefused, last_token}
-use Rattle.td_top.specs.Sessions.{AnswersLine, LaterSession}
-use Rattle.td_top.specs.declared.session.Session.{Session}
-use Rattle.td_top.proofs.Installing.{no_refusal}
-use Rattle.td_top.proofs.LineLemmas.{is_done, session_refl}
+use Rattle.run_ends.specs.Growth.{Grows, following}
+use Rattle.td_top.specs.Replies.{SaysFaulted, SaysRefused}
+use Rattle.run_ends.specs.Replies.{last_token}
+use Rattle.run_ends.specs.Sessions.{AnswersLine, LaterSession}
+use Rattle.run_ends.specs.declared.session.Session.{Session}
+use Rattle.run_ends.proofs.lemmas.Installing.{no_refusal}
+use Rattle.td_top.proofs.lemmas.GrowthLemmas.{later_sync}
+use Rattle.td_top.proofs.LineLemmas.{is_done}
+use Rattle.run_ends.proofs.lemmas.SessionLemmas.{session_refl}
 
 -- ---- a line
-
-pub later_sync : (host : List ℕ) (s t : MirrorState) (old new : UpstreamView) (result : Result (Unit {0}) SyncFault) → SyncsAs host s t old new result
-    → LaterGrowth (following host s old) (following host t new)
-later_sync host s t old new result h = (refl, record { exchanges = h.taken ++ h.untaken; told = h.told; faults = h.later })
 
 pub is_synced : (host : List ℕ) (s t : MirrorState) (old new : UpstreamView) (x y : Session) (asked : Line) (answer : List ℕ)
     → Grows (following host s old) asked → SyncsAs host s t old new (Ok tt) → PublishesStated t x y answer → length y.installer.list ≤ length y.desk.seen

@@ -5,9 +5,9 @@ use Rattle.console.specs.declared.line.Line.{Line}
 use Rattle.subscribers.specs.Hearing.{Audience, Event, audience_after, after_all, cleared_by_all}
 use Rattle.subscribers.specs.News.{news, numbered_from}
 use Rattle.subscribers.proofs.lemmas.Hearing.{hears_each_change_once}
-use Rattle.td_top.specs.Audiences.{TellsEachChange, event_of, events_of}
-use Rattle.td_top.specs.Growth.{GrowthView}
-use Rattle.td_top.specs.Operator.{GetsAnswer, Talk, Talks, audience, changed, handled, more, no_memory, none, only_told, talk_begun, unknown}
+use Rattle.run_ends.specs.Audiences.{TellsEachChange, event_of, events_of}
+use Rattle.run_ends.specs.Growth.{GrowthView}
+use Rattle.run_ends.specs.Operator.{GetsAnswer, Talk, Talks, audience, changed, handled, more, no_memory, none, only_told, talk_begun, unknown}
 
 after_more : (a : Audience) (events : List Event) (e : Event) → after_all a (events ++ e ∷ []) ≡ audience_after (after_all a events) e
 after_more a [] e = refl

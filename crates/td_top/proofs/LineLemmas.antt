@@ -1,7 +1,7 @@
 -- What one line of an operator makes of a talk.
 use Rattle.std.proofs.Common.{◌≡◌, ℕ, ◌≤◌, List, [], ◌∷◌, length, Option, None, Some, refl, sym, subst, ap, ◌∙◌, length-append, arith}
 use Rattle.std.proofs.lemmas.List.{length-map}
-use Rattle.td_base.proofs.lemmas.Beginnings.{prefix_length, prefix_self, prefix_trans}
+use Rattle.td_base.proofs.lemmas.Beginnings.{prefix_length}
 use Rattle.catalogue.specs.HeldZones.{held_content}
 use Rattle.catalogue.specs.Histories.{meta}
 use Rattle.catalogue.specs.Holdings.{release_held, zone_count, history_of}
@@ -16,26 +16,14 @@ use Rattle.console.specs.declared.line.Line.TheVariants as line
 use Rattle.console.specs.declared.said.Said.TheVariants as said
 use Rattle.zone_meaning.specs.Sound.{IsSound}
 use Rattle.zone_meaning.specs.ZoneHistories.{HasZoneHistory}
-use Rattle.td_top.specs.Growth.{GrowthView, Grows, Handles, LaterGrowth}
-use Rattle.td_top.specs.Replies.{last_token}
-use Rattle.td_top.specs.Sessions.{AnswersLine, BeginsWhole, LaterSession, StandsAt}
-use Rattle.td_top.specs.Operator.{GetsAnswer, IsForGrowth, Talk, TakesMemory, TellsOnly, grown, handled, heard_by, least_after}
-use Rattle.td_top.specs.Operator.{no_memory, only_told, unknown, with_joined}
-use Rattle.td_top.specs.declared.session.Session.{Session}
-use Rattle.td_top.proofs.GrowthLemmas.{growth_refl}
-
--- ---- sessions
-
-pub session_refl : (a : Session) → LaterSession a a
-session_refl a = record { installer = refl; desk = refl; published = prefix_self a.installer.list; seen = prefix_self a.desk.seen }
-
-pub session_trans : (a b c : Session) → LaterSession a b → LaterSession b c → LaterSession a c
-session_trans a b c p q = record {
-  installer = q.installer ∙ p.installer;
-  desk = q.desk ∙ p.desk;
-  published = prefix_trans a.installer.list b.installer.list c.installer.list p.published q.published;
-  seen = prefix_trans a.desk.seen b.desk.seen c.desk.seen p.seen q.seen;
-}
+use Rattle.run_ends.specs.Growth.{GrowthView, Grows, Handles, LaterGrowth}
+use Rattle.run_ends.specs.Replies.{last_token}
+use Rattle.run_ends.specs.Sessions.{AnswersLine, BeginsWhole, LaterSession, StandsAt}
+use Rattle.run_ends.specs.Operator.{GetsAnswer, IsForGrowth, Talk, TakesMemory, TellsOnly, grown, handled, heard_by, least_after}
+use Rattle.run_ends.specs.Operator.{no_memory, only_told, unknown, with_joined}
+use Rattle.run_ends.specs.declared.session.Session.{Session}
+use Rattle.run_ends.proofs.lemmas.SessionLemmas.{session_refl}
+use Rattle.td_top.proofs.lemmas.GrowthLemmas.{growth_refl}
 
 -- a release has at most so many zones
 pub few_zones : (c : Catalogue (List ℕ)) → HasZoneHistory c → zone_count c ≤ MOST_ZONES

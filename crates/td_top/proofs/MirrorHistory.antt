@@ -27,12 +27,12 @@ use Rattle.sync_core.specs.Published.{HasFiles, manifest_of}
 use Rattle.sync_world.specs.Hearing.{action_service}
 use Rattle.sync_world.specs.Holding.{HoldsLast}
 use Rattle.sync_world.specs.Worlds.{SyncWorld, WorldStep, world_begun}
-use Rattle.td_top.specs.Following.{SaysStated, StatesAfter, StatesLast, SyncsAs, SyncsMirror, faulted, faulted_starved, installed, refused, settled, starved, unchanged}
-use Rattle.td_top.specs.Growth.{GrowthView, Handles, following}
-use Rattle.td_top.specs.MirrorHistory.{FollowsPrimary, IsLastOfPrimary, IsOfPrimary, IsStatedByShare, Publish, PublishInTurn, all_exchanges, confirmed}
-use Rattle.td_top.specs.MirrorHistory.{confirmed_at, joined, joined_at, kept, kept_at, memory_ran_out, none, none_yet, release_refused, sync_failed}
-use Rattle.td_top.specs.Operator.{GetsAnswer, Talk, Talks, changed, handled, no_memory, only_told, talk_begun, unknown, with_joined}
-use Rattle.td_top.specs.Operator as talk
+use Rattle.run_ends.specs.Following.{SaysStated, StatesAfter, StatesLast, SyncsAs, SyncsMirror, faulted, faulted_starved, installed, refused, settled, starved, unchanged}
+use Rattle.run_ends.specs.Growth.{GrowthView, Handles, following}
+use Rattle.run_ends.specs.MirrorHistory.{FollowsPrimary, IsLastOfPrimary, IsOfPrimary, IsStatedByShare, Publish, PublishInTurn, all_exchanges, confirmed}
+use Rattle.run_ends.specs.MirrorHistory.{confirmed_at, joined, joined_at, kept, kept_at, memory_ran_out, none, none_yet, release_refused, sync_failed}
+use Rattle.run_ends.specs.Operator.{GetsAnswer, Talk, Talks, changed, handled, no_memory, only_told, talk_begun, unknown, with_joined}
+use Rattle.run_ends.specs.Operator as talk
 use Rattle.td_top.proofs.Confirmed.{last_is_held}
 use Rattle.zone_meaning.specs.Sound.{IsSound}
 

@@ -1,7 +1,7 @@
 -- How the run of a mirror ends.
 use Rattle.std.proofs.Common.{◌≡◌, ◌≢◌, ◌≤◌, ℕ, List, [], ◌∷◌, inl, inr, Option, None, Some, Ok, Err, refl, sym, ap, subst, arith}
-use Rattle.td_base.specs.DoorViews.{DoorView, NetworkContent, NetworkView}
-use Rattle.td_base.specs.Upstreams.{ReachTold, Reaches, UpstreamView}
+use Rattle.td_base.specs.DoorViews.{DoorView, NetworkView}
+use Rattle.td_base.specs.Upstreams.{Reaches, UpstreamView}
 use Rattle.td_base.specs.Views.{LaterSink, SinkView, SourceView, StoreView}
 use Rattle.td_base.specs.declared.network.Made.TheVariants as made
 use Rattle.td_base.specs.declared.report.Role.TheVariants as role
@@ -17,27 +17,28 @@ use Rattle.mirror.specs.declared.sync_fault.SyncFault.{SyncFault}
 use Rattle.mirror.specs.declared.sync_fault.SyncFault.TheVariants as sync
 use Rattle.release_check.specs.declared.check_fault.CheckFault.TheVariants as fault
 use Rattle.sync_core.specs.Mirrors.{MirrorState, empty_mirror}
-use Rattle.td_top.specs.Following.{StatesAfter, SyncsAs}
+use Rattle.run_ends.specs.Following.{StatesAfter, SyncsAs}
 use Rattle.td_top.specs.FollowingSteps.{OpensStated}
-use Rattle.td_top.specs.Command.{mirror}
-use Rattle.td_top.specs.Growth.{GrowthView, following}
-use Rattle.td_top.specs.Running.Mirroring.{Mirrors, ReachedTold, ReachesServer, not_synced, opened, out_of_memory, refused, unreached}
-use Rattle.td_top.specs.Running.Mirroring.MirroringSteps.{FollowEnds, FollowsOn, ServesStated, StatedEnds, TellsWhy}
-use Rattle.td_top.specs.Running.Mirroring.MirroringSteps as steps
-use Rattle.td_top.specs.Outside.{outside, world}
-use Rattle.td_top.specs.Printing.{Printed, refused_line}
-use Rattle.td_top.specs.Running.{RunEndsLater, RunsAs}
-use Rattle.td_top.specs.Running.Server.{CalledTold, OpenedEnds, no_network, not_started, served, status_for}
-use Rattle.td_top.specs.Running.Server.{out_of_memory as out_of_memory_opened}
-use Rattle.td_top.specs.Running.Server.ServerSteps.{ServesOpened}
-use Rattle.td_top.specs.Site.{LaterSite, SiteView, console, site}
-use Rattle.td_top.specs.Tells.{IsLeft, RefusesInstall, RefusesSync, Tells}
-use Rattle.td_top.specs.declared.status.Status.{Status}
-use Rattle.td_top.specs.declared.status.Status.TheVariants as status
-use Rattle.td_top.proofs.Endings.{left_sink, printed_later}
-use Rattle.td_top.proofs.RunLemmas.{runs_as}
-use Rattle.td_top.proofs.FollowLines.{later_sync}
-use Rattle.td_top.proofs.GrowthLemmas.{growth_refl, growth_trans}
+use Rattle.run_ends.specs.Commands.{mirror}
+use Rattle.run_ends.specs.Growth.{GrowthView, following}
+use Rattle.run_ends.specs.Running.Mirroring.{Mirrors, ReachesServer, not_synced, opened, out_of_memory, refused, unreached}
+use Rattle.td_top.specs.MirroringSteps.{FollowEnds, FollowsOn, ServesStated, StatedEnds, TellsWhy}
+use Rattle.td_top.specs.MirroringSteps as steps
+use Rattle.run_ends.specs.Outside.{outside, world}
+use Rattle.run_ends.specs.Printing.{Printed, refused_line}
+use Rattle.run_ends.specs.Running.{RunEndsLater, RunsAs}
+use Rattle.run_ends.specs.Running.Server.{OpenedEnds, no_network, not_started, served, status_for}
+use Rattle.run_ends.specs.Running.Server.{out_of_memory as out_of_memory_opened}
+use Rattle.td_top.specs.ServerSteps.{ServesOpened}
+use Rattle.run_ends.specs.Site.{LaterSite, SiteView, console, site}
+use Rattle.run_ends.specs.Tells.{IsLeft, RefusesInstall, RefusesSync, Tells}
+use Rattle.run_ends.specs.declared.status.Status.{Status}
+use Rattle.run_ends.specs.declared.status.Status.TheVariants as status
+use Rattle.run_ends.proofs.lemmas.Endings.{left_sink, printed_later}
+use Rattle.run_ends.proofs.lemmas.Reaching.{not_told}
+use Rattle.run_ends.proofs.lemmas.Runs.{runs_as}
+use Rattle.td_top.proofs.lemmas.GrowthLemmas.{later_sync}
+use Rattle.td_top.proofs.lemmas.GrowthLemmas.{growth_refl, growth_trans}
 use Rattle.td_top.proofs.MirrorHistory.{Laws, follows_first, follows_primary}
 
 -- ---- a refusal
@@ -166,36 +167,6 @@ module _ (host address : List ℕ) (workers : ℕ) (s t : MirrorState) (old new 
       (subst
       (λ x. FollowsOn host address workers s old (site (console (following host s old) i o) n r) (site (console (following host t new) i p) n r) [] x)
       (sym same) (why_left e i o p n r told h so))
-
--- ---- the network
-
-reached_told : {U : Type 0} (seen : U → UpstreamView) (before now : Option NetworkContent) (address : List ℕ) (server : U)
-    → ReachTold seen before now address (made.Given server) → ReachedTold before now address (seen server)
-reached_told seen (Some before) (Some now) address server h = h
-reached_told seen (Some before) None address server h = absurd h
-reached_told seen None (Some now) address server h = absurd h
-reached_told seen None None address server h = tt
-
-pub reaches_server : {U : Type 0} (seen : U → UpstreamView) (before now : NetworkView) (address : List ℕ) (server : U)
-    → Reaches seen before now address (made.Given server) → ReachesServer before now address (seen server)
-reaches_server seen before now address server h =
-    record { steady = h.steady refl; new = h.fits; told = reached_told seen before.content now.content address server h.told }
-
--- a call that failed gave nothing
-pub not_told : {U : Type 0} (seen : U → UpstreamView) (before now : Option NetworkContent) (address : List ℕ) → ReachTold seen before now address made.Failed
-    → CalledTold before now
-not_told seen (Some before) (Some now) address h = h
-not_told seen (Some before) None address h = absurd h
-not_told seen None (Some now) address h = absurd h
-not_told seen None None address h = tt
-
--- nor did one for which there was no memory
-pub not_called : {U : Type 0} (seen : U → UpstreamView) (before now : Option NetworkContent) (address : List ℕ)
-    → ReachTold seen before now address made.NoMemory → CalledTold before now
-not_called seen (Some before) (Some now) address h = h
-not_called seen (Some before) None address h = absurd h
-not_called seen None (Some now) address h = absurd h
-not_called seen None None address h = tt
 
 -- ---- a whole run
 

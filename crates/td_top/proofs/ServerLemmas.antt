@@ -27,12 +27,13 @@ use Rattle.logbook.specs.Pages.{Book}
 use Rattle.publication.specs.Views.{DeskView}
 use Rattle.td_base.proofs.lemmas.Beginnings.{prefix_self}
 use Rattle.td_top.specs.ConsoleBeside.{BesideView, Halted, Ran}
-use Rattle.td_top.specs.Running.Server.{CalledTold, ConnsTold, IsDone, OpensDoors, OpenedTold}
-use Rattle.td_top.specs.Running.Server.{ServesDoor, ServesDoors, no_door, one_more}
-use Rattle.td_top.specs.Operator.{Talks, talk_begun}
-use Rattle.td_top.specs.Talking.{AnswersOperator, ComesTo, LaterScene, Scene, Talked}
-use Rattle.td_top.specs.Works.{AreWorks, HasSeen}
-use Rattle.td_top.specs.declared.talking.TalkEnd.{TalkEnd}
+use Rattle.run_ends.specs.Running.Server.{CalledTold, ConnsTold, IsDone, OpensDoors, OpenedTold}
+use Rattle.run_ends.specs.Running.Server.{ServesDoor, ServesDoors, no_door, one_more}
+use Rattle.run_ends.specs.Operator.{Talks, talk_begun}
+use Rattle.run_ends.specs.Talking.{AnswersOperator, ComesTo, LaterScene, Scene, Talked}
+use Rattle.td_top.specs.Works.{AreWorks}
+use Rattle.run_ends.specs.Opening.{HasSeen}
+use Rattle.run_ends.specs.declared.talk_end.TalkEnd.{TalkEnd}
 use Rattle.catalogue.proofs.lemmas.HistoryLemmas.{history_longer}
 use Rattle.td_top.proofs.Hears.{tells_each_change}
 

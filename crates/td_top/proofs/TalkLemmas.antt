@@ -22,23 +22,23 @@ use Rattle.console.specs.declared.line.Line.{Line}
 use Rattle.console.specs.declared.line.Line.TheVariants as line
 use Rattle.console.specs.declared.said.Said.TheVariants as said
 use Rattle.td_base.proofs.lemmas.Beginnings.{prefix_trans}
-use Rattle.td_top.specs.Growth.{GrowthView}
-use Rattle.td_top.specs.Replies.{last_token}
-use Rattle.td_top.specs.Sessions.{AnswersLine, BeginsWhole, LaterSession}
-use Rattle.td_top.specs.Site.{console}
-use Rattle.td_top.specs.Operator.{KeepsTalking, more, none}
-use Rattle.td_top.specs.Talking.{ComesTo, IsAt, IsReadNeeded, LaterScene, Scene, TalksOver, at_ready, at_reply, talk_begun_at, scene, talk_text}
+use Rattle.run_ends.specs.Growth.{GrowthView}
+use Rattle.run_ends.specs.Replies.{last_token}
+use Rattle.run_ends.specs.Sessions.{AnswersLine, BeginsWhole, LaterSession}
+use Rattle.run_ends.specs.Site.{console}
+use Rattle.run_ends.specs.Operator.{KeepsTalking, more, none}
+use Rattle.run_ends.specs.Talking.{ComesTo, IsAt, IsReadNeeded, LaterScene, Scene, TalksOver, at_ready, at_reply, talk_begun_at, scene, talk_text}
 use Rattle.td_top.specs.TalkingSteps.{FeedsHeld, FeedsTalk, HasNone, IsNextLine, Reaches, SaysBye}
 use Rattle.td_top.specs.TalkingSteps.{SaysText}
-use Rattle.td_top.specs.declared.talking.TheConstants.{PIECE}
+use Rattle.run_ends.specs.declared.talk_end.TheConstants.{PIECE}
 use Rattle.td_top.specs.declared.talking.TalkTurn.{TalkTurn}
 use Rattle.td_top.specs.declared.talking.TalkTurn.TheVariants as turn
-use Rattle.td_top.specs.declared.session.Session.{Session}
-use Rattle.td_top.specs.declared.talking.TalkEnd.{TalkEnd}
-use Rattle.td_top.specs.declared.talking.TalkEnd.TheVariants as end
-use Rattle.td_top.proofs.Checked.{written_more}
-use Rattle.td_top.proofs.GrowthLemmas.{growth_refl, growth_trans}
-use Rattle.td_top.proofs.LineLemmas.{session_refl, session_trans}
+use Rattle.run_ends.specs.declared.session.Session.{Session}
+use Rattle.run_ends.specs.declared.talk_end.TalkEnd.{TalkEnd}
+use Rattle.run_ends.specs.declared.talk_end.TalkEnd.TheVariants as end
+use Rattle.run_ends.proofs.lemmas.WrittenTexts.{written_more}
+use Rattle.td_top.proofs.lemmas.GrowthLemmas.{growth_refl, growth_trans}
+use Rattle.run_ends.proofs.lemmas.SessionLemmas.{session_refl, session_trans}
 
 -- ---- histories
 

@@ -5,7 +5,7 @@ use Rattle.console.specs.Lines.{HasWishText}
 use Rattle.console.specs.Steps.{FirstHasText, GivesLines, first_line}
 use Rattle.console.specs.declared.line.Line.{Line}
 use Rattle.console.specs.declared.line.Line.TheVariants as line
-use Rattle.td_top.specs.Operator.{KeepsTalking, TakesMemory, is_quit}
+use Rattle.run_ends.specs.Operator.{KeepsTalking, TakesMemory, is_quit}
 use Rattle.td_top.specs.TalkingSteps.{IsNextLine}
 
 -- the line that was passed over has a text of its own

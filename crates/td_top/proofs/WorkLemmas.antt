@@ -1,13 +1,11 @@
 -- Works that are made one after the other, and workers that learn one after the other.
 use Rattle.std.proofs.Common.{◌≡◌, ℕ, List, [], ◌∷◌, ◌++◌, length, map, Bool, true, false, ◌||◌, All, Option, Some, IfSome, refl, sym, subst, ap, ◌∙◌, arith}
-use Rattle.std.proofs.Common.{append_assoc, append-nil}
 use Rattle.std.specs.List.{list_any}
 use Rattle.std.specs.Option.{option_to_list}
 use Rattle.std.proofs.lemmas.List.{map-append, length-append}
 use Rattle.std.proofs.lemmas.List.Elements.{All-pop, All-push}
 use Rattle.std.proofs.lemmas.List.Folds.{list_any-append}
 use mathlib.Core.List.{IsPrefix}
-use Rattle.td_base.proofs.lemmas.Beginnings.{prefix_length}
 use Rattle.td_base.specs.DoorViews.{DoorView}
 use Rattle.td_base.specs.declared.report.Role.{Role}
 use Rattle.catalogue.specs.declared.holding.Catalogue.{Catalogue}
@@ -16,14 +14,9 @@ use Rattle.connection.specs.declared.door_work.DoorDone.{DoorDone}
 use Rattle.logbook.specs.Pages.{Book}
 use Rattle.desk_pool.specs.Flag.{Sight}
 use Rattle.publication.specs.Views.{DeskView}
-use Rattle.td_top.specs.Works.{AreWorks, HasSeen, HasWorks, Learnt}
-
--- what was taken off a list, with one more, and what is left of it
-pub takes_more : {T : Type 0} (done left : List T) (t : T) (rest all : List T) → done ++ left ≡ all → left ≡ t ∷ rest → done ++ t ∷ [] ++ rest ≡ all
-takes_more done left t rest all whole next = append_assoc done (t ∷ []) rest ∙ ap (λ ts. done ++ ts) (sym next) ∙ whole
-
-pub took_all : {T : Type 0} (done left all : List T) → done ++ left ≡ all → left ≡ [] → done ≡ all
-took_all done left all whole none = sym (append-nil done) ∙ (ap (λ ts. done ++ ts) (sym none) ∙ whole)
+use Rattle.run_ends.proofs.lemmas.Learning.{took_all}
+use Rattle.td_top.specs.Works.{AreWorks, HasWorks, Learnt}
+use Rattle.run_ends.specs.Opening.{HasSeen}
 
 -- one fewer is left on each of two lists
 pub still_as_many : {A B : Type 0} (xs xs' : List A) (x : A) (ys ys' : List B) (r : Option B) (y : B) → length xs ≡ length ys → xs ≡ x ∷ xs'
@@ -74,18 +67,6 @@ signs_more flag flag' sign works works' w h more same is of =
 pub has_works : (server : Role) (pair : Book) (least : ℕ) (doors : List DoorView) (works : List WorkView) → AreWorks server pair least doors works
     → HasWorks pair works
 has_works server pair least doors works are = (server, least, doors, are)
-
--- ---- desks that learn what was published before
-
-pub seen_more : (pair : Book) (list : List (Catalogue (List ℕ))) (desks desks' : List (DeskView (Catalogue (List ℕ)))) (d : DeskView (Catalogue (List ℕ)))
-    → All (HasSeen pair (length list)) desks → desks' ≡ desks ++ d ∷ [] → d.pair ≡ pair → IsPrefix list d.seen → All (HasSeen pair (length list)) desks'
-seen_more pair list desks desks' d h e is longer =
-    subst (All (HasSeen pair (length list))) (sym e)
-    (All-push (HasSeen pair (length list)) desks d h (record { pair_is = is; many = prefix_length list d.seen longer }))
-
--- as many were taken as are there, with one more
-pub as_many : {A B : Type 0} (xs : List A) (x : A) (ys ys' : List B) (y : B) → length ys ≡ length xs → ys' ≡ ys ++ y ∷ [] → length ys' ≡ length (xs ++ x ∷ [])
-as_many xs x ys ys' y same e = omega (arith, same, ap length e, length-append ys (y ∷ []), length-append xs (x ∷ []))
 
 -- ---- workers that learn
 

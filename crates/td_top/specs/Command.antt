@@ -1,7 +1,7 @@
 -- The words of the command line, what they ask for, and the commands that the code makes of them.
 use Rattle.std.specs.Prelude.{ℕ, ◌<◌, ◌≤◌, List, [], ◌∷◌, length, codes, ⊤, Bool, ℤ, pos}
 use Rattle.std.specs.Prelude.{true, false, not, ◌&&◌, ◌||◌, ◌==◌, nat_le, if◌then◌else◌}
-use Rattle.std.specs.Prelude.{int_le, int_lt, ◌≤ℤ◌, ◌<ℤ◌}
+use Rattle.std.specs.Prelude.{int_le, int_lt}
 use Rattle.std.specs.Prelude.{Option, None, Some, option_and_then}
 use Rattle.std.specs.Option.{option_map}
 use Rattle.std.specs.List.{list_all, list_any}
@@ -13,26 +13,14 @@ use Rattle.td_base.specs.Names.{IsPlain, is_path_word}
 use Rattle.console.specs.Words.{meant_moment, number_in_word}
 use Rattle.td_civil.specs.Bounds.{HasMeaning}
 use Rattle.td_civil.specs.Reading.{moment_in}
-use Rattle.td_civil.specs.declared.moment_type.TheConstants.{LO, HI}
+use Rattle.td_civil.specs.declared.moment_type.TheConstants.{HI}
+use Rattle.run_ends.specs.Commands.{IsRangeAsked, PlainCommand, answer, at, calmirror, check, load}
+use Rattle.run_ends.specs.Commands.{mirror, serve}
 use Rattle.td_top.specs.declared.command.Command.{Command}
 use Rattle.td_top.specs.declared.command.Command.TheVariants as command
 use Rattle.td_top.specs.declared.command.TheConstants.{ADDRESS_LIMIT, MOST_FOLDERS}
 use Rattle.td_top.specs.declared.command.TheConstants.{MOST_RELEASES, MOST_WORKERS}
 use Rattle.td_top.specs.declared.command.rules.TheConstants.{MOST_CHANGED}
-
--- what words ask for
-pub data PlainCommand : Type 0 where
-  answer : List (List ℕ) → PlainCommand
-  check : List (List ℕ) → PlainCommand
-  at : List ℕ → ℤ → PlainCommand
-  serve : List ℕ → ℕ → List Chosen → List (List ℕ) → PlainCommand
-  mirror : List ℕ → ℕ → List ℕ → PlainCommand
-  load : ℕ → PlainCommand
-  calmirror : List ℕ → ℤ → ℤ → PlainCommand
-
--- what is printed for words that are no command
-unfoldable pub usage_line : List ℕ
-usage_line = codes "usage: tzdistd answer|serve|mirror|check|at|load|calmirror\n"
 
 -- at least one word and no more than there may be folders, each of which may name one
 unfoldable pub are_folders : List (List ℕ) → Bool
@@ -185,10 +173,6 @@ plain_command (command.Mirror w) = mirror w.address.now w.workers w.upstream.now
 plain_command (command.Load number) = load number
 plain_command (command.MirrorCalendars plan) =
     calmirror plan.upstream.now plan.start.seconds plan.end.seconds
-
--- a range that has a meaning
-abbrev pub IsRangeAsked : ℤ → ℤ → Type 0
-IsRangeAsked start end = (LO ≤ℤ start) × (start <ℤ end) × (end ≤ℤ HI)
 
 -- a command names a folder to serve, its moment and its range have a meaning, its workers are few,
 -- the server that it follows has a plain address, and a load has some releases and not too many

@@ -2,12 +2,12 @@
 use Rattle.std.specs.Prelude.{◌≡◌, ℕ, List, Option}
 use Rattle.admission.specs.declared.rules.Chosen.{Chosen}
 use Rattle.td_base.specs.Views.{SinkView, SourceView}
-use Rattle.td_top.specs.Growth.{GrowthView}
-use Rattle.td_top.specs.Site.{console}
-use Rattle.td_top.specs.Talking.{ComesTo, Scene, scene}
+use Rattle.run_ends.specs.Growth.{GrowthView}
+use Rattle.run_ends.specs.Site.{console}
+use Rattle.run_ends.specs.Talking.{ComesTo, Scene, scene}
 use Rattle.td_top.specs.declared.console_beside.Console.{Console}
 use Rattle.td_top.specs.declared.console_beside.TalkOver.{TalkOver}
-use Rattle.td_top.specs.declared.talking.TalkEnd.{TalkEnd}
+use Rattle.run_ends.specs.declared.talk_end.TalkEnd.{TalkEnd}
 
 -- what a console talks over
 abbrev pub scene_of : {Q G C K : Type 0} → (Q → List Chosen) → (G → List Chosen → GrowthView)

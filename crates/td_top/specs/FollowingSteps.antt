@@ -8,13 +8,13 @@ use Rattle.installer.specs.declared.install_fault.InstallFault.{InstallFault}
 use Rattle.installer.specs.declared.install_fault.InstallFault.TheVariants as install
 use Rattle.release_check.specs.declared.check_fault.CheckFault.TheVariants as fault
 use Rattle.sync_core.specs.Mirrors.{MirrorState}
-use Rattle.td_top.specs.Folders.{IsRefusal}
-use Rattle.td_top.specs.Following.{SaysStated, StatesAfter}
-use Rattle.td_top.specs.Growth.{GrowthView, following}
-use Rattle.td_top.specs.Sessions.{LaterSession}
-use Rattle.td_top.specs.Operator.{heard_by, with_joined}
+use Rattle.run_ends.specs.Folders.{IsRefusal}
+use Rattle.run_ends.specs.Following.{SaysStated, StatesAfter}
+use Rattle.run_ends.specs.Growth.{GrowthView, following}
+use Rattle.run_ends.specs.Sessions.{LaterSession}
+use Rattle.run_ends.specs.Operator.{heard_by, with_joined}
 use Rattle.td_top.specs.declared.mirror_feed.Follow.{Follow}
-use Rattle.td_top.specs.declared.session.Session.{Session}
+use Rattle.run_ends.specs.declared.session.Session.{Session}
 
 -- what is seen of a mirror, and of the server that it follows
 abbrev pub follow_of : {U : Type 0} → (U → UpstreamView) → Follow U → GrowthView

@@ -1,7 +1,5 @@
 -- What is written in reply to a line.
-use Rattle.std.specs.Prelude.{◌≡◌, ◌≢◌, ℕ, List, length, codes, ◌⊎◌}
-use Rattle.catalogue.specs.Histories.{token_of}
-use Rattle.catalogue.specs.Releases.{ReleaseData}
+use Rattle.std.specs.Prelude.{◌≡◌, ◌≢◌, ℕ, List, ◌⊎◌}
 use Rattle.console.specs.Replies.{reply_text}
 use Rattle.console.specs.declared.said.Said.TheVariants as said
 use Rattle.installer.specs.FaultText.{fault_text}
@@ -12,14 +10,6 @@ use Rattle.mirror.specs.declared.sync_fault.SyncFault.{SyncFault}
 use Rattle.mirror.specs.declared.sync_fault.SyncFault.TheVariants as sync
 use Rattle.td_top.specs.declared.replies.ConsoleReply.{ConsoleReply}
 use Rattle.td_top.specs.declared.replies.ConsoleReply.TheVariants as reply
-
--- the token of the last place
-abbrev pub last_token : List ReleaseData → List ℕ
-last_token H = token_of H (length H)
-
--- why there is no news: nobody has subscribed under that number
-abbrev pub nobody_text : List ℕ
-nobody_text = codes "20 NoWatch"
 
 -- a reply as it is written
 abbrev pub reply_bytes : ConsoleReply → List ℕ

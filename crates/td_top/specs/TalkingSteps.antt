@@ -9,12 +9,12 @@ use Rattle.console.specs.Replies.{reply_text}
 use Rattle.console.specs.Steps.{GivesLines, most_held}
 use Rattle.console.specs.declared.line.Line.{Line}
 use Rattle.console.specs.declared.said.Said.TheVariants as said
-use Rattle.td_top.specs.Talking.{ComesTo, IsAt, Scene}
+use Rattle.run_ends.specs.Talking.{ComesTo, IsAt, Scene}
 use Rattle.td_top.specs.declared.talking.LineTaken.{LineTaken}
 use Rattle.td_top.specs.declared.talking.LineTaken.TheVariants as taken
-use Rattle.td_top.specs.declared.talking.TalkEnd.{TalkEnd}
-use Rattle.td_top.specs.declared.talking.TalkEnd.TheVariants as end
-use Rattle.td_top.specs.declared.talking.TheConstants.{PIECE}
+use Rattle.run_ends.specs.declared.talk_end.TalkEnd.{TalkEnd}
+use Rattle.run_ends.specs.declared.talk_end.TalkEnd.TheVariants as end
+use Rattle.run_ends.specs.declared.talk_end.TheConstants.{PIECE}
 use Rattle.td_top.specs.declared.talking.TalkTurn.{TalkTurn}
 use Rattle.td_top.specs.declared.talking.TalkTurn.TheVariants as turn
 

@@ -1,5 +1,5 @@
 -- The works of a server's workers, and what comes of them.
-use Rattle.std.specs.Prelude.{◌≡◌, ℕ, ◌≤◌, List, [], ◌∷◌, length, map, All, Bool, ⊤}
+use Rattle.std.specs.Prelude.{◌≡◌, ℕ, List, [], ◌∷◌, map, All, Bool, ⊤}
 use Rattle.std.specs.List.{list_any}
 use mathlib.Core.List.{IsPrefix}
 use Rattle.td_base.specs.DoorViews.{DoorView}
@@ -8,13 +8,7 @@ use Rattle.catalogue.specs.declared.holding.Catalogue.{Catalogue}
 use Rattle.connection.specs.DoorWorks.{WorkView}
 use Rattle.connection.specs.declared.door_work.DoorDone.{DoorDone}
 use Rattle.logbook.specs.Pages.{Book}
-use Rattle.publication.specs.Views.{DeskView}
-
--- a desk of a pair has seen so many published values, or more
-pub record HasSeen (pair : Book) (least : ℕ) (desk : DeskView (Catalogue (List ℕ)))
-    : Type 0 where
-  pub pair_is : desk.pair ≡ pair
-  pub many : least ≤ length desk.seen
+use Rattle.run_ends.specs.Opening.{HasSeen}
 
 -- the works of such a server serve these doors, in order, by such desks
 abbrev pub AreWorks : Role → Book → ℕ → List DoorView → List WorkView → Type 0

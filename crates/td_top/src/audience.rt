@@ -3,14 +3,14 @@ ghost use Rattle.std.specs.Prelude.{◌≡◌, IfOk};
 ghost use Rattle.std.specs.Option.{option_map};
 ghost use Rattle.console.specs.Replies.{news_text};
 ghost use Rattle.subscribers.specs.News.{numbered_from};
-ghost use Rattle.td_top.specs.Growth.{GrowthView};
+ghost use Rattle.run_ends.specs.Growth.{GrowthView};
 ghost use Rattle.td_top.specs.Replies.{reply_bytes};
-ghost use Rattle.td_top.specs.Sessions.{AnswersLine};
+ghost use Rattle.run_ends.specs.Sessions.{AnswersLine};
 
 use crate::replies::ConsoleReply;
-use crate::session::Session;
 use console::{Line, Said, news_reply};
 use installer::Installer;
+use run_ends::Session;
 use std::alloc::Global;
 use subscribers::{SubscribeFault, Wish};
 use td_base::{Bytes, NoMemory};

@@ -2,7 +2,8 @@ ghost use Rattle.std.specs.Prelude.{◌≡◌, ◌<◌, ◌<ℤ◌, ◌≤ℤ◌
 ghost use Rattle.std.specs.List.{list_all};
 ghost use Rattle.std.specs.Option.{option_map};
 ghost use Rattle.td_base.specs.Names.{is_path_word};
-ghost use Rattle.td_top.specs.Command.{IsMeantCommand, answer, are_folders, at_of, check};
+ghost use Rattle.td_top.specs.Command.{IsMeantCommand, are_folders, at_of};
+ghost use Rattle.run_ends.specs.Commands.{answer, check};
 ghost use Rattle.td_top.specs.Command.{calmirror_of, command_of, end_after, if_after};
 ghost use Rattle.td_top.specs.Command.{is_address, is_address_byte, load_of};
 ghost use Rattle.td_top.specs.Command.{mirror_of, over_folders};
@@ -11,8 +12,9 @@ ghost use Rattle.td_top.specs.Command.{plain_command, serve_of};
 pub(crate) mod rules;
 
 use crate::command::rules::{RuleChoice, read_rules};
-use crate::running::calendar_mirroring::CalendarPlan;
+use crate::mirroring::MirrorWords;
 use console::{meant_moment, read_number};
+use plain_commands::CalendarPlan;
 use td_base::{Bytes, is_path_word};
 use td_civil::{HI, Moment, moment_of};
 
@@ -53,14 +55,6 @@ pub struct ServeWords<'a> {
     pub workers: u32,
     pub rules: RuleChoice,
     pub folders: &'a [Bytes],
-}
-
-/// Follow the server at an address, and serve another address with a number of workers.
-#[derive(Clone, Copy)]
-pub struct MirrorWords<'a> {
-    pub address: &'a [u8],
-    pub workers: u32,
-    pub upstream: &'a [u8],
 }
 
 /// Parses command-line arguments. `None` if they are not in the grammar.

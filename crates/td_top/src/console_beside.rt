@@ -2,10 +2,10 @@ ghost use Rattle.std.specs.Prelude.{◌≡◌};
 ghost use Rattle.td_top.specs.ConsoleBeside.{Halted, Ran, beside_of};
 
 use crate::growth::ReleaseFeed;
-use crate::session::Session;
-use crate::talking::{TalkEnd, talk};
+use crate::talking::talk;
 use desk_pool::{Beside, StopFlag};
 use installer::InstallPolicy;
+use run_ends::{Session, TalkEnd};
 use std::sync::Wait;
 use td_base::{Sink, Source};
 

@@ -1,13 +1,13 @@
-ghost use Rattle.td_top.specs.Growth.{AsksFolder, folders};
+ghost use Rattle.run_ends.specs.Growth.{AsksFolder, folders};
 ghost use Rattle.td_top.specs.Replies.{reply_bytes};
-ghost use Rattle.td_top.specs.Sessions.{AnswersLine};
+ghost use Rattle.run_ends.specs.Sessions.{AnswersLine};
 
 use crate::growth::ReleaseFeed;
 use crate::operator::newest;
 use crate::replies::ConsoleReply;
-use crate::session::Session;
 use console::{Line, Said};
 use installer::InstallPolicy;
+use run_ends::Session;
 use std::sync::Wait;
 use td_base::{Bytes, Store};
 

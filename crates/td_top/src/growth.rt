@@ -1,13 +1,13 @@
 ghost use Rattle.std.specs.Prelude.{◌≡◌, List, IfSome, None};
 ghost use Rattle.admission.specs.declared.rules.Chosen.{Chosen};
-ghost use Rattle.td_top.specs.Growth.{GrowthView, Grows};
+ghost use Rattle.run_ends.specs.Growth.{GrowthView, Grows};
 ghost use Rattle.td_top.specs.Replies.{reply_bytes};
-ghost use Rattle.td_top.specs.Sessions.{AnswersLine};
+ghost use Rattle.run_ends.specs.Sessions.{AnswersLine};
 
 use crate::replies::ConsoleReply;
-use crate::session::Session;
 use console::Line;
 use installer::InstallPolicy;
+use run_ends::Session;
 use std::sync::Wait;
 
 /// The source of new releases while a history is served: the folders of a store, or a mirror.

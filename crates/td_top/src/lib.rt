@@ -1,31 +1,24 @@
 //! The top call of the program, [`run`]: what it writes, and its exit status, for given arguments,
-//! store and input. How a run ends, command by command, is `RunEnds` of `specs/Running.antt`. When
-//! it is complete is stated by [`runs_complete`].
+//! store and input. How a run ends, command by command, is `RunEnds` of `run_ends`. When it is
+//! complete is stated by [`runs_complete`].
 //!
-//! Files, sockets and threads are traits of `td_base` here. The program `tzdistd` calls `run` with
-//! those of `devices`. The work is that of `installer`, `connection`, `console`, `mirror` and
-//! `calendar_mirror`.
+//! Here are the commands that serve, `serve` and `mirror`, with the console of their operator. The
+//! other commands are in `plain_commands`. Files, sockets and threads are traits of `td_base` here.
+//! The program `tzdistd` calls `run` with those of `devices`.
 #![tactic(auto)]
 
-// A run: its arguments, what it borrows, each command, and how a run ends.
+// The arguments, and a run by them.
 mod command;
-mod kept_tests;
-mod outcome;
 mod running;
-mod site;
-mod status;
 
-// Texts that end a run.
-mod printing;
-mod refusing;
+// Doors, each served by a worker, beside the console.
+mod mirroring;
+mod server;
+mod works;
 
-// What is published, and for which desks.
-mod opening;
-mod session;
-mod session_installs;
-
-// The console session of an operator.
+// The session beside workers, its lines, and their replies.
 mod audience;
+mod console_beside;
 mod operator;
 mod replies;
 mod talking;
@@ -35,12 +28,5 @@ mod folder_feed;
 mod growth;
 mod mirror_feed;
 
-// Workers, and the console session next to them.
-mod console_beside;
-mod works;
-
-// What may cross threads.
-mod send_sync;
-
-pub use outcome::Outcome;
+pub use run_ends::Outcome;
 pub use running::{run, runs_complete};

@@ -3,14 +3,14 @@ ghost use Rattle.console.specs.Replies.{IsBoundedReply, reply_text};
 ghost use Rattle.console.specs.declared.said.Said.TheVariants as said;
 ghost use Rattle.installer.specs.FaultText.{fault_text};
 ghost use Rattle.mirror.specs.FaultText.{fault_text as sync_text};
-ghost use Rattle.td_top.specs.Replies.{SaysFaulted, SaysRefused, SaysWhy, nobody_text};
+ghost use Rattle.td_top.specs.Replies.{SaysFaulted, SaysRefused, SaysWhy};
+ghost use Rattle.run_ends.specs.Replies.{nobody_text};
 ghost use Rattle.td_top.specs.Replies.{reply_bytes};
 
-use crate::printing::shown;
-use crate::refusing::fault_text;
 use console::{Said, ShortLine, reply, short};
 use installer::InstallFault;
 use mirror::SyncFault;
+use run_ends::{fault_text, shown};
 use std::alloc::Global;
 use std::fmt::Display;
 use td_base::{Bytes, NoMemory};

@@ -4,36 +4,25 @@ ghost use Rattle.td_base.specs.Views.{SourceView, StoreView};
 ghost use Rattle.admission.specs.Rules.{KeepsAll};
 ghost use Rattle.admission.specs.declared.rules.Chosen.{Chosen};
 ghost use Rattle.subscribers.specs.Wishes.{WantsAll};
-ghost use Rattle.td_top.specs.Command.{answer, at, calmirror, check, command_of, load, mirror};
-ghost use Rattle.td_top.specs.Command.{serve};
-ghost use Rattle.td_top.specs.Outside.{LaterWorld, outside, world};
-ghost use Rattle.td_top.specs.Running.{Completes, HasRun, RunEnds, RunsAlone, number_of};
-ghost use Rattle.td_top.specs.Site.{site_names, world_of};
-ghost use Rattle.td_top.specs.declared.status.Status.{Status};
+ghost use Rattle.run_ends.specs.Commands.{answer, at, calmirror, check, load, mirror};
+ghost use Rattle.td_top.specs.Command.{command_of};
+ghost use Rattle.run_ends.specs.Commands.{serve};
+ghost use Rattle.run_ends.specs.Outside.{LaterWorld, outside, world};
+ghost use Rattle.run_ends.specs.Running.{Completes, HasRun, RunEnds, RunsAlone, number_of};
+ghost use Rattle.run_ends.specs.Site.{site_names, world_of};
+ghost use Rattle.run_ends.specs.declared.status.Status.{Status};
 
-// The commands.
-pub(crate) mod answering;
-pub(crate) mod calendar_mirroring;
-pub(crate) mod checking;
-pub(crate) mod loading;
-pub(crate) mod mirroring;
-pub(crate) mod server;
-pub(crate) mod state_line;
+pub(crate) mod serving;
 
 use crate::command::{Command, read_words};
-use crate::kept_tests::KeptTests;
-use crate::outcome::{Ending, Outcome};
-use crate::printing::print;
-use crate::running::answering::{AnswerPlan, answer, answers_complete};
-use crate::running::calendar_mirroring::{calendars_complete, mirror_calendars};
-use crate::running::checking::{check_folders, checks_complete};
-use crate::running::loading::{LoadPlan, load, load_complete};
-use crate::running::mirroring::{mirror_server, mirrors_complete};
-use crate::running::server::{serve_doors, serves_complete};
-use crate::running::state_line::{state_at, state_complete};
-use crate::site::RunIo;
-use crate::status::Status;
+use crate::mirroring::{mirror_server, mirrors_complete};
+use crate::running::serving::{serve_doors, serves_complete};
 use admission::Kept;
+use plain_commands::{
+    AnswerPlan, LoadPlan, answer, answers_complete, calendars_complete, check_folders,
+    checks_complete, load, load_complete, mirror_calendars, state_at, state_complete,
+};
+use run_ends::{Ending, KeptTests, Outcome, RunIo, Status, print};
 use std::alloc::Global;
 use std::sync::Wait;
 use std::thread::Threads;
@@ -68,7 +57,7 @@ const USAGE: &[u8] = b"usage: tzdistd answer|serve|mirror|check|at|load|calmirro
 /// change, and receives the notices on `news`.
 ///
 /// The caller keeps the tests of the rules and of the wishes, at least one of each kind.
-#[tactic(auto, unfolding(crate::specs::Running::HasRun))]
+#[tactic(auto, unfolding(run_ends::specs::Running::HasRun))]
 pub fn run<R, S, C, K, N, W>(
     rt: &R,
     alloc: Global,
@@ -161,7 +150,7 @@ where
 }
 
 /// Ends a run whose arguments are not a command.
-#[tactic(auto, unfolding(crate::specs::Command::usage_line))]
+#[tactic(auto, unfolding(run_ends::specs::Commands::usage_line))]
 fn usage<K: Sink>(output: &mut K) -> Status
     // The store and the input, whatever they are, are left alone.
     ensures { (store : StoreView) (input : SourceView) → RunsAlone None

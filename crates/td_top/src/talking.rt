@@ -2,34 +2,19 @@ ghost use Rattle.std.specs.Prelude.{◌≡◌, ◌≤◌, length};
 ghost use Rattle.console.specs.Steps.{most_held};
 ghost use Rattle.td_base.specs.Views.{LaterSource};
 ghost use Rattle.td_top.specs.ConsoleBeside.{scene_of, steady};
-ghost use Rattle.td_top.specs.Operator.{is_quit};
-ghost use Rattle.td_top.specs.Talking.{ComesTo};
-ghost use Rattle.td_top.specs.TalkingSteps.{FeedsTalk, SaysBye, SaysText, TakesLine, TalksOn};
-ghost use Rattle.td_top.specs.TalkingSteps.{Turns, most_waiting};
+ghost use Rattle.run_ends.specs.Operator.{is_quit};
+ghost use Rattle.run_ends.specs.Talking.{ComesTo};
+ghost use Rattle.td_top.specs.TalkingSteps.{FeedsTalk, SaysBye, SaysText, TakesLine};
+ghost use Rattle.td_top.specs.TalkingSteps.{TalksOn, Turns, most_waiting};
 
 use crate::console_beside::Console;
 use crate::growth::ReleaseFeed;
 use crate::operator::{answer_line, newest};
 use console::{Line, Lines, Said, short};
 use installer::InstallPolicy;
+use run_ends::{PIECE, TalkEnd};
 use std::sync::Wait;
 use td_base::{NoMemory, ReadStep, Sink, Source, Written, write_whole};
-
-/// How many bytes one read of the input requests.
-const PIECE: usize = 4_096;
-
-/// How a console session ended.
-#[derive(Clone, Copy, PartialEq, Eq)]
-pub enum TalkEnd {
-    /// The operator quit.
-    Quit,
-    /// The input ended.
-    InputEnded,
-    /// A read of the input failed.
-    NotRead,
-    /// A write to the output failed.
-    NotWritten,
-}
 
 /// The result of one turn of a session.
 #[derive(Clone, Copy, PartialEq, Eq)]

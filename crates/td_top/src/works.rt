@@ -2,7 +2,8 @@ ghost use Rattle.std.specs.Prelude.{◌≡◌, ℕ, length, map, All, IfOk, fals
 ghost use Rattle.connection.specs.DoorWorks.{NoneOut};
 ghost use Rattle.json_forms.specs.PlainTexts.{IsPlainRole};
 ghost use Rattle.logbook.specs.Pages.{Book};
-ghost use Rattle.td_top.specs.Works.{AreWorks, HasSeen, Learnt};
+ghost use Rattle.td_top.specs.Works.{AreWorks, Learnt};
+ghost use Rattle.run_ends.specs.Opening.{HasSeen};
 
 use catalogue::Catalogue;
 use connection::{DoorDone, DoorWork};

@@ -1,7 +1,7 @@
 use Rattle.std.proofs.Common.{refl}
 use Rattle.catalogue.specs.Holdings.{history_of}
 use Rattle.td_top.proofs.FollowLines.{opens}
-use Rattle.td_top.proofs.Installing.{parts_desks}
+use Rattle.run_ends.proofs.lemmas.Installing.{parts_desks}
 use Rattle.td_top.proofs.mirror_feed.open_stated.Goals as goal
 
 pub returns-clause-stated : goal.returns-clause-stated

@@ -1,5 +1,5 @@
 use Rattle.std.proofs.Common.{refl, rules}
-use Rattle.td_top.specs.Operator.{IsForGrowth}
+use Rattle.run_ends.specs.Operator.{IsForGrowth}
 use Rattle.td_top.proofs.LineLemmas.{is_unknown, said_as}
 use Rattle.td_top.proofs.operator.answer_line.Goals as goal
 

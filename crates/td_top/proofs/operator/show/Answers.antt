@@ -3,7 +3,7 @@ use Rattle.catalogue.specs.Holdings.{history_of}
 use Rattle.console.specs.Replies.{reply_text}
 use Rattle.td_base.proofs.lemmas.Beginnings.{prefix_self}
 use Rattle.console.specs.declared.line.Line.TheVariants as line
-use Rattle.td_top.specs.Operator.{no_memory}
+use Rattle.run_ends.specs.Operator.{no_memory}
 use Rattle.td_top.proofs.LineLemmas.{is_shown, stays}
 use Rattle.td_top.proofs.operator.show.Goals as goal
 

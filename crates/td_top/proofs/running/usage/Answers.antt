@@ -1,12 +1,12 @@
 use Rattle.std.proofs.Common.{◌≡◌, None, refl}
 use Rattle.td_base.proofs.lemmas.LaterLemmas.{store_refl}
-use Rattle.td_top.specs.Command.{usage_line}
-use Rattle.td_top.specs.Outside.{Outside}
-use Rattle.td_top.specs.Printing.{Printed}
-use Rattle.td_top.specs.declared.status.Status.{Status}
-use Rattle.td_top.specs.declared.status.Status.TheVariants as status
-use Rattle.td_top.proofs.Endings.{ends_printed}
-use Rattle.td_top.proofs.RunLemmas.{runs_alone}
+use Rattle.run_ends.specs.Commands.{usage_line}
+use Rattle.run_ends.specs.Outside.{Outside}
+use Rattle.run_ends.specs.Printing.{Printed}
+use Rattle.run_ends.specs.declared.status.Status.{Status}
+use Rattle.run_ends.specs.declared.status.Status.TheVariants as status
+use Rattle.run_ends.proofs.lemmas.Endings.{ends_printed}
+use Rattle.run_ends.proofs.lemmas.Runs.{runs_alone}
 use Rattle.td_top.proofs.running.usage.Goals as goal
 
 abbrev ShowsUsage : Outside → Outside → Status → Type 0

@@ -1,6 +1,6 @@
 use Rattle.std.proofs.Common.{◌≡◌, [], ◌≤◌, length}
 use Rattle.td_top.specs.ConsoleBeside.{scene_of, steady}
-use Rattle.td_top.specs.Talking.{IsAt, Scene}
+use Rattle.run_ends.specs.Talking.{IsAt, Scene}
 use Rattle.td_top.specs.TalkingSteps.{most_waiting}
 use Rattle.td_top.proofs.talking.answer_lines.Given as goal
 

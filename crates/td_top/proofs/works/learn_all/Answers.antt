@@ -2,7 +2,8 @@ use Rattle.std.proofs.Common.{rules, ◌≡◌, [], refl, ap, subst, ◌∙◌}
 use Rattle.std.proofs.lemmas.List.{nil_from_length}
 use Rattle.std.proofs.lemmas.List.Elements.{All-push, All-rest}
 use mathlib.Core.List.{IsPrefix}
-use Rattle.td_top.proofs.WorkLemmas.{any_more, doors_more, learnt_all, takes_more}
+use Rattle.td_top.proofs.WorkLemmas.{any_more, doors_more, learnt_all}
+use Rattle.run_ends.proofs.lemmas.Learning.{takes_more}
 use Rattle.td_top.proofs.works.learn_all.Goals as goal
 
 pub loop-done-preserved : goal.loop-done-preserved

@@ -1,8 +1,9 @@
 use Rattle.std.proofs.Common.{refl, ap, ◌∙◌}
 use Rattle.std.proofs.lemmas.List.Elements.{All-pop, All-rest}
 use Rattle.connection.specs.DoorWorks.{NoneOut}
-use Rattle.td_top.specs.Works.{HasSeen}
-use Rattle.td_top.proofs.WorkLemmas.{is_work, signs_more, still_as_many, takes_more, works_more}
+use Rattle.run_ends.specs.Opening.{HasSeen}
+use Rattle.td_top.proofs.WorkLemmas.{is_work, signs_more, still_as_many, works_more}
+use Rattle.run_ends.proofs.lemmas.Learning.{takes_more}
 use Rattle.td_top.proofs.works.works_for.Goals as goal
 
 pub loop-door-preserved : goal.loop-door-preserved

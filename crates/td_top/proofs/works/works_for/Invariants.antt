@@ -1,7 +1,8 @@
 use Rattle.std.proofs.Common.{◌≡◌, ℕ, ◌++◌, length, map, All, false}
 use Rattle.connection.specs.DoorWorks.{NoneOut}
 use Rattle.logbook.specs.Pages.{Book}
-use Rattle.td_top.specs.Works.{AreWorks, HasSeen}
+use Rattle.td_top.specs.Works.{AreWorks}
+use Rattle.run_ends.specs.Opening.{HasSeen}
 use Rattle.td_top.proofs.works.works_for.Given as goal
 
 abbrev pub invariant-loop-door : goal.invariant-loop-door

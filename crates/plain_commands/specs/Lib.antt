@@ -1,0 +1,3 @@
+pub mod CheckingSteps
+pub mod LoadSteps
+pub mod CalendarSteps

@@ -1,0 +1,2 @@
+pub mod ZonesShown
+pub mod lemmas

@@ -1,0 +1,17 @@
+pub mod Commands
+pub mod Outside
+pub mod Folders
+pub mod Printing
+pub mod Tells
+pub mod Opening
+pub mod Replies
+pub mod Following
+pub mod Growth
+pub mod Site
+pub mod Operator
+pub mod Audiences
+pub mod Sessions
+pub mod Talking
+pub mod MirrorHistory
+pub mod Running
+pub mod Completing

@@ -1,6 +1,0 @@
-use Rattle.std.proofs.Common.{rules}
-use Rattle.td_top.proofs.Refusals.{refuses_told}
-use Rattle.td_top.proofs.refusing.refuse_install.Goals as goal
-
-pub returns-in_default : goal.returns-in_default
-returns-in_default g c = search (refuses_told, rules)

@@ -1,6 +1,0 @@
-use Rattle.std.proofs.Common.{rules}
-use Rattle.td_top.proofs.Refusals.{refuses_synced}
-use Rattle.td_top.proofs.running.mirroring.refuse_sync.Goals as goal
-
-pub returns-in_default : goal.returns-in_default
-returns-in_default g c = search (refuses_synced, rules)
