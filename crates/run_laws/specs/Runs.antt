@@ -1,3 +1,3 @@
 -- The definitions of a run that laws judge, under the names that laws use.
-pub use Rattle.td_top.specs.MirrorHistory.{FollowsPrimary, IsOfPrimary, IsStatedByShare}
-pub use Rattle.td_top.specs.Running.CalendarMirroring.{CalendarTells, end_within, observance_line}
+pub use Rattle.run_ends.specs.MirrorHistory.{FollowsPrimary, IsOfPrimary, IsStatedByShare}
+pub use Rattle.run_ends.specs.Running.CalendarMirroring.{CalendarTells, end_within, observance_line}

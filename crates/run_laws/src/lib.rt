@@ -1,8 +1,8 @@
 //! Laws of whole runs: what is printed of calendars, how the syncs of a run with a primary end, and
-//! the limits of serving. They judge the definitions of `td_top` by a second statement. The crate
+//! the limits of serving. They judge the definitions of `run_ends` by a second statement. The crate
 //! holds theorems only: no program calls it.
 //!
-//! What it names of `td_top` stands in `specs/Runs.antt` alone.
+//! What it names of `run_ends` stands in `specs/Runs.antt` alone.
 #![tactic(auto)]
 
 mod limits;
