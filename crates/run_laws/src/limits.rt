@@ -25,4 +25,6 @@ pub fn serving_limits_are_these()
     ensures failures_of_a_window { failing.MOST_WINDOW_FAILURES ≡ 16 }
     ensures short_turn { turn.SHORT_TURN_MICROS ≡ 2000 }
     ensures long_turn { turn.LONG_TURN_MICROS ≡ 10000 }
+    ensures first_turn { turn.FIRST_TURN_MICROS ≡ 50 }
+    ensures round { turn.ROUND_MICROS ≡ 10000 }
 {}
