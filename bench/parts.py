@@ -237,7 +237,7 @@ class Measured:
                     rows += self.attacked(name, "nginx", site.port, None, target, flood(site.port, target), seconds)
         for name, flood in hostile.COSTLY.items() if self.settings["costly_floods"] else ():
             with self.served([self.folder], WORKERS) as server:
-                rows += self.attacked(name, "tzdistd", server.port, server.pid, hostile.SEARCH, flood(server.port), seconds)
+                rows += self.attacked(name, "tzdistd", server.port, server.pid, hostile.SEARCH, flood(server.port, hostile.SEARCH), seconds)
                 server.quit(120)
         return rows
 
