@@ -10,7 +10,22 @@ import growth
 import plots
 
 # What is known of a mark that is missed, by its name. A new one is looked for with `perf` and `strace -c`.
-REASONS = {}
+REASONS = {
+    "nginx, 1 connection": "only the full list. nginx sends a file by `sendfile`, without a copy of its own.",
+    "nginx, 2 connections": "only the full list, as above.",
+    "nginx, 16 connections": "only the full list, as above.",
+    "nginx, 64 connections": "only the full list, as above.",
+    "limit, 2 connections": "a request takes as many system calls as the limit's. The rest is spent on its head, the "
+    "kept reply, and two readings of the clock.",
+    "limit, 16 connections": "the same. The loop also polls more often than the limit's does.",
+    "limit, 64 connections": "the same, for JSON only.",
+    "memory of later syncs": "a mirror keeps each file once more, to check it. Where all zones change, it holds both releases.",
+    "largest release installed again": "what was parsed of a zone is kept beside its file. One install takes 1.59 times "
+    "the files, and a second one adds little.",
+    "longest expansion": "only by GET, which also sends 1.4 MB. It has 16,190 changes.",
+    "waits while installing": "two workers and installs without a pause share two processors. A worker then waits as long "
+    "as one install takes.",
+}
 SHORT_FLOODS = {
     "none": "none",
     "256 that open, ask and close": "256 that open and close",
