@@ -27,6 +27,7 @@ RELEASE = os.path.join(DATA, "data", "a")
 # A loader by which the toolchain may start what it compiled.
 LOADER = "/lib64/ld-linux-x86-64.so.2"
 
+# What it compiled waits for its input, so that start.py sees it on a fast machine, too.
 FAKE_RT = """#!/bin/sh
 echo "$@" >>"$RT_CALLS"
 case "$*" in
@@ -35,7 +36,7 @@ esac
 case "$1" in
   all) for it in $RT_PROVES; do echo "== $it"; sleep 0.2; done; sleep 60 & wait $! ;;
   run) mkdir -p out; cp "$RT_PROGRAM" out/tzdistd ;;
-  try) cp "$RT_PROGRAM" "$TMPDIR/program"; $RT_LOADER "$TMPDIR/program" load 1000 >/dev/null; sleep 5 ;;
+  try) cp "$RT_PROGRAM" "$TMPDIR/program"; sleep 60 | $RT_LOADER "$TMPDIR/program" answer "$RT_RELEASE" >/dev/null ;;
 esac
 """
 
@@ -65,7 +66,8 @@ class Top:
     def start(self, *words, fails="no words", release=RELEASE, loader="", proves="td_base catalogue"):
         environment = {
             **os.environ, "PATH": f"{self.room}/bin:{os.environ['PATH']}", "RT_CALLS": str(self.calls),
-            "RT_PROGRAM": str(self.program), "RT_FAILS": fails, "RT_LOADER": loader, "RT_PROVES": proves,
+            "RT_PROGRAM": str(self.program), "RT_RELEASE": RELEASE, "RT_FAILS": fails, "RT_LOADER": loader,
+            "RT_PROVES": proves,
         }
         words = [sys.executable, "tools/start.py", "--address", self.address, *words]
         words += ["--release", str(release)] if release else []
