@@ -720,21 +720,33 @@ def kept_beside_new(program):
         with Client(server.port) as good:
             good.ask(ZONES)
             os.kill(server.pid, signal.SIGSTOP)
-            others = []
-            for head in expansions("America%2FNew_York", count):
-                others.append(Client(server.port, timeout=LONG))
-                others[-1].send(head)
+            others = new_clients(server, expansions("America%2FNew_York", count))
             good.send(request(ZONES))
-            os.kill(server.pid, signal.SIGCONT)
-            good.reply(timeout=LONG)
-            os.kill(server.pid, signal.SIGSTOP)
-            answered = sum(has_bytes(other) for other in others)
-            os.kill(server.pid, signal.SIGCONT)
-            said = f"{answered} of {count} new connections were answered first"
-            holds(said, answered < count // 2)
-            for other in others:
-                other.close()
+            answered = answered_before(server, good, others)
+            holds(f"{answered} of {count} new connections were answered first", answered < count // 2)
         server.child.kill()
+
+
+def new_clients(server, heads):
+    """A new client for each of these bytes, which it has sent."""
+    clients = []
+    for head in heads:
+        clients.append(Client(server.port, timeout=LONG))
+        clients[-1].send(head)
+    return clients
+
+
+def answered_before(server, good, others):
+    """How many of the others had an answer when the good client had its own. The server is stopped when this is called;
+    it goes on, and the others are closed."""
+    os.kill(server.pid, signal.SIGCONT)
+    good.reply(timeout=LONG)
+    os.kill(server.pid, signal.SIGSTOP)
+    answered = sum(has_bytes(other) for other in others)
+    os.kill(server.pid, signal.SIGCONT)
+    for other in others:
+        other.close()
+    return answered
 
 
 def quick_before_costly(program):
@@ -744,20 +756,11 @@ def quick_before_costly(program):
     for front in (b"", request(ZONES)):
         with Served(["data/b"], workers=1, program=program) as server:
             os.kill(server.pid, signal.SIGSTOP)
-            others = []
-            for head in expansions("America%2FNew_York", count):
-                others.append(Client(server.port, timeout=LONG))
-                others[-1].send(front + head)
+            others = new_clients(server, (front + head for head in expansions("America%2FNew_York", count)))
             with Client(server.port, timeout=LONG) as good:
                 good.send(request(ZONES))
-                os.kill(server.pid, signal.SIGCONT)
-                good.reply(timeout=LONG)
-                os.kill(server.pid, signal.SIGSTOP)
-            answered = sum(has_bytes(other) for other in others)
-            os.kill(server.pid, signal.SIGCONT)
+                answered = answered_before(server, good, others)
             holds(f"{answered} of {count} costly requests were answered first", answered < count // 10)
-            for other in others:
-                other.close()
             server.child.kill()
 
 
