@@ -1,19 +1,12 @@
 -- Items in rising order, where they are borrowed.
 use Rattle.std.proofs.Common.{◌≡◌, ℕ, suc, ◌+◌, ◌<◌, ◌≤◌, Bool, true, false, ◌&&◌, List, [], ◌∷◌, map, drop, length, get_or, refl, sym, ap, ◌∙◌, arith, drop-cons, add-one}
-use Rattle.std.specs.List.Sorted.{IsSortedBy, IsStableBy}
 use Rattle.std.specs.Cmp.Lexicographic.{pointwise}
 use Rattle.std.specs.Str.{bytes_eq}
 use Rattle.std.proofs.lemmas.List.{drop_all, length-map, get_or-map}
 use Rattle.catalogue.specs.Order.{rising_by}
 use Rattle.catalogue.specs.Releases.{ContentData, content_data}
 use Rattle.catalogue.specs.declared.release.Content.{Content}
-use Rattle.catalogue.proofs.Sorting.{earlier, map-rising_by, sorted_is}
-
-pub borrowed_rising : {R X : Type 0} (now : R → X) (text : X → List ℕ) (borrowed sorted : List R) (items : List X)
-    → IsSortedBy (earlier (λ (r : R). text (now r))) sorted → IsStableBy (earlier (λ (r : R). text (now r))) borrowed sorted → map now borrowed ≡ items
-    → map now sorted ≡ rising_by text items
-borrowed_rising {R = R} now text borrowed sorted items in_order stable are =
-    ap (map now) (sorted_is (λ (r : R). text (now r)) borrowed sorted in_order stable) ∙ map-rising_by now text borrowed ∙ ap (rising_by text) are
+use Rattle.catalogue.proofs.Sorting.{map-rising_by}
 
 -- zones in rising order, as they are seen
 pub contents_rise : {Z : Type 0} (bytes : Z → List ℕ) (sorted zones : List (Content Z)) → sorted ≡ rising_by (λ (c : Content Z). c.tzid) zones

@@ -8,9 +8,8 @@ ghost use Rattle.catalogue.specs.Releases.{content_as_is, content_data, release_
 ghost use Rattle.zone_meaning.specs.ZoneHistories.{ForEachZoneHistory, zone_bytes};
 ghost use Rattle.admission.specs.Differences as spec;
 
-use crate::sorting::rising;
 use crate::{Changed, Delta};
-use catalogue::{Catalogue, Content, Release};
+use catalogue::{Catalogue, Content, Release, borrow_rising};
 use std::alloc::Global;
 use td_base::{Bytes, Items, NoMemory};
 use zone_meaning::{Zone, file, first_difference};
@@ -25,7 +24,7 @@ pub fn delta_of(
     ensures { IfOk result (λ delta. ForEachZoneHistory last.now (λ H.
         delta ≡ spec.difference H (release_data zone_bytes next.now))) }
 {
-    let zones = rising(alloc, next.zones.as_slice())?;
+    let zones = borrow_rising(alloc, next.zones.as_slice())?;
     let changed = changes_in(alloc, last, zones.as_slice())?;
     Ok(Delta { changed })
 }
@@ -118,7 +117,7 @@ fn is_same(alloc: Global, zone: &Content<Zone>, had: &Content<Zone>) -> Result<b
     ensures { IfOk result (λ same. same ≡ same_content (content_data zone_bytes zone.now)
         (content_as_is zone_bytes had.now)) }
 {
-    let aliases = rising(alloc, zone.aliases.as_slice())?;
+    let aliases = borrow_rising(alloc, zone.aliases.as_slice())?;
     Ok(
         is_text(&zone.tzid, &had.tzid)
             && are_texts(aliases.as_slice(), had.aliases.as_slice())

@@ -13,7 +13,6 @@
 // What a release changes.
 mod delta;
 mod differing;
-mod sorting;
 
 // The rules: their kinds, what each allows, their tests, and their decision on a release.
 mod allowing;

@@ -153,3 +153,11 @@ never_falls_from text (x ∷ y ∷ ys) sorted =
 pub sorted_is : {X : Type 0} (text : X → List ℕ) (xs ys : List X) → IsSortedBy (earlier text) ys → IsStableBy (earlier text) xs ys → ys ≡ rising_by text xs
 sorted_is text xs ys sorted stable =
     one_order text ys (rising_by text xs) (never_falls_from text ys sorted) (never_falls text xs) (λ z. stable z ∙ sym (rising_stable text xs z))
+
+-- ---- items that are borrowed
+
+pub borrowed_rising : {R X : Type 0} (now : R → X) (text : X → List ℕ) (borrowed sorted : List R) (items : List X)
+    → IsSortedBy (earlier (λ (r : R). text (now r))) sorted → IsStableBy (earlier (λ (r : R). text (now r))) borrowed sorted → map now borrowed ≡ items
+    → map now sorted ≡ rising_by text items
+borrowed_rising {R = R} now text borrowed sorted items in_order stable are =
+    ap (map now) (sorted_is (λ (r : R). text (now r)) borrowed sorted in_order stable) ∙ map-rising_by now text borrowed ∙ ap (rising_by text) are

@@ -40,6 +40,7 @@ pub use laws::{
     tokens_are_plain, tokens_find_places,
 };
 pub use limits::{KEPT_TOKENS, MOST_NAMES, MOST_RELEASES, MOST_ZONES};
+pub use order::borrow_rising;
 pub use release::{Content, LeapStep, Leaps, Release};
 pub use value::ReleaseMark;
 pub use zone_data::ZoneData;

@@ -7,11 +7,11 @@ ghost use Rattle.catalogue.specs.HeldZones.{held_names, names_at, numbered};
 
 use crate::Content;
 use crate::entries::Held;
-use crate::order::{Ranked, rising};
+use crate::order::rising;
 use std::alloc::Global;
 use std::cmp::Ordering;
 use std::sync::Arc;
-use td_base::{Bytes, Items, NoMemory};
+use td_base::{Bytes, Items, NoMemory, Ranked};
 
 /// A name of a zone, its identifier or an alias, with the zone's index, counted from 0.
 #[derive(Drop)]

@@ -7,24 +7,7 @@ ghost use Rattle.catalogue.specs.Releases.{content_as_is, content_data};
 use crate::{Content, ZoneData};
 use std::alloc::Global;
 use std::cmp::Ordering;
-use td_base::{Bytes, Items, NoMemory};
-
-/// An item that is sorted by a text.
-pub trait Ranked {
-    ghost text: { Self → List ℕ };
-
-    /// The text.
-    fn text(&self) -> &[u8]
-        ensures { result.now ≡ text self.now };
-}
-
-impl Ranked for Bytes {
-    ghost text = { λ b. b };
-
-    fn text(&self) -> &[u8] {
-        self.as_slice()
-    }
-}
+use td_base::{Items, NoMemory, Ranked};
 
 impl<Z> Ranked for Content<Z> {
     ghost text = { λ c. c.tzid };
@@ -48,6 +31,27 @@ pub fn rising<T: Ranked + Drop>(items: Items<T>) -> Result<Items<T>, NoMemory>
     let mut sorted = items.into_vec();
     sorted.sort_by(|a, b| compare(a, b))?;
     Ok(Items::from(sorted))
+}
+
+/// References to the items, in their order.
+fn borrow_all<T>(alloc: Global, items: &[T]) -> Result<Vec<&T>, NoMemory>
+    ensures { IfOk result (λ borrowed. map (λ x. x.now) borrowed.items ≡ items.now) }
+{
+    let mut borrowed = Vec::with_capacity(alloc, items.len())?;
+    for item in items {
+        borrowed.push(item)?;
+    }
+    Ok(borrowed)
+}
+
+/// References to the items in rising order of their texts. Items with the same text keep their
+/// order.
+pub fn borrow_rising<T: Ranked>(alloc: Global, items: &[T]) -> Result<Vec<&T>, NoMemory>
+    ensures { IfOk result (λ sorted. map (λ x. x.now) sorted.items ≡ rising_by T.text items.now) }
+{
+    let mut sorted = borrow_all(alloc, items)?;
+    sorted.sort_by(|a, b| compare(*a, *b))?;
+    Ok(sorted)
 }
 
 /// Sorts the aliases of a zone in rising order.

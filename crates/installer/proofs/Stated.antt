@@ -3,12 +3,10 @@ use Rattle.std.proofs.Common.{◌≡◌, ◌↔◌, ℕ, ◌+◌, ◌<◌, ◌�
 use Rattle.std.proofs.Common.{Some, option_map, option_and_then, IsSomeAnd, IsTrue, slice_get, refl, sym, ap, ◌∙◌, subst, arith}
 use Rattle.std.proofs.lemmas.List.{drop_more, drop_all, take_all, length-map, length-take}
 use Rattle.std.proofs.lemmas.Option.{same_Some, slice_get-map, slice_get_read, slice_get_within, get_or_from_slice_get}
-use Rattle.std.specs.List.Sorted.{IsSortedBy, IsStableBy}
 use Rattle.td_base.specs.Views.{File, file_at}
 use Rattle.catalogue.specs.Histories.{last_release}
 use Rattle.catalogue.specs.Order.{is_before, put_by, rising_by}
 use Rattle.catalogue.specs.Releases.{ContentData, ReleaseData}
-use Rattle.catalogue.proofs.Sorting.{earlier, map-rising_by, sorted_is}
 use Rattle.release_manifest.specs.declared.manifest_type.Manifest.{Manifest}
 use Rattle.release_manifest.specs.declared.manifest_type.ManifestZone.{ManifestZone}
 use Rattle.release_check.specs.Folder.{release_with}
@@ -257,14 +255,6 @@ texts_differ xs ys i x y so hx hy test is =
 
 pub lengths_differ : {R : Type 0} (f : R → List ℕ) (borrowed : List R) (ys : List (List ℕ)) → (length borrowed ≡ length ys → ⊥) → IsTrue false ↔ (map f borrowed ≡ ys)
 lengths_differ f borrowed ys other = (λ t. absurd (cc), λ e. absurd (other (sym (length-map borrowed f) ∙ ap length e)))
-
--- ---- in rising order, where the items are borrowed
-
-pub borrowed_rising : {R X : Type 0} (now : R → X) (text : X → List ℕ) (borrowed sorted : List R) (items : List X)
-    → IsSortedBy (earlier (λ (r : R). text (now r))) sorted → IsStableBy (earlier (λ (r : R). text (now r))) borrowed sorted → map now borrowed ≡ items
-    → map now sorted ≡ rising_by text items
-borrowed_rising {R = R} now text borrowed sorted items in_order stable are =
-    ap (map now) (sorted_is (λ (r : R). text (now r)) borrowed sorted in_order stable) ∙ map-rising_by now text borrowed ∙ ap (rising_by text) are
 
 -- ---- an item that is held
 

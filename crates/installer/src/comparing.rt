@@ -10,8 +10,7 @@ ghost use Rattle.installer.specs.Serving.{FindsWhether, HasHead, IsStated, state
 ghost use Rattle.installer.specs.Serving.{stated_contents};
 
 use crate::install_fault::InstallFault;
-use crate::sorting::rising;
-use catalogue::{Catalogue, Content, ZoneData};
+use catalogue::{Catalogue, Content, ZoneData, borrow_rising};
 use release_check::CheckFault;
 use release_manifest::{Manifest, ManifestZone};
 use std::alloc::Global;
@@ -33,7 +32,7 @@ pub fn is_stated<S: Store>(
     if !has_head(manifest, last) {
         return Ok(false);
     }
-    let zones = rising(alloc, manifest.zones.as_slice())?;
+    let zones = borrow_rising(alloc, manifest.zones.as_slice())?;
     are_zones(alloc, zones.as_slice(), store, last)
 }
 
@@ -105,7 +104,7 @@ fn has_names(alloc: Global, zone: &ManifestZone, held: &Content<Zone>) -> Result
         ↔ ((zone.now.tzid ≡ held.now.tzid)
         × (rising_by (λ a. a) zone.now.aliases ≡ held.now.aliases))) }
 {
-    let aliases = rising(alloc, zone.aliases.as_slice())?;
+    let aliases = borrow_rising(alloc, zone.aliases.as_slice())?;
     let same_aliases = are_texts(aliases.as_slice(), held.aliases.as_slice());
     Ok(is_text(&zone.tzid, &held.tzid) && same_aliases)
 }

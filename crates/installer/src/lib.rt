@@ -32,7 +32,6 @@ mod hearing;
 
 // Whether a release is already published.
 mod comparing;
-mod sorting;
 
 // A law, and what may cross threads.
 mod laws;

@@ -1,4 +1,4 @@
-use td_base::{Bytes, Items};
+use td_base::{Bytes, Items, Ranked};
 use td_civil::Moment;
 
 /// The most bytes that a manifest may have.
@@ -23,6 +23,15 @@ pub struct ManifestZone {
     /// The name of the zone's TZif file in the release's folder.
     pub file: Bytes,
     pub aliases: Items<Bytes>,
+}
+
+/// Zones are sorted by their identifiers.
+impl Ranked for ManifestZone {
+    ghost text = { λ z. z.tzid };
+
+    fn text(&self) -> &[u8] {
+        self.tzid.as_slice()
+    }
 }
 
 /// The leap seconds of a manifest.

@@ -6,10 +6,11 @@
 //! workspace.
 #![tactic(auto)]
 
-// Owned lists and short texts, and the trait of values that represent lists.
+// Owned lists and short texts, and the traits of values that represent lists or have a rank.
 mod byte_list;
 mod item_list;
 mod no_memory;
+mod ranked;
 mod short_text;
 mod value;
 
@@ -84,6 +85,7 @@ pub use name_forms::{
 pub use network::{Made, Network};
 pub use no_memory::NoMemory;
 pub use outside::{Conn, FileRead, ReadStep, Sink, Source, Store, WriteStep};
+pub use ranked::Ranked;
 pub use report::{Ask, End, MOST_PLACES, Places, Report, Role};
 pub use running::Running;
 pub use short_text::ShortText;

@@ -2,9 +2,8 @@ use Rattle.std.proofs.Common.{rules}
 use Rattle.std.proofs.lemmas.Cmp.{nat_list_cmp_total}
 use Rattle.std.proofs.lemmas.Fn.{always_returns_same}
 use Rattle.std.proofs.lemmas.List.Sorted.{ranks_by}
-use Rattle.catalogue.proofs.Sorting.{earlier}
-use Rattle.installer.proofs.Stated.{borrowed_rising}
-use Rattle.installer.proofs.sorting.rising.Goals as goal
+use Rattle.catalogue.proofs.Sorting.{borrowed_rising, earlier}
+use Rattle.catalogue.proofs.order.borrow_rising.Goals as goal
 
 pub returns : goal.returns
 returns g c =
