@@ -6,7 +6,7 @@
 //! [`one_judgement`] is the law that an answer has at most one such meaning. The exchanges of a
 //! sync, and how it ends, are `CalendarSyncs` of `specs/CalendarShares.antt`.
 //!
-//! The crate stands on `mirror`, `sync_core` and `vtimezone_reader`. `td_top` calls it.
+//! The crate stands on `mirror`, `sync_core` and `vtimezone_reader`. `plain_commands` calls it.
 #![tactic(auto)]
 
 // What an answer is to its request.

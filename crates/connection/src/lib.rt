@@ -7,7 +7,7 @@
 //! bytes written. What happens to the desk is `Enters` of specs/Entering.antt.
 //!
 //! The crate stands on `http_request`, `actions`, `http_answer`, `answer_cache` and `publication`.
-//! `td_top` runs [`DoorWork`] in its worker threads.
+//! `td_top` runs [`DoorWork`] in its worker threads; `plain_commands` serves standard input.
 #![tactic(auto)]
 
 // The work of a thread: the connections of a door.

@@ -17,7 +17,7 @@
 //! refused install leaves no notice.
 //!
 //! The crate stands on `release_check` (reading a folder), `admission` (rules), `subscribers` and
-//! `publication`. `td_top` calls it.
+//! `publication`. `td_top` and `plain_commands` call it.
 #![tactic(auto)]
 
 // Installs, and why one is refused.

@@ -6,7 +6,7 @@
 //! [`summary`] writes the line of `specs/Counts.antt`.
 //!
 //! Files are built by `tzif_reader`, and replies are read by `http_client` and `json_forms`.
-//! `td_top` runs the load.
+//! `plain_commands` runs the load.
 #![tactic(auto)]
 
 // The releases: their zones, the files of these, and the manifest.

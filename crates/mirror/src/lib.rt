@@ -6,7 +6,7 @@
 //! ends, are `Syncs` of `specs/Shares.antt`.
 //!
 //! The state of the mirror is that of `sync_core`, and requests and replies are those of
-//! `http_client`. `td_top` runs syncs, and `calendar_mirror` does the same for calendars.
+//! `http_client`. `td_top` runs syncs, and `calendar_mirror` does so for calendars.
 #![tactic(auto)]
 
 // The meaning of an answer to a request.

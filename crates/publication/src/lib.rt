@@ -4,7 +4,7 @@
 //! and each [`Desk::enter`] loads the value that is shown at that step. The history that a desk has
 //! seen only grows. A desk that learns a [`Receipt`] has seen all that the receipt covers. The
 //! views are the records of `specs/Views.antt`. It depends on `td_base`, `left_right`, `logbook`
-//! and `atomic_table`; `installer`, `connection` and `td_top` use it.
+//! and `atomic_table`. `installer`, `connection` and the crates of a run use it.
 #![tactic(auto)]
 
 // A publisher and its desks.

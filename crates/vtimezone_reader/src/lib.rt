@@ -7,7 +7,7 @@
 //! (`specs/Onsets.antt`).
 //!
 //! Lines are unfolded by `ical_lines`, and rules are those of `recurrence`. `calendar_mirror`
-//! checks the calendars of its upstream by this crate, and `td_top` expands them.
+//! checks the calendars of its upstream by this crate, and `plain_commands` expands them.
 #![tactic(auto)]
 
 // Calendars, and why a text is not one.
