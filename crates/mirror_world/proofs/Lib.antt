@@ -1,5 +1,6 @@
 pub mod lemmas
-mod Values
+pub mod Values
+pub mod WrittenHeads
 mod Replying
 mod Shapes
 mod Hearing

@@ -1,26 +1,26 @@
 -- A reply is read as the answer that it is written for.
 use Rattle.std.proofs.Common.{◌≡◌, ℕ, ◌+◌, ◌<◌, ◌≤◌, ◌^◌, ◌⊎◌, inl, inr, List, [], ◌∷◌, ◌++◌, length, map, Bool, true, false, ◌||◌, cond, codes, Option, None}
 use Rattle.std.proofs.Common.{Some, Ok, refl, sym}
-use Rattle.std.proofs.Common.{ap, ◌∙◌, subst, arith, append_assoc, length-append, All}
+use Rattle.std.proofs.Common.{ap, ◌∙◌, subst, arith, length-append, All}
 use Rattle.std.specs.Prelude.{⊤, decimal}
 use Rattle.std.specs.Char.{is_ascii_digit}
-use Rattle.std.specs.List.{flat_map, list_all}
+use Rattle.std.specs.List.{list_all}
 use Rattle.std.specs.Str.Parse.{digits_value}
 use Rattle.std.proofs.lemmas.Bool.{eq-eqb}
 use Rattle.std.proofs.lemmas.Fmt.{decimal_is_IsNumeral}
-use Rattle.std.proofs.lemmas.List.Concat.{flat_map-cons}
 use Rattle.std.proofs.lemmas.List.Elements.{All-cons, All-nil}
 use Rattle.std.proofs.lemmas.List.Sums.{AllPass-from_list_all}
 use Rattle.http.specs.StatusCode.{code_digits}
-use Rattle.httparse.specs.Grammar.{Field, IsField, IsResponseHead, ResponseHead, crlf, is_token_byte, is_value_byte, print_field, print_response, trim_ows}
+use Rattle.httparse.specs.Grammar.{Field, IsField, IsResponseHead, is_token_byte, is_value_byte, print_response, trim_ows}
 use Rattle.httparse.specs.Spans.{name_and_value}
-use Rattle.http_answer.specs.Replies.{close_lines, ended, is_unchanged, length_lines, location_lines, media_type, message, phrase, reply, status_line}
+use Rattle.http_answer.specs.Replies.{close_lines, is_unchanged, length_lines, location_lines, media_type, message, phrase, reply, status_line}
 use Rattle.http_answer.specs.Replies.{tag_lines, type_lines}
 use Rattle.http_answer.specs.declared.answer.Answer.{Answer}
 use Rattle.http_answer.specs.declared.answer.Kind.{Kind}
 use Rattle.http_answer.specs.declared.answer.Kind.TheVariants as kind
 use Rattle.http_client.specs.Replies.{IsReading, Sized, Unread, fault_place, framing, headed, reply_of, reply_unless, framed_by_size}
 use Rattle.http_client.specs.declared.reply.Reply.{Reply}
+use Rattle.mirror_world.proofs.WrittenHeads.{Pair, close_token, field_of, head_of, length_token, line_of, media_passes, printed, tag_token, type_token, vary_token}
 use Rattle.mirror_world.proofs.Values.{digits_pass, number_digits, number_is, trimmed}
 
 -- ---- answers with a body, and what their statuses are written as
@@ -66,15 +66,6 @@ facts status (inr (inr (inr e))) = subst Facts (sym e) facts_406
 
 -- ---- the fields
 
-abbrev Pair : Type 0
-Pair = List ℕ × List ℕ
-
-abbrev line_of : Pair → List ℕ
-line_of pair = pair.0 ++ (58 ∷ 32 ∷ pair.1)
-
-abbrev field_of : Pair → Field
-field_of pair = record { name = pair.0; raw = 32 ∷ pair.1; end = crlf }
-
 -- by the media type and the length, as texts
 abbrev pairs_of : List ℕ → Option (List ℕ) → List ℕ → Bool → List Pair
 pairs_of media None size true =
@@ -99,42 +90,9 @@ lines_are k None body false = refl
 lines_are k (Some tag) body true = refl
 lines_are k (Some tag) body false = refl
 
-lines_printed : (pairs : List Pair) → flat_map ended (map line_of pairs) ≡ flat_map print_field (map field_of pairs)
-lines_printed [] = refl
-lines_printed (pair ∷ pairs) =
-    flat_map-cons ended (line_of pair) (map line_of pairs)
-    ∙ ap (λ l. print_field (field_of pair) ++ l) (lines_printed pairs) ∙ sym (flat_map-cons print_field (field_of pair) (map field_of pairs))
-
 named : (name value : List ℕ) → 0 < length name → list_all is_token_byte name ≡ true → list_all is_value_byte value ≡ true → IsField (field_of (name, value))
 named name value some token h =
     record { name = (some, AllPass-from_list_all is_token_byte name token); raw = AllPass-from_list_all is_value_byte (32 ∷ value) h }
-
-type_token : list_all is_token_byte (codes "Content-Type") ≡ true
-unfolding is_token_byte
-type_token = refl
-
-length_token : list_all is_token_byte (codes "Content-Length") ≡ true
-unfolding is_token_byte
-length_token = refl
-
-tag_token : list_all is_token_byte (codes "ETag") ≡ true
-unfolding is_token_byte
-tag_token = refl
-
-vary_token : list_all is_token_byte (codes "Vary") ≡ true
-unfolding is_token_byte
-vary_token = refl
-
-close_token : list_all is_token_byte (codes "Connection") ≡ true
-unfolding is_token_byte
-close_token = refl
-
-media_passes : (k : Kind) → list_all is_value_byte (media_type k) ≡ true
-media_passes kind.Json = refl
-media_passes kind.Problem = refl
-media_passes kind.Calendar = refl
-media_passes kind.Tzif = refl
-media_passes kind.CalendarJson = refl
 
 module _ (media size : List ℕ) (m : list_all is_value_byte media ≡ true) (s : list_all is_value_byte size ≡ true) where
   abbrev type_pair : Pair
@@ -188,30 +146,6 @@ framed media size None true = refl
 framed media size None false = refl
 framed media size (Some tag) true = refl
 framed media size (Some tag) false = refl
-
--- ---- the head
-
-abbrev head_of : ℕ → List Pair → ResponseHead
-head_of status pairs = record {
-  blank = [];
-  minor = 1;
-  digits = code_digits status;
-  reason = Some (phrase status);
-  line_end = crlf;
-  fields = map field_of pairs;
-  last = crlf;
-}
-
-parts : (l e F b : List ℕ) → ((l ++ e) ++ F) ++ (e ++ b) ≡ ((l ++ e) ++ (F ++ e)) ++ b
-parts l e F b = simp append_assoc
-
-printed : (status : ℕ) (pairs : List Pair) (body : List ℕ)
-    → message (status_line status ∷ map line_of pairs) body ≡ print_response (head_of status pairs) ++ body
-unfolding print_response status_line
-printed status pairs body =
-    ap (λ l. l ++ (codes "\r\n" ++ body)) (flat_map-cons ended (status_line status) (map line_of pairs))
-    ∙ ap (λ F. (ended (status_line status) ++ F) ++ (codes "\r\n" ++ body)) (lines_printed pairs)
-    ∙ parts (status_line status) (codes "\r\n") (flat_map print_field (map field_of pairs)) body
 
 -- ---- the reply
 

@@ -1,87 +1,27 @@
 -- The head that a reply is written with, and that it states the length of the body.
-use Rattle.std.proofs.Common.{◌≡◌, ℕ, ◌+◌, ◌<◌, ◌^◌, ◌%◌, ◌||◌, ◌&&◌, List, [], ◌∷◌, ◌++◌, length, map, Bool, true, false, cond, not, codes, Option, None, Some}
-use Rattle.std.proofs.Common.{All, ap, append_assoc, arith, decimal, refl, reverse, sym, ◌∙◌}
+use Rattle.std.proofs.Common.{◌≡◌, ℕ, ◌+◌, ◌<◌, ◌^◌, ◌||◌, List, [], ◌∷◌, ◌++◌, length, map, Bool, true, false, cond, not, codes, Option, None, Some}
+use Rattle.std.proofs.Common.{All, ap, arith, decimal, refl, ◌∙◌}
 use Rattle.std.specs.Char.{is_ascii_digit}
-use Rattle.std.specs.List.{AllByRecursion, flat_map, list_all}
+use Rattle.std.specs.List.{AllByRecursion, list_all}
 use Rattle.std.specs.Str.Parse.{digits_value}
-use Rattle.std.proofs.lemmas.Bool.{and_parts, ne_eqb}
-use Rattle.std.proofs.lemmas.Bool.Decides.{nat_tests}
-use Rattle.std.proofs.lemmas.Fmt.{decimal_by_steps, decimal_is_IsNumeral, decimal_nonempty}
-use Rattle.std.proofs.lemmas.List.{reverse-append}
-use Rattle.std.proofs.lemmas.List.Concat.{flat_map-cons}
+use Rattle.std.proofs.lemmas.Fmt.{decimal_is_IsNumeral}
 use Rattle.std.proofs.lemmas.List.Elements.{All-cons, All-nil}
-use Rattle.std.proofs.lemmas.List.Folds.{list_all-append}
 use Rattle.std.proofs.lemmas.List.Sums.{AllPass-from_list_all}
 use Rattle.http.specs.StatusCode.{code_digits}
-use Rattle.httparse.specs.Grammar.{Field, IsField, ReadsResponse, ResponseHead, crlf, is_ows, is_token_byte, is_value_byte, print_field}
-use Rattle.httparse.specs.Grammar.{print_response, skip_ows, trim_ows}
+use Rattle.httparse.specs.Grammar.{IsField, ReadsResponse, ResponseHead, is_token_byte, is_value_byte}
+use Rattle.httparse.specs.Grammar.{trim_ows}
 use Rattle.httparse.specs.Spans.{name_and_value}
-use Rattle.httparse.proofs.TrimLemmas.{trim_ows_space}
-use Rattle.http_answer.specs.Replies.{allow_lines, close_lines, ended, fixed, is_unchanged, length_lines, location_lines, media_type, message, phrase}
+use Rattle.http_answer.specs.Replies.{allow_lines, close_lines, fixed, is_unchanged, length_lines, location_lines, media_type, message, phrase}
 use Rattle.http_answer.specs.Replies.{reply, status_line, tag_lines, type_lines}
 use Rattle.http_answer.specs.declared.answer.Answer.{Answer}
 use Rattle.http_answer.specs.declared.answer.Kind.{Kind}
 use Rattle.http_answer.specs.declared.answer.Kind.TheVariants as kind
-use Rattle.http_client.specs.Replies.{Sized, Unread, framed_by_size, framing, is_digit_text}
+use Rattle.http_client.specs.Replies.{Sized, Unread, framed_by_size, framing}
+use Rattle.mirror_world.proofs.Values.{digits_pass, number_digits, number_is, trimmed}
+use Rattle.mirror_world.proofs.WrittenHeads.{Pair, close_token, field_of, head_of, length_token, line_of, media_passes, printed, tag_token, type_token, vary_token}
 use Rattle.sync_laws.proofs.ReplySizes.{IsShortAnswer, IsShortTag, IsWrittenStatus}
 
--- ---- numbers
-
-abbrev AreDigits : List ℕ → Type 0
-AreDigits text = list_all is_ascii_digit text ≡ true
-
-no_blank : (b : ℕ) → is_ascii_digit b ≡ true → is_ows b ≡ false
-no_blank b v = grind (arith, nat_tests)
-
-digit_value : (b : ℕ) → is_ascii_digit b ≡ true → is_value_byte b ≡ true
-digit_value b v = grind (arith, nat_tests)
-
-skips_none : (v : List ℕ) → AreDigits v → skip_ows v ≡ v
-skips_none [] h = refl
-skips_none (b ∷ bs) h = ap (λ t. cond t (skip_ows bs) (b ∷ bs)) (no_blank b (and_parts (is_ascii_digit b) (list_all is_ascii_digit bs) h).0)
-
-turned : (v : List ℕ) → AreDigits v → AreDigits (reverse v)
-turned [] h = refl
-turned (b ∷ bs) h =
-    let parts = and_parts (is_ascii_digit b) (list_all is_ascii_digit bs) h in
-    ap (list_all is_ascii_digit) (reverse-append (b ∷ []) bs) ∙ list_all-append is_ascii_digit (reverse bs) (b ∷ [])
-    ∙ rw (turned bs parts.1, parts.0) refl
-
-trimmed : (v : List ℕ) → AreDigits v → trim_ows (32 ∷ v) ≡ v
-trimmed v h = trim_ows_space v (skips_none v h) (skips_none (reverse v) (turned v h))
-
-digits_pass : (v : List ℕ) → AreDigits v → list_all is_value_byte v ≡ true
-digits_pass [] h = refl
-digits_pass (b ∷ bs) h =
-    let parts = and_parts (is_ascii_digit b) (list_all is_ascii_digit bs) h in
-    rw (digit_value b parts.0, digits_pass bs parts.1) refl
-
-one_digit : (n : ℕ) → n < 10 → AreDigits ((48 + n) ∷ [])
-one_digit n small = grind (arith, nat_tests)
-
-number_digits : (n : ℕ) → n < 2 ^ 64 → AreDigits (decimal n)
-number_digits =
-    decimal_by_steps (λ _ text. AreDigits text) one_digit
-    (λ n ds more h. list_all-append is_ascii_digit ds ((48 + n % 10) ∷ []) ∙ rw (h, one_digit (n % 10) (omega arith)))
-
-some_digits : (n : ℕ) → 0 < n → n ≡ 0 → ⊥
-some_digits n some none = omega (arith, some, none)
-
-number_is : (n : ℕ) → n < 2 ^ 64 → is_digit_text (decimal n) ≡ true
-number_is n small =
-    ap (λ t. not t && list_all is_ascii_digit (decimal n)) (ne_eqb (length (decimal n)) 0 (some_digits (length (decimal n)) (decimal_nonempty n small)))
-    ∙ number_digits n small
-
 -- ---- fields
-
-abbrev Pair : Type 0
-Pair = List ℕ × List ℕ
-
-abbrev line_of : Pair → List ℕ
-line_of pair = pair.0 ++ (58 ∷ 32 ∷ pair.1)
-
-abbrev field_of : Pair → Field
-field_of pair = record { name = pair.0; raw = 32 ∷ pair.1; end = crlf }
 
 -- a name of token bytes, and a value
 record IsPair (pair : Pair) : Type 0 where
@@ -98,34 +38,6 @@ pair_field pair is = record {
 pair_fields : (pairs : List Pair) → AllByRecursion IsPair pairs → All IsField (map field_of pairs)
 pair_fields [] all = All-nil IsField
 pair_fields (p ∷ ps) all = All-cons IsField (field_of p) (map field_of ps) (pair_field p all.0) (pair_fields ps all.1)
-
-lines_printed : (pairs : List Pair) → flat_map ended (map line_of pairs) ≡ flat_map print_field (map field_of pairs)
-lines_printed [] = refl
-lines_printed (pair ∷ pairs) =
-    flat_map-cons ended (line_of pair) (map line_of pairs)
-    ∙ ap (λ l. print_field (field_of pair) ++ l) (lines_printed pairs) ∙ sym (flat_map-cons print_field (field_of pair) (map field_of pairs))
-
-abbrev head_of : ℕ → List Pair → ResponseHead
-head_of status pairs = record {
-  blank = [];
-  minor = 1;
-  digits = code_digits status;
-  reason = Some (phrase status);
-  line_end = crlf;
-  fields = map field_of pairs;
-  last = crlf;
-}
-
-parts : (l e F b : List ℕ) → ((l ++ e) ++ F) ++ (e ++ b) ≡ ((l ++ e) ++ (F ++ e)) ++ b
-parts l e F b = simp append_assoc
-
-printed : (status : ℕ) (pairs : List Pair) (body : List ℕ)
-    → message (status_line status ∷ map line_of pairs) body ≡ print_response (head_of status pairs) ++ body
-unfolding print_response status_line
-printed status pairs body =
-    ap (λ l. l ++ (codes "\r\n" ++ body)) (flat_map-cons ended (status_line status) (map line_of pairs))
-    ∙ ap (λ F. (ended (status_line status) ++ F) ++ (codes "\r\n" ++ body)) (lines_printed pairs)
-    ∙ parts (status_line status) (codes "\r\n") (flat_map print_field (map field_of pairs)) body
 
 -- the bytes are a head, which states the length of the body, and the body
 pub record HasSizedHead (bytes : List ℕ) (status : ℕ) (body : List ℕ) : Type 0 where
@@ -158,36 +70,9 @@ with_head status pairs body bytes written all is sized code = record {
 named : (name value : List ℕ) → 0 < length name → list_all is_token_byte name ≡ true → list_all is_value_byte value ≡ true → IsPair (name, value)
 named name value some token passes = record { some = some; name = token; value = passes }
 
-type_token : list_all is_token_byte (codes "Content-Type") ≡ true
-unfolding is_token_byte
-type_token = refl
-
-length_token : list_all is_token_byte (codes "Content-Length") ≡ true
-unfolding is_token_byte
-length_token = refl
-
-tag_token : list_all is_token_byte (codes "ETag") ≡ true
-unfolding is_token_byte
-tag_token = refl
-
-vary_token : list_all is_token_byte (codes "Vary") ≡ true
-unfolding is_token_byte
-vary_token = refl
-
-close_token : list_all is_token_byte (codes "Connection") ≡ true
-unfolding is_token_byte
-close_token = refl
-
 allow_token : list_all is_token_byte (codes "Allow") ≡ true
 unfolding is_token_byte
 allow_token = refl
-
-media_passes : (k : Kind) → list_all is_value_byte (media_type k) ≡ true
-media_passes kind.Json = refl
-media_passes kind.Problem = refl
-media_passes kind.Calendar = refl
-media_passes kind.Tzif = refl
-media_passes kind.CalendarJson = refl
 
 -- ---- an answer with a body
 
