@@ -1,4 +1,5 @@
 pub mod ClosingLemmas
+pub mod ComputingLemmas
 pub mod DoorLemmas
 pub mod EnteringLemmas
 pub mod HearLemmas

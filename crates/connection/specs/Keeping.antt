@@ -1,6 +1,6 @@
 -- The answers that are kept from one request to the next, whichever connection asks.
-use Rattle.std.specs.Prelude.{◌≡◌, ℕ, ◌+◌, ◌≤◌, ◌⊎◌, List, [], length, Contains, Bool, false}
-use Rattle.std.specs.Prelude.{IsTrue}
+use Rattle.std.specs.Prelude.{◌≡◌, ℕ, ◌+◌, ◌-◌, ◌^◌, ◌<◌, ◌≤◌, ◌⊎◌, List, [], length, Contains, Bool}
+use Rattle.std.specs.Prelude.{IsTrue, false, min}
 use Rattle.answer_cache.specs.Computing.{RoseByOne}
 use Rattle.answer_cache.specs.Keeping.{AddsOne, IsKeyAmong}
 use Rattle.answer_cache.specs.declared.key.Key.{Key}
@@ -116,3 +116,13 @@ pub record ComputesOnce (before now : ℕ) : Type 0 where
 pub record ComputesFew (before now : ℕ) (old new : List ℕ) : Type 0 where
   pub later : before ≤ now
   pub few : now + length old ≤ before + length new
+
+-- no answer is kept
+abbrev pub IsEmptyCache : KeptAnswers → Type 0
+IsEmptyCache k = (k.many.kept ≡ []) × (k.large.kept ≡ [])
+
+-- Where no answer was kept before and a place was added, an answer was computed: the count rose,
+-- or stands at 18446744073709551615, its last value.
+pub record ComputesFirst (before now : KeptAnswers) (old new : List ℕ) : Type 0 where
+  pub first : IsEmptyCache before → length old < length new
+      → min (before.computed + 1) (2 ^ 64 - 1) ≤ now.computed

@@ -7,7 +7,7 @@ ghost use Rattle.connection.specs.Answering.{AnswersOne, EntersOn, IsServing, Se
 ghost use Rattle.connection.specs.Entering.{EntersEach, EntersFor, EntersUpTo, HasCounted};
 ghost use Rattle.connection.specs.FaultCounts.{AreLater, faults_of};
 ghost use Rattle.connection.specs.Hearing.{most_held};
-ghost use Rattle.connection.specs.Keeping.{ComputesFew, KeepsAnswers};
+ghost use Rattle.connection.specs.Keeping.{ComputesFew, ComputesFirst, IsEmptyCache, KeepsAnswers};
 ghost use Rattle.connection.specs.Replies.{is_last};
 ghost use Rattle.connection.specs.Serving.{ServesConn, ServesUpTo};
 ghost use Rattle.json_forms.specs.PlainTexts.{IsPlainRole};
@@ -51,6 +51,7 @@ pub fn serve<C: Conn>(
     ensures first { AllByRecursion (λ p. length desk.old.seen ≤ p) result.places }
     ensures counted { HasCounted desk.old.enters result.places desk.new.enters result.end }
     ensures computed { result.computed ≤ length result.places }
+    ensures first_computed { 1 ≤ length result.places → 1 ≤ result.computed }
     ensures ended { desk.old.ended ≡ true → (desk.new.seen ≡ desk.old.seen)
         × (desk.new.ended ≡ true)
         × AllByRecursion (λ p. p ≡ length desk.old.seen) result.places }
@@ -79,6 +80,9 @@ pub fn serve_over<C: Conn>(
     ensures first { AllByRecursion (λ p. length desk.old.seen ≤ p) result.places }
     ensures counted { HasCounted desk.old.enters result.places desk.new.enters result.end }
     ensures computed { result.computed ≤ length result.places }
+    ensures first_computed { IsEmptyCache kept.old → 1 ≤ length result.places
+        → 1 ≤ result.computed }
+    ensures stated { result.computed ≡ kept.new.computed }
     ensures kept { KeepsAnswers desk.new role.now kept.new }
     ensures ended { desk.old.ended ≡ true → (desk.new.seen ≡ desk.old.seen)
         × (desk.new.ended ≡ true)
@@ -111,6 +115,7 @@ fn serve_requests<C: Conn>(
     ensures enters { EntersFor desk.old places.new desk.new result }
     ensures kept { KeepsAnswers desk.new role.now kept.new }
     ensures computed { ComputesFew kept.old.computed kept.new.computed places.old places.new }
+    ensures first { ComputesFirst kept.old kept.new places.old places.new }
 {
     match answer_requests(alloc, role, desk, kept, conn, places) {
         Ok(end) => end,
@@ -139,6 +144,7 @@ fn answer_requests<C: Conn>(
     ensures enters { EntersUpTo desk.old places.new desk.new result }
     ensures kept { KeepsAnswers desk.new role.now kept.new }
     ensures computed { ComputesFew kept.old.computed kept.new.computed places.old places.new }
+    ensures first { ComputesFirst kept.old kept.new places.old places.new }
 {
     let mut heads = Heads::new(alloc);
     'requests: loop {
@@ -171,6 +177,7 @@ fn answer_next<C: Conn>(
     ensures more { result ≡ Ok None → length places.new ≡ length places.old + 1 }
     ensures kept { KeepsAnswers desk.new role.now kept.new }
     ensures computed { ComputesFew kept.old.computed kept.new.computed places.old places.new }
+    ensures first { ComputesFirst kept.old kept.new places.old places.new }
 {
     match hear(alloc, heads, conn)? {
         Arrival::Request(head) => answer_one(alloc, role, desk, kept, conn, head, places),
@@ -198,6 +205,7 @@ fn answer_one<C: Conn>(
         places.old places.new result }
     ensures kept { KeepsAnswers desk.new role.now kept.new }
     ensures computed { ComputesFew kept.old.computed kept.new.computed places.old places.new }
+    ensures first { ComputesFirst kept.old kept.new places.old places.new }
 {
     let close = is_last(places, &head);
     desk.enter()?;

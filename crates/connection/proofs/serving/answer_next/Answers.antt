@@ -1,4 +1,6 @@
+use Rattle.std.proofs.Common.{refl}
 use Rattle.std.proofs.lemmas.Result.{err_from_is_err_and}
+use Rattle.connection.proofs.ComputingLemmas as computing
 use Rattle.connection.proofs.EnteringLemmas as entering
 use Rattle.connection.proofs.ServingLemmas as serving
 use Rattle.connection.proofs.serving.answer_next.Goals as goal
@@ -26,3 +28,15 @@ returns-in-Ended-clause-served g c = λ before s.
 pub returns-in-ReadFault-clause-served : goal.returns-in-ReadFault-clause-served
 returns-in-ReadFault-clause-served g c = λ before s.
     serving.read_failed _ _ _ _ _ _ _ s _ (serving.heard _ _ _ _ _ _ c.in-ReadFault.is c.in_ok-head.ensures.hears)
+
+pub returns-in_err-head-clause-first : goal.returns-in_err-head-clause-first
+returns-in_err-head-clause-first g c = computing.none_added _ _ _ _ refl
+
+pub returns-in-Refused-clause-first : goal.returns-in-Refused-clause-first
+returns-in-Refused-clause-first g c = computing.none_added _ _ _ _ refl
+
+pub returns-in-Ended-clause-first : goal.returns-in-Ended-clause-first
+returns-in-Ended-clause-first g c = computing.none_added _ _ _ _ refl
+
+pub returns-in-ReadFault-clause-first : goal.returns-in-ReadFault-clause-first
+returns-in-ReadFault-clause-first g c = computing.none_added _ _ _ _ refl

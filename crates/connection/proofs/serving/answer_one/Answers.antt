@@ -1,4 +1,6 @@
+use Rattle.std.proofs.Common.{refl}
 use Rattle.std.proofs.lemmas.Result.{err_from_is_err_and}
+use Rattle.connection.proofs.ComputingLemmas as computing
 use Rattle.connection.proofs.KeepingLemmas as keeping
 use Rattle.connection.proofs.ServingLemmas as serving
 use Rattle.connection.proofs.serving.answer_one.Goals as goal
@@ -25,3 +27,15 @@ returns-in_err-reply_to-clause-answers g c =
     rw p.1
     (serving.without_reply _ _ _ _ _ _ _ _ _ c.is_last-close.result c.in_ok-enter.ensures.ok c.enter.ensures.pair c.enter.ensures.seen
     c.enter.ensures.ended c.place_of.ensures.is c.place_of.ensures.some c.push.ensures c.in_err-reply_to.ensures.none)
+
+pub returns-in_err-enter-clause-first : goal.returns-in_err-enter-clause-first
+returns-in_err-enter-clause-first g c = computing.none_added _ _ _ _ refl
+
+pub returns-in-Whole-clause-first : goal.returns-in-Whole-clause-first
+returns-in-Whole-clause-first g c = computing.replied _ _ _ _ _ c.reply_to.ensures.unless_kept
+
+pub returns-in-Cut-clause-first : goal.returns-in-Cut-clause-first
+returns-in-Cut-clause-first g c = computing.replied _ _ _ _ _ c.reply_to.ensures.unless_kept
+
+pub returns-in_err-reply_to-clause-first : goal.returns-in_err-reply_to-clause-first
+returns-in_err-reply_to-clause-first g c = computing.replied _ _ _ _ _ c.reply_to.ensures.unless_kept

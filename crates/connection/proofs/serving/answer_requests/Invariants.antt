@@ -4,6 +4,7 @@ use Rattle.connection.specs.Answering.{IsServing}
 use Rattle.connection.specs.Entering.{EntersEach}
 use Rattle.connection.specs.Hearing.{most_held}
 use Rattle.connection.specs.Keeping.{ComputesFew, KeepsAnswers}
+use Rattle.connection.proofs.ComputingLemmas.{HasBegun}
 use Rattle.connection.proofs.serving.answer_requests.Given as goal
 
 abbrev pub invariant-requests : goal.invariant-requests
@@ -13,6 +14,7 @@ invariant-requests g l = record {
   held : l.heads.size ≤ most_held;
   kept : KeepsAnswers l.desk l.role l.kept;
   computed : ComputesFew l.fn.kept.computed l.kept.computed l.fn.places l.places;
+  begun : HasBegun l.fn.kept l.kept l.fn.places l.places;
 }
 
 abbrev pub decreases-requests : goal.decreases-requests

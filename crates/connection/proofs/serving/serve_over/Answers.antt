@@ -1,3 +1,5 @@
+use Rattle.std.proofs.Common.{refl}
+use Rattle.connection.proofs.ComputingLemmas as computing
 use Rattle.connection.proofs.EnteringLemmas as entering
 use Rattle.connection.proofs.ServingLemmas as serving
 use Rattle.connection.proofs.serving.serve_over.Goals as goal
@@ -24,3 +26,7 @@ returns-clause-ended g c =
       ((entering.goes_on _ _ _ c.serve_requests-end.result c.serve_requests-end.ensures.enters).ended over).1,
       entering.at_end _ _ _ c.serve_requests-end.result c.serve_requests-end.ensures.enters over,
     )
+
+pub returns-clause-first_computed : goal.returns-clause-first_computed
+returns-clause-first_computed g c = λ empty some.
+    computing.from_none _ _ _ _ c.new-places.ensures refl c.serve_requests-end.ensures.first empty some
