@@ -99,8 +99,15 @@ def crates_at_once():
     return max(1, min(processors() + processors() // 2, int(memory_available() / CRATE_MEMORY)))
 
 
-def jobs_for_the_top():
+def jobs_for_one():
+    """How many jobs one crate gets that others wait for."""
     return processors() if memory_available() >= TOP_MEMORY else 1
+
+
+def base_of(names, crates):
+    """The crate that most of these stand on, so that they wait for it."""
+    below = [used_by(it, crates) for it in names]
+    return max(names, key=lambda name: sum(name in it for it in below))
 
 
 class Estimate:
@@ -137,12 +144,13 @@ class Estimate:
 
 
 class Running:
-    """An `rt` that was started in the program's folder, with the lines that it prints."""
+    """An `rt` that was started in a crate's folder, the program's or another, with the lines that it
+    prints."""
 
-    def __init__(self, words, environment=None):
+    def __init__(self, words, environment=None, folder=CRATE):
         try:
             self.child = subprocess.Popen(
-                ["rt", *words], cwd=CRATE, stdin=subprocess.DEVNULL, stdout=subprocess.PIPE,
+                ["rt", *words], cwd=folder, stdin=subprocess.DEVNULL, stdout=subprocess.PIPE,
                 stderr=subprocess.STDOUT, env=environment, text=True, errors="replace",
                 start_new_session=True,
             )
@@ -162,6 +170,15 @@ class Running:
 
     def is_over(self):
         return self.child.poll() is not None
+
+    def wait(self, report):
+        """Waits for the end, and calls `report` each minute."""
+        last = time.monotonic()
+        while not self.is_over():
+            if time.monotonic() - last > HEARTBEAT:
+                last = time.monotonic()
+                report()
+            time.sleep(0.5)
 
     def stop(self):
         """Ends rt, and what is left of what it started, also where a signal ends this."""
@@ -198,43 +215,56 @@ def say_progress(running, said, names, estimate):
             )
 
 
-def prove_below_the_top(names, estimate):
-    """Proves the crates below the two at the top, several at once. What is kept is not done again."""
-    top = names[-2:]
+def prove_the_base(base, names, estimate):
+    """Proves the crate that the others wait for, with all processors."""
+    with Running(["check", "--jobs", str(jobs_for_one())], folder=TOP / "crates" / base) as running:
+        running.wait(lambda: say(f"  still proving {base}; about {estimate.left(names)} minutes left"))
+        if running.child.returncode:
+            raise BuildFailed(f"a proof failed: mend it, and start again\n{running.last_lines()}")
+
+
+def is_chain(names, below):
+    """Whether each of these crates stands below or above each other one, so that they wait for one
+    another."""
+    return all(one in below[other] or other in below[one] for one in names for other in names)
+
+
+def prove_side_by_side(names, crates, estimate):
+    """Proves several crates at once, until those that are left wait for one another and the lowest of
+    them begins; returns these. What is kept is not done again."""
+    below = {it: used_by(it, crates) for it in names}
     with Running(["all", "check", "--jobs", str(estimate.width)]) as running:
         said, told = [], time.monotonic()
         while not running.is_over():
             before = len(said)
             say_progress(running, said, names, estimate)
-            if set(names) - set(said) <= set(top):
-                return
+            left = [it for it in names if it not in said]
+            if len(left) < 2:
+                return left
             if len(said) > before:
                 told = time.monotonic()
+                # what ended just now was the last that the lowest one waited for
+                if is_chain(left, below) and said[-1] in below[left[0]]:
+                    return left
             elif time.monotonic() - told > HEARTBEAT:
                 told = time.monotonic()
-                left = [it for it in names if it not in said]
                 say(f"  still proving; about {estimate.left(left)} minutes left")
             time.sleep(1)
         if running.child.returncode:
-            raise BuildFailed(
-                f"a proof failed: mend it, and start again\n{running.last_lines()}"
-            )
+            raise BuildFailed(f"a proof failed: mend it, and start again\n{running.last_lines()}")
+        return names[-1:]
 
 
-def prove_the_top(names, estimate, release):
-    """Proves the top crate with several jobs, then the program; it is built and checks the release."""
-    jobs = str(jobs_for_the_top())
+def prove_the_rest(left, count, estimate, release):
+    """Proves the crates that wait for one another, each with several jobs; the program is built and
+    checks the release."""
+    jobs = str(jobs_for_one())
     with Running(["run", "--jobs", jobs, "--", "check", str(release)]) as running:
-        told = time.monotonic()
-        say(f"{len(names) - 1} of {len(names)} crates: {names[-2]} ({purpose_of(names[-2])}) begins")
-        while not running.is_over():
-            if time.monotonic() - told > HEARTBEAT:
-                told = time.monotonic()
-                say(
-                    f"  still proving {names[-2]} and the program; "
-                    f"{estimate.so_far()} minutes so far, about {estimate.left(names[-2:])} left"
-                )
-            time.sleep(0.5)
+        say(f"The last {len(left)} of {count} crates begin, one after the other: {' '.join(left)}")
+        running.wait(lambda: say(
+            f"  still proving {' '.join(left)}; "
+            f"{estimate.so_far()} minutes so far, about {estimate.left(left)} at the most left"
+        ))
         if running.child.returncode or not PROVED.is_file():
             raise BuildFailed(
                 "the program was not proved and built: mend what rt reports, and start again\n"
@@ -249,13 +279,16 @@ def proved_program(release, at_once=None):
         return PROVED
     crates = crates_in((TOP / "crates.txt").read_text())
     names = used_by("tzdistd", crates)
-    estimate = Estimate(crates, names, measured_times(), at_once or crates_at_once())
+    base, times = base_of(names, crates), measured_times()
+    times[base] = times.get(base, UNKNOWN_TIME) / jobs_for_one()
+    estimate = Estimate(crates, names, times, at_once or crates_at_once())
     say(
         f"Proving {len(names)} crates, then building the program: about {estimate.left(names)} minutes "
         f"from nothing on {processors()} processors. What an earlier run proved is kept."
     )
-    prove_below_the_top(names, estimate)
-    prove_the_top(names, estimate, release)
+    prove_the_base(base, names, estimate)
+    left = prove_side_by_side(names, crates, estimate)
+    prove_the_rest(left, len(names), estimate, release)
     say(f"{len(names)} of {len(names)} crates are proved, and the program is built: {PROVED}")
     return PROVED
 

@@ -21,7 +21,10 @@ from checks import LONG, holds, run_checks, same
 from served import DATA, Client, Failure, address_of, free_port
 
 TOOLS = Path(__file__).resolve().parent
-CRATES = "td_base: arrayvec\ncatalogue: td_base\ntd_top: td_base catalogue\ntzdistd: td_base td_top\n"
+CRATES = (
+    "td_base: arrayvec\ncatalogue: td_base\ntarget: td_base\ntd_top: td_base catalogue target\n"
+    "tzdistd: td_base td_top\n"
+)
 RELEASE = os.path.join(DATA, "data", "a")
 
 # A loader by which the toolchain may start what it compiled.
@@ -63,7 +66,7 @@ class Top:
         rt.write_text(FAKE_RT)
         rt.chmod(0o755)
 
-    def start(self, *words, fails="no words", release=RELEASE, loader="", proves="td_base catalogue"):
+    def start(self, *words, fails="no words", release=RELEASE, loader="", proves="td_base catalogue target"):
         environment = {
             **os.environ, "PATH": f"{self.room}/bin:{os.environ['PATH']}", "RT_CALLS": str(self.calls),
             "RT_PROGRAM": str(self.program), "RT_RELEASE": RELEASE, "RT_FAILS": fails, "RT_LOADER": loader,
@@ -171,19 +174,21 @@ def ends_in_order_by_signals(top):
 @in_top
 def proves_where_there_is_no_program(top):
     with top.start("--jobs", "3") as started:
-        started.until("^1 of 4 crates: td_base .A crate for a test.; 0 minutes so far, about")
-        started.until("^2 of 4 crates: catalogue ")
-        started.until("^4 of 4 crates are proved, and the program is built")
+        started.until("^1 of 5 crates: td_base .A crate for a test.; 0 minutes so far, about")
+        started.until("^2 of 5 crates: catalogue ")
+        started.until("^The last 2 of 5 crates begin, one after the other: td_top tzdistd")
+        started.until("^5 of 5 crates are proved, and the program is built")
         started.until("^ready 1-")
         serves(top)
         started.say("quit")
         same("the status", started.ended()[0], 0)
-    first, second = top.called()
+    base, first, second = top.called()
+    holds("the crate that the others wait for is proved first", re.fullmatch(r"check --jobs \d+", base))
     holds("crates are proved at once", re.fullmatch(r"all check --jobs \d+", first))
     holds("the program checks the release", re.fullmatch(rf"run --jobs \d+ -- check {RELEASE}", second))
     with top.start() as started:
         started.until("^ready 1-")
-    same("what is built is not built again", len(top.called()), 2)
+    same("what is built is not built again", len(top.called()), 3)
 
 
 @in_top
@@ -193,14 +198,14 @@ def builds_again_where_a_source_is_newer(top):
     later = time.time() + 60
     os.utime(top.room / "crates" / "catalogue" / "src" / "lib.rt", (later, later))
     with top.start() as started:
-        started.until("^1 of 4 crates")
+        started.until("^1 of 5 crates")
         started.until("^ready 1-")
-    same("both steps were done again", len(top.called()), 4)
+    same("all steps were done again", len(top.called()), 6)
 
 
 @in_top
 def says_what_failed_in_a_proof(top):
-    for fails, words in (("all check", "a proof failed: mend it"), ("run --jobs", "was not proved and built: mend")):
+    for fails, words in (("check", "a proof failed: mend it"), ("all check", "a proof failed: mend it"), ("run --jobs", "was not proved and built: mend")):
         with top.start(fails=fails) as started:
             status, _, errors = started.ended()
         same("the status", status, 1)
@@ -236,7 +241,7 @@ def ends_a_build_by_signals(top):
     for number in (signal.SIGINT, signal.SIGTERM):
         # a proof that does not end before the signal comes
         with top.start(proves="td_base") as started:
-            started.until("^1 of 4 crates")
+            started.until("^1 of 5 crates")
             started.child.send_signal(number)
             status, _, errors = started.ended()
         same("the status", (status, "what is proved so far is kept" in errors), (130, True))
