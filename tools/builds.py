@@ -234,7 +234,7 @@ def prove_side_by_side(names, crates, estimate):
     them begins; returns these. What is kept is not done again."""
     below = {it: used_by(it, crates) for it in names}
     with Running(["all", "check", "--jobs", str(estimate.width)]) as running:
-        said, told = [], time.monotonic()
+        said, last_report = [], time.monotonic()
         while not running.is_over():
             before = len(said)
             say_progress(running, said, names, estimate)
@@ -242,12 +242,12 @@ def prove_side_by_side(names, crates, estimate):
             if len(left) < 2:
                 return left
             if len(said) > before:
-                told = time.monotonic()
+                last_report = time.monotonic()
                 # what ended just now was the last that the lowest one waited for
                 if is_chain(left, below) and said[-1] in below[left[0]]:
                     return left
-            elif time.monotonic() - told > HEARTBEAT:
-                told = time.monotonic()
+            elif time.monotonic() - last_report > HEARTBEAT:
+                last_report = time.monotonic()
                 say(f"  still proving; about {estimate.left(left)} minutes left")
             time.sleep(1)
         if running.child.returncode:
@@ -263,7 +263,7 @@ def prove_the_rest(left, count, estimate, release):
         say(f"The last {len(left)} of {count} crates begin, one after the other: {' '.join(left)}")
         running.wait(lambda: say(
             f"  still proving {' '.join(left)}; "
-            f"{estimate.so_far()} minutes so far, about {estimate.left(left)} at the most left"
+            f"{estimate.so_far()} minutes so far, at most about {estimate.left(left)} left"
         ))
         if running.child.returncode or not PROVED.is_file():
             raise BuildFailed(
