@@ -10,11 +10,12 @@ use std::alloc::Global;
 use std::io::Read;
 use stretches::Intake;
 
-/// How many bytes are received at a time.
-const PIECE: usize = 4_096;
+/// How many bytes are received at a time: more than most heads have. The room for them is cleared
+/// each time, so more would cost each request.
+const PIECE: usize = 1_024;
 
 /// How many pieces are received before other connections have their turn.
-const MOST_PIECES: u32 = 16;
+const MOST_PIECES: u32 = 64;
 
 /// What a read in a stretch gave.
 #[derive(Clone, Copy, PartialEq, Eq)]
