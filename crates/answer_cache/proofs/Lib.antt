@@ -1,3 +1,4 @@
 pub mod lemmas
 pub mod Gets
 pub mod Pairs
+pub mod ReadyLemmas

@@ -1,2 +1,3 @@
 pub mod Computing
 pub mod Keeping
+pub mod Ready

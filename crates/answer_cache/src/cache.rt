@@ -4,10 +4,11 @@ ghost use Rattle.answer_cache.specs.Computing.{RoseByOne};
 ghost use Rattle.answer_cache.specs.Keeping.{AreRight, IsKeyAmong, IsFirst, KeepsNoOther};
 ghost use Rattle.answer_cache.specs.Keeping.{KeepsOneMore, new_cache};
 ghost use Rattle.answer_cache.specs.declared.key.Key.{Key as AnyKey};
+ghost use Rattle.http_answer.specs.Replies.{IsAnswerStatus};
 
 use crate::copies::copy_of_answer;
 use crate::tables::{promote, put};
-use crate::{Compute, Key};
+use crate::{Compute, Key, ReadyAnswer};
 use http_answer::Answer;
 use lru::LruCache;
 use std::alloc::Global;
@@ -25,7 +26,7 @@ pub const MOST_BODY: usize = 65_536;
 #[derive(Drop)]
 pub struct AnswerCache {
     alloc: Global,
-    table: Option<LruCache<Key, Answer>>,
+    table: Option<LruCache<Key, ReadyAnswer>>,
     most_body: usize,
 }
 
@@ -93,7 +94,7 @@ impl AnswerCache {
     }
 
     /// Borrows the most recently used answer.
-    pub fn newest(&self) -> &Answer
+    pub fn newest(&self) -> &ReadyAnswer
         requires { 0 < length self.now.kept }
         ensures { option_map (λ pair. pair.1) (slice_get self.now.kept 0) ≡ Some result.now }
     {
@@ -108,10 +109,10 @@ impl AnswerCache {
 
     /// Keeps the answer to the key as the most recently used, unless its body is too long. A full
     /// cache evicts the least recently used answer. If memory runs out, nothing changes.
-    pub fn keep(&mut self, key: Key, answer: Answer)
+    pub fn keep(&mut self, key: Key, answer: ReadyAnswer)
         ensures { KeepsOneMore self.old self.new key answer }
     {
-        if answer.body.len() <= self.most_body {
+        if answer.body().len() <= self.most_body {
             put(&mut self.table, key, answer);
         }
     }
@@ -132,7 +133,7 @@ impl AnswerCache {
         ensures same_keys { (other : AnyKey) → C.can compute.old other ↔ C.can compute.new other }
     {
         if self.promote(key) {
-            return copy_of_answer(self.alloc, self.newest());
+            return self.newest().to_answer(self.alloc);
         }
         let answer = compute.compute(key)?;
         self.keep_copy(key, &answer);
@@ -141,15 +142,24 @@ impl AnswerCache {
 
     /// Keeps a copy of the answer to the key.
     fn keep_copy(&mut self, key: &Key, answer: &Answer)
+        requires { IsAnswerStatus answer.now.status }
         ensures { KeepsOneMore self.old self.new key.now answer.now }
     {
         if answer.body.len() > self.most_body {
             return;
         }
         if let Ok(key) = key.clone_in(self.alloc) {
-            if let Ok(answer) = copy_of_answer(self.alloc, answer) {
+            if let Ok(answer) = ready_copy(self.alloc, answer) {
                 self.keep(key, answer);
             }
         }
     }
+}
+
+/// A copy of the answer in its reply.
+fn ready_copy(alloc: Global, answer: &Answer) -> Result<ReadyAnswer, NoMemory>
+    requires { IsAnswerStatus answer.now.status }
+    ensures { IfOk result (λ ready. ready ≡ answer.now) }
+{
+    ReadyAnswer::new(alloc, copy_of_answer(alloc, answer)?)
 }

@@ -1,6 +1,7 @@
 ghost use Rattle.std.specs.Prelude.{◌≡◌, ◌↔◌, ℕ, IfOk};
 ghost use Rattle.http_answer.specs.declared.answer.Answer.{Answer as TheAnswer};
 ghost use Rattle.answer_cache.specs.declared.key.Key.{Key as TheKey};
+ghost use Rattle.http_answer.specs.Replies.{IsAnswerStatus};
 ghost use Rattle.answer_cache.specs.Computing.{RoseByOne};
 
 use crate::Key;
@@ -22,6 +23,7 @@ pub trait Compute {
     fn compute(&mut self, key: &Key) -> Result<Answer, NoMemory>
         requires { can self.old key.now }
         ensures answer { IfOk result (λ a. a ≡ answer self.old key.now) }
+        ensures status { IfOk result (λ a. IsAnswerStatus a.status) }
         ensures counted { RoseByOne (calls self.old) (calls self.new) }
         ensures same_answers { answer self.new ≡ answer self.old }
         ensures same_keys { (other : TheKey) → can self.old other ↔ can self.new other };

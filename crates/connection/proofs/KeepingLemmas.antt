@@ -18,11 +18,16 @@ use Rattle.target.specs.declared.asked_types.Asked.{Asked}
 use Rattle.target.specs.declared.asked_types.Asked.TheVariants as ask
 use Rattle.td_base.proofs.lemmas.Beginnings.{prefix_self, prefix_trans}
 use Rattle.td_base.specs.declared.no_memory.NoMemory.{NoMemory}
+use Rattle.td_base.specs.Transfer.{Sends}
+use Rattle.td_base.specs.Views.{ConnView}
 use Rattle.td_base.specs.declared.report.Role.{Role}
+use Rattle.td_base.specs.declared.transfer.Written.{Written}
 use Rattle.zone_meaning.specs.Sound.{IsSound}
 use Rattle.zone_meaning.specs.ZoneHistories.{ForEachZoneHistory}
 use Rattle.connection.specs.Keeping.{AreAnswers, IsAnswerToKey, IsReplyNow, KeepsAnswers, KeepsNothing}
-use Rattle.connection.specs.Keeping.{KeepsOneOf, RepliesFrom, RepliesTo, answer_to, head_of_key, key_of}
+use Rattle.connection.specs.Keeping.{KeepsOneOf, RepliesTo, answer_to, head_of_key, key_of}
+use Rattle.connection.specs.Sending.{SendsReply}
+use Rattle.connection.proofs.TrafficLemmas.{sends_more, sends_reply}
 use Rattle.connection.specs.Serving.{answer_at}
 use Rattle.connection.specs.declared.kept_answers.KeptAnswers.{KeptAnswers}
 
@@ -73,6 +78,17 @@ right_now : (desk : DeskView (Catalogue (List ℕ))) (role : Role) (key : Key) (
     → answer ≡ answer_to (history_of desk.seen) role key
 right_now desk role key answer x = x.is (history_of desk.seen) (prefix_self (history_of desk.seen))
 
+pub status_if : (desk : DeskView (Catalogue (List ℕ))) (role : Role) (key : Key) (r : Result Answer NoMemory) → IfOk r (IsAnswerToKey desk role key)
+    → IfOk r (λ answer. IsAnswerStatus answer.status)
+status_if desk role key (Ok answer) x = x.status
+status_if desk role key (Err fault) x = tt
+
+-- in its reply it is the same answer
+pub ready_if : (desk : DeskView (Catalogue (List ℕ))) (role : Role) (key : Key) (answer : Answer) (r : Result Answer NoMemory)
+    → IsAnswerToKey desk role key answer → IfOk r (λ ready. ready ≡ answer) → IfOk r (IsAnswerToKey desk role key)
+ready_if desk role key answer (Ok ready) x e = subst (IsAnswerToKey desk role key) (sym e) x
+ready_if desk role key answer (Err fault) x e = tt
+
 pub right_now_if : (desk : DeskView (Catalogue (List ℕ))) (role : Role) (key : Key) (r : Result Answer NoMemory)
     → IfOk r (IsAnswerToKey desk role key) → IfOk r (λ answer. answer ≡ answer_to (history_of desk.seen) role key)
 right_now_if desk role key (Ok answer) x = right_now desk role key answer x
@@ -80,18 +96,19 @@ right_now_if desk role key (Err fault) x = tt
 
 -- ---- the reply to one request
 
--- with an answer that is kept
-pub made_from : (pairs : List (Key × Answer)) (key : Key) (head_only close : Bool) (answer : Answer) (made : Result (List ℕ) NoMemory)
-    → Contains pairs (key, answer) → IfOk made (λ bytes. bytes ≡ reply answer head_only close) → IfOk made (RepliesFrom pairs key head_only close)
-made_from pairs key head_only close answer (Ok bytes) k e = record { answer = answer; kept = k; is = e }
-made_from pairs key head_only close answer (Err fault) k e = tt
+-- with the answer to its key
+pub sent_now : (desk : DeskView (Catalogue (List ℕ))) (role : Role) (key : Key) (head_only close : Bool) (answer : Answer)
+    → IsAnswerToKey desk role key answer → (a b : ConnView) (written : Written) → Sends a b (reply answer head_only close) written
+    → SendsReply (RepliesTo desk role key head_only close) a b written
+sent_now desk role key head_only close answer x a b written s =
+    sends_reply (RepliesTo desk role key head_only close) a b (reply answer head_only close) written s
+    (record { answer = answer; right = x; is = refl })
 
-pub kept_right : (desk : DeskView (Catalogue (List ℕ))) (role : Role) (pairs : List (Key × Answer)) (key : Key) (head_only close : Bool)
-    (made : Result (List ℕ) NoMemory) → AreAnswers desk role pairs → IfOk made (RepliesFrom pairs key head_only close)
-    → IfOk made (RepliesTo desk role key head_only close)
-kept_right desk role pairs key head_only close (Ok bytes) all r =
-    record { answer = r.answer; right = all key r.answer r.kept; is = r.is }
-kept_right desk role pairs key head_only close (Err fault) all r = tt
+pub sent_with : (desk : DeskView (Catalogue (List ℕ))) (role : Role) (key : Key) (head_only close : Bool) (answer : Answer)
+    → IsAnswerToKey desk role key answer → (a b : ConnView) (r : Result Written NoMemory) → IfOk r (Sends a b (reply answer head_only close))
+    → IfOk r (SendsReply (RepliesTo desk role key head_only close) a b)
+sent_with desk role key head_only close answer x a b (Ok written) s = sent_now desk role key head_only close answer x a b written s
+sent_with desk role key head_only close answer x a b (Err fault) s = tt
 
 -- the key of a request
 module _ (desk : DeskView (Catalogue (List ℕ))) (role : Role) (head : Head) (place : ℕ) (key : Key) (e : place ≡ length desk.seen)
@@ -105,10 +122,10 @@ module _ (desk : DeskView (Catalogue (List ℕ))) (role : Role) (head : Head) (p
       λ H st.
       r.is ∙ ap (λ a. reply a head.head_only close) (x.is H st ∙ by_key (take (length desk.seen) H) role (length desk.seen) head)
 
-  pub replied_if : (close : Bool) (made : Result (List ℕ) NoMemory) → IfOk made (RepliesTo desk role key head.head_only close)
-      → IfOk made (IsReplyNow desk role head close)
-  replied_if close (Ok bytes) r = replied close bytes r
-  replied_if close (Err fault) r = tt
+  pub replied_if : (close : Bool) (a b : ConnView) (r : Result Written NoMemory) → IfOk r (SendsReply (RepliesTo desk role key head.head_only close) a b)
+      → IfOk r (SendsReply (IsReplyNow desk role head close) a b)
+  replied_if close a b (Ok written) s = sends_more (RepliesTo desk role key head.head_only close) (IsReplyNow desk role head close) (replied close) a b written s
+  replied_if close a b (Err fault) s = tt
 
 -- ---- all that is kept
 

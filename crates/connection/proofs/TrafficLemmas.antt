@@ -82,3 +82,8 @@ gives_up a b written.Cut p = inr (sent_cut a b (fixed 503) p)
 pub sends_reply : (P : List ℕ → Type 0) (a b : ConnView) (bytes : List ℕ) (w : Written) → Sends a b bytes w → P bytes → SendsReply P a b w
 sends_reply P a b bytes written.Whole s p = record { reply = bytes; passes = sent_whole a b bytes s; is = p }
 sends_reply P a b bytes written.Cut s p = record { reply = bytes; cut = sent_cut a b bytes s; is = p }
+
+-- of which more is known
+pub sends_more : (P Q : List ℕ → Type 0) → ((bytes : List ℕ) → P bytes → Q bytes) → (a b : ConnView) (w : Written) → SendsReply P a b w → SendsReply Q a b w
+sends_more P Q more a b written.Whole s = record { reply = s.reply; passes = s.passes; is = more s.reply s.is }
+sends_more P Q more a b written.Cut s = record { reply = s.reply; cut = s.cut; is = more s.reply s.is }

@@ -91,13 +91,6 @@ pub record RepliesTo (desk : DeskView (Catalogue (List ℕ))) (role : Role) (key
   pub right : IsAnswerToKey desk role key answer
   pub is : bytes ≡ reply answer head_only close
 
--- the reply with one of these answers, which is to the key
-pub record RepliesFrom (pairs : List (Key × Answer)) (key : Key) (head_only close : Bool)
-    (bytes : List ℕ) : Type 0 where
-  pub answer : Answer
-  pub kept : Contains pairs (key, answer)
-  pub is : bytes ≡ reply answer head_only close
-
 -- an answer to the key is kept
 abbrev pub IsKept : KeptAnswers → Key → Type 0
 IsKept k key = IsKeyAmong k.many.kept key ⊎ IsKeyAmong k.large.kept key

@@ -3,6 +3,7 @@ ghost use Rattle.answer_cache.specs.Computing.{RoseByOne};
 ghost use Rattle.answer_cache.specs.declared.key.Key.{Key as AnyKey};
 ghost use Rattle.catalogue.specs.Holdings.{history_of};
 ghost use Rattle.connection.specs.Keeping.{IsAnswerToKey, IsKeyNow, answer_to, head_of_key};
+ghost use Rattle.http_answer.specs.Replies.{IsAnswerStatus};
 
 use actions::answer;
 use answer_cache::{Compute, Key};
@@ -35,6 +36,7 @@ impl Compute for Asking<'_> {
         ensures is { IfOk result (IsAnswerToKey self.old.desk.now self.old.role.now key.now) }
         ensures answer { IfOk result (λ answer. answer
             ≡ answer_to (history_of self.old.desk.now.seen) self.old.role.now key.now) }
+        ensures status { IfOk result (λ answer. IsAnswerStatus answer.status) }
         ensures counted { RoseByOne self.old.calls self.new.calls }
         ensures same_keys { (other : AnyKey) → IsKeyNow self.old.desk.now self.old.role.now other
             ↔ IsKeyNow self.new.desk.now self.new.role.now other }

@@ -1,8 +1,7 @@
 ghost use Rattle.std.specs.Prelude.{◌≡◌, ◌≤◌, []};
 ghost use Rattle.answer_cache.specs.declared.cache.TheConstants.{MOST_ANSWERS};
 
-use answer_cache::{AnswerCache, Key, MOST_ANSWERS, MOST_BODY};
-use http_answer::Answer;
+use answer_cache::{AnswerCache, Key, MOST_ANSWERS, MOST_BODY, ReadyAnswer};
 use std::alloc::Global;
 
 /// The longest body that is kept, in bytes.
@@ -36,10 +35,10 @@ impl KeptAnswers {
 
     /// Keeps the answer to the key in the cache for the size of its body. Without memory nothing
     /// changes.
-    pub fn keep(&mut self, key: Key, answer: Answer)
+    pub fn keep(&mut self, key: Key, answer: ReadyAnswer)
         ensures { KeepsOneOf self.old self.new key answer }
     {
-        if answer.body.len() <= MOST_BODY {
+        if answer.body().len() <= MOST_BODY {
             self.many.keep(key, answer);
         } else {
             self.large.keep(key, answer);

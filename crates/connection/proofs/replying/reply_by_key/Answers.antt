@@ -1,26 +1,27 @@
+use Rattle.answer_cache.proofs.lemmas.Kept.{newest_kept}
 use Rattle.connection.proofs.KeepingLemmas as keeping
 use Rattle.connection.proofs.replying.reply_by_key.Goals as goal
 
-pub kept_reply-requires : goal.kept_reply-requires
-kept_reply-requires c = λ answer k. (c.requires.kept.many _ answer k).status
+pub returns-then-promote-clause-sends : goal.returns-then-promote-clause-sends
+returns-then-promote-clause-sends g c =
+    keeping.sent_with _ _ _ _ _ _
+    (c.requires.kept.many _ _ (c.promote.ensures.kept.pairs _ _ (newest_kept _ _ _ (c.promote.ensures.first c.if-promote.true) c.newest.ensures)))
+    _ _ c.send_ready.result c.send_ready.ensures.sends
 
-pub kept_reply-requires-in-None : goal.kept_reply-requires-in-None
-kept_reply-requires-in-None c = λ answer k. (c.requires.kept.large _ answer k).status
+pub returns-then-promote-clause-kept : goal.returns-then-promote-clause-kept
+returns-then-promote-clause-kept g c =
+    keeping.fewer _ _ c.args.kept.now _ c.promote.ensures.kept.pairs (λ key answer k. k) c.requires.kept
 
-pub new_reply-requires-clause-kept : goal.new_reply-requires-clause-kept
-new_reply-requires-clause-kept c =
-    keeping.fewer _ _ c.args.kept.now _ c.kept_reply.ensures.kept.pairs c.kept_reply-in-None.ensures.kept.pairs c.requires.kept
+pub returns-then-promote-2-clause-sends : goal.returns-then-promote-2-clause-sends
+returns-then-promote-2-clause-sends g c =
+    keeping.sent_with _ _ _ _ _ _
+    (c.requires.kept.large _ _ (c.promote-2.ensures.kept.pairs _ _ (newest_kept _ _ _ (c.promote-2.ensures.first c.if-promote-2.true) c.newest-then-promote-2.ensures)))
+    _ _ c.send_ready-then-promote-2.result c.send_ready-then-promote-2.ensures.sends
 
-pub returns-in-Some-clause-reply : goal.returns-in-Some-clause-reply
-returns-in-Some-clause-reply c = keeping.kept_right _ _ _ _ _ _ _ c.requires.kept.many c.in-Some.ensures.reply
+pub returns-then-promote-2-clause-kept : goal.returns-then-promote-2-clause-kept
+returns-then-promote-2-clause-kept g c =
+    keeping.fewer _ _ c.args.kept.now _ c.promote.ensures.kept.pairs c.promote-2.ensures.kept.pairs c.requires.kept
 
-pub returns-in-Some-clause-kept : goal.returns-in-Some-clause-kept
-returns-in-Some-clause-kept c = keeping.fewer _ _ c.args.kept.now _ c.kept_reply.ensures.kept.pairs (λ key answer k. k) c.requires.kept
-
-pub returns-in-Some-kept_reply-clause-reply : goal.returns-in-Some-kept_reply-clause-reply
-returns-in-Some-kept_reply-clause-reply c =
-    keeping.kept_right _ _ _ _ _ _ _ c.requires.kept.large c.in-Some-kept_reply.ensures.reply
-
-pub returns-in-Some-kept_reply-clause-kept : goal.returns-in-Some-kept_reply-clause-kept
-returns-in-Some-kept_reply-clause-kept c =
-    keeping.fewer _ _ c.args.kept.now _ c.kept_reply.ensures.kept.pairs c.kept_reply-in-None.ensures.kept.pairs c.requires.kept
+pub send_new-requires-clause-kept : goal.send_new-requires-clause-kept
+send_new-requires-clause-kept g c =
+    keeping.fewer _ _ c.args.kept.now _ c.promote.ensures.kept.pairs c.promote-2.ensures.kept.pairs c.requires.kept

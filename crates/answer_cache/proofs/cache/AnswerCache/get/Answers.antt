@@ -4,8 +4,8 @@ use Rattle.answer_cache.proofs.cache.AnswerCache.get.Goals as goal
 
 pub returns-then-promote-clause-answer : goal.returns-then-promote-clause-answer
 returns-then-promote-clause-answer g c =
-    subst (λ x. IfOk c.copy_of_answer.result (λ answer. answer ≡ x))
-    (gets.lent_right _ _ _ _ c.requires.right c.promote.ensures.kept _ (c.promote.ensures.first c.if-promote.true) c.newest.ensures) c.copy_of_answer.ensures
+    subst (λ x. IfOk c.to_answer.result (λ answer. answer ≡ x))
+    (gets.lent_right _ _ _ _ c.requires.right c.promote.ensures.kept _ (c.promote.ensures.first c.if-promote.true) c.newest.ensures) c.to_answer.ensures
 
 pub returns-then-promote-clause-right : goal.returns-then-promote-clause-right
 returns-then-promote-clause-right g c = λ other kept k. c.requires.right other kept (c.promote.ensures.kept.pairs other kept k)
