@@ -3,7 +3,7 @@ use Rattle.std.proofs.Common.{◌≡◌, ℕ, ◌+◌, ◌-◌, ◌≤◌, List,
 use Rattle.std.proofs.Common.{◌==◌, ◌||◌, refl, sym, ap, ◌∙◌, subst, arith, append_assoc}
 use Rattle.std.proofs.lemmas.Bool.{eqb-true}
 use Rattle.std.proofs.lemmas.List.{append-nil, length-append}
-use Rattle.std.proofs.Math.Seq.{drop-append-add, take-append-add, take-append_seam}
+use Rattle.std.proofs.Math.Seq.{drop-append-add, drop-append_seam, take-append-add, take-append_seam}
 use Rattle.std.proofs.lemmas.Grind.{flat_map-append}
 use Rattle.http_answer.specs.Replies.{IsAnswerStatus, body_sent, close_lines, ended, fields, reply, status_line}
 use Rattle.http_answer.specs.declared.answer.Answer.{Answer}
@@ -99,40 +99,45 @@ module _ (a : Answer) (head_only : Bool) (bytes : List ℕ) (head : ℕ) (e : by
   pub body_size : length bytes ≡ head + length (body_sent a head_only)
   body_size = omega (arith, h, sizes, after_lines)
 
--- ---- an answer and the reply that was made of it
+-- ---- an answer and the head that was made of it
 
-module _ (a : Answer) (bytes : List ℕ) (head : ℕ) (e : bytes ≡ reply a false false) (status : IsAnswerStatus a.status) where
-  size : length bytes ≡ (length (head_lines a) + 2) + length (body_sent a false)
-  size = body_size a false bytes (length (head_lines a) + 2) e refl
+module _ (a : Answer) (front : List ℕ) (e : front ≡ reply a true false) (status : IsAnswerStatus a.status) where
+  front_is : front ≡ head_lines a ++ codes "\r\n"
+  front_is = e ∙ (open_reply a true ∙ ap (λ l. head_lines a ++ (codes "\r\n" ++ l)) (no_body a))
 
-  ready_by : (rest : Answer) → rest.status ≡ a.status → answer_in rest bytes head ≡ a → head ≡ length (head_lines a) + 2 → IsReady rest bytes head
-  ready_by rest same is h = record {
+  front_size : length front ≡ length (head_lines a) + 2
+  front_size = ap length front_is ∙ length-append (head_lines a) (codes "\r\n")
+
+  ready_by : (rest : Answer) (bytes : List ℕ) → rest.status ≡ a.status → answer_in rest bytes (length front) ≡ a → bytes ≡ reply a false false
+      → IsReady rest bytes (length front)
+  ready_by rest bytes same is written_is = record {
     status = subst IsAnswerStatus (sym same) status;
-    is = e ∙ ap (λ x. reply x false false) (sym is);
-    begins = h ∙ ap (λ x. length (head_lines x) + 2) (sym is);
+    is = written_is ∙ ap (λ x. reply x false false) (sym is);
+    begins = front_size ∙ ap (λ x. length (head_lines x) + 2) (sym is);
   }
 
   -- with status 304 all of it is head
   module _ (s : a.status ≡ 304) where
-    pub all_is : answer_in a bytes head ≡ a
-    all_is = ap (λ b. record a { body = if b then a.body else drop head bytes }) (is_304 a.status s)
+    pub all_is : answer_in a front (length front) ≡ a
+    all_is = ap (λ b. record a { body = if b then a.body else drop (length front) front }) (is_304 a.status s)
 
-    pub all_ready : head ≡ length bytes → IsReady a bytes head
-    all_ready h = ready_by a refl all_is (omega (arith, h, size, ap length (unwritten a s)))
+    pub all_ready : IsReady a front (length front)
+    all_ready =
+        ready_by a front refl all_is
+        (front_is ∙ sym (open_reply a false ∙ ap (λ l. head_lines a ++ (codes "\r\n" ++ l)) (unwritten a s)))
 
   -- with another the body stands at the end
   module _ (s : a.status ≡ 304 → ⊥) where
-    pub within : length a.body ≤ length bytes
-    within = omega (arith, size, ap length (written a s))
+    joined : front ++ a.body ≡ reply a false false
+    joined =
+        ap (λ l. l ++ a.body) front_is
+        ∙ (append_assoc (head_lines a) (codes "\r\n") a.body
+        ∙ sym (open_reply a false ∙ ap (λ l. head_lines a ++ (codes "\r\n" ++ l)) (written a s)))
 
-    module _ (h : head ≡ length bytes - length a.body) where
-      begins_there : head ≡ length (head_lines a) + 2
-      begins_there = omega (arith, h, size, ap length (written a s))
+    pub rest_is : answer_in (record a { body = [] }) (front ++ a.body) (length front) ≡ a
+    rest_is =
+        ap (λ b. record a { body = if b then [] else drop (length front) (front ++ a.body) }) (is_not_304 a.status s)
+        ∙ ap (λ l. record a { body = l }) (drop-append_seam front a.body)
 
-      pub rest_is : answer_in (record a { body = [] }) bytes head ≡ a
-      rest_is =
-          ap (λ b. record a { body = if b then [] else drop head bytes }) (is_not_304 a.status s)
-          ∙ ap (λ l. record a { body = l }) (body_after a false bytes head e begins_there ∙ written a s)
-
-      pub rest_ready : IsReady (record a { body = [] }) bytes head
-      rest_ready = ready_by (record a { body = [] }) refl rest_is begins_there
+    pub rest_ready : IsReady (record a { body = [] }) (front ++ a.body) (length front)
+    rest_ready = ready_by (record a { body = [] }) (front ++ a.body) refl rest_is joined

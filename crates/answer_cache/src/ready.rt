@@ -1,4 +1,4 @@
-ghost use Rattle.std.specs.Prelude.{◌≡◌, IfOk, false, true};
+ghost use Rattle.std.specs.Prelude.{◌≡◌, ◌++◌, IfOk, false, true};
 ghost use Rattle.http_answer.specs.Replies.{IsAnswerStatus, body_sent, reply};
 ghost use Rattle.answer_cache.specs.Ready.{head_lines};
 
@@ -34,23 +34,35 @@ impl Model for ReadyAnswer {
 }
 
 impl ReadyAnswer {
-    /// Writes the reply of the answer.
+    /// Writes the head of the reply before the body, in the body's memory if that has room.
     pub fn new(alloc: Global, answer: Answer) -> Result<ReadyAnswer, NoMemory>
         requires { IsAnswerStatus answer.status }
         ensures { IfOk result (λ ready. ready ≡ answer) }
     {
-        let reply = make_reply(alloc, &answer, false, false)?;
+        let front = make_reply(alloc, &answer, true, false)?;
+        let head = front.len();
         if answer.status == 304 {
-            let head = reply.len();
             return Ok(ReadyAnswer {
                 rest: answer,
-                reply,
+                reply: front,
                 head,
             });
         }
-        let head = reply.len() - answer.body.len();
-        let mut rest = answer;
-        rest.body = Bytes::new(alloc);
+        let Answer {
+            status,
+            kind,
+            tag,
+            moved,
+            body,
+        } = answer;
+        let rest = Answer {
+            status,
+            kind,
+            tag,
+            moved,
+            body: Bytes::new(alloc),
+        };
+        let reply = put_before(body, front.as_slice())?;
         Ok(ReadyAnswer { rest, reply, head })
     }
 
@@ -126,4 +138,15 @@ impl ReadyAnswer {
             body: Bytes::from_slice(alloc, self.body())?,
         })
     }
+}
+
+/// The text and then the bytes, in the memory of the bytes if that has room.
+fn put_before(bytes: Bytes, text: &[u8]) -> Result<Bytes, NoMemory>
+    ensures { IfOk result (λ all. all ≡ text.now ++ bytes) }
+{
+    let mut all = bytes.into_vec();
+    all.reserve_exact(text.len())?;
+    all.extend_from_slice(text)?;
+    all.as_mut_slice().rotate_right(text.len());
+    Ok(Bytes::from(all))
 }
