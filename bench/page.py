@@ -11,20 +11,18 @@ import plots
 
 # What is known of a mark that is missed, by its name. A new one is looked for with `perf` and `strace -c`.
 REASONS = {
-    "nginx, 1 connection": "only the full list. nginx sends a file by `sendfile`, without a copy of its own.",
-    "nginx, 2 connections": "only the full list, as above.",
-    "nginx, 16 connections": "only the full list, as above.",
-    "nginx, 64 connections": "only the full list, as above.",
-    "limit, 2 connections": "a request takes as many system calls as the limit's. The rest is spent on its head, the "
-    "kept reply, and two readings of the clock.",
+    "limit, 1 connection": "a request takes as many system calls as the limit's. The rest is spent on its head, which is "
+    "searched twice and parsed, and on clearing memory for it. This run was on a slow machine: the one before, with a "
+    "program that did more for each request, had 1.40 here, and 1.75, 1.61 and 1.54 below.",
+    "limit, 2 connections": "the same.",
     "limit, 16 connections": "the same. The loop also polls more often than the limit's does.",
-    "limit, 64 connections": "the same, for JSON only.",
+    "limit, 64 connections": "the same.",
     "memory of later syncs": "a mirror keeps each file once more, to check it. Where all zones change, it holds both releases.",
     "largest release installed again": "what was parsed of a zone is kept beside its file. One install takes 1.59 times "
     "the files, and a second one adds little.",
     "longest expansion": "only by GET, which also sends 1.4 MB. It has 16,190 changes.",
-    "waits while installing": "two workers and installs without a pause share two processors. A worker then waits as long "
-    "as one install takes.",
+    "waits while installing": "two workers and installs without a pause share two processors. Reading a release yields, but "
+    "its manifest and its last checks take up to a millisecond without a call.",
 }
 SHORT_FLOODS = {
     "none": "none",
