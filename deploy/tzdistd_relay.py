@@ -14,6 +14,7 @@ import socket
 import subprocess
 import time
 
+from tzdistd_priority import FirstThread, can_return
 from tzdistd_service import say
 
 # A longer line is none of the console; the program answers so many bytes of it as it answers the
@@ -78,6 +79,7 @@ class Relay:
         self.at, self.watcher = at, watcher
         self.child, self.asked, self.is_ready, self.fault = None, None, False, None
         self.stop_by, self.reply = None, []
+        self.can_yield, self.first_thread = can_return(), None
         self._signals()
         self._console()
 
@@ -125,6 +127,7 @@ class Relay:
             return 127
         with open(self._path("pid"), "w", encoding="ascii") as file:
             file.write(f"{self.child.pid}\n")
+        self.first_thread = FirstThread(self.child.pid, self.can_yield)
         self.answers = Lines(self.child.stdout.fileno())
         return self._loop(lambda: self.is_ready)
 
@@ -163,9 +166,10 @@ class Relay:
 
     def _step(self, events):
         """Handles what is there. Returns False once the program has ended its output."""
-        wait = None if self.stop_by is None else max(0, self.stop_by - time.monotonic())
-        found = events.select(wait)
-        if not found and self.stop_by is not None:
+        times = [it for it in (self.stop_by, self.first_thread.until) if it is not None]
+        found = events.select(max(0, min(times) - time.monotonic()) if times else None)
+        self.first_thread.look()
+        if not found and self.stop_by is not None and time.monotonic() >= self.stop_by:
             say("the program did not end in time, and is ended", 4)
             self.child.kill()
             self.stop_by += 60
@@ -189,6 +193,7 @@ class Relay:
             notify("STOPPING=1")
             say("a stop was requested")
             self.stop_by = time.monotonic() + (QUIT_SECONDS if self.asked is None else BUSY_SECONDS)
+            self.first_thread.end()
             self._write(b"quit\n")
 
     def _write(self, line):
@@ -200,6 +205,7 @@ class Relay:
         self.asked = line[:-1] if line.endswith("\r") else line
         reply = self.watcher.before(self.asked)
         if reply is None:
+            self.first_thread.begin()
             self._write(line.encode("utf-8", "surrogateescape") + b"\n")
         else:
             self._answer(reply.encode())
@@ -218,6 +224,7 @@ class Relay:
         else:
             self.reply.append(line)
             if not (line.startswith("news ") and (self.asked or "").startswith("news ")):
+                self.first_thread.end()
                 if self.asked is not None:
                     self.watcher.after(self.asked, self.reply)
                 self.asked, self.reply = None, []

@@ -30,6 +30,7 @@ sys.path[:0] = [HERE, DEPLOY]
 import tzdistd_service
 from checks import release
 from served import PROGRAM, address_of, free_port, slim_zone
+from tzdistd_priority import can_return
 
 FIRST, SECOND = "2025-06-01T00:00:00Z", "2025-07-01T00:00:00Z"
 
@@ -387,6 +388,31 @@ class Console(Trial):
         self.assertEqual(self.console()[0], 1)
         status, reply = self.console("install", "/no/a\x1b[31mb\x7f")
         self.assertEqual((status, reply), (1, "refused 8 Absent /no/a?[31mb?/manifest.json\n"))
+        self.assertEqual(self.console("quit"), (0, "bye\n"))
+        self.assertEqual(running.wait(), 0)
+
+    def test_requests_go_before_a_line(self):
+        self.program, go = os.path.join(self.at, "program"), os.path.join(self.at, "go")
+        write(self.program, f'''#!/bin/sh
+echo ready 1-0
+read line
+while [ ! -e "{go}" ]; do sleep 0.1; done
+echo serving 1-0 1 1
+read line
+echo bye
+''', 0o755)
+        self.add("1")
+        running = self.start()
+        pid = int(text_of(os.path.join(self.run_folder, "pid")))
+        asked = subprocess.Popen([os.path.join(DEPLOY, "tzdistd-console"), "status"], env=self.environment(),
+                                 stdout=subprocess.PIPE, text=True)
+        if can_return():
+            self.until("behind requests", lambda: os.sched_getscheduler(pid) == os.SCHED_IDLE)
+        # a line that takes long gets its share
+        self.until("beside requests", lambda: os.sched_getscheduler(pid) == os.SCHED_OTHER)
+        self.assertIsNone(asked.poll())
+        write(go, "")
+        self.assertEqual(asked.communicate(timeout=LONG)[0], "serving 1-0 1 1\n")
         self.assertEqual(self.console("quit"), (0, "bye\n"))
         self.assertEqual(running.wait(), 0)
 
