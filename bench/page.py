@@ -153,15 +153,25 @@ def changes(figures):
             f"{grew:.2f} times the files."
         ))
     if "waits" in figures:
-        cells = [[row["request"], f"{row['alone']:.2f}", f"{row['installing']:.2f}", ratio(row["installing"], row["alone"])]
-                 for row in figures["waits"]]
-        sections += ["While releases that differ in one zone are installed in a loop, requests wait:",
-                     table(["Request", "99th without, ms", "99th with installs, ms", "Ratio"], cells)]
+        sections += waits(figures["waits"])
     if "expansion" in figures:
         cells = [[row["method"], f"{row['wall']:.2f}", f"{row['cost']:.2f}"] for row in figures["expansion"]]
         sections += ["An expansion over 8,000 years, as each request for another range computes it:",
                      table(["Method", "Milliseconds", "Processor, ms"], cells)]
     return sections
+
+
+def waits(rows):
+    """Waiting times beside installs: of the program alone, and as the service's scripts install."""
+    ways = [it for it in ("installing", "yielding") if it in rows[0]]
+    cells = [[row["request"], f"{row['alone']:.2f}", *(text for it in ways for text in (f"{row[it]:.2f}", ratio(row[it], row["alone"])))]
+             for row in rows]
+    heads = ["Request", "99th without, ms", "99th with installs, ms", "Ratio", "as the service installs, ms", "Ratio"]
+    said = "While releases that differ in one zone are installed in a loop, requests wait."
+    if "yielding" in ways:
+        said += """ The service's scripts let requests go first: while a line of the console is answered, the thread that
+            installs has the policy SCHED_IDLE, for a second at most."""
+    return [wrapped(said), table(heads[: 2 + 2 * len(ways)], cells)]
 
 
 def attacks(figures):
@@ -249,9 +259,12 @@ def marks(figures):
         worst = max(row["cost"] for row in figures["expansion"])
         found.append(("longest expansion", "at most 2 ms", f"{worst:.2f} ms", worst <= 2))
     if "waits" in figures:
-        worst = max(figures["waits"], key=lambda row: row["installing"] / max(row["alone"], 1e-9))
-        times = worst["installing"] / max(worst["alone"], 1e-9)
-        found.append(("waits while installing", "99th percentile at most twice", f"{times:.1f} times ({worst['request']})", times <= 2))
+        for name, way in (("waits while installing", "installing"), ("waits while the service installs", "yielding")):
+            ratios = {row["request"]: row[way] / max(row["alone"], 1e-9) for row in figures["waits"] if way in row}
+            if ratios:
+                worst = max(ratios, key=ratios.get)
+                said = f"{ratios[worst]:.1f} times ({worst})"
+                found.append((name, "99th percentile at most twice", said, ratios[worst] <= 2))
     if "attacks" in figures:
         failures = sum(row["failures"] for row in figures["attacks"] if row["server"] == "tzdistd")
         found.append(("good clients under attack", "no failure", f"{failures} failures", failures == 0))

@@ -17,6 +17,7 @@ import serve
 from measured import WORKERS, Repeated, driven, manifest_of, middle_row, say, started
 from serve import Limit, Nginx, put_file, requests_of, status_of
 from served import Client, Mirror, Served, slim_zone
+from tzdistd_priority import FirstThread, can_return
 
 # nginx has room for the connections of the attacks, too.
 serve.SITE = serve.SITE.replace("worker_connections 512", "worker_connections 16384")
@@ -190,27 +191,36 @@ class Measured:
                 "peak_kib": before, "peak_after_kib": after}
 
     def installs_with_requests(self):
-        """The 99th percentile of waiting times without installs and with installs in a loop."""
+        """The 99th percentile of waiting times without installs and with installs in a loop: by the program
+        alone, and as the service's scripts let requests go first."""
         rows, folders = [], [self.folder, self.variants()["one zone"]]
+        ways = {"installing": False, **({"yielding": True} if can_return() else {})}
         for one in self.asked:
-            alone, busy = [], []
+            found = {name: [] for name in ("alone", *ways)}
             with self.served(folders[:1], WORKERS) as server:
                 for _ in range(self.settings["rounds"]):
-                    alone.append(self.driven(server.port, [server.pid], one, WORKERS)["p99"])
-                    busy.append(self.while_installing(server, folders, one))
+                    found["alone"].append(self.driven(server.port, [server.pid], one, WORKERS)["p99"])
+                    for name, yields in ways.items():
+                        found[name].append(self.while_installing(server, folders, one, FirstThread(server.pid, yields)))
                 server.quit(60)
-            middle = len(alone) // 2
-            rows.append({"request": one.name, "alone": sorted(alone)[middle], "installing": sorted(busy)[middle]})
+            rows.append({"request": one.name, **{name: sorted(times)[len(times) // 2] for name, times in found.items()}})
         return rows
 
-    def while_installing(self, server, folders, one):
+    def while_installing(self, server, folders, one, first):
         done, said = threading.Event(), []
 
         def install():
-            while not done.is_set():
+            first.begin()
+            try:
                 said.append(say(server, f"install {folders[(len(said) + 1) % 2]}", "installed "))
+            finally:
+                first.end()
 
-        thread = threading.Thread(target=install)
+        def install_on():
+            while not done.is_set():
+                install()
+
+        thread = threading.Thread(target=install_on)
         thread.start()
         try:
             return self.driven(server.port, [server.pid], one, WORKERS)["p99"]
@@ -218,7 +228,7 @@ class Measured:
             done.set()
             thread.join(300)
             if len(said) % 2:
-                say(server, f"install {folders[0]}", "installed ")
+                install()
 
     # -- attacks
 

@@ -207,7 +207,7 @@ def figures_of(worst=1.0):
         "requests": rows, "changes": {"installs": installs, "syncs": syncs},
         "calls": [{"server": "limit", "connections": 2, "receive": 1.0, "send": 1.0, "wait": 1.0, "other": 0.0}],
         "largest": {"zones": 4096, "file_bytes": 65536, "ready": 1.8, "install": 0.4, "release_kib": 262_144, "peak_kib": 300_000, "peak_after_kib": 330_000},
-        "expansion": [{"method": "HEAD", "wall": 1.0, "cost": 1.0}], "waits": [{"request": "full list", "alone": 0.2, "installing": 0.3}],
+        "expansion": [{"method": "HEAD", "wall": 1.0, "cost": 1.0}], "waits": [{"request": "full list", "alone": 0.2, "installing": 0.3, "yielding": 0.25}],
         "attacks": attacks, "growth": points, "fleet": {"costs": {"server_new": 20.0}, "trial": trial},
     }
 
@@ -239,6 +239,11 @@ def marks_are_judged():
     same("1.4 times the limit", missed, ["limit, 16 connections"])
     missed = [it[0] for it in page.marks(figures_of(1.6)) if not it[3]]
     same("1.6 times", len(missed), 8)
+    waits = [{"request": name, "alone": 0.1, "installing": 0.1 * times, "yielding": 0.15} for name, times in (("full list", 3), ("expand", 9))]
+    said = {it[0]: it[2:] for it in page.marks({"waits": waits})}
+    same("the worst wait", said, {"waits while installing": ("9.0 times (expand)", False), "waits while the service installs": ("1.5 times (full list)", True)})
+    older = page.marks({"waits": [{"request": "full list", "alone": 0.1, "installing": 0.15}]})
+    same("figures without the service's way", [it[0] for it in older], ["waits while installing"])
     holds("no reason stands for a missed mark", "**limit, 16 connections**:" in page.markdown(figures_of(1.4)))
 
 
