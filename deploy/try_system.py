@@ -320,6 +320,15 @@ def installed(machine):
     exposed = {unit: exposure(machine, unit) for unit in UNITS}
     holds(f"a unit is exposed by more than {MOST_EXPOSURE}: {exposed}", max(exposed.values()) <= MOST_EXPOSURE)
     say("systemd-analyze security: " + ", ".join(f"{unit} {number}" for unit, number in exposed.items()))
+    holds("the filter of calls refuses the policy by which requests go before installs", may_yield(machine))
+
+
+def may_yield(machine):
+    """Whether a process with the unit's filter of calls may yield to others, and return from that."""
+    with open(machine.path("/lib/systemd/system/tzdistd.service")) as unit:
+        filters = [f"-p{line.strip()}" for line in unit if line.startswith(("SystemCall", "RestrictRealtime="))]
+    look = "import sys; sys.path.insert(0, '/usr/lib/tzdistd'); import tzdistd_priority as it; print(it.can_return())"
+    return machine.run("systemd-run", "--quiet", "--wait", "--pipe", *filters, "python3", "-B", "-c", look)[1] == "True"
 
 
 def exposure(machine, unit):
@@ -447,10 +456,30 @@ def ruled(machine):
     machine.sh("sed -i /RULES/d /etc/default/tzdistd; systemctl restart tzdistd")
 
 
+# Prints whether the program may be given the limit by which its first thread yields to requests,
+# whether that thread does so while a command runs, and not after it, and what the command printed.
+POLICIES = r"""
+import os, resource, subprocess, sys
+pid = int(open("/run/tzdistd/pid").read())
+print(resource.prlimit(pid, resource.RLIMIT_NICE)[0] >= 20)
+child = subprocess.Popen(sys.argv[1:], stdout=subprocess.PIPE, stderr=subprocess.STDOUT, text=True)
+seen = set()
+while child.poll() is None:
+    seen.add(os.sched_getscheduler(pid))
+print(os.SCHED_IDLE in seen, os.sched_getscheduler(pid) == os.SCHED_OTHER, child.stdout.read(), sep="\n")
+sys.exit(child.returncode)
+"""
+
+
 def rolled_back(machine):
-    """The zones of the release before are served again, and stay after a reboot."""
+    """The zones of the release before are served again, and stay after a reboot. Requests go before
+    the install."""
     same("the zone before", machine.file_of(AZORES), machine.file_of(SEOUL))
-    say(machine.run("tzdistd-install", "--rollback")[1])
+    allowed, yields, returns, *said = machine.run("python3", "-c", POLICIES, "tzdistd-install", "--rollback")[1].splitlines()
+    say("\n".join(said))
+    # a computer that is a container itself may not raise the limit, and then nothing yields
+    say(f"requests go before an install: {yields}")
+    same("the policy of an install, and after it", (yields, returns), (allowed, "True"))
     holds("the rollback is not served", machine.file_of(AZORES) != machine.file_of(SEOUL))
     token = machine.token()
     machine.reboot()
