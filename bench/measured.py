@@ -18,6 +18,9 @@ HALF = len(PROCESSORS) // 2
 # With four processors or more the first half is for servers, and the other for those who ask.
 SERVING, ASKING = (PROCESSORS[:HALF], PROCESSORS[HALF:]) if HALF >= 2 else (PROCESSORS, PROCESSORS)
 WORKERS = max(1, len(SERVING))
+# While releases are installed, the console has one of the clients' processors, and requests the others:
+# a client that waits for its processor would count as one that waits for a reply.
+INSTALLING, MEANWHILE = (ASKING[:1], ASKING[1:]) if len(ASKING) > 1 else (ASKING, ASKING)
 
 
 @contextlib.contextmanager
@@ -68,10 +71,11 @@ class Repeated:
         return statistics.median(self.walls) * 1e3
 
 
-def driven(wrk, port, pids, asked, connections, seconds):
-    """A row of what came of asking: rate, processor microseconds of a request, and waiting times."""
+def driven(wrk, port, pids, asked, connections, seconds, processors=ASKING):
+    """A row of what came of asking from these processors: rate, processor microseconds of a request,
+    and waiting times."""
     before = spent(*pids)
-    with on(ASKING):
+    with on(processors):
         drive = by_wrk if wrk else by_processes
         done = drive(wrk, port, asked, connections, seconds)
     micros = (spent(*pids) - before) / max(done.count, 1) * 1e6

@@ -14,7 +14,7 @@ import time
 import growth
 import hostile
 import serve
-from measured import WORKERS, Repeated, driven, manifest_of, middle_row, say, started
+from measured import ASKING, INSTALLING, MEANWHILE, WORKERS, Repeated, driven, manifest_of, middle_row, on, say, started
 from serve import Limit, Nginx, put_file, requests_of, status_of
 from served import Client, Mirror, Served, slim_zone
 from tzdistd_priority import FirstThread, can_return
@@ -39,8 +39,8 @@ class Measured:
     def mirror(self, server):
         return started(lambda: Mirror(server.address, workers=WORKERS, program=self.program, within=300))
 
-    def driven(self, port, pids, one, connections):
-        return driven(self.wrk, port, pids, one, connections, self.settings["seconds"])
+    def driven(self, port, pids, one, connections, processors=ASKING):
+        return driven(self.wrk, port, pids, one, connections, self.settings["seconds"], processors)
 
     # -- requests with nginx and the limit
 
@@ -199,12 +199,16 @@ class Measured:
             found = {name: [] for name in ("alone", *ways)}
             with self.served(folders[:1], WORKERS) as server:
                 for _ in range(self.settings["rounds"]):
-                    found["alone"].append(self.driven(server.port, [server.pid], one, WORKERS)["p99"])
+                    found["alone"].append(self.late(server, one))
                     for name, yields in ways.items():
                         found[name].append(self.while_installing(server, folders, one, FirstThread(server.pid, yields)))
                 server.quit(60)
             rows.append({"request": one.name, **{name: sorted(times)[len(times) // 2] for name, times in found.items()}})
         return rows
+
+    def late(self, server, one):
+        """The 99th percentile of waiting times, of requests from the processors that the console leaves."""
+        return self.driven(server.port, [server.pid], one, WORKERS, MEANWHILE)["p99"]
 
     def while_installing(self, server, folders, one, first):
         done, said = threading.Event(), []
@@ -217,13 +221,14 @@ class Measured:
                 first.end()
 
         def install_on():
-            while not done.is_set():
-                install()
+            with on(INSTALLING):
+                while not done.is_set():
+                    install()
 
         thread = threading.Thread(target=install_on)
         thread.start()
         try:
-            return self.driven(server.port, [server.pid], one, WORKERS)["p99"]
+            return self.late(server, one)
         finally:
             done.set()
             thread.join(300)
