@@ -395,24 +395,39 @@ class Console(Trial):
         self.program, go = os.path.join(self.at, "program"), os.path.join(self.at, "go")
         write(self.program, f'''#!/bin/sh
 echo ready 1-0
-read line
-while [ ! -e "{go}" ]; do sleep 0.1; done
-echo serving 1-0 1 1
-read line
+while read line && [ "$line" != quit ]; do
+    while [ ! -e "{go}" ]; do sleep 0.1; done
+    echo serving 1-0 1 1
+done
 echo bye
 ''', 0o755)
         self.add("1")
         running = self.start()
         pid = int(text_of(os.path.join(self.run_folder, "pid")))
-        asked = subprocess.Popen([os.path.join(DEPLOY, "tzdistd-console"), "status"], env=self.environment(),
-                                 stdout=subprocess.PIPE, text=True)
-        if can_return():
-            self.until("behind requests", lambda: os.sched_getscheduler(pid) == os.SCHED_IDLE)
-        # a line that takes long gets its share
-        self.until("beside requests", lambda: os.sched_getscheduler(pid) == os.SCHED_OTHER)
-        self.assertIsNone(asked.poll())
-        write(go, "")
-        self.assertEqual(asked.communicate(timeout=LONG)[0], "serving 1-0 1 1\n")
+
+        def yields():
+            """Whether the program is seen to yield within two seconds, of which it does so for one."""
+            end = time.monotonic() + 2
+            while time.monotonic() < end:
+                if os.sched_getscheduler(pid) == os.SCHED_IDLE:
+                    return True
+                time.sleep(0.005)
+            return False
+
+        # on a busy machine this test may look too late
+        for _ in range(5):
+            asked = subprocess.Popen([os.path.join(DEPLOY, "tzdistd-console"), "status"], env=self.environment(),
+                                     stdout=subprocess.PIPE, text=True)
+            seen = yields()
+            # a line that takes long gets its share
+            self.until("beside requests", lambda: os.sched_getscheduler(pid) == os.SCHED_OTHER)
+            self.assertIsNone(asked.poll())
+            write(go, "")
+            self.assertEqual(asked.communicate(timeout=LONG)[0], "serving 1-0 1 1\n")
+            os.unlink(go)
+            if seen or not can_return():
+                break
+        self.assertEqual(seen, can_return())
         self.assertEqual(self.console("quit"), (0, "bye\n"))
         self.assertEqual(running.wait(), 0)
 
