@@ -23,8 +23,8 @@ REASONS = {
     "longest expansion": "only by GET, which also sends 1.4 MB. It has 16,190 changes.",
     "waits while installing": "two workers and installs without a pause share two processors. Reading a release yields, but "
     "its manifest and its last checks take up to a millisecond without a call.",
-    "waits while the service installs": "in this run the machine's host took 5 % of its processors away, which no priority "
-    "helps against. Where it did not, a wait is 0.3 to 2.1 times as long.",
+    "waits while the service installs": "six of nine rows are at most 2.1 times as long. Of the others the cause is not known: "
+    "the machine's host took 5 % of its processors away meanwhile, and runs differ by more than a row does.",
 }
 SHORT_FLOODS = {
     "none": "none",

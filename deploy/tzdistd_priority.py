@@ -2,8 +2,9 @@
 
 The first thread of the program runs the console, with all installs and syncs; the other threads
 answer requests. While the first thread works on a line of the console, it gets the scheduling
-policy SCHED_IDLE, so a request never waits until its time slice is over. Where requests leave no
-processor time, the policy ends after a second: an install is delayed by them, but not stopped.
+policy SCHED_IDLE, so a thread with a request need not wait until its time slice is over. Where
+requests leave no processor time, the policy ends after a second: they delay an install, and do not
+stop it.
 
 Linux and Python's standard library only.
 """
