@@ -6,8 +6,12 @@ use http_request::{Head, Heads, Next, gives};
 use std::alloc::Global;
 use td_base::{Conn, NoMemory, ReadStep};
 
-/// How many bytes one read of a connection requests.
+/// The most bytes that one read of a connection requests.
 pub const PIECE: usize = 4_096;
+
+/// How many bytes one read requests: more than most heads have. The room for them is cleared each
+/// time, so more would cost each request.
+const ROOM: usize = 1_024;
 
 /// What was received from a connection.
 #[derive(Drop)]
@@ -64,7 +68,7 @@ fn feed<C: Conn>(heads: &mut Heads, conn: &mut C) -> ReadPiece
         result }
     ensures held { heads.new.size ≤ most_held }
 {
-    let mut room = [0; PIECE];
+    let mut room = [0; ROOM];
     match conn.read(&mut room) {
         ReadStep::Got(count) => match heads.feed(&room[..count]) {
             Ok(()) => ReadPiece::Fed,

@@ -1,11 +1,12 @@
 -- The search keeps what the definition needs.
 use Rattle.std.proofs.Common.{◌≡◌, ◌≢◌, ℕ, ◌+◌, ◌<◌, ◌≤◌, List, [], ◌∷◌, ◌++◌, ◌==◌, ◌⊎◌, inl, inr, length, take, drop, get_or, Bool, true, false, not, ◌&&◌}
-use Rattle.std.proofs.Common.{◌||◌, None, refl, sym, ap, ◌∙◌, arith, append_assoc, take-append-drop, length-take-le}
+use Rattle.std.proofs.Common.{◌||◌, None, refl, sym, ap, subst, ◌∙◌, arith, append_assoc, take-append-drop, length-take-le}
 use Rattle.std.proofs.lemmas.Bool.{eq-eqb, eqb-true, cases_eq, ne_eqb, and_parts}
 use Rattle.std.proofs.lemmas.List.{take_more, drop_more, take_all, append-nil}
 use Rattle.http_request.specs.Ends.{is_blank_line, feeds}
 use Rattle.http_request.specs.Scans.{IsScanned, ends_with, past, line_kind, line_past, is_other, Searches, end_from, head_end}
 use Rattle.http_request.specs.declared.scan.Scan.{Scan}
+use Rattle.http_request.specs.declared.scan.ScannedLine.{ScannedLine}
 use Rattle.http_request.specs.declared.scan.ScannedLine.TheVariants as line
 use Rattle.http_request.specs.declared.scan.Search.TheVariants as search
 use Rattle.http_request.proofs.EndLemmas.{end_last, end_line, end_within, end_none, feeds-append}
@@ -111,6 +112,17 @@ scan_past bytes scan s h e = by_byte (cases_eq (get_or bytes scan.seen 0) 10)
           feeds = omega (arith, s.feeds, feeds_more bytes scan.seen h, other_counts b f);
           goes_on = λ next. ap head_end (taken_more bytes next scan.seen h) ∙ (s.goes_on (b ∷ next) ∙ end_within scan.begun s.line scan.seen b next f);
         })
+
+-- one more byte of a line that has other bytes, and that it does not end
+pub scan_other : (bytes : List ℕ) (scan : Scan) → IsScanned bytes scan → scan.line ≡ line.Other → scan.seen < length bytes
+    → get_or bytes scan.seen 0 ≢ 10 → IsScanned bytes (record scan { seen = scan.seen + 1 })
+scan_other bytes scan s other h f =
+    let b = get_or bytes scan.seen 0 in
+    let is_past : past scan b ≡ record scan { seen = scan.seen + 1 } =
+    past_within scan b f
+    ∙ ap (λ (l : ScannedLine). record { seen = scan.seen + 1; feeds = scan.feeds; begun = scan.begun; line = l })
+    (ap (λ l. line_past l b) other ∙ sym other) in
+    subst (IsScanned bytes) is_past (scan_past bytes scan s h (ap (λ t. t && (scan.begun && not (is_other scan.line))) (ne_eqb b 10 f)))
 
 -- at the end of the list
 pub scan_open : (bytes : List ℕ) (scan : Scan) → IsScanned bytes scan → scan.seen ≡ length bytes → head_end bytes ≡ None

@@ -1,5 +1,6 @@
 ghost use Rattle.std.specs.Prelude.{◌≡◌, ◌≤◌, ◌<◌, ◌+◌, ◌^◌, ℕ, List};
 ghost use Rattle.http_request.specs.Scans.{IsScanned, Searches, ends_with, past, line_past};
+ghost use Rattle.http_request.specs.declared.scan.ScannedLine.TheVariants as line;
 
 /// The content so far of the current line.
 #[derive(Clone, Copy, PartialEq, Eq)]
@@ -100,10 +101,34 @@ pub fn find_end(bytes: &[u8], from: Scan) -> Search
     'bytes: while scan.seen < bytes.len() {
         let byte = bytes[scan.seen];
         let ended = scan.is_ended_by(byte);
-        scan = scan.past(byte);
+        let past = scan.past(byte);
         if ended {
-            return Search::End(scan.seen, scan.feeds);
+            return Search::End(past.seen, past.feeds);
         }
+        scan = match past.line {
+            ScannedLine::Other => to_line_feed(bytes, past),
+            _ => past,
+        };
     }
     Search::Open(scan)
+}
+
+/// Goes on to the next line feed of a line that has other bytes: what comes before it changes
+/// nothing but the count.
+fn to_line_feed(bytes: &[u8], from: Scan) -> Scan
+    requires scanned { IsScanned bytes.now from }
+    requires other { from.line ≡ line.Other }
+    ensures scanned { IsScanned bytes.now result }
+    ensures forward { from.seen ≤ result.seen }
+{
+    let mut seen = from.seen;
+    'line: while seen < bytes.len() && bytes[seen] != b'\n' {
+        seen += 1;
+    }
+    Scan {
+        seen,
+        feeds: from.feeds,
+        begun: from.begun,
+        line: from.line,
+    }
 }

@@ -90,8 +90,7 @@ fn share_zone(number: usize, zone: &Zone) -> Result<Zone, CheckFault>
     ensures zone { IfOk result (λ shared. (shared ≡ zone.now) × IsSoundFile zone.now) }
     ensures judged { JudgesUnread (file_fault number zone.now) result }
 {
-    let leaps = &lists(zone).leaps;
-    if leaps.len() > 0 {
+    if lists(zone).leaps().len() > 0 {
         return Err(CheckFault::LeapsInZone(number));
     }
     judge_zone(number, zone)?;

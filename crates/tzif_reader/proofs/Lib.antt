@@ -1,5 +1,6 @@
 pub mod Items
 pub mod Named
+pub mod Places
 pub mod lemmas
 pub mod Headers
 pub mod Records

@@ -9,6 +9,7 @@ mod reading;
 mod tzif_fault;
 mod zone;
 mod zone_file;
+mod zone_lists;
 
 // Its frame: the header, the blocks and the footer.
 mod block;
@@ -36,3 +37,4 @@ pub use reading::read;
 pub use slim_file::{Plan, slim};
 pub use tzif_fault::TzifFault;
 pub use zone_file::{LeapLine, MOST_BYTES, MOST_TRANSITIONS, ZoneFile};
+pub use zone_lists::{ZoneLists, ZoneRest, lists_in, rest_of};

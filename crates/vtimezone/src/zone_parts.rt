@@ -19,6 +19,7 @@ use crate::{Part, Range};
 use std::alloc::Global;
 use td_base::{Items, NoMemory};
 use td_civil::{Moment, new_year_day, year_of};
+use tzif_reader::ZoneLists;
 use zone_meaning::{Zone, footer, lists};
 
 /// The parts of a zone for a range (RFC 5545, section 3.6.5), in rising order of their first
@@ -73,17 +74,18 @@ fn last_moment(zone: &Zone, from: Moment) -> Moment
     ensures meaning { HasMeaning result.seconds }
     ensures no_fault { zone_fault zone.now ≡ None }
 {
-    latest(lists(zone).moments.as_slice(), from)
+    latest(&lists(zone), from)
 }
 
-/// The last of the moments, or the other moment if that is later or the list is empty.
-fn latest(moments: &[Moment], from: Moment) -> Moment
-    ensures { result.seconds ≡ zone_spec.latest from.seconds moments.now }
+/// The last transition, or the other moment if that is later or there is none.
+fn latest(lists: &ZoneLists, from: Moment) -> Moment
+    ensures { result.seconds ≡ zone_spec.latest from.seconds lists.now.moments }
 {
-    if moments.is_empty() {
+    let count = lists.len();
+    if count == 0 {
         return from;
     }
-    let last = moments[moments.len() - 1];
+    let last = lists.moment(count - 1);
     if from.seconds < last.seconds {
         last
     } else {

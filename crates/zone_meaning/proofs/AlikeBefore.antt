@@ -3,7 +3,9 @@ use Rattle.std.proofs.Common.{◌≡◌, ◌≢◌, ℕ, zero, suc, ◌+◌, ◌
 use Rattle.std.proofs.Common.{ℤ, pos, ◌≤ℤ◌, ◌<ℤ◌, get_or}
 use Rattle.std.proofs.lemmas.Bool.{cases_lt}
 use Rattle.std.proofs.lemmas.Int.{by_lt_z}
+use Rattle.std.specs.Prelude.{slice_get}
 use Rattle.std.proofs.lemmas.List.{get_or_default}
+use Rattle.std.proofs.lemmas.Option.{get_or_from_slice_get}
 use Rattle.jiff_core.proofs.SignedLemmas.{signed_arith}
 use Rattle.td_civil.specs.declared.moment_type.Moment.{Moment}
 use Rattle.td_civil.specs.declared.moment_type.TheConstants.{LO}
@@ -69,14 +71,15 @@ one_more_alike one two n alike is place lt = elim (cases_lt place n) [
 ]
 
 -- the last of so many transitions
-pub alike_until : (one two : ZoneFile) (n : ℕ) (moments : List Moment) → HasTypes one → HasTypes two → AreAlikeUpTo one two n → n ≢ 0
-    → moments ≡ one.moments → AreAlike (lists_state one) (lists_state two) LO (get_or moments (n - 1) nothing).seconds
-alike_until one two zero moments first second alike some is = absurd (some refl)
-alike_until one two (suc n) moments first second alike some is = λ t low high.
+pub alike_until : (one two : ZoneFile) (n : ℕ) (m : Moment) → HasTypes one → HasTypes two → AreAlikeUpTo one two n → n ≢ 0
+    → slice_get one.moments (n - 1) ≡ Some m → AreAlike (lists_state one) (lists_state two) LO m.seconds
+alike_until one two zero m first second alike some is = absurd (some refl)
+alike_until one two (suc n) m first second alike some is = λ t low high.
     let back : suc n - 1 ≡ n = omega arith in
-    let here : t <ℤ (get_or moments n nothing).seconds = subst (λ (k : ℕ). t <ℤ (get_or moments k nothing).seconds) back high in
+    let there : get_or one.moments n nothing ≡ m =
+    get_or_from_slice_get one.moments n m nothing (subst (λ (k : ℕ). slice_get one.moments k ≡ Some m) back is) in
     alike_before one two (footer_meant one.footer) (footer_meant two.footer) n t first second alike
-    (subst (λ (ms : List Moment). t <ℤ (get_or ms n nothing).seconds) is here)
+    (subst (λ (x : Moment). t <ℤ x.seconds) (sym there) high)
 
 -- what is kept of two zones gives the states of their files
 pub alike_zones : (file other : List ℕ) (lists z : ZoneFile) (footer f : Option Footer) (b : ℤ) → IsReadFrom file lists footer → IsReadFrom other z f

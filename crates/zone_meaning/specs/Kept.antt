@@ -4,6 +4,7 @@ use Rattle.std.specs.Option.{IfSome}
 use Rattle.tzif_reader.specs.declared.zone_file.ZoneFile.{ZoneFile}
 use Rattle.tzif_reader.specs.Layout.{AreRising}
 use Rattle.tzif_reader.specs.Cut.{lists_of}
+use Rattle.tzif_reader.specs.Places.{IsRestOf}
 use Rattle.posix_footer.specs.declared.rule_types.Footer.{Footer}
 use Rattle.posix_footer.specs.Lawful.{IsLawful, IsLawfulOffset}
 use Rattle.zone_meaning.specs.Faults.{zone_fault}
@@ -18,8 +19,9 @@ pub record IsReadFrom (file : List ℕ) (lists : ZoneFile) (footer : Option Foot
   pub lawful : IfSome footer IsLawful
 
 -- the parts of a zone are those of its file
-abbrev pub AreReadParts : ZoneParts → Type 0
-AreReadParts parts = IsReadFrom parts.file parts.lists parts.footer
+pub record AreReadParts (parts : ZoneParts) : Type 0 where
+  pub rest : IsRestOf parts.file parts.rest
+  pub read : IsReadFrom parts.file (lists_of parts.file) parts.footer
 
 -- there is a type for each transition, and for the time before them, each offset is less than a
 -- day, and the transitions rise

@@ -7,17 +7,17 @@ use Rattle.zone_meaning.specs.State.{state_at}
 use Rattle.zone_meaning.specs.Walks.{IsWalk, IsStop}
 
 abbrev pub left : Walk → List Observance
-left w = changes_between (state_at w.lists.now w.footer.now) w.at.seconds w.end.seconds
+left w = changes_between (state_at w.lists w.footer.now) w.at.seconds w.end.seconds
 
 abbrev pub IsSoundWalk : Walk → Type 0
-IsSoundWalk w = IsWalk w.lists.now w.footer.now w.at.seconds w.end.seconds w.begun w.state w.ahead
+IsSoundWalk w = IsWalk w.lists w.footer.now w.at.seconds w.end.seconds w.begun w.state w.ahead
 
 abbrev pub StopsAt : Walk → ℤ → Type 0
-StopsAt w m = IsStop w.lists.now w.footer.now w.at.seconds w.end.seconds w.begun m
+StopsAt w m = IsStop w.lists w.footer.now w.at.seconds w.end.seconds w.begun m
 
 -- a walk that has come further over the same zone, to the same end
 pub record IsFurther (old new : Walk) : Type 0 where
-  pub lists : new.lists.now ≡ old.lists.now
+  pub lists : new.lists ≡ old.lists
   pub footer : new.footer.now ≡ old.footer.now
   pub end : new.end ≡ old.end
   pub later : old.at.seconds <ℤ new.at.seconds

@@ -13,10 +13,10 @@ ghost use Rattle.zone_meaning.specs.State.{after};
 
 use crate::Zone;
 use crate::lookup::state_after;
-use crate::zone_type::parts_of;
+use crate::zone_type::{lists_of_parts, parts_of};
 use posix_footer::Footer;
 use td_civil::{HI, LO, Moment};
-use tzif_reader::ZoneFile;
+use tzif_reader::ZoneLists;
 
 /// Whether the footer gives, at the last transition, the state that this transition begins (RFC
 /// 9636, section 3.3). True as well for a zone without a footer or without transitions, and for one
@@ -28,12 +28,12 @@ pub fn footer_agrees(zone: &Zone) -> bool
     let parts = parts_of(zone);
     match &parts.footer {
         None => true,
-        Some(footer) => last_goes_on(&parts.lists, footer),
+        Some(footer) => last_goes_on(&lists_of_parts(parts), footer),
     }
 }
 
 /// The same for the lists of a file and its footer.
-fn last_goes_on(lists: &ZoneFile, footer: &Footer) -> bool
+fn last_goes_on(lists: &ZoneLists, footer: &Footer) -> bool
     requires types { HasTypes lists.now }
     requires lawful { IsLawful footer.now }
     requires ends { IfSome (slice_get lists.now.moments (length lists.now.moments - 1))
@@ -41,17 +41,17 @@ fn last_goes_on(lists: &ZoneFile, footer: &Footer) -> bool
     ensures { result ≡ spec.goes_on_if_any lists.now (Some footer.now)
         (slice_get lists.now.moments (length lists.now.moments - 1)) }
 {
-    let moments = lists.moments.as_slice();
-    if moments.is_empty() {
+    let count = lists.len();
+    if count == 0 {
         return true;
     }
-    goes_on(lists, footer, moments[moments.len() - 1])
+    goes_on(lists, footer, lists.moment(count - 1))
 }
 
 /// Whether a footer gives, at the moment of the last transition, the state that this one begins.
 /// True where that moment is before 1800.
 #[tactic(auto, unfolding(crate::specs::Agreement::goes_on))]
-fn goes_on(lists: &ZoneFile, footer: &Footer, last: Moment) -> bool
+fn goes_on(lists: &ZoneLists, footer: &Footer, last: Moment) -> bool
     requires types { HasTypes lists.now }
     requires lawful { IsLawful footer.now }
     requires early { last.seconds <ℤ HI }
@@ -61,7 +61,7 @@ fn goes_on(lists: &ZoneFile, footer: &Footer, last: Moment) -> bool
 }
 
 /// Whether a footer gives, at a moment, the state that the last transition begins.
-fn is_last_state(lists: &ZoneFile, footer: &Footer, last: Moment) -> bool
+fn is_last_state(lists: &ZoneLists, footer: &Footer, last: Moment) -> bool
     requires types { HasTypes lists.now }
     requires lawful { IsLawful footer.now }
     requires meaning { HasMeaning last.seconds }
@@ -70,5 +70,5 @@ fn is_last_state(lists: &ZoneFile, footer: &Footer, last: Moment) -> bool
         (after lists.now (length lists.now.moments)) }
 {
     let state = posix_footer::at(footer, last);
-    state.is_same(&state_after(lists, lists.moments.len()))
+    state.is_same(&state_after(lists, lists.len()))
 }

@@ -11,9 +11,9 @@ ghost use Rattle.zone_meaning.specs.State.{footer_meant, zone_state};
 ghost use Rattle.zone_meaning.specs.Walks.{HaveBegun};
 
 use crate::Zone;
-use crate::zone_type::parts_of;
+use crate::zone_type::{lists_of_parts, parts_of};
 use td_civil::{HI, LO, Moment};
-use tzif_reader::ZoneFile;
+use tzif_reader::ZoneLists;
 
 /// The period of the calendar in seconds: 400 years, which are 146,097 days and whole weeks.
 const CYCLE: i64 = 12_622_780_800;
@@ -23,13 +23,14 @@ pub(crate) fn decided_by(one: &Zone, two: &Zone) -> Moment
     ensures range { IsRange LO result.seconds }
     ensures decided { Decides (zone_state one.now) (zone_state two.now) result.seconds }
 {
-    decided_by_lists(&parts_of(one).lists, &parts_of(two).lists)
+    let (one, two) = (parts_of(one), parts_of(two));
+    decided_by_lists(&lists_of_parts(one), &lists_of_parts(two))
 }
 
 /// The same for the lists of two files. After the last transition of both, the footers decide. With
 /// equal footer texts the zones agree for ever. With different ones, any difference shows within
 /// one period of the calendar.
-fn decided_by_lists(one: &ZoneFile, two: &ZoneFile) -> Moment
+fn decided_by_lists(one: &ZoneLists, two: &ZoneLists) -> Moment
     requires types { HasTypes one.now }
     requires lawful { IfSome (footer_meant one.now.footer) IsLawful }
     requires ends { IfSome (slice_get one.now.moments (length one.now.moments - 1))
@@ -50,10 +51,10 @@ fn decided_by_lists(one: &ZoneFile, two: &ZoneFile) -> Moment
 }
 
 /// Whether the footers of two files have the same text.
-fn has_same_footer(one: &ZoneFile, two: &ZoneFile) -> bool
+fn has_same_footer(one: &ZoneLists, two: &ZoneLists) -> bool
     ensures { IsTrue result → one.now.footer ≡ two.now.footer }
 {
-    one.footer.as_slice() == two.footer.as_slice()
+    one.footer() == two.footer()
 }
 
 /// The next second.
@@ -82,7 +83,7 @@ fn cycle_after(last: Moment) -> Moment
 }
 
 /// A moment by which every transition of both files has passed.
-fn last_of_both(one: &ZoneFile, two: &ZoneFile) -> Moment
+fn last_of_both(one: &ZoneLists, two: &ZoneLists) -> Moment
     requires types { HasTypes one.now }
     requires ends { IfSome (slice_get one.now.moments (length one.now.moments - 1))
         (λ m. m.seconds <ℤ HI) }
@@ -98,7 +99,7 @@ fn last_of_both(one: &ZoneFile, two: &ZoneFile) -> Moment
 
 /// A moment by which every transition has passed: the last one, or the start of 1800 if that is
 /// later.
-fn last_turn(lists: &ZoneFile) -> Moment
+fn last_turn(lists: &ZoneLists) -> Moment
     requires types { HasTypes lists.now }
     requires ends { IfSome (slice_get lists.now.moments (length lists.now.moments - 1))
         (λ m. m.seconds <ℤ HI) }
@@ -106,11 +107,11 @@ fn last_turn(lists: &ZoneFile) -> Moment
     ensures begun { HaveBegun lists.now.moments result.seconds (length lists.now.moments) }
 {
     let first = Moment { seconds: LO };
-    let moments = lists.moments.as_slice();
-    if moments.is_empty() {
+    let count = lists.len();
+    if count == 0 {
         return first;
     }
-    later(first, moments[moments.len() - 1])
+    later(first, lists.moment(count - 1))
 }
 
 /// The later of two moments.

@@ -11,10 +11,10 @@ ghost use Rattle.zone_meaning.specs.Rules.{FollowsRules};
 ghost use Rattle.zone_meaning.specs.State as state;
 
 use crate::Zone;
-use crate::zone_type::parts_of;
+use crate::zone_type::{lists_of_parts, parts_of};
 use posix_footer::Footer;
 use td_civil::{Local, Moment};
-use tzif_reader::ZoneFile;
+use tzif_reader::ZoneLists;
 
 /// The state of local time at a moment: offset, daylight saving flag and name (RFC 9636, sections
 /// 3.2 and 3.3). It allocates nothing.
@@ -27,11 +27,11 @@ pub fn at(zone: &Zone, t: Moment) -> Local
     ensures offset { IsWithin 86_399 result.offset }
 {
     let parts = parts_of(zone);
-    state_at(&parts.lists, &parts.footer, t)
+    state_at(&lists_of_parts(parts), &parts.footer, t)
 }
 
 /// The state that a file's lists and its footer give at a moment.
-pub(crate) fn state_at(lists: &ZoneFile, footer: &Option<Footer>, t: Moment) -> Local
+pub(crate) fn state_at(lists: &ZoneLists, footer: &Option<Footer>, t: Moment) -> Local
     requires types { HasTypes lists.now }
     requires lawful { IfSome footer.now IsLawful }
     requires meaning { HasMeaning t.seconds }
@@ -42,7 +42,7 @@ pub(crate) fn state_at(lists: &ZoneFile, footer: &Option<Footer>, t: Moment) -> 
 
 /// The same, given how many transitions are not after the moment.
 pub(crate) fn state_when(
-    lists: &ZoneFile,
+    lists: &ZoneLists,
     footer: &Option<Footer>,
     begun: usize,
     t: Moment,
@@ -55,24 +55,32 @@ pub(crate) fn state_when(
     ensures { result ≡ state.state_at lists.now footer.now t.seconds }
 {
     match footer {
-        Some(footer) if begun == lists.moments.len() => posix_footer::at(footer, t),
+        Some(footer) if begun == lists.len() => posix_footer::at(footer, t),
         _ => state_after(lists, begun),
     }
 }
 
 /// How many transitions are not after a moment.
-pub(crate) fn begun(lists: &ZoneFile, t: Moment) -> usize
+pub(crate) fn begun(lists: &ZoneLists, t: Moment) -> usize
     requires { HasTypes lists.now }
     ensures count { result ≡ state.begun t.seconds lists.now.moments }
     ensures bound { result ≤ length lists.now.moments }
     ensures place { HaveBegun lists.now.moments t.seconds result }
 {
-    let moments = lists.moments.as_slice();
-    moments.partition_point(|moment| moment.seconds <= t.seconds)
+    let (mut low, mut high) = (0, lists.len());
+    'halves: while low < high {
+        let middle = low + (high - low) / 2;
+        if lists.moment(middle).seconds <= t.seconds {
+            low = middle + 1;
+        } else {
+            high = middle;
+        }
+    }
+    low
 }
 
 /// The state that the types give after this number of transitions.
-pub(crate) fn state_after(lists: &ZoneFile, begun: usize) -> Local
+pub(crate) fn state_after(lists: &ZoneLists, begun: usize) -> Local
     requires types { HasTypes lists.now }
     requires bound { begun ≤ length lists.now.moments }
     ensures { result ≡ state.after lists.now begun }
@@ -81,7 +89,7 @@ pub(crate) fn state_after(lists: &ZoneFile, begun: usize) -> Local
 }
 
 /// The type in force after this number of transitions.
-pub(crate) fn type_after(lists: &ZoneFile, begun: usize) -> &Local
+pub(crate) fn type_after<'a>(lists: &ZoneLists<'a>, begun: usize) -> &'a Local
     requires types { HasTypes lists.now }
     requires bound { begun ≤ length lists.now.moments }
     ensures { result.now ≡ state.after lists.now begun }
@@ -89,7 +97,7 @@ pub(crate) fn type_after(lists: &ZoneFile, begun: usize) -> &Local
     let number = if begun == 0 {
         0
     } else {
-        lists.numbers.as_slice()[begun - 1]
+        lists.number(begun - 1)
     };
-    &lists.kinds.as_slice()[number as usize]
+    &lists.kinds()[number as usize]
 }

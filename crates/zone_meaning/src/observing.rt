@@ -7,7 +7,7 @@ ghost use Rattle.zone_meaning.specs.WalkLeft.{HandsOut};
 use crate::Zone;
 use crate::lookup::{begun, state_when};
 use crate::walk::Walk;
-use crate::zone_type::parts_of;
+use crate::zone_type::{lists_of_parts, parts_of};
 use std::alloc::Global;
 use std::marker::Model;
 use td_base::{Items, NoMemory};
@@ -44,8 +44,9 @@ impl<'a> Changes<'a> {
         ensures { result ≡ observed (zone_state zone.now) a.seconds b.seconds }
     {
         let parts = parts_of(zone);
-        let begun = begun(&parts.lists, a);
-        let state = state_when(&parts.lists, &parts.footer, begun, a);
+        let lists = lists_of_parts(parts);
+        let begun = begun(&lists, a);
+        let state = state_when(&lists, &parts.footer, begun, a);
         let first = Observance {
             onset: a,
             from: state.offset,
@@ -54,7 +55,7 @@ impl<'a> Changes<'a> {
             name: state.name.copy(),
         };
         let walk = Walk {
-            lists: &parts.lists,
+            lists,
             footer: &parts.footer,
             end: b,
             at: a,

@@ -13,7 +13,7 @@ use crate::{Zone, ZoneFault};
 use posix_footer::{Footer, FooterFault};
 use std::alloc::Global;
 use td_base::Bytes;
-use tzif_reader::ZoneFile;
+use tzif_reader::{ZoneFile, rest_of};
 
 /// The zone of a file. `Tzif` is returned where the bytes are not a zone file. `Footer` is returned
 /// where they are one, but its footer is neither empty nor a TZ string (RFC 9636, section 3.3).
@@ -41,11 +41,8 @@ pub fn zone_from_lists(alloc: Global, file: Bytes, lists: ZoneFile) -> Result<Zo
     ensures fault { IfErr result (λ e. e ≢ ZoneFault.NoMemory → zone_fault file ≡ Some e) }
 {
     let footer = footer_in(&lists.footer)?;
-    let parts = ZoneParts {
-        file,
-        lists,
-        footer,
-    };
+    let rest = rest_of(file.as_slice(), lists);
+    let parts = ZoneParts { file, rest, footer };
     let zone = zone_of_parts(alloc, parts)?;
     Ok(zone)
 }

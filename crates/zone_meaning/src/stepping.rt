@@ -37,12 +37,12 @@ impl<'a> Walk<'a> {
     /// The next moment before the end at which the state may change.
     fn next_stop(&self) -> Option<StateTurn>
         requires { IsSoundWalk self.now }
-        ensures stop { IsNextStop self.now.lists.now self.now.footer.now self.now.at.seconds
+        ensures stop { IsNextStop self.now.lists self.now.footer.now self.now.at.seconds
             self.now.end.seconds self.now.begun (option_map (λ turn. turn.at) result) }
-        ensures state { IfSome result (IsKnown self.now.lists.now self.now.footer.now) }
+        ensures state { IfSome result (IsKnown self.now.lists self.now.footer.now) }
         ensures ahead { IfSome result (KnowsAhead self.now.footer.now) }
     {
-        match next_turn(self.lists, self.footer, self.begun, self.at, &self.ahead) {
+        match next_turn(&self.lists, self.footer, self.begun, self.at, &self.ahead) {
             Some(turn) if turn.at.seconds < self.end.seconds => Some(turn),
             _ => None,
         }
@@ -53,13 +53,13 @@ impl<'a> Walk<'a> {
     fn go_on(&mut self, stop: StateTurn) -> Option<Observance>
         requires sound { IsSoundWalk self.old }
         requires stop { StopsAt self.old stop.at.seconds }
-        requires known { IsKnown self.old.lists.now self.old.footer.now stop }
+        requires known { IsKnown self.old.lists self.old.footer.now stop }
         requires ahead { KnowsAhead self.old.footer.now stop }
         ensures sound { IsSoundWalk self.new }
         ensures further { IsFurther self.old self.new }
         ensures left { HandsOut (left self.old) result (left self.new) }
     {
-        let begun = one_more(self.begun, self.lists.moments.len());
+        let begun = one_more(self.begun, self.lists.len());
         let onset = stop.at;
         let ahead = stop.ahead;
         let state = self.state_from(stop, begun);
@@ -82,14 +82,14 @@ impl<'a> Walk<'a> {
     fn state_from(&self, stop: StateTurn, begun: usize) -> Local
         requires sound { IsSoundWalk self.now }
         requires stop { StopsAt self.now stop.at.seconds }
-        requires known { IsKnown self.now.lists.now self.now.footer.now stop }
+        requires known { IsKnown self.now.lists self.now.footer.now stop }
         requires begun { begun
-            ≡ min (self.now.begun + 1) (length self.now.lists.now.moments) }
-        ensures { result ≡ state_at self.now.lists.now self.now.footer.now stop.at.seconds }
+            ≡ min (self.now.begun + 1) (length self.now.lists.moments) }
+        ensures { result ≡ state_at self.now.lists self.now.footer.now stop.at.seconds }
     {
         match stop.state {
             Some(state) => state,
-            None => state_when(self.lists, self.footer, begun, stop.at),
+            None => state_when(&self.lists, self.footer, begun, stop.at),
         }
     }
 }

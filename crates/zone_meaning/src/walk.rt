@@ -12,12 +12,12 @@ ghost use Rattle.zone_meaning.specs.Walks.{HaveBegun, IsAheadOf, IsKnownAhead, I
 
 use posix_footer::{Ahead, Footer, ahead_after, ahead_of, change_ahead};
 use td_civil::{Local, Moment};
-use tzif_reader::ZoneFile;
+use tzif_reader::ZoneLists;
 
 /// The position of a walk.
 #[derive(Drop)]
 pub(crate) struct Walk<'a> {
-    pub(crate) lists: &'a ZoneFile,
+    pub(crate) lists: ZoneLists<'a>,
     pub(crate) footer: &'a Option<Footer>,
     /// The walk returns only changes before this moment.
     pub(crate) end: Moment,
@@ -41,7 +41,7 @@ pub(crate) struct StateTurn {
 /// The next moment at which the state may change, after one by which this number of transitions
 /// have passed, and whose onsets ahead may be known.
 pub(crate) fn next_turn(
-    lists: &ZoneFile,
+    lists: &ZoneLists,
     footer: &Option<Footer>,
     begun: usize,
     t: Moment,
@@ -57,10 +57,9 @@ pub(crate) fn next_turn(
     ensures state { IfSome result (IsKnown lists.now footer.now) }
     ensures ahead { IfSome result (KnowsAhead footer.now) }
 {
-    let moments = lists.moments.as_slice();
-    if begun < moments.len() {
+    if begun < lists.len() {
         return Some(StateTurn {
-            at: moments[begun],
+            at: lists.moment(begun),
             state: None,
             ahead: None,
         });

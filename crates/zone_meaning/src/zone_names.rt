@@ -12,7 +12,7 @@ use td_civil::{Local, Name};
 pub fn has_printable_names(zone: &Zone) -> bool
     ensures { result ≡ has_printable_names zone.now }
 {
-    are_printable(lists(zone).kinds.as_slice()) && has_printable_rule(footer(zone))
+    are_printable(lists(zone).kinds()) && has_printable_rule(footer(zone))
 }
 
 /// Whether each name of the types can be printed.

@@ -3,7 +3,7 @@ ghost use Rattle.tzif_reader.specs.Cut as cut;
 ghost use Rattle.std.specs.Option.{IfSome};
 ghost use Rattle.posix_footer.specs.Lawful.{IsLawful};
 ghost use Rattle.zone_meaning.specs.Faults.{zone_fault};
-ghost use Rattle.zone_meaning.specs.Kept.{AreReadParts, HasTypes};
+ghost use Rattle.zone_meaning.specs.Kept.{AreReadParts, HasTypes, IsReadFrom};
 ghost use Rattle.zone_meaning.specs.State.{footer_meant};
 
 use posix_footer::Footer;
@@ -11,19 +11,20 @@ use std::alloc::{AllocError, Global};
 use std::marker::Model;
 use std::sync::Arc;
 use td_base::{Bytes, NoMemory};
-use tzif_reader::ZoneFile;
+use tzif_reader::{ZoneLists, ZoneRest, lists_in};
 
-/// A zone's file, with the lists and the footer that were read from it.
+/// A zone's file, with what was read from it and is kept beside its bytes.
 #[derive(Drop)]
 pub(crate) struct ZoneParts {
     pub(crate) file: Bytes,
-    pub(crate) lists: ZoneFile,
+    pub(crate) rest: ZoneRest,
     /// None where the footer's text is empty.
     pub(crate) footer: Option<Footer>,
 }
 
-/// A time zone: its file, with the lists and the footer that were read from it. Contracts see it as
-/// the bytes of the file. What was read is shared by all that [`Zone::share`] gives.
+/// A time zone: its file, with what was read from it. Its transitions are read where they stand in
+/// the file. Contracts see it as the bytes of the file. It is shared by all that [`Zone::share`]
+/// gives.
 #[derive(Drop)]
 pub struct Zone {
     parts: Arc<ZoneParts>,
@@ -55,7 +56,7 @@ impl Zone {
     }
 }
 
-/// The zone of a file, from the lists and the footer that were read from it.
+/// The zone of a file, from what was read from it.
 pub(crate) fn zone_of_parts(alloc: Global, parts: ZoneParts) -> Result<Zone, NoMemory>
     requires { AreReadParts parts }
     ensures { IfOk result (λ zone. zone ≡ parts.file) }
@@ -83,16 +84,24 @@ pub fn file(zone: &Zone) -> &[u8]
 pub fn leap_count(zone: &Zone) -> usize
     ensures { result ≡ length (cut.lists_of zone.now).leaps }
 {
-    parts_of(zone).lists.leaps.len()
+    parts_of(zone).rest.leaps.len()
 }
 
-/// The lists that were read from the zone's file.
-pub fn lists(zone: &Zone) -> &ZoneFile
+/// The lists of the zone's file.
+pub fn lists(zone: &Zone) -> ZoneLists<'_>
     ensures no_fault { zone_fault zone.now ≡ None }
-    ensures lists { result.now ≡ cut.lists_of zone.now }
-    ensures types { HasTypes result.now }
+    ensures lists { result ≡ cut.lists_of zone.now }
+    ensures types { HasTypes result }
 {
-    &parts_of(zone).lists
+    lists_of_parts(parts_of(zone))
+}
+
+/// The lists of a zone's file.
+pub(crate) fn lists_of_parts(parts: &ZoneParts) -> ZoneLists<'_>
+    requires { AreReadParts parts.now }
+    ensures { IsReadFrom parts.now.file result parts.now.footer }
+{
+    lists_in(parts.file.as_slice(), &parts.rest)
 }
 
 /// The rule that the TZ string of the zone's file encodes, or None where it is empty.

@@ -10,5 +10,5 @@ pub returns-clause-meaning : goal.returns-clause-meaning
 returns-clause-meaning c =
     let moments = (lists_of c.args.zone.now).moments in
     let is : c.latest.result.seconds ≡ latest c.args.from.seconds moments =
-    c.latest.ensures ∙ ap (latest c.args.from.seconds) (c.as_slice.ensures ∙ ap (λ (z : ZoneFile). z.moments) c.lists.ensures.lists) in
+    c.latest.ensures ∙ ap (latest c.args.from.seconds) (ap (λ (z : ZoneFile). z.moments) c.lists.ensures.lists) in
     subst HasMeaning (sym is) (latest_meant c.args.zone.now c.args.from.seconds moments c.lists.ensures.no_fault refl c.requires)

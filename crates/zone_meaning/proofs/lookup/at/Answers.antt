@@ -5,9 +5,9 @@ use Rattle.zone_meaning.proofs.lemmas.Types.{kept_types, state_offset}
 use Rattle.zone_meaning.proofs.lookup.at.Goals as goal
 
 pub state_at-requires-clause-types : goal.state_at-requires-clause-types
-state_at-requires-clause-types c = kept_types _ _ _ c.parts_of-parts.ensures.read
+state_at-requires-clause-types c = kept_types _ _ _ c.lists_of_parts.ensures
 
 pub returns-clause-offset : goal.returns-clause-offset
 returns-clause-offset c =
     subst (λ (s : Local). IsLawfulOffset s.offset) (sym c.state_at.ensures)
-    (state_offset c.parts_of-parts.result.now.lists c.parts_of-parts.result.now.footer c.args.t.seconds (kept_types _ _ _ c.parts_of-parts.ensures.read) c.parts_of-parts.ensures.read.lawful)
+    (state_offset c.lists_of_parts.result c.parts_of-parts.result.now.footer c.args.t.seconds (kept_types _ _ _ c.lists_of_parts.ensures) c.lists_of_parts.ensures.lawful)

@@ -10,11 +10,11 @@ use Rattle.zone_meaning.proofs.walk.Walk.go_on.Goals as goal
 
 pub state_from-state-requires-clause-begun : goal.state_from-state-requires-clause-begun
 state_from-state-requires-clause-begun c =
-    c.one_more-begun.ensures ∙ ap (min (c.args.self.now.begun + 1)) c.len.ensures
+    c.one_more-begun.ensures ∙ ap (min (c.args.self.now.begun + 1)) c.len.ensures.moments
 
 pub returns-then-same-clause-left : goal.returns-then-same-clause-left
 returns-then-same-clause-left c =
-    let state : ℤ → Local = state_at c.args.self.now.lists.now c.args.self.now.footer.now in
+    let state : ℤ → Local = state_at c.args.self.now.lists c.args.self.now.footer.now in
     let same : c.state_from-state.result ≡ c.args.self.now.state = c.is_same-same.ensures.equal.0 (c.if-same.true) in
     same_left state c.args.self.now.at.seconds c.args.stop.at.seconds c.args.self.now.end.seconds c.requires.stop.turn.later c.requires.stop.before_end
     c.requires.stop.turn.stays
@@ -22,7 +22,7 @@ returns-then-same-clause-left c =
 
 pub returns-else-same-clause-left : goal.returns-else-same-clause-left
 returns-else-same-clause-left c =
-    let z = c.args.self.now.lists.now in
+    let z = c.args.self.now.lists in
     let footer = c.args.self.now.footer.now in
     let state : ℤ → Local = state_at z footer in
     let t = c.args.self.now.at.seconds in
