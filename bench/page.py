@@ -140,10 +140,13 @@ def changes(figures):
     for (what,), row in installs.items():
         sync = syncs[what,]
         cells.append([what, f"{row['wall']:.2f}", f"{row['cost']:.2f}", f"{sync['wall']:.2f}", f"{sync['cost']:.2f}",
-                      f"{sync['beyond_kib']:,}" if "beyond_kib" in sync else "-"])
-    heads = ["What changes", "Install, ms", "processor, ms", "Sync, ms", "processor, ms", "Mirror's most memory beyond a server, KiB"]
+                      *(f"{sync[it]:,}" if it in sync else "-" for it in ("beyond_primary_kib", "beyond_kib"))])
+    heads = ["What changes", "Install, ms", "processor, ms", "Sync, ms", "processor, ms", "Memory beyond the primary, KiB",
+             "beyond a server at rest, KiB"]
     text = """An install is timed at the console, from the line to the reply. So is a mirror's sync; its processor time is
-        that of the mirror. The clock's figures are medians, and processor time is a mean."""
+        that of the mirror. The clock's figures are medians, and processor time is a mean. The last two columns
+        compare the most memory that a mirror ever held. Its primary installed the same releases, and so held two
+        of them at once, too. The server at rest installed none."""
     sections = ["## Installs and syncs", wrapped(text), table(heads, cells)]
     if "largest" in figures:
         it = figures["largest"]
@@ -251,8 +254,8 @@ def marks(figures):
         worst = max(sync["wall"], sync["cost"])
         found.append(("sync of one zone", "at most 1.5 ms by the clock and of the processor", f"{sync['wall']:.2f} and {sync['cost']:.2f} ms", worst <= 1.5))
         found.append(("install of one zone", "at most 2 ms", f"{install['wall']:.2f} ms", install["wall"] <= 2))
-        beyond = max(row.get("beyond_kib", 0) for row in syncs.values())
-        found.append(("memory of later syncs", "at most 700 KiB beyond a server of that release", f"{beyond:,} KiB", beyond <= 700))
+        beyond = max(row.get("beyond_primary_kib", row.get("beyond_kib", 0)) for row in syncs.values())
+        found.append(("memory of later syncs", "at most 700 KiB beyond a server that installed the same", f"{beyond:,} KiB", beyond <= 700))
     if "largest" in figures:
         it = figures["largest"]
         times = it["peak_after_kib"] / it["release_kib"]

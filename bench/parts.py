@@ -157,7 +157,8 @@ class Measured:
         return {"installs": installs, "syncs": syncs}
 
     def synced(self, server, mirror, install, first):
-        """Syncs after installs, and what the mirror holds beyond a server of the same release."""
+        """Syncs after installs, and the most memory of the mirror: beyond that of its primary, which
+        installed the same releases, and beyond a server at rest that installed none."""
         walls, costs, end, turn = [], [], time.monotonic() + 2 * self.settings["seconds"], 0
         while len(walls) < 2 or (len(walls) < 100 and time.monotonic() < end):
             install(turn)
@@ -168,9 +169,10 @@ class Measured:
         with self.served([self.folder], WORKERS) as alone:
             resting = status_of(alone.pid, "VmRSS")
             alone.quit(60)
-        peak = status_of(mirror.pid, "VmHWM")
+        peak, primary = status_of(mirror.pid, "VmHWM"), status_of(server.pid, "VmHWM")
         return {"wall": round(sorted(walls)[len(walls) // 2], 3), "cost": round(sum(costs) / len(costs), 3), "count": len(walls),
-                "first_peak_kib": first, "peak_kib": peak, "beyond_kib": peak - resting}
+                "first_peak_kib": first, "peak_kib": peak, "primary_peak_kib": primary, "beyond_primary_kib": peak - primary,
+                "beyond_kib": peak - resting}
 
     def largest(self):
         """A release of 4,096 zones and files of 65,536 bytes, installed again with one changed zone."""

@@ -192,7 +192,7 @@ def figures_of(worst=1.0):
                              "micros": 5.0 * times, "p50": 0.1, "p99": 0.2, "faults": 0})
     changed = {"what": "one zone", "wall": 1.0, "cost": 1.0, "count": 9}
     installs = [{**changed, "what": what} for what in ("nothing", "one zone", "all zones")]
-    syncs = [{**row, "beyond_kib": 650} for row in installs]
+    syncs = [{**row, "beyond_primary_kib": 150, "beyond_kib": 650} for row in installs]
     attack = {"server": "tzdistd", "requests": 100, "failures": 0, "p50": 0.1, "p99": 0.2, "longest": 3.0, "memory_kib": 4096}
     attacks = [{**attack, "flood": flood, "client": client} for flood in page.SHORT_FLOODS for client in ("kept", "new")]
     attacks.append({**attacks[0], "flood": "none", "server": "nginx", "memory_kib": None, "p50": None, "p99": None, "longest": None})
