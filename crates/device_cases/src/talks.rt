@@ -1,4 +1,5 @@
 //! Conversations at a door, step by step.
+use crate::fault::refused;
 use crate::listens::open;
 use crate::talk::{Talk, client};
 use case_lines::{Answer, CaseFault, Row, Told, number, shown};
@@ -7,6 +8,9 @@ use std::io::Eprint;
 use std::net::{Net, TcpListener, TcpStream};
 use std::time::Clock;
 use td_base::{ReadStep, texts};
+
+/// How often the clock is read at most while time passes.
+const MOST_LOOKS: u64 = 100_000_000;
 
 /// `talk STEP STEP ..`: the output of the steps at a door at a free port, with a bar after each
 /// step that has output. A step is a name, and may have a number or a text after a colon.
@@ -43,6 +47,7 @@ where
         b"send" => talk.send(text),
         b"shut" => talk.shut(),
         b"finish" => talk.finish(),
+        b"pause" => pause(rt, number(text)?),
         b"turn" => {
             let _ = talk.twice();
             Ok(())
@@ -53,6 +58,23 @@ where
             Ok(())
         }
     }
+}
+
+/// Lets so many milliseconds pass.
+fn pause<R: Clock>(rt: &R, millis: u64) -> Result<(), CaseFault> {
+    let end = millis_of(rt)?.saturating_add(millis);
+    for _ in 0..MOST_LOOKS {
+        if millis_of(rt)? >= end {
+            break;
+        }
+    }
+    Ok(())
+}
+
+/// The reading of the clock in milliseconds.
+fn millis_of<R: Clock>(rt: &R) -> Result<u64, CaseFault> {
+    let time = rt.monotonic().map_err(refused)?;
+    Ok(u64::try_from(time.as_millis()).unwrap_or(u64::MAX))
 }
 
 /// The output of a step that has output.
