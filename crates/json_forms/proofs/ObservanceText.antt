@@ -89,18 +89,29 @@ unfolding print_from escape_byte offsets
 observance_printed true name stamp from to stays = ap (λ l. codes ",{\"name\":\"" ++ l) (strings_joined name stamp from to stays)
 observance_printed false name stamp from to stays = ap (λ l. codes "{\"name\":\"" ++ l) (strings_joined name stamp from to stays)
 
-joined : (a b c d e f g h i j k : List ℕ)
-    → ((((((((a ++ (b ++ c)) ++ d) ++ e) ++ f) ++ g) ++ h) ++ i) ++ j) ++ k ≡ a ++ (b ++ (c ++ (d ++ (e ++ (f ++ (g ++ (h ++ (i ++ (j ++ k)))))))))
-joined a b c d e f g h i j k = simp append_assoc
+joined : (a b c d e : List ℕ) → ((a ++ (b ++ c)) ++ d) ++ e ≡ a ++ (b ++ (c ++ (d ++ e)))
+joined a b c d e = simp append_assoc
 
--- as they are appended one after another
+-- as they are appended one after another, with what comes after the name in one piece
 pub observance_appended : (out : List ℕ) (after : Bool) (name stamp from to : List ℕ) → escape stamp ≡ stamp
-    → ((((((((out ++ (cond after (44 ∷ []) [] ++ codes "{\"name\":\"")) ++ escape name) ++ codes "\",\"onset\":\"") ++ stamp)
-    ++ codes "\",\"utc-offset-from\":") ++ from) ++ codes ",\"utc-offset-to\":") ++ to) ++ codes "}"
+    → ((out ++ (cond after (44 ∷ []) [] ++ codes "{\"name\":\"")) ++ escape name)
+    ++ (codes "\",\"onset\":\"" ++ (stamp ++ (codes "\",\"utc-offset-from\":" ++ (from ++ (codes ",\"utc-offset-to\":" ++ (to ++ codes "}"))))))
     ≡ out ++ print_from after
     (token.begin_object ∷ token.key (codes "name") ∷ token.string name ∷ token.key (codes "onset") ∷ token.string stamp
     ∷ token.key (codes "utc-offset-from") ∷ token.number from ∷ token.key (codes "utc-offset-to") ∷ token.number to ∷ token.end_object ∷ [])
 observance_appended out after name stamp from to stays =
-    joined out (cond after (44 ∷ []) []) (codes "{\"name\":\"") (escape name) (codes "\",\"onset\":\"") stamp (codes "\",\"utc-offset-from\":")
-    from (codes ",\"utc-offset-to\":") to (codes "}")
+    joined out (cond after (44 ∷ []) []) (codes "{\"name\":\"") (escape name) _
     ∙ ap (λ l. out ++ l) (sym (observance_printed after name stamp from to stays))
+
+seven_joined : (a b c d e f g : List ℕ) → (((((a ++ b) ++ c) ++ d) ++ e) ++ f) ++ g ≡ a ++ (b ++ (c ++ (d ++ (e ++ (f ++ g)))))
+seven_joined a b c d e f g = simp append_assoc
+
+-- what comes after the name, as it is put together
+pub rest_joined : (t0 t1 t2 t3 t4 t5 t6 t7 a b c stamp from to : List ℕ)
+    → t0 ≡ [] → t1 ≡ t0 ++ codes "\",\"onset\":\"" → t2 ≡ t1 ++ a → a ≡ stamp
+    → t3 ≡ t2 ++ codes "\",\"utc-offset-from\":" → t4 ≡ t3 ++ b → b ≡ from
+    → t5 ≡ t4 ++ codes ",\"utc-offset-to\":" → t6 ≡ t5 ++ c → c ≡ to → t7 ≡ t6 ++ codes "}"
+    → t7 ≡ codes "\",\"onset\":\"" ++ (stamp ++ (codes "\",\"utc-offset-from\":" ++ (from ++ (codes ",\"utc-offset-to\":" ++ (to ++ codes "}")))))
+rest_joined t0 t1 t2 t3 t4 t5 t6 t7 a b c stamp from to h0 h1 h2 is_stamp h3 h4 is_from h5 h6 is_to h7 =
+    rw (h7, h6, is_to, h5, h4, is_from, h3, h2, is_stamp, h1, h0)
+    (seven_joined (codes "\",\"onset\":\"") stamp (codes "\",\"utc-offset-from\":") from (codes ",\"utc-offset-to\":") to (codes "}"))

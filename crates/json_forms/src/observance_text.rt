@@ -1,18 +1,23 @@
 //! The text of an observance, appended in pieces that are mostly fixed. It is the text that a
 //! `Writer` gives for the observance's tokens.
 ghost use Rattle.std.specs.Prelude.{◌≡◌, ◌++◌, [], ◌∷◌, IsTrue, codes, cond, OnOk};
+ghost use Rattle.std.specs.Fmt.{signed_decimal};
 ghost use Rattle.std.specs.List.{list_all};
 ghost use Rattle.json.specs.Print.{escape, escape_byte, print_from};
-ghost use Rattle.serde_json.specs.Find.{of_integer};
-ghost use Rattle.serde_json.specs.Written.{number_text};
 ghost use Rattle.td_base.specs.Names.{is_printable, IsPlain};
+ghost use Rattle.td_civil.specs.Bounds.{IsWithinBounds};
+ghost use Rattle.td_civil.specs.Calendar.{text_of};
 ghost use Rattle.json_forms.specs.Escapes.{is_unescaped};
 ghost use Rattle.json_forms.specs.ExpansionDocument.{observance_data};
 ghost use Rattle.json_forms.specs.PlainTexts.{IsPlainObservance};
 ghost use Rattle.json_forms.specs.TreeTokens.{tree_tokens};
 
-use td_base::{Bytes, NoMemory, put_decimal};
-use td_civil::{Observance, utc_text};
+use itoa::Buffer;
+use td_base::{Bytes, NoMemory, ShortText};
+use td_civil::{Moment, Observance, utc_text};
+
+/// The most bytes that come after a name.
+const MOST_AFTER_NAME: usize = 91;
 
 /// Appends an observance, with a comma before it if it comes after a value.
 pub(crate) fn put_observance(
@@ -26,14 +31,28 @@ pub(crate) fn put_observance(
 {
     put_opening(out, after_value)?;
     put_escaped(out, observance.name.as_slice())?;
-    out.append(b"\",\"onset\":\"")?;
-    out.append(&utc_text(observance.onset))?;
-    out.append(b"\",\"utc-offset-from\":")?;
-    put_signed(out, observance.from)?;
-    out.append(b",\"utc-offset-to\":")?;
-    put_signed(out, observance.to)?;
-    out.append(b"}")?;
+    let rest = after_name(observance.onset, observance.from, observance.to);
+    out.append(rest.as_slice())?;
     Ok(())
+}
+
+/// What comes after the name: the moment and the offsets, in seconds east of UTC. It is put together
+/// apart, since one append costs less than seven.
+fn after_name(onset: Moment, from: i32, to: i32) -> ShortText<MOST_AFTER_NAME>
+    requires { IsWithinBounds onset.seconds }
+    ensures { result ≡ codes "\",\"onset\":\"" ++ (text_of onset.seconds
+        ++ (codes "\",\"utc-offset-from\":" ++ (signed_decimal from
+        ++ (codes ",\"utc-offset-to\":" ++ (signed_decimal to ++ codes "}"))))) }
+{
+    let (mut digits, mut text) = (Buffer::new(), ShortText::new());
+    text.append(b"\",\"onset\":\"");
+    text.append(&utc_text(onset));
+    text.append(b"\",\"utc-offset-from\":");
+    text.append(digits.format(from).as_bytes());
+    text.append(b",\"utc-offset-to\":");
+    text.append(digits.format(to).as_bytes());
+    text.append(b"}");
+    text
 }
 
 /// Appends what stands before the name.
@@ -46,16 +65,6 @@ fn put_opening(out: &mut Bytes, after_value: bool) -> Result<(), NoMemory>
     } else {
         out.append(b"{\"name\":\"")
     }
-}
-
-/// Appends an integer in decimal.
-fn put_signed(out: &mut Bytes, n: i32) -> Result<(), NoMemory>
-    ensures { OnOk result (out.new ≡ out.old ++ number_text (of_integer n)) }
-{
-    if n < 0 {
-        out.push(b'-')?;
-    }
-    put_decimal(out, n.unsigned_abs() as u64)
 }
 
 /// Appends a plain text as it stands within a JSON string.
