@@ -133,7 +133,9 @@ UNITS = {"us": 1e-3, "ms": 1, "s": 1e3, "m": 6e4}
 
 
 def by_wrk(wrk, port, asked, connections, seconds, scheme="http"):
-    words = [wrk, f"-t{min(connections, 2)}", f"-c{connections}", f"-d{seconds}s", "--latency"]
+    # no more threads than processors: one that waits for a processor would count as one that waits for a reply
+    threads = min(connections, 2, len(os.sched_getaffinity(0)))
+    words = [wrk, f"-t{threads}", f"-c{connections}", f"-d{seconds}s", "--latency"]
     for field in asked.fields:
         words += ["-H", field]
     words.append(f"{scheme}://{HOST}:{port}{asked.target}")
