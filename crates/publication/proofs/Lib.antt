@@ -3,3 +3,4 @@ pub mod StepLemmas
 pub mod LastSet
 pub mod EnteringLemmas
 pub mod AddingLemmas
+pub mod StageLemmas

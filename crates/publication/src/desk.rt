@@ -96,6 +96,39 @@ fn enter_once<V: Value>(reader: DeskReader<V>) -> (DeskReader<V>, Option<Found<V
     }
 }
 
+// Holds the edition that an enter found, if it is newer than the one held. `NoMemory` if its
+// copy was refused.
+fn hold<V: Value>(held: &mut Edition<V>, found: Found<V>) -> Result<(), NoMemory>
+    requires book { found.prefix.book ≡ held.old.prefix.book }
+    requires number { found.number ≡ length (values found.prefix.log) }
+    requires copy { IfSome found.edition (λ i. i.prefix ≡ found.prefix) }
+    ensures ok { OnOk result (values held.new.prefix.log ≡ values found.prefix.log) }
+    ensures err { OnErr result (held.new.prefix ≡ held.old.prefix) }
+    ensures book { held.new.prefix.book ≡ held.old.prefix.book }
+    ensures seen { IsPrefix (values held.old.prefix.log) (values held.new.prefix.log) }
+    ensures ended { ended_in held.old.prefix.log ≡ true → held.new.prefix ≡ held.old.prefix }
+{
+    let Found {
+        prefix,
+        number,
+        edition,
+    } = found;
+    are_of_one(&held.prefix, &prefix);
+    // The shown edition is never older than what the desk has learned. But the rule of the history
+    // and that of the shown editions are separate, and neither says so. No schedule leads here.
+    if number < held.number {
+        return Err(NoMemory);
+    }
+    if number == held.number {
+        return Ok(());
+    }
+    let Some(edition) = edition else {
+        return Err(NoMemory);
+    };
+    *held = edition;
+    Ok(())
+}
+
 /// A desk that holds the edition that its reader has learned.
 pub(crate) fn desk_over<V: Value>(reader: DeskReader<V>, edition: Edition<V>) -> Desk<V>
     requires role { (view reader.place).role ≡ AtDesk }
@@ -132,29 +165,10 @@ impl<V: Value> Desk<V> {
     {
         let (reader, found) = enter_once(self.reader.take().unwrap());
         self.reader = Some(reader);
-        let Some(found) = found else {
-            return Err(NoMemory);
-        };
-        let Found {
-            prefix,
-            number,
-            edition,
-        } = found;
-        are_of_one(&self.held.prefix, &prefix);
-        // The shown edition is never older than what the desk has learned. But the rule of the
-        // history and that of the shown editions are separate, and neither says so. No schedule
-        // leads here.
-        if number < self.held.number {
-            return Err(NoMemory);
+        match found {
+            None => Err(NoMemory),
+            Some(found) => hold(&mut self.held, found),
         }
-        if number == self.held.number {
-            return Ok(());
-        }
-        let Some(edition) = edition else {
-            return Err(NoMemory);
-        };
-        self.held = edition;
-        Ok(())
     }
 
     /// The value that the desk holds: the last that it has seen.

@@ -7,7 +7,7 @@ ghost use Rattle.publication.specs.Histories.{values};
 ghost use Rattle.publication.specs.ShownRule.{home_of, told_of};
 
 use crate::edition::Edition;
-use crate::history::HistoryWriter;
+use crate::making::begin_history;
 use crate::publisher::PublisherOf;
 use crate::rule::{Entering, ReaderOf};
 use crate::shown::Sets;
@@ -15,7 +15,7 @@ use crate::stage::{new_reader, open};
 use crate::view::View;
 use left_right::Absorb;
 use std::alloc::{AllocError, Global};
-use std::sync::{Arc, Wait};
+use std::sync::Wait;
 use td_base::{NoMemory, Value};
 
 /// One copy, which refuses one call.
@@ -120,20 +120,7 @@ pub fn make_fragile<V: Value, R: Wait>(
     requires { V.stands first (V.last first ∷ []) }
     ensures { IfOk result (λ p. p.0.list ≡ first ∷ []) }
 {
-    let number = first.count();
-    let Ok(value) = Arc::new(alloc, first) else {
-        return Err(NoMemory);
-    };
-    let Ok(kept) = Arc::try_clone(&value) else {
-        return Err(NoMemory);
-    };
-    let added: &V = &value;
-    let mut history = HistoryWriter::new();
-    if !history.add(added) {
-        return Err(NoMemory);
-    }
-    let last = Edition::of_last(kept, &history.prefix, number, false);
-    let edition = Edition::of_last(value, &history.prefix, number, false);
+    let (history, last, edition) = begin_history(alloc, first)?;
     let copies = (vacant(refused.0), vacant(refused.1));
     let mut stage = open(rt, alloc, copies, edition, 1)?;
     let Ok(reader) = new_reader(&mut stage) else {

@@ -57,18 +57,15 @@ fn desks_of<V: Value>(
     Ok(made)
 }
 
-/// Publishes a first value, and makes `desks` desks that hold it.
-pub fn make<V: Value, R: Wait>(
-    rt: &R,
+/// A history with a first value, and two editions of it.
+pub(crate) fn begin_history<V: Value>(
     alloc: Global,
     first: V,
-    desks: u32,
-) -> Result<(Publisher<V>, Vec<Desk<V>>), NoMemory>
-    requires desks { 0 < desks }
-    requires stands { V.stands first (V.last first ∷ []) }
-    ensures list { IfOk result (λ p. (p.0.list ≡ first ∷ []) × (p.0.stuck ≡ false)) }
-    ensures number { IfOk result (λ p. length p.1.items ≡ desks) }
-    ensures each { IfOk result (λ p. All (IsNewDesk p.0.pair (first ∷ []) false) p.1.items) }
+) -> Result<(HistoryWriter<V>, Edition<V>, Edition<V>), NoMemory>
+    requires { V.stands first (V.last first ∷ []) }
+    ensures list { IfOk result (λ p. values p.0.prefix.log ≡ first ∷ []) }
+    ensures going { IfOk result (λ p. ended_in p.0.prefix.log ≡ false) }
+    ensures editions { IfOk result (λ p. (p.1.prefix ≡ p.0.prefix) × (p.2.prefix ≡ p.0.prefix)) }
 {
     let number = first.count();
     let Ok(value) = Arc::new(alloc, first) else {
@@ -84,6 +81,23 @@ pub fn make<V: Value, R: Wait>(
     }
     let last = Edition::of_last(kept, &history.prefix, number, false);
     let edition = Edition::of_last(value, &history.prefix, number, false);
+    Ok((history, last, edition))
+}
+
+/// Publishes a first value, and makes `desks` desks that hold it.
+pub fn make<V: Value, R: Wait>(
+    rt: &R,
+    alloc: Global,
+    first: V,
+    desks: u32,
+) -> Result<(Publisher<V>, Vec<Desk<V>>), NoMemory>
+    requires desks { 0 < desks }
+    requires stands { V.stands first (V.last first ∷ []) }
+    ensures list { IfOk result (λ p. (p.0.list ≡ first ∷ []) × (p.0.stuck ≡ false)) }
+    ensures number { IfOk result (λ p. length p.1.items ≡ desks) }
+    ensures each { IfOk result (λ p. All (IsNewDesk p.0.pair (first ∷ []) false) p.1.items) }
+{
+    let (history, last, edition) = begin_history(alloc, first)?;
     let copies = (Shown { edition: None }, Shown { edition: None });
     let mut stage = open(rt, alloc, copies, edition, desks)?;
     let Ok(made) = desks_of(&mut stage, alloc, &last, desks) else {

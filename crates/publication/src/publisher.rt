@@ -1,5 +1,6 @@
 ghost use Rattle.std.specs.Prelude.{◌≡◌, ◌⊎◌, [], ◌∷◌, ◌++◌, map, true, false};
 ghost use Rattle.std.specs.Prelude.{Some, None, IfOk, IsErr, OnErr};
+ghost use Rattle.std.specs.Arc.{arc_value};
 ghost use Rattle.std.specs.List.{last_or};
 ghost use Rattle.left_right.specs.Sides.{view};
 ghost use Rattle.publication.specs.declared.view.SeatRole.TheVariants.{Publisher as AtStage};
@@ -12,10 +13,9 @@ use crate::history::{HistoryWriter, are_of_one};
 use crate::receipt::Receipt;
 use crate::rule::StageOf;
 use crate::shown::{Sets, Shown};
-use crate::stage::show;
+use crate::stage::{show, show_held};
 use std::alloc::Global;
 use std::marker::Model;
-use std::mem::replace;
 use std::sync::{Arc, Wait};
 use td_base::{NoMemory, Value};
 
@@ -63,6 +63,78 @@ impl<V: Value, T: Sets<V>> Model for PublisherOf<V, T> {
         → (p.history.prefix.log ≡ p.last.prefix.log) × (ended_in p.last.prefix.log ≡ false)) };
 }
 
+// A value with three owners.
+fn share<V: Value>(alloc: Global, value: V) -> Result<(Arc<V>, Arc<V>, Arc<V>), NoMemory>
+    ensures { IfOk result (λ a. (arc_value a.0 ≡ value) × (arc_value a.1 ≡ value)
+        × (arc_value a.2 ≡ value)) }
+{
+    let Ok(first) = Arc::new(alloc, value) else {
+        return Err(NoMemory);
+    };
+    let Ok(second) = Arc::try_clone(&first) else {
+        return Err(NoMemory);
+    };
+    let Ok(third) = Arc::try_clone(&first) else {
+        return Err(NoMemory);
+    };
+    Ok((first, second, third))
+}
+
+// Adds a value to the history, and makes three editions of it. It does not allocate.
+fn add<V: Value>(
+    history: &mut HistoryWriter<V>,
+    owners: (Arc<V>, Arc<V>, Arc<V>),
+) -> Result<(Edition<V>, Edition<V>, Edition<V>), NoMemory>
+    requires going { ended_in history.old.prefix.log ≡ false }
+    requires stands { V.stands (arc_value owners.0)
+        (map V.last (values history.old.prefix.log ++ arc_value owners.0 ∷ [])) }
+    requires alike { (arc_value owners.1 ≡ arc_value owners.0)
+        × (arc_value owners.2 ≡ arc_value owners.0) }
+    ensures book { history.new.prefix.book ≡ history.old.prefix.book }
+    ensures tries { history.new.tries ≡ one_more history.old.tries }
+    ensures added { IfOk result (λ _. history.new.prefix.log
+        ≡ history.old.prefix.log ++ Some (arc_value owners.0) ∷ []) }
+    ensures editions { IfOk result (λ e. (e.0.prefix ≡ history.new.prefix)
+        × (e.1.prefix ≡ history.new.prefix) × (e.2.prefix ≡ history.new.prefix)) }
+{
+    let (first, second, third) = owners;
+    let value: &V = &first;
+    let number = value.count();
+    if !history.add(value) {
+        return Err(NoMemory);
+    }
+    Ok((
+        Edition::of_last(second, &history.prefix, number, false),
+        Edition::of_last(third, &history.prefix, number, false),
+        Edition::of_last(first, &history.prefix, number, false),
+    ))
+}
+
+// Adds the mark of the end to the history, and makes two editions of its last value.
+fn mark_end<V: Value>(
+    history: HistoryWriter<V>,
+    last: Edition<V>,
+) -> Result<(Edition<V>, Edition<V>), NoMemory>
+    requires going { ended_in last.prefix.log ≡ false }
+    requires whole { history.prefix.log ≡ last.prefix.log }
+    ensures list { IfOk result (λ e. values e.0.prefix.log ≡ values last.prefix.log) }
+    ensures ended { IfOk result (λ e. ended_in e.0.prefix.log ≡ true) }
+    ensures book { IfOk result (λ e. e.0.prefix.book ≡ history.prefix.book) }
+    ensures alike { IfOk result (λ e. e.1.prefix ≡ e.0.prefix) }
+{
+    let mut history = history;
+    let Ok(told) = Arc::try_clone(&last.value) else {
+        return Err(NoMemory);
+    };
+    if !history.finish() {
+        return Err(NoMemory);
+    }
+    let number = last.number;
+    let told = Edition::of_last(told, &history.prefix, number, true);
+    let edition = Edition::of_last(last.value, &history.prefix, number, true);
+    Ok((told, edition))
+}
+
 impl<V: Value, T: Sets<V>> PublisherOf<V, T> {
     /// Appends a value to the history and shows it. It may wait for desks that are entering.
     ///
@@ -85,32 +157,16 @@ impl<V: Value, T: Sets<V>> PublisherOf<V, T> {
         if self.stuck {
             return Err(NoMemory);
         }
-        let number = next.count();
-        let Ok(value) = Arc::new(self.alloc, next) else {
+        let Ok(owners) = share(self.alloc, next) else {
             return Err(NoMemory);
         };
-        let Ok(told) = Arc::try_clone(&value) else {
-            return Err(NoMemory);
-        };
-        let Ok(kept) = Arc::try_clone(&value) else {
-            return Err(NoMemory);
-        };
-        let added: &V = &value;
         // From here on only the operation allocates. It carries the history with the value in it,
         // so it can be made only after the value was added.
         self.stuck = true;
-        if !self.history.add(added) {
+        let Ok((told, kept, edition)) = add(&mut self.history, owners) else {
             return Err(NoMemory);
-        }
-        let told = Edition::of_last(told, &self.history.prefix, number, false);
-        let kept = Edition::of_last(kept, &self.history.prefix, number, false);
-        let edition = Edition::of_last(value, &self.history.prefix, number, false);
-        let (stage, shown) = show(rt, self.stage.take().unwrap(), edition);
-        match replace(&mut self.stage, Some(stage)) {
-            None => {}
-            Some(old) => drop(old.take(rt)),
-        }
-        let Ok(()) = shown else {
+        };
+        let Ok(()) = show_held(rt, &mut self.stage, edition) else {
             return Err(NoMemory);
         };
         self.stuck = false;
@@ -146,7 +202,7 @@ impl<V: Value, T: Sets<V>> PublisherOf<V, T> {
     {
         let PublisherOf {
             stage,
-            mut history,
+            history,
             last,
             alloc: _,
             stuck,
@@ -156,17 +212,10 @@ impl<V: Value, T: Sets<V>> PublisherOf<V, T> {
             drop(stage.take(rt));
             return Err(NoMemory);
         }
-        let Ok(told) = Arc::try_clone(&last.value) else {
+        let Ok((told, edition)) = mark_end(history, last) else {
             drop(stage.take(rt));
             return Err(NoMemory);
         };
-        if !history.finish() {
-            drop(stage.take(rt));
-            return Err(NoMemory);
-        }
-        let number = last.number;
-        let told = Edition::of_last(told, &history.prefix, number, true);
-        let edition = Edition::of_last(last.value, &history.prefix, number, true);
         let (stage, shown) = show(rt, stage, edition);
         let Ok(()) = shown else {
             drop(stage.take(rt));

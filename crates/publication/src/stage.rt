@@ -1,5 +1,6 @@
 //! How the publisher changes what is shown.
-ghost use Rattle.std.specs.Prelude.{◌≡◌, ◌<◌, length, None, IfOk, MatchResult};
+ghost use Rattle.std.specs.Prelude.{◌≡◌, ◌<◌, [], length, None, IfOk, IsSomeAnd, MatchResult};
+ghost use Rattle.std.specs.Option.{option_map_or};
 ghost use mathlib.Core.List.{IsPrefix};
 ghost use Rattle.left_right.specs.Sides.{view};
 ghost use Rattle.publication.specs.declared.view.SeatRole.TheVariants.{Publisher as AtStage};
@@ -11,6 +12,7 @@ use crate::edition::Edition;
 use crate::rule::{Opening, Publishing, ReaderOf, StageOf, TakingOver, Telling};
 use crate::shown::Sets;
 use std::alloc::{AllocError, Global};
+use std::mem::replace;
 use std::sync::Wait;
 use td_base::{NoMemory, Value};
 
@@ -39,6 +41,30 @@ pub(crate) fn show<V: Value, T: Sets<V>, R: Wait>(
         return (stage, Err(AllocError));
     };
     (stage, Ok(()))
+}
+
+/// Shows an edition by the stage that is held here, and holds the stage again.
+pub(crate) fn show_held<V: Value, T: Sets<V>, R: Wait>(
+    rt: &R,
+    held: &mut Option<StageOf<V, T>>,
+    edition: Edition<V>,
+) -> Result<(), AllocError>
+    requires { IsSomeAnd held.old (λ w. (w.desk.place.me.0.client.role ≡ AtStage)
+        × (w.desk.place.me.0.client.home ≡ home_of edition.prefix.book)
+        × IsPrefix w.desk.place.me.0.client.list (values edition.prefix.log)) }
+    ensures { IsSomeAnd held.new (λ w. (w.desk.place.me.0.client.role ≡ AtStage)
+        × (w.desk.place.me.0.client.home ≡ home_of edition.prefix.book)
+        × MatchResult result
+        (λ _. w.desk.place.me.0.client.list ≡ values edition.prefix.log)
+        (λ _. w.desk.place.me.0.client.list
+        ≡ option_map_or (λ o. o.desk.place.me.0.client.list) held.old [])) }
+{
+    let (stage, shown) = show(rt, held.take().unwrap(), edition);
+    match replace(held, Some(stage)) {
+        None => {}
+        Some(old) => drop(old.take(rt)),
+    }
+    shown
 }
 
 /// Makes the two copies, and shows a first edition. Nothing was shown before, so no reader has seen

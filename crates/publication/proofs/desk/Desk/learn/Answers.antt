@@ -1,4 +1,4 @@
-use Rattle.std.proofs.Common.{◌≡◌, ◌≤◌, length, true, sym, ap, ◌∙◌, arith}
+use Rattle.std.proofs.Common.{◌≡◌, ◌≤◌, length, true, sym, ◌∙◌, arith}
 use Rattle.publication.specs.Histories.{values, ended_in}
 use Rattle.td_base.proofs.lemmas.Beginnings.{prefix_length}
 use Rattle.publication.proofs.Beginnings.{fewer, ended_has_all, both_whole, no_longer}
@@ -36,7 +36,8 @@ pub returns-then-edition-self-clause-ended : goal.returns-then-edition-self-clau
 returns-then-edition-self-clause-ended g c =
     rw (← c.self.view_is) (λ (h : ended_in c.self.inside.held.prefix.log ≡ true).
     let most = no_longer _ _ _ c.are_of_one.ensures.this c.are_of_one.ensures.that c.are_of_one.ensures.seal h in
-    absurd (omega (arith, most, c.if-edition-self.true, c.receipt.inside.edition.numbered, c.self.inside.held.numbered)))
+    absurd {A = (values c.receipt.inside.edition.prefix.log ≡ values c.self.inside.held.prefix.log) × (ended_in c.receipt.inside.edition.prefix.log ≡ true)}
+    (omega (arith, most, c.if-edition-self.true, c.receipt.inside.edition.numbered, c.self.inside.held.numbered)))
 
 pub returns-else-edition-self-clause-told : goal.returns-else-edition-self-clause-told
 returns-else-edition-self-clause-told g c =
