@@ -1,10 +1,13 @@
-use Rattle.std.proofs.Common.{◌≡◌, [], ◌∷◌, ◌++◌, false, sym, ap, ◌∙◌}
+use Rattle.std.proofs.Common.{◌≡◌, [], ◌∷◌, ◌++◌, false, sym, ap, ◌∙◌, inl, refl}
 use Rattle.std.specs.Arc.{arc_value}
 use Rattle.publication.specs.Histories.{values, ended_in}
 use Rattle.publication.specs.ShownRule.{home_of}
 use Rattle.publication.proofs.Beginnings.{added_values, added_list, added_going}
 use Rattle.publication.proofs.StageLemmas.{stage_at, stage_longer}
 use Rattle.publication.proofs.publisher.PublisherOf.publish.Goals as goal
+
+pub returns-in_default-clause-stuck : goal.returns-in_default-clause-stuck
+returns-in_default-clause-stuck g c = inl refl
 
 pub add-requires-clause-stands : goal.add-requires-clause-stands
 add-requires-clause-stands g c =
