@@ -58,9 +58,23 @@ pub fn ask<R: Net<Stream = TcpStream> + Clock>(
     };
     let patience = Patience::from_now(rt)?;
     let mut stream = connect(rt, address, &patience)?;
+    exchange(rt, alloc, &mut stream, request, most, &patience)
+}
+
+/// Sends a request over a new connection, and receives the first bytes of its answer.
+fn exchange<R: Clock>(
+    rt: &R,
+    alloc: Global,
+    stream: &mut TcpStream,
+    request: &[u8],
+    most: usize,
+    patience: &Patience,
+) -> Result<Bytes, AskFault>
+    ensures { IfOk result (λ answer. length answer ≤ most) }
+{
     stream.set_nodelay(true)?;
-    send(rt, &mut stream, request, &patience)?;
-    receive(rt, alloc, &mut stream, most, &patience)
+    send(rt, stream, request, patience)?;
+    receive(rt, alloc, stream, most, patience)
 }
 
 /// A connection to the first address of a name that accepts one.
@@ -68,15 +82,15 @@ fn connect<R: Net<Stream = TcpStream> + Clock>(
     rt: &R,
     address: &str,
     patience: &Patience,
-) -> io::Result<TcpStream> {
-    let mut last = Error::from(ErrorKind::NotFound);
+) -> Result<TcpStream, AskFault> {
+    let mut last = ErrorKind::NotFound;
     for found in address.to_socket_addrs(rt)? {
         match TcpStream::connect_timeout(rt, &found, patience.left(rt)?) {
             Ok(stream) => return Ok(stream),
-            Err(error) => last = error,
+            Err(error) => last = error.kind(),
         }
     }
-    Err(last)
+    Err(AskFault::System(last))
 }
 
 /// Sends all the bytes.
@@ -88,14 +102,26 @@ fn send<R: Clock>(
 ) -> io::Result<()> {
     let mut at = 0;
     'pieces: while at < bytes.len() {
-        stream.set_write_timeout(Some(patience.left(rt)?))?;
-        let count = write_once(stream, &bytes[at..])?;
+        let count = write_patiently(rt, stream, &bytes[at..], patience)?;
         if count == 0 {
             return Err(Error::from(ErrorKind::WriteZero));
         }
         at += count;
     }
     Ok(())
+}
+
+/// Writes, while its peer may be waited for.
+fn write_patiently<R: Clock>(
+    rt: &R,
+    stream: &mut TcpStream,
+    piece: &[u8],
+    patience: &Patience,
+) -> io::Result<usize>
+    ensures { WritesAtMost result piece.now }
+{
+    stream.set_write_timeout(Some(patience.left(rt)?))?;
+    write_once(stream, piece)
 }
 
 /// Receives bytes until the peer ends its side, or until so many came.
@@ -111,15 +137,27 @@ fn receive<R: Clock>(
     let mut held = Bytes::new(alloc);
     let mut room = [0; ROOM];
     'pieces: while held.len() < most {
-        stream.set_read_timeout(Some(patience.left(rt)?))?;
         let want = ROOM.min(most - held.len());
-        let count = read_once(stream, &mut room[..want])?;
+        let count = read_patiently(rt, stream, &mut room[..want], patience)?;
         if count == 0 {
-            return Ok(held);
+            break;
         }
         held.append(&room[..count])?;
     }
     Ok(held)
+}
+
+/// Reads, while its peer may be waited for.
+fn read_patiently<R: Clock>(
+    rt: &R,
+    stream: &mut TcpStream,
+    room: &mut [u8],
+    patience: &Patience,
+) -> io::Result<usize>
+    ensures { ReadsAtMost result room.new }
+{
+    stream.set_read_timeout(Some(patience.left(rt)?))?;
+    read_once(stream, room)
 }
 
 /// Reads, and repeats the call after a signal.

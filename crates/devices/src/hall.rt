@@ -14,7 +14,7 @@ use std::os::fd::AsRawFd;
 use std::sync::Arc;
 use std::time::{Clock, Duration};
 use stretches::{
-    FailureWindow, Fate, Queue, SHORT_TURN_MICROS, Shared, WorkerTurn, is_long_turn, turn_limit,
+    FailureWindow, Queue, SHORT_TURN_MICROS, Shared, WorkerTurn, is_long_turn, turn_limit,
 };
 use td_base::End;
 
@@ -71,6 +71,15 @@ pub struct Hall<R> {
     turns: u64,
 }
 
+/// A poll that waits for the connections of a socket.
+fn poll_of<N: Net>(net: &N, listening: &Listening) -> io::Result<Poll> {
+    let poll = Poll::new(net)?;
+    let descriptor = listening.as_raw_fd();
+    poll.registry()
+        .register(&mut SourceFd(&descriptor), LISTENS, Interest::READABLE)?;
+    Ok(poll)
+}
+
 impl<R: Clock + Eprint + Copy> Hall<R> {
     /// The state of one of so many listeners at a socket, each with at most so many connections.
     pub fn new<N: Net>(
@@ -85,13 +94,10 @@ impl<R: Clock + Eprint + Copy> Hall<R> {
     where
         R: Drop,
     {
-        let poll = Poll::new(net)?;
-        let events = Events::with_capacity(alloc, MOST_EVENTS)?;
         let listening = Arc::try_clone(listening)?;
-        let all = Arc::try_clone(all)?;
-        let descriptor = listening.as_raw_fd();
-        poll.registry()
-            .register(&mut SourceFd(&descriptor), LISTENS, Interest::READABLE)?;
+        let shares = Shares::new(Arc::try_clone(all)?, doors);
+        let events = Events::with_capacity(alloc, MOST_EVENTS)?;
+        let poll = poll_of(net, &listening)?;
         Ok(Hall {
             clock,
             alloc,
@@ -100,7 +106,7 @@ impl<R: Clock + Eprint + Copy> Hall<R> {
             events,
             resting: Resting::new(alloc),
             most,
-            shares: Shares::new(all, doors),
+            shares,
             comes: true,
             came: 0,
             short: false,
@@ -166,21 +172,15 @@ impl<R: Clock + Eprint + Copy> Hall<R> {
         self.shared.charge(self.queue, cost);
         let unfinished = wire.is_unfinished();
         wire.weigh(is_long_turn(cost, unfinished));
-        if wire.finish(end, now) == Fate::Breaks {
-            return;
-        }
-        let rest = wire.advance(now);
+        let rest = wire.rest_after(end, now);
         self.keep(wire, rest, now);
     }
 
     /// Keeps a connection that is not served. If there are too many, another is evicted for it, or
     /// it is closed itself.
     fn keep(&mut self, wire: Wire<TcpStream>, rest: Rest, now: Now) {
-        let full = self.resting.count() >= self.most;
-        if rest != Rest::Gone && full && !self.resting.make_room(now) {
-            return;
-        }
-        self.resting.keep(self.poll.registry(), wire, rest, now);
+        self.resting
+            .keep(self.poll.registry(), wire, rest, self.most, now);
     }
 
     /// For how many microseconds a connection is served that would wait in this queue. A new one

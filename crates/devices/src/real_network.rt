@@ -129,11 +129,26 @@ fn open<R: Net<Listener = TcpListener, Stream = TcpStream> + Clock + Eprint + Co
     ensures new { IfOk result (λ doors. All (λ door. IsNewDoor (door_view door)) doors.items) }
 {
     let listening = listen(rt, alloc, address)?;
-    let most = most_of_each(number);
     let all = counter(alloc, number)?;
+    doors_at(rt, alloc, &listening, &all, number)
+}
+
+/// So many doors at a socket.
+fn doors_at<R: Net + Clock + Eprint + Copy>(
+    rt: &R,
+    alloc: Global,
+    listening: &Listening,
+    all: &Counter,
+    number: u32,
+) -> Result<Vec<RealDoor<R>>, OpenFault>
+    ensures number { IfOk result (λ doors. length doors.items ≡ number) }
+    ensures new { IfOk result (λ doors. All (λ door. IsNewDoor (door_view door)) doors.items) }
+{
+    let most = most_of_each(number);
     let mut doors = Vec::new(alloc);
     for _ in 0..number {
-        doors.push(door_at(rt, alloc, &listening, &all, number, most)?)?;
+        let door = door_at(rt, alloc, listening, all, number, most)?;
+        doors.push(door)?;
     }
     Ok(doors)
 }

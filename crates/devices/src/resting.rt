@@ -89,25 +89,48 @@ impl Resting {
         self.unsent > 0
     }
 
-    /// Keeps a connection that is not served, and registers for its events. If memory or room runs
-    /// out, it is closed.
-    pub fn keep(&mut self, registry: &Registry, wire: Wire<TcpStream>, rest: Rest, now: Now) {
-        if rest == Rest::Gone {
+    /// Keeps a connection that is not served, and registers for its events. Where so many rest
+    /// already, another is evicted for it. If memory or room runs out, it is closed.
+    pub fn keep(
+        &mut self,
+        registry: &Registry,
+        wire: Wire<TcpStream>,
+        rest: Rest,
+        most: usize,
+        now: Now,
+    ) {
+        if rest == Rest::Gone || !self.has_room(most, now) {
             return;
         }
-        let (unsent, held) = (wire.unsent(), wire.room());
         let known = wire.key;
-        let Ok(key) = self.wires.insert(wire) else {
-            return;
-        };
+        if let Some(key) = self.hold(wire) {
+            self.settle(registry, key, known, rest);
+            self.make_memory(now);
+        }
+    }
+
+    /// Makes sure that fewer than so many rest, and returns whether that is so.
+    fn has_room(&mut self, most: usize, now: Now) -> bool {
+        self.count() < most || self.make_room(now)
+    }
+
+    /// Holds a connection, and returns its key. Out of memory it is closed.
+    fn hold(&mut self, wire: Wire<TcpStream>) -> Option<usize> {
+        let (unsent, held) = (wire.unsent(), wire.room());
+        let key = self.wires.insert(wire).ok()?;
         self.unsent = self.unsent.saturating_add(unsent);
         self.held = self.held.saturating_add(held);
-        if known != Some(key) && !self.ask_for(registry, key, known.is_some()) {
+        Some(key)
+    }
+
+    /// Registers for the events of the connection at a key, unless its events come under that key
+    /// already, and puts it where it belongs.
+    fn settle(&mut self, registry: &Registry, key: usize, known: Option<usize>, rest: Rest) {
+        if known == Some(key) || self.ask_for(registry, key, known.is_some()) {
+            self.place(key, rest);
+        } else {
             self.discard(key);
-            return;
         }
-        self.place(key, rest);
-        self.make_memory(now);
     }
 
     /// Registers for the events of a connection under its key.

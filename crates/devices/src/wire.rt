@@ -1,4 +1,4 @@
-ghost use Rattle.std.specs.Prelude.{◌<◌, ◌≡◌, length, max, false, true};
+ghost use Rattle.std.specs.Prelude.{◌<◌, ◌≡◌, IsTrue, length, max, false, true};
 ghost use Rattle.std.specs.Io.KnownBytes.{Keeps};
 ghost use Rattle.devices.specs.Flows.{EndsStretch, Gives, to_give, written};
 ghost use Rattle.devices.specs.Sockets.{Sends};
@@ -6,6 +6,7 @@ ghost use Rattle.stretches.specs.Costs.{is_costly};
 ghost use Rattle.stretches.specs.Fates.{fate_of};
 ghost use Rattle.stretches.specs.Fronts.{front_length};
 ghost use Rattle.stretches.specs.Queues.{queue_for};
+ghost use Rattle.stretches.specs.Turns.{is_spent};
 
 use crate::incoming::{Given, Incoming};
 use crate::now::Now;
@@ -170,6 +171,14 @@ impl<S> Wire<S> {
         self.queue = Queue::for_next(self.was_long, self.incoming.is_costly());
     }
 
+    /// Whether its turn is spent, and no head was given in part.
+    fn is_spent_between(&self) -> bool
+        ensures end { IsTrue result
+            → (is_spent self.now.turn ≡ true) × (self.now.incoming.intake.ready ≡ 0) }
+    {
+        self.turn.is_spent() && self.incoming.is_between()
+    }
+
     /// What becomes of it after a stretch that ended so.
     pub fn finish(&mut self, end: End, now: Now) -> Fate
         ensures fate { result ≡ fate_of end self.old.stretch_ended self.old.incoming.ended }
@@ -292,6 +301,19 @@ impl<S: Read + Write> Wire<S> {
         self.queue != Queue::Heavy && !self.incoming.is_ready()
     }
 
+    /// Whether the stretch ends before anything is received.
+    fn is_at_end(&mut self) -> bool
+        ensures end { result ≡ true
+            → EndsStretch self.old.outgoing self.old.turn self.new.incoming }
+        ensures incoming { self.new.incoming.intake.bytes ≡ self.old.incoming.intake.bytes }
+        ensures broken { self.new.incoming.broken ≡ self.old.incoming.broken }
+        ensures outgoing { self.new.outgoing ≡ self.old.outgoing }
+        ensures stream { self.new.stream ≡ self.old.stream }
+        ensures turn { self.new.turn ≡ self.old.turn }
+    {
+        !self.outgoing.is_open() || self.is_spent_between() || self.is_used_up()
+    }
+
     /// Gives bytes of whole heads. The stretch ends if no further head is whole, if the last reply
     /// is not sent yet, if much was written, or between two heads once its turn is spent. A quick
     /// turn receives nothing: a costly request that came since waits in its own queue.
@@ -303,11 +325,7 @@ impl<S: Read + Write> Wire<S> {
             → EndsStretch self.old.outgoing self.old.turn self.new.incoming }
         ensures turn { self.new.turn ≡ self.old.turn }
     {
-        if !self.outgoing.is_open() || (self.turn.is_spent() && self.incoming.is_between()) {
-            self.stretch_ended = true;
-            return Given::End;
-        }
-        if self.is_used_up() {
+        if self.is_at_end() {
             self.stretch_ended = true;
             return Given::End;
         }

@@ -82,11 +82,7 @@ impl<R: Clock + Eprint + Copy> Hall<R> {
 
     /// Waits for events for so many milliseconds at most, or until a signal, and handles them.
     pub(super) fn wait(&mut self, millis: u64) -> io::Result<()> {
-        let wait = Duration::from_millis(millis);
-        match self.poll.poll(&mut self.events, Some(wait)) {
-            Err(error) if error.kind() != ErrorKind::Interrupted => return Err(error),
-            _ => {}
-        }
+        self.poll_events(millis)?;
         self.tick();
         self.polled = self.micros;
         self.read_ran();
@@ -100,6 +96,15 @@ impl<R: Clock + Eprint + Copy> Hall<R> {
             self.resting.sweep(now);
         }
         Ok(())
+    }
+
+    /// Waits for events for so many milliseconds at most, or until a signal.
+    fn poll_events(&mut self, millis: u64) -> io::Result<()> {
+        let wait = Duration::from_millis(millis);
+        match self.poll.poll(&mut self.events, Some(wait)) {
+            Err(error) if error.kind() != ErrorKind::Interrupted => Err(error),
+            _ => Ok(()),
+        }
     }
 
     /// Reads the processor time of the thread, once a millisecond at most.

@@ -5,6 +5,8 @@ use crate::socket::{Received, receive};
 use crate::wire::{LINGER_BYTES, MOST_PIECES, Rest, Stage, Wire};
 use std::net::{Shutdown, TcpStream};
 use std::os::fd::{AsRawFd, RawFd};
+use stretches::Fate;
+use td_base::End;
 
 /// How many bytes are thrown away at a time.
 const PIECE: usize = 4_096;
@@ -13,6 +15,15 @@ impl Wire<TcpStream> {
     /// The descriptor of its stream.
     pub fn descriptor(&self) -> RawFd {
         self.stream.as_raw_fd()
+    }
+
+    /// Ends a stretch that ended so, and does all that can be done for it without waiting.
+    pub fn rest_after(&mut self, end: End, now: Now) -> Rest {
+        if self.finish(end, now) == Fate::Breaks {
+            Rest::Gone
+        } else {
+            self.advance(now)
+        }
     }
 
     /// Does all that can be done for it without waiting. What was written is sent first, and then
