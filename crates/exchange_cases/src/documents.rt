@@ -1,5 +1,5 @@
 //! Documents that are written. A row names the values, which are defined here.
-ghost use Rattle.std.specs.Prelude.{◌≤◌, IfOk, length};
+ghost use Rattle.std.specs.Prelude.{◌≤◌, IfOk, OnOk, length};
 ghost use Rattle.std.specs.List.{AllByRecursion};
 ghost use Rattle.td_base.specs.Names.{IsPlain};
 ghost use Rattle.td_civil.specs.Bounds.{IsWithinBounds};
@@ -31,7 +31,11 @@ fn way_of(word: &str) -> Result<Way, CaseFault> {
 /// `list NAME WAY`: the list, appended to other bytes.
 pub fn list(alloc: Global, row: &Row) -> Answer {
     let way = way_of(row.text(1)?)?;
-    match row.text(0)? {
+    named(alloc, row.text(0)?, way)
+}
+
+fn named(alloc: Global, name: &str, way: Way) -> Answer {
+    match name {
         "empty" => written(alloc, way, b"t", &[]),
         "one" => one_zone(alloc, way),
         "two" => two_zones(alloc, way),
@@ -71,52 +75,69 @@ fn item_by_item(alloc: Global, token: &[u8], zones: &[ListZone]) -> Answer
     Ok(list.end()?.into_vec())
 }
 
-/// A zone of the publisher `Test`. All zones have the same tag.
-fn zone(
-    alloc: Global,
-    tzid: &[u8],
-    seconds: i64,
-    version: &[u8],
-    aliases: Items<Bytes>,
-) -> Result<ListZone, NoMemory>
+/// A zone of the publisher `Test`, without aliases. All zones have the same tag.
+fn zone(alloc: Global, tzid: &[u8], seconds: i64, version: &[u8]) -> Result<ListZone, NoMemory>
     requires tzid { IsPlain tzid.now }
     requires seconds { IsWithinBounds seconds }
     requires version { IsPlain version.now }
-    requires aliases { AllByRecursion IsPlain aliases }
     ensures { IfOk result IsPlainZone }
 {
+    let tzid = Bytes::from_slice(alloc, tzid)?;
+    let etag = Bytes::from_slice(alloc, b"0123456789abcdef0123456789abcdef")?;
+    let publisher = Bytes::from_slice(alloc, b"Test")?;
+    let version = Bytes::from_slice(alloc, version)?;
     Ok(ListZone {
-        tzid: Bytes::from_slice(alloc, tzid)?,
-        etag: Bytes::from_slice(alloc, b"0123456789abcdef0123456789abcdef")?,
+        tzid,
+        etag,
         stamp: Moment { seconds },
-        publisher: Bytes::from_slice(alloc, b"Test")?,
-        version: Bytes::from_slice(alloc, version)?,
-        aliases,
+        publisher,
+        version,
+        aliases: Items::new(alloc),
     })
 }
 
+/// Adds an alias to a zone.
+fn add_alias(alloc: Global, zone: &mut ListZone, alias: &[u8]) -> Result<(), NoMemory>
+    requires alias { IsPlain alias.now }
+    requires zone { IsPlainZone zone.old }
+    ensures { OnOk result (IsPlainZone zone.new) }
+{
+    let alias = Bytes::from_slice(alloc, alias)?;
+    zone.aliases.push(alias)
+}
+
 fn one_zone(alloc: Global, way: Way) -> Answer {
-    let none = Items::new(alloc);
-    let utc = zone(alloc, b"Etc/UTC", 1_737_331_200, b"2025a", none)?;
+    let utc = zone(alloc, b"Etc/UTC", 1_737_331_200, b"2025a")?;
     written(alloc, way, b"1-89abcdef01234567", &[utc])
 }
 
 fn two_zones(alloc: Global, way: Way) -> Answer {
-    let mut aliases = Items::new(alloc);
-    aliases.push(Bytes::from_slice(alloc, b"US/Eastern")?)?;
-    let york = zone(alloc, b"America/New_York", 1_742_601_600, b"2025b", aliases)?;
-    let none = Items::new(alloc);
-    let utc = zone(alloc, b"Etc/UTC", 1_742_601_600, b"2025b", none)?;
+    let york = york(alloc)?;
+    let utc = zone(alloc, b"Etc/UTC", 1_742_601_600, b"2025b")?;
     written(alloc, way, b"1-89abcdef01234567", &[york, utc])
+}
+
+fn york(alloc: Global) -> Result<ListZone, NoMemory>
+    ensures { IfOk result IsPlainZone }
+{
+    let mut york = zone(alloc, b"America/New_York", 1_742_601_600, b"2025b")?;
+    add_alias(alloc, &mut york, b"US/Eastern")?;
+    Ok(york)
 }
 
 /// A list with quotation marks and backslashes, which are escaped (RFC 8259, section 7).
 fn escaped(alloc: Global, way: Way) -> Answer {
-    let mut aliases = Items::new(alloc);
-    aliases.push(Bytes::from_slice(alloc, b"A")?)?;
-    aliases.push(Bytes::from_slice(alloc, br#"b \ "/~"#)?)?;
-    let quoted = zone(alloc, br#""\"#, 1_742_601_600, b"", aliases)?;
+    let quoted = quoted(alloc)?;
     written(alloc, way, br#"\ ""#, &[quoted])
+}
+
+fn quoted(alloc: Global) -> Result<ListZone, NoMemory>
+    ensures { IfOk result IsPlainZone }
+{
+    let mut quoted = zone(alloc, br#""\"#, 1_742_601_600, b"")?;
+    add_alias(alloc, &mut quoted, b"A")?;
+    add_alias(alloc, &mut quoted, br#"b \ "/~"#)?;
+    Ok(quoted)
 }
 
 /// `expansion NAME`: the observances of the year 2025.

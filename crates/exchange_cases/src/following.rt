@@ -1,4 +1,8 @@
 //! A mirror that receives what rows say.
+ghost use Rattle.std.specs.Prelude.{IfOk};
+ghost use Rattle.sync_core.specs.Mirrors.{ask_of};
+ghost use Rattle.sync_core.specs.Steps.{IsAnswerTo};
+
 use case_lines::{Answer, CaseFault, Row, Told};
 use json_forms::{BadList, ListDoc, read_list};
 use std::alloc::Global;
@@ -56,16 +60,25 @@ fn hear(alloc: Global, mirror: &mut Mirror, what: &[u8]) -> Result<Settled, Case
 
 /// Lets the mirror apply an answer of the kind that it waits for.
 fn take(alloc: Global, mirror: &mut Mirror, told: &[u8]) -> Result<Settled, CaseFault> {
-    match mirror.ask(alloc)? {
-        Ask::Get(_) => {
-            let file = Bytes::from_slice(alloc, told)?;
-            Ok(mirror.take(Heard::Zone(file))?)
-        }
-        Ask::List(Some(_)) if told == b"refused".as_slice() => Ok(mirror.take(Heard::BadToken)?),
-        Ask::List(_) => {
-            let list = list_in(alloc, told)?;
-            Ok(mirror.take(Heard::List(list))?)
-        }
+    let heard = heard(alloc, mirror, told)?;
+    Ok(mirror.take(heard)?)
+}
+
+/// A text as the answer that a mirror waits for.
+fn heard(alloc: Global, mirror: &Mirror, text: &[u8]) -> Result<Heard, CaseFault>
+    ensures { IfOk result (λ heard. IsAnswerTo (ask_of mirror.now) heard) }
+{
+    let asked = mirror.ask(alloc)?;
+    answer_to(alloc, &asked, text)
+}
+
+fn answer_to(alloc: Global, asked: &Ask, text: &[u8]) -> Result<Heard, CaseFault>
+    ensures { IfOk result (λ heard. IsAnswerTo asked.now heard) }
+{
+    match asked {
+        Ask::Get(_) => Ok(Heard::Zone(Bytes::from_slice(alloc, text)?)),
+        Ask::List(Some(_)) if text == b"refused".as_slice() => Ok(Heard::BadToken),
+        Ask::List(_) => Ok(Heard::List(list_in(alloc, text)?)),
     }
 }
 

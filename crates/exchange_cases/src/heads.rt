@@ -28,15 +28,15 @@ pub fn long(alloc: Global, row: &Row) -> Answer {
 /// `held SIZES STREAM`: how many bytes are held after each piece. The pieces have these sizes.
 pub fn held(alloc: Global, row: &Row) -> Answer {
     let stream = joined(alloc, row.words().get(1..).unwrap_or(&[]))?;
-    held_of(alloc, row, stream.as_slice())
+    let sizes = numbers(alloc, row.word(0)?)?;
+    held_of(alloc, stream.as_slice(), sizes.as_slice())
 }
 
-fn held_of(alloc: Global, row: &Row, stream: &[u8]) -> Answer {
-    let sizes = numbers(alloc, row.word(0)?)?;
+fn held_of(alloc: Global, stream: &[u8], sizes: &[u64]) -> Answer {
     let mut heads = Heads::new(alloc);
     let mut told = Told::new(alloc);
     let mut left = stream;
-    for size in sizes.as_slice() {
+    for size in sizes {
         let (piece, rest) = left.split_at((*size as usize).min(left.len()));
         left = rest;
         tell_held(alloc, &mut heads, piece, &mut told);
@@ -66,13 +66,26 @@ fn told_of(alloc: Global, stream: &[u8], size: usize) -> Answer {
 
 fn tell_stream(alloc: Global, stream: &[u8], size: usize, told: &mut Told) {
     let mut heads = Heads::new(alloc);
+    if !tell_pieces(alloc, &mut heads, stream, size, told) {
+        told.bytes(b"more");
+    }
+}
+
+/// Appends the heads of the stream. Returns whether a refusal came, or memory ran out.
+fn tell_pieces(
+    alloc: Global,
+    heads: &mut Heads,
+    stream: &[u8],
+    size: usize,
+    told: &mut Told,
+) -> bool {
     for piece in stream.chunks(size.max(1)) {
         told.done(heads.feed(piece));
-        if tell(alloc, &mut heads, told) {
-            return;
+        if tell(alloc, heads, told) {
+            return true;
         }
     }
-    told.bytes(b"more");
+    false
 }
 
 /// Appends the whole heads in the held bytes, at most four. Returns whether a refusal came, or

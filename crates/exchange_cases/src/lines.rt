@@ -3,17 +3,23 @@ use crate::pieces::{Same, joined};
 use case_lines::{Answer, CaseFault, Row, Told};
 use console::{Line, Lines};
 use std::alloc::Global;
+use std::fmt::Debug;
 use subscribers::{Wish, WishKind};
+use td_base::Bytes;
 
 /// `lines TEXT`: the lines of the text, each with a line feed, and how many bytes are held in the
 /// end. The text comes in pieces of each size from 1 to 59, and cut once at each place up to the
 /// 59th.
 pub fn lines(alloc: Global, row: &Row) -> Answer {
     let text = joined(alloc, row.words())?;
-    let mut same = Same::new(in_pieces(alloc, text.as_slice(), 1));
+    in_all_pieces(alloc, text.as_slice())
+}
+
+fn in_all_pieces(alloc: Global, text: &[u8]) -> Answer {
+    let mut same = Same::new(in_pieces(alloc, text, 1));
     for at in 1..60 {
-        same.compare(at, in_pieces(alloc, text.as_slice(), at));
-        same.compare(at, cut_once(alloc, text.as_slice(), at));
+        same.compare(at, in_pieces(alloc, text, at));
+        same.compare(at, cut_once(alloc, text, at));
     }
     same.answer(alloc)
 }
@@ -24,6 +30,10 @@ pub fn lines(alloc: Global, row: &Row) -> Answer {
 /// bytes held before END, and how many are held after it.
 pub fn long_line(alloc: Global, row: &Row) -> Answer {
     let (first, times, end) = (row.word(0)?, row.number(1)?, row.word(2)?);
+    fed_long(alloc, first, times, end)
+}
+
+fn fed_long(alloc: Global, first: &[u8], times: u64, end: &[u8]) -> Answer {
     let mut lines = Lines::new(alloc);
     let mut told = Told::new(alloc);
     told.done(lines.feed(first));
@@ -63,9 +73,17 @@ fn tell_end(lines: &mut Lines, told: &mut Told, most: usize) {
 /// Appends the length of the folder in the next line, which is an `install`.
 fn tell_folder(lines: &mut Lines, told: &mut Told) {
     match lines.next() {
-        Ok(Some(Line::Install(folder))) => told.value(&folder.len()),
-        Ok(_) => told.bytes(b"0"),
+        Ok(Some(line)) => told.value(&folder_length(&line)),
+        Ok(None) => told.bytes(b"0"),
         Err(_) => told.fail(CaseFault::NoMemory),
+    }
+}
+
+/// The length of the folder in an `install`, and 0 for another line.
+fn folder_length(line: &Line) -> usize {
+    match line {
+        Line::Install(folder) => folder.len(),
+        _ => 0,
     }
 }
 
@@ -73,11 +91,15 @@ fn tell_folder(lines: &mut Lines, told: &mut Told) {
 fn in_pieces(alloc: Global, text: &[u8], size: usize) -> Answer {
     let mut lines = Lines::new(alloc);
     let mut told = Told::new(alloc);
-    for piece in text.chunks(size.max(1)) {
-        let _ = feed_piece(&mut lines, piece, &mut told);
-    }
+    feed_pieces(&mut lines, text, size, &mut told);
     told.value(&lines.held());
     told.answer()
+}
+
+fn feed_pieces(lines: &mut Lines, text: &[u8], size: usize, told: &mut Told) {
+    for piece in text.chunks(size.max(1)) {
+        let _ = feed_piece(lines, piece, told);
+    }
 }
 
 /// The text in two pieces, cut here, with no line read between them.
@@ -105,15 +127,9 @@ fn tell_all(lines: &mut Lines, told: &mut Told) {
 /// Appends the text of a line.
 fn tell(told: &mut Told, line: &Line) {
     match line {
-        Line::Install(folder) => {
-            told.bytes(b"install ");
-            told.bytes(folder.as_slice());
-        }
+        Line::Install(folder) => tell_named(told, b"install ", folder),
         Line::Watch(wish) => tell_wish(told, wish),
-        Line::News(number) => {
-            told.bytes(b"news ");
-            told.value(number);
-        }
+        Line::News(number) => tell_number(told, b"news ", number),
         Line::Sync => told.bytes(b"sync"),
         Line::Status => told.bytes(b"status"),
         Line::Quit => told.bytes(b"quit"),
@@ -122,17 +138,21 @@ fn tell(told: &mut Told, line: &Line) {
     told.bytes(b"\n");
 }
 
+fn tell_named(told: &mut Told, kind: &[u8], name: &Bytes) {
+    told.bytes(kind);
+    told.bytes(name.as_slice());
+}
+
+fn tell_number<T: Debug>(told: &mut Told, kind: &[u8], number: &T) {
+    told.bytes(kind);
+    told.value(number);
+}
+
 /// Appends the text of a wish, with the seconds of its moment.
 fn tell_wish(told: &mut Told, wish: &Wish) {
     match wish.kind {
         WishKind::Any => told.bytes(b"watch any"),
-        WishKind::Under => {
-            told.bytes(b"watch under ");
-            told.bytes(wish.under.as_slice());
-        }
-        WishKind::Past => {
-            told.bytes(b"watch past ");
-            told.value(&wish.before.seconds);
-        }
+        WishKind::Under => tell_named(told, b"watch under ", &wish.under),
+        WishKind::Past => tell_number(told, b"watch past ", &wish.before.seconds),
     }
 }

@@ -25,6 +25,10 @@ fn told(alloc: Global, pattern: &Pattern) -> Answer {
 /// `matches PATTERN NAME`: whether the name matches.
 pub fn matching(alloc: Global, row: &Row) -> Answer {
     let (text, name) = (row.word(0)?, row.word(1)?);
+    matched(alloc, text, name)
+}
+
+fn matched(alloc: Global, text: &[u8], name: &[u8]) -> Answer {
     match read(alloc, text) {
         Ok(pattern) => shown(alloc, &matches(&pattern, name)),
         Err(BadPattern::NoMemory) => Err(CaseFault::NoMemory),

@@ -23,6 +23,10 @@ fn named(name: &str) -> Result<Problem, CaseFault> {
 /// `problem NAME`: the status of the reply, and the document.
 pub fn problem(alloc: Global, row: &Row) -> Answer {
     let problem = named(row.text(0)?)?;
+    document(alloc, problem)
+}
+
+fn document(alloc: Global, problem: Problem) -> Answer {
     let mut out = before(alloc, problem)?;
     problem_text(alloc, &mut out, problem)?;
     Ok(out.into_vec())
@@ -56,8 +60,8 @@ fn has_leaps(word: &str) -> Result<bool, CaseFault> {
 
 /// `capabilities ROLE LEAPS`: the capabilities of a server of the publisher `Test`.
 pub fn capabilities(alloc: Global, row: &Row) -> Answer {
-    let (name, with_leaps) = (row.text(0)?, has_leaps(row.text(1)?)?);
-    let role = role(alloc, name)?;
+    let with_leaps = has_leaps(row.text(1)?)?;
+    let role = role(alloc, row.text(0)?)?;
     written(alloc, &role, with_leaps)
 }
 

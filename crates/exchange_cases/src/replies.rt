@@ -12,19 +12,54 @@ use td_base::Bytes;
 /// a new buffer. TAG is `-` for none, MOVED `moved` or `here`, WHAT `head` or `body`, and AFTER
 /// `close` or `open`.
 pub fn reply(alloc: Global, row: &Row) -> Answer {
-    let (head_only, close) = (row.text(4)? == "head", row.text(5)? == "close");
+    let form = form_of(row)?;
     let answer = answer_of(alloc, row)?;
-    both(alloc, &answer, head_only, close)
+    both(alloc, &answer, form)
+}
+
+/// How a reply is sent.
+#[derive(Clone, Copy)]
+struct Form {
+    head_only: bool,
+    close: bool,
+}
+
+fn form_of(row: &Row) -> Result<Form, CaseFault> {
+    Ok(Form {
+        head_only: says(row, 4, "head")?,
+        close: says(row, 5, "close")?,
+    })
+}
+
+/// Whether the word at this index is this one.
+fn says(row: &Row, at: usize, word: &str) -> Result<bool, CaseFault> {
+    match row.text(at) {
+        Ok(given) => Ok(given == word),
+        Err(fault) => Err(fault),
+    }
 }
 
 /// The reply in a new buffer, if the appended one is the same.
-fn both(alloc: Global, answer: &Reply, head_only: bool, close: bool) -> Answer
+fn both(alloc: Global, answer: &Reply, form: Form) -> Answer
     requires { IsAnswerStatus answer.now.status }
 {
-    let made = make_reply(alloc, answer, head_only, close)?;
+    let appended = appended(alloc, answer, form)?;
+    let made = make_reply(alloc, answer, form.head_only, form.close)?;
+    same(alloc, made, &appended)
+}
+
+/// The reply, appended to the text `before`.
+fn appended(alloc: Global, answer: &Reply, form: Form) -> Result<Bytes, CaseFault>
+    requires { IsAnswerStatus answer.now.status }
+{
     let mut out = Bytes::from_slice(alloc, b"before")?;
-    write(&mut out, answer, head_only, close)?;
-    if out.as_slice().strip_prefix(b"before") == Some(made.as_slice()) {
+    write(&mut out, answer, form.head_only, form.close)?;
+    Ok(out)
+}
+
+/// The reply, if the appended one is the same.
+fn same(alloc: Global, made: Bytes, appended: &Bytes) -> Answer {
+    if appended.as_slice().strip_prefix(b"before") == Some(made.as_slice()) {
         Ok(made.into_vec())
     } else {
         case_lines::bytes(alloc, b"two replies")
@@ -35,23 +70,43 @@ fn both(alloc: Global, answer: &Reply, head_only: bool, close: bool) -> Answer
 fn answer_of(alloc: Global, row: &Row) -> Result<Reply, CaseFault>
     ensures { IfOk result (λ answer. IsAnswerStatus answer.status) }
 {
-    let (status, kind) = (status_of(row)?, kind_of(row.text(1)?));
-    let moved = row.text(3)? == "moved";
-    let tag = tag_of(alloc, row.word(2)?)?;
+    let shape = shape_of(row)?;
+    let tag = tag_of(alloc, row)?;
     let body = joined(alloc, row.words().get(6..).unwrap_or(&[]))?;
     Ok(Reply {
-        status,
-        kind,
+        status: shape.status,
+        kind: shape.kind,
         tag,
-        moved,
+        moved: shape.moved,
         body: Bytes::from(body),
     })
 }
 
-fn status_of(row: &Row) -> Result<u16, CaseFault>
+/// What an answer is besides its texts.
+#[derive(Clone, Copy)]
+struct Shape {
+    status: u16,
+    kind: Option<Kind>,
+    moved: bool,
+}
+
+fn shape_of(row: &Row) -> Result<Shape, CaseFault>
+    ensures { IfOk result (λ shape. IsAnswerStatus shape.status) }
+{
+    let status = status_of(row.number(0)?)?;
+    let kind = kind_of(row.text(1)?);
+    let moved = says(row, 3, "moved")?;
+    Ok(Shape {
+        status,
+        kind,
+        moved,
+    })
+}
+
+fn status_of(number: u64) -> Result<u16, CaseFault>
     ensures { IfOk result IsAnswerStatus }
 {
-    match row.number(0)? {
+    match number {
         200 => Ok(200),
         301 => Ok(301),
         304 => Ok(304),
@@ -73,7 +128,12 @@ fn kind_of(word: &str) -> Option<Kind> {
     }
 }
 
-fn tag_of(alloc: Global, word: &[u8]) -> Result<Option<Bytes>, CaseFault> {
+fn tag_of(alloc: Global, row: &Row) -> Result<Option<Bytes>, CaseFault> {
+    let word = row.word(2)?;
+    tag_in(alloc, word)
+}
+
+fn tag_in(alloc: Global, word: &[u8]) -> Result<Option<Bytes>, CaseFault> {
     if word == b"-".as_slice() {
         return Ok(None);
     }

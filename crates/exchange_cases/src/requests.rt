@@ -9,15 +9,20 @@ use catalogue::Catalogue;
 use http_request::{Head, Heads, Next};
 use release_check::check;
 use std::alloc::Global;
-use td_base::{Bytes, MemoryStore, Role};
+use td_base::{Bytes, MemoryStore, NoMemory, Role};
 use zone_meaning::Zone;
 
 /// `file PATH BYTES` puts a file into the store.
 pub fn file(alloc: Global, store: &mut MemoryStore, row: &Row) -> case_lines::Answer {
     let (path, bytes) = (row.word(0)?, row.word(1)?);
-    let path = Bytes::from_slice(alloc, path)?;
-    store.put(path, Bytes::from_slice(alloc, bytes)?)?;
+    put(alloc, store, path, bytes)?;
     Ok(Vec::new(alloc))
+}
+
+fn put(alloc: Global, store: &mut MemoryStore, path: &[u8], bytes: &[u8]) -> Result<(), NoMemory> {
+    let path = Bytes::from_slice(alloc, path)?;
+    let bytes = Bytes::from_slice(alloc, bytes)?;
+    store.put(path, bytes)
 }
 
 /// `request DIR METHOD TARGET FIELDS`: the answer, over the release of that folder, to a request
@@ -25,8 +30,19 @@ pub fn file(alloc: Global, store: &mut MemoryStore, row: &Row) -> case_lines::An
 pub fn request(alloc: Global, store: &mut MemoryStore, row: &Row) -> case_lines::Answer {
     let dir = row.word(0)?;
     let head = head_of(alloc, row)?;
+    over_folder(alloc, store, dir, &head)
+}
+
+fn over_folder(
+    alloc: Global,
+    store: &mut MemoryStore,
+    dir: &[u8],
+    head: &Head,
+) -> case_lines::Answer
+    requires { IsTrue (has_form head.now.target) }
+{
     let catalogue = catalogue_of(alloc, store, dir)?;
-    answer_to(alloc, &catalogue, &head)
+    answer_to(alloc, &catalogue, head)
 }
 
 /// The catalogue of one release.
@@ -48,8 +64,14 @@ fn head_of(alloc: Global, row: &Row) -> Result<Head, CaseFault>
     ensures { IfOk result (λ head. IsTrue (has_form head.target)) }
 {
     let text = request_text(alloc, row)?;
+    head_in(alloc, text.as_slice())
+}
+
+fn head_in(alloc: Global, text: &[u8]) -> Result<Head, CaseFault>
+    ensures { IfOk result (λ head. IsTrue (has_form head.target)) }
+{
     let mut heads = Heads::new(alloc);
-    heads.feed(text.as_slice())?;
+    heads.feed(text)?;
     match heads.next(alloc)? {
         Next::Request(head) => Ok(head),
         _ => Err(CaseFault::Strange),

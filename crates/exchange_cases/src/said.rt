@@ -7,7 +7,7 @@ use case_lines::{Answer, CaseFault, Row, number};
 use console::{Said, news_reply, reply, short};
 use std::alloc::Global;
 use subscribers::{Names, Notice};
-use td_base::{Bytes, Token, texts};
+use td_base::{Bytes, NoMemory, Token, texts};
 
 /// The text before an appended reply.
 const BEFORE: &[u8] = b"before\n";
@@ -16,9 +16,13 @@ const BEFORE: &[u8] = b"before\n";
 /// `ready`, `installed`, `unchanged` and `serving` comes a token; `serving` also has the number of
 /// zones. After `watching` comes a number, and after `refused` the fault.
 pub fn said(alloc: Global, row: &Row) -> Answer {
-    if row.text(0)? == "refused" {
-        return refused(alloc, row);
+    match row.text(0)? {
+        "refused" => refused(alloc, row),
+        _ => unrefused(alloc, row),
     }
+}
+
+fn unrefused(alloc: Global, row: &Row) -> Answer {
     let said = bounded(row)?;
     both(alloc, &said)
 }
@@ -28,16 +32,39 @@ fn bounded(row: &Row) -> Result<Said, CaseFault>
     ensures { IfOk result IsBoundedReply }
 {
     match row.text(0)? {
-        "ready" => Ok(Said::Ready(token(row)?)),
-        "installed" => Ok(Said::Installed(token(row)?)),
-        "unchanged" => Ok(Said::Unchanged(token(row)?)),
-        "serving" => Ok(Said::Serving(token(row)?, small(row.number(2)?)?)),
-        "watching" => Ok(Said::Watching(small(row.number(1)?)?)),
+        "watching" => Ok(Said::Watching(count(row, 1)?)),
         "no-memory" => Ok(Said::NoMemory),
         "bye" => Ok(Said::Bye),
         "unknown" => Ok(Said::Unknown),
+        kind => of_release(kind, row),
+    }
+}
+
+/// The reply that is described, if it has a token.
+fn of_release(kind: &str, row: &Row) -> Result<Said, CaseFault>
+    ensures { IfOk result IsBoundedReply }
+{
+    let token = token(row.word(1)?)?;
+    match kind {
+        "ready" => Ok(Said::Ready(token)),
+        "installed" => Ok(Said::Installed(token)),
+        "unchanged" => Ok(Said::Unchanged(token)),
+        "serving" => serving(token, row),
         _ => Err(CaseFault::Strange),
     }
+}
+
+fn serving(token: Token, row: &Row) -> Result<Said, CaseFault>
+    ensures { IfOk result IsBoundedReply }
+{
+    match count(row, 2) {
+        Ok(zones) => Ok(Said::Serving(token, zones)),
+        Err(fault) => Err(fault),
+    }
+}
+
+fn count(row: &Row, at: usize) -> Result<u32, CaseFault> {
+    small(row.number(at)?)
 }
 
 fn small(number: u64) -> Result<u32, CaseFault> {
@@ -78,11 +105,16 @@ fn after(alloc: Global, out: &Bytes) -> Answer {
 
 /// `news PLACE:TZID,TZID ..`: the reply to `news`, with a notice for each word.
 pub fn news(alloc: Global, row: &Row) -> Answer {
+    let notices = notices(alloc, row.words())?;
+    news_of(alloc, notices.as_slice())
+}
+
+fn notices(alloc: Global, words: &[Vec<u8>]) -> Result<Vec<Notice>, CaseFault> {
     let mut notices = Vec::new(alloc);
-    for word in row.words() {
+    for word in words {
         add_notice(alloc, &mut notices, word.as_slice())?;
     }
-    news_of(alloc, notices.as_slice())
+    Ok(notices)
 }
 
 fn news_of(alloc: Global, notices: &[Notice]) -> Answer {
@@ -93,23 +125,37 @@ fn news_of(alloc: Global, notices: &[Notice]) -> Answer {
 
 fn add_notice(alloc: Global, notices: &mut Vec<Notice>, word: &[u8]) -> Result<(), CaseFault> {
     let (place, rest) = texts::cut(word, b':');
-    let place = small(number(place)?)?;
-    let tzids = names(alloc, rest.ok_or(CaseFault::Strange)?)?;
+    let place = place_of(place)?;
+    let tzids = names(alloc, rest)?;
     notices.push(Notice { place, tzids })?;
     Ok(())
 }
 
-fn names(alloc: Global, text: &[u8]) -> Result<Names, CaseFault> {
+fn place_of(word: &[u8]) -> Result<u32, CaseFault> {
+    small(number(word)?)
+}
+
+fn names(alloc: Global, text: Option<&[u8]>) -> Result<Names, CaseFault> {
+    match text {
+        Some(text) => Ok(names_in(alloc, text)?),
+        None => Err(CaseFault::Strange),
+    }
+}
+
+fn names_in(alloc: Global, text: &[u8]) -> Result<Names, NoMemory> {
     let mut names = Names::new(alloc);
     for name in text.split(|byte| *byte == b',') {
-        names.push(Bytes::from_slice(alloc, name)?)?;
+        add_name(alloc, &mut names, name)?;
     }
     Ok(names)
 }
 
-/// The token in the second word.
-fn token(row: &Row) -> Result<Token, CaseFault> {
-    let word = row.word(1)?;
+fn add_name(alloc: Global, names: &mut Names, name: &[u8]) -> Result<(), NoMemory> {
+    let name = Bytes::from_slice(alloc, name)?;
+    names.push(name)
+}
+
+fn token(word: &[u8]) -> Result<Token, CaseFault> {
     let mut token = Token::new();
     if word.len() > 32 {
         return Err(CaseFault::Strange);

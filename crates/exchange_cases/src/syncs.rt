@@ -3,7 +3,7 @@ use case_lines::{Answer, CaseFault, Row, Told};
 use mirror::SyncFault;
 use std::alloc::Global;
 use sync_core::Mirror;
-use td_base::{Bytes, Exchange, Faulty, Items, MemoryUpstream};
+use td_base::{Bytes, Exchange, Faulty, Items, MemoryUpstream, NoMemory};
 
 /// The host of the requests.
 const HOST: &[u8] = b"y";
@@ -13,9 +13,14 @@ const HOST: &[u8] = b"y";
 /// empty. Prints the requested targets, each after a bar, and the outcome.
 pub fn sync(alloc: Global, mirror: &mut Mirror, row: &Row) -> Answer {
     let mut upstream = server(alloc, row)?;
-    let mut told = Told::new(alloc);
     let outcome = mirror::sync(alloc, mirror, HOST, &mut upstream);
-    for exchange in upstream.inner().told() {
+    told(alloc, upstream.inner().told(), outcome)
+}
+
+/// The requested targets, and the outcome.
+fn told(alloc: Global, exchanges: &[Exchange], outcome: Result<(), SyncFault>) -> Answer {
+    let mut told = Told::new(alloc);
+    for exchange in exchanges {
         tell_target(&mut told, exchange);
     }
     tell_outcome(&mut told, outcome);
@@ -24,9 +29,9 @@ pub fn sync(alloc: Global, mirror: &mut Mirror, row: &Row) -> Answer {
 
 /// The server that gives the answers of a row.
 fn server(alloc: Global, row: &Row) -> Result<Faulty<MemoryUpstream>, CaseFault> {
-    let failing = failing(alloc, row)?;
-    let mut script = MemoryUpstream::new(alloc);
-    add_answers(alloc, &mut script, row)?;
+    let times = row.number(0)?;
+    let failing = failing(alloc, times, answers(row))?;
+    let script = script(alloc, times, answers(row))?;
     Ok(Faulty::new(script, failing))
 }
 
@@ -40,30 +45,53 @@ fn is_lost(answer: &Vec<u8>) -> bool {
 }
 
 /// The numbers of the exchanges that fail, from 1.
-fn failing(alloc: Global, row: &Row) -> Result<Items<u64>, CaseFault> {
+fn failing(alloc: Global, times: u64, answers: &[Vec<u8>]) -> Result<Items<u64>, NoMemory> {
     let mut failing = Items::new(alloc);
     let mut calls = 0u64;
-    for _ in 0..row.number(0)? {
-        for answer in answers(row) {
-            calls = calls.saturating_add(1);
-            if is_lost(answer) {
-                failing.push(calls)?;
-            }
-        }
+    for _ in 0..times {
+        add_failing(&mut failing, calls, answers)?;
+        calls = calls.saturating_add(answers.len() as u64);
     }
     Ok(failing)
 }
 
-/// Adds the answers of all exchanges that do not fail.
-fn add_answers(alloc: Global, script: &mut MemoryUpstream, row: &Row) -> Result<(), CaseFault> {
-    for _ in 0..row.number(0)? {
-        for answer in answers(row) {
-            if !is_lost(answer) {
-                script.push(Bytes::from_slice(alloc, answer.as_slice())?)?;
-            }
+/// Adds the numbers of those exchanges that fail, after so many others.
+fn add_failing(failing: &mut Items<u64>, calls: u64, answers: &[Vec<u8>]) -> Result<(), NoMemory> {
+    let mut calls = calls;
+    for answer in answers {
+        calls = calls.saturating_add(1);
+        if is_lost(answer) {
+            failing.push(calls)?;
         }
     }
     Ok(())
+}
+
+/// The answers of all exchanges that do not fail.
+fn script(alloc: Global, times: u64, answers: &[Vec<u8>]) -> Result<MemoryUpstream, NoMemory> {
+    let mut script = MemoryUpstream::new(alloc);
+    for _ in 0..times {
+        add_answers(alloc, &mut script, answers)?;
+    }
+    Ok(script)
+}
+
+fn add_answers(
+    alloc: Global,
+    script: &mut MemoryUpstream,
+    answers: &[Vec<u8>],
+) -> Result<(), NoMemory> {
+    for answer in answers {
+        if !is_lost(answer) {
+            add_answer(alloc, script, answer.as_slice())?;
+        }
+    }
+    Ok(())
+}
+
+fn add_answer(alloc: Global, script: &mut MemoryUpstream, answer: &[u8]) -> Result<(), NoMemory> {
+    let answer = Bytes::from_slice(alloc, answer)?;
+    script.push(answer)
 }
 
 /// Appends the text between the first two blanks of a request.

@@ -21,10 +21,15 @@ fn request_of(alloc: Global, ask: &Ask, host: &[u8]) -> Answer {
 fn ask_of(alloc: Global, row: &Row) -> Result<Ask, CaseFault> {
     match row.text(1)? {
         "list" => Ok(Ask::List(None)),
-        "since" => Ok(Ask::List(Some(Bytes::from_slice(alloc, row.word(2)?)?))),
-        "get" => Ok(Ask::Get(Bytes::from_slice(alloc, row.word(2)?)?)),
+        "since" => Ok(Ask::List(Some(named(alloc, row)?))),
+        "get" => Ok(Ask::Get(named(alloc, row)?)),
         _ => Err(CaseFault::Strange),
     }
+}
+
+/// The token or the name of a zone in a row.
+fn named(alloc: Global, row: &Row) -> Result<Bytes, CaseFault> {
+    Ok(Bytes::from_slice(alloc, row.word(2)?)?)
 }
 
 /// `mirror-reply TEXT`: the status and the body, or why the text is not a reply.
