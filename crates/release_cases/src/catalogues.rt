@@ -1,13 +1,13 @@
 //! The catalogue of a history of folders. Each row begins with the folders, separated by commas.
 use crate::histories::catalogue_of;
 use crate::leap_tables::steps;
-use crate::{indexes, ruled};
-use case_lines::{Answer, CaseFault, Row, shown};
+use crate::{changes, indexes};
+use case_lines::{Answer, CaseFault, Row, Told, shown};
 use catalogue::{
     Catalogue, Entry, KEPT_TOKENS, entries_are_plain, fits_what_is_held, histories_grow,
     order_is_free, tokens_are_apart, tokens_are_plain, tokens_find_places,
 };
-use std::alloc::{AllocError, Global};
+use std::alloc::Global;
 use td_base::MemoryStore;
 use zone_meaning::{Zone, file};
 
@@ -19,8 +19,8 @@ pub fn asked(alloc: Global, row: &Row, store: &mut MemoryStore) -> Answer {
 
 fn told(alloc: Global, row: &Row, store: &mut MemoryStore, catalogue: &Catalogue<Zone>) -> Answer {
     match row.kind() {
-        "changed" => ruled::changed(alloc, row, store, catalogue),
-        "stands" => Ok(stands(alloc, catalogue)?),
+        "changed" => changes::changed(alloc, row, store, catalogue),
+        "stands" => stands(alloc, catalogue),
         "leaps" => leaps(alloc, catalogue),
         "find-name" => shown(alloc, &catalogue.find_name(row.word(1)?)),
         "place-of" => shown(alloc, &catalogue.place_of(row.word(1)?)),
@@ -34,20 +34,30 @@ fn told(alloc: Global, row: &Row, store: &mut MemoryStore, catalogue: &Catalogue
 
 /// `stands DIRS`: how many releases, zones and names it has, and the stamp, publisher and version
 /// of the last release.
-fn stands(alloc: Global, catalogue: &Catalogue<Zone>) -> Result<Vec<u8>, AllocError> {
-    let (count, len) = (catalogue.count(), catalogue.len());
-    let (names, stamp) = (catalogue.name_count(), catalogue.last_stamp().seconds);
-    let mut out = format!(in alloc; "{count} {len} {names} {stamp} ")?.into_bytes();
-    out.extend_from_slice(catalogue.publisher())?;
-    out.push(b' ')?;
-    out.extend_from_slice(catalogue.version())?;
-    Ok(out)
+fn stands(alloc: Global, catalogue: &Catalogue<Zone>) -> Answer {
+    let mut told = Told::new(alloc);
+    tell_counts(&mut told, catalogue);
+    told.text(&catalogue.last_stamp().seconds);
+    told.bytes(b" ");
+    told.bytes(catalogue.publisher());
+    told.bytes(b" ");
+    told.bytes(catalogue.version());
+    told.answer()
+}
+
+fn tell_counts(told: &mut Told, catalogue: &Catalogue<Zone>) {
+    told.text(&catalogue.count());
+    told.bytes(b" ");
+    told.text(&catalogue.len());
+    told.bytes(b" ");
+    told.text(&catalogue.name_count());
+    told.bytes(b" ");
 }
 
 /// `leaps DIRS`: expiry, length of the file and steps of its table, if it has one.
 fn leaps(alloc: Global, catalogue: &Catalogue<Zone>) -> Answer {
     match catalogue.leaps() {
-        Some(table) => Ok(steps(alloc, table)?),
+        Some(table) => steps(alloc, table),
         None => Ok(Vec::from_slice(alloc, b"none")?),
     }
 }
@@ -88,40 +98,41 @@ fn entry(alloc: Global, row: &Row, catalogue: &Catalogue<Zone>) -> Answer {
     if position >= catalogue.len() {
         return crate::strange();
     }
-    Ok(entry_text(alloc, catalogue.entry(position))?)
+    entry_text(alloc, catalogue.entry(position))
 }
 
-fn entry_text(alloc: Global, entry: &Entry<Zone>) -> Result<Vec<u8>, AllocError> {
-    let mut out = Vec::new(alloc);
-    put_names(&mut out, entry)?;
-    put_file(alloc, &mut out, entry)?;
-    put_change(alloc, &mut out, entry)?;
-    Ok(out)
+fn entry_text(alloc: Global, entry: &Entry<Zone>) -> Answer {
+    let mut told = Told::new(alloc);
+    tell_names(&mut told, entry);
+    tell_file(&mut told, entry);
+    tell_change(&mut told, entry);
+    told.answer()
 }
 
-fn put_names(out: &mut Vec<u8>, entry: &Entry<Zone>) -> Result<(), AllocError> {
-    out.extend_from_slice(entry.content.tzid.as_slice())?;
+fn tell_names(told: &mut Told, entry: &Entry<Zone>) {
+    told.bytes(entry.content.tzid.as_slice());
     for alias in entry.content.aliases.as_slice() {
-        out.push(b',')?;
-        out.extend_from_slice(alias.as_slice())?;
+        told.bytes(b",");
+        told.bytes(alias.as_slice());
     }
-    Ok(())
 }
 
-fn put_file(alloc: Global, out: &mut Vec<u8>, entry: &Entry<Zone>) -> Result<(), AllocError> {
-    let len = file(&entry.content.zone).len();
-    out.extend_from_slice(format!(in alloc; " {len} ")?.as_bytes())?;
-    out.extend_from_slice(entry.tag.as_slice())?;
-    Ok(())
+fn tell_file(told: &mut Told, entry: &Entry<Zone>) {
+    told.bytes(b" ");
+    told.text(&file(&entry.content.zone).len());
+    told.bytes(b" ");
+    told.bytes(entry.tag.as_slice());
 }
 
-fn put_change(alloc: Global, out: &mut Vec<u8>, entry: &Entry<Zone>) -> Result<(), AllocError> {
-    let (changed, stamp) = (entry.changed, entry.stamp.seconds);
-    out.extend_from_slice(format!(in alloc; " {changed} {stamp} ")?.as_bytes())?;
-    out.extend_from_slice(entry.publisher.as_slice())?;
-    out.push(b' ')?;
-    out.extend_from_slice(entry.version.as_slice())?;
-    Ok(())
+fn tell_change(told: &mut Told, entry: &Entry<Zone>) {
+    told.bytes(b" ");
+    told.text(&entry.changed);
+    told.bytes(b" ");
+    told.text(&entry.stamp.seconds);
+    told.bytes(b" ");
+    told.bytes(entry.publisher.as_slice());
+    told.bytes(b" ");
+    told.bytes(entry.version.as_slice());
 }
 
 /// Laws, each of which does nothing.

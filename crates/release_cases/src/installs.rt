@@ -1,10 +1,10 @@
 //! Folders that are installed, for desks.
 ghost use Rattle.std.specs.Prelude.{◌≡◌};
 
-use case_lines::{Answer, CaseFault, Row};
+use case_lines::{Answer, CaseFault, Row, Told};
 use catalogue::Catalogue;
 use installer::{InstallFault, InstallPolicy, Installer};
-use publication::Desk;
+use publication::{Desk, Ended};
 use std::alloc::Global;
 use std::sync::Wait;
 use td_base::{Bytes, MemoryStore, NoMemory};
@@ -12,9 +12,8 @@ use zone_meaning::Zone;
 
 /// `open DIR`: the `Display` text of a first folder's fault, or nothing.
 pub fn open<R: Wait>(rt: &R, alloc: Global, row: &Row, store: &mut MemoryStore) -> Answer {
-    match Installer::open(rt, alloc, row.word(0)?, store, 1) {
-        Ok((installer, desks)) => {
-            drop(desks);
+    match opened(rt, alloc, row.word(0)?, store) {
+        Ok(installer) => {
             installer.close(rt);
             Ok(Vec::new(alloc))
         }
@@ -22,15 +21,26 @@ pub fn open<R: Wait>(rt: &R, alloc: Global, row: &Row, store: &mut MemoryStore) 
     }
 }
 
-/// The places of two desks after each step, and the text of the last answer.
-#[derive(Drop)]
+/// An installer that begins with the first folder, and has no desk.
+pub fn opened<R: Wait>(
+    rt: &R,
+    alloc: Global,
+    dir: &[u8],
+    store: &mut MemoryStore,
+) -> Result<Installer, InstallFault> {
+    let (installer, desks) = Installer::open(rt, alloc, dir, store, 1)?;
+    drop(desks);
+    Ok(installer)
+}
+
+/// The places of two desks after each step.
+#[derive(Clone, Copy)]
 struct Steps {
     opened: (u32, u32),
     // Before any enter.
     told: (u32, u32),
     grown: (u32, u32),
     refused: (u32, u32),
-    fault: Bytes,
 }
 
 /// `install DIR DIR DIR`: the places at which two desks answer, and the fault of the third folder.
@@ -43,33 +53,42 @@ pub fn install<R: Wait>(
     store: &mut MemoryStore,
     asked: &InstallPolicy<'_>,
 ) -> Answer {
-    let (steps, ended) = match run(rt, alloc, row, store, asked) {
-        Ok(run) => run,
-        Err(InstallFault::NoMemory) => return Err(CaseFault::NoMemory),
-        Err(_fault) => return crate::strange(),
-    };
-    let (opened, told) = (steps.opened, steps.told);
-    let (grown, refused) = (steps.grown, steps.refused);
-    let places = format!(in alloc; "{opened:?} {told:?} {grown:?} {refused:?} {ended:?} ")?;
-    let mut out = places.into_bytes();
-    out.extend_from_slice(steps.fault.as_slice())?;
-    Ok(out)
+    let mut fault = Bytes::new(alloc);
+    match run(rt, alloc, row, store, asked, &mut fault) {
+        Ok((steps, ended)) => told(alloc, &steps, ended, fault.as_slice()),
+        Err(InstallFault::NoMemory) => Err(CaseFault::NoMemory),
+        Err(_fault) => crate::strange(),
+    }
 }
 
-/// The steps, and the places at the end.
+/// The places after each step, and the fault of the third folder.
+fn told(alloc: Global, steps: &Steps, ended: (u32, u32), fault: &[u8]) -> Answer {
+    let mut told = Told::new(alloc);
+    for places in [steps.opened, steps.told, steps.grown, steps.refused, ended] {
+        told.value(&places);
+        told.bytes(b" ");
+    }
+    told.bytes(fault);
+    told.answer()
+}
+
+/// The steps, and the places at the end. The fault of the third folder is appended.
 fn run<R: Wait>(
     rt: &R,
     alloc: Global,
     row: &Row,
     store: &mut MemoryStore,
     asked: &InstallPolicy<'_>,
+    fault: &mut Bytes,
 ) -> Result<(Steps, (u32, u32)), InstallFault> {
     let (first, more) = (word(row, 0), (word(row, 1), word(row, 2)));
     let (installer, desks) = Installer::open(rt, alloc, first, store, 2)?;
     let mut desks = desks;
     let mut two = desks.pop().unwrap();
     let mut one = desks.pop().unwrap();
-    run_for(rt, alloc, more, store, asked, installer, &mut one, &mut two)
+    run_for(
+        rt, alloc, more, store, asked, fault, installer, &mut one, &mut two,
+    )
 }
 
 /// The steps after the first release, for two desks.
@@ -79,6 +98,7 @@ fn run_for<R: Wait>(
     dirs: (&[u8], &[u8]),
     store: &mut MemoryStore,
     asked: &InstallPolicy<'_>,
+    fault: &mut Bytes,
     installer: Installer,
     one: &mut Desk<Catalogue<Zone>>,
     two: &mut Desk<Catalogue<Zone>>,
@@ -86,7 +106,17 @@ fn run_for<R: Wait>(
     requires { (one.old.pair ≡ installer.pair) × (two.old.pair ≡ installer.pair) }
 {
     let mut installer = installer;
-    match grow(rt, alloc, dirs, store, asked, &mut installer, one, two) {
+    match grow(
+        rt,
+        alloc,
+        dirs,
+        store,
+        asked,
+        fault,
+        &mut installer,
+        one,
+        two,
+    ) {
         Ok(steps) => Ok((steps, ended(rt, installer, one, two)?)),
         Err(fault) => {
             installer.close(rt);
@@ -107,6 +137,7 @@ fn grow<R: Wait>(
     dirs: (&[u8], &[u8]),
     store: &mut MemoryStore,
     asked: &InstallPolicy<'_>,
+    fault: &mut Bytes,
     installer: &mut Installer,
     one: &mut Desk<Catalogue<Zone>>,
     two: &mut Desk<Catalogue<Zone>>,
@@ -121,24 +152,30 @@ fn grow<R: Wait>(
     one.learn(receipt);
     let told = (one.value().count(), two.value().count());
     let grown = (entered(one), entered(two));
-    let fault = text_of(alloc, installer.install(rt, alloc, dirs.1, store, asked))?;
+    put_fault(
+        alloc,
+        fault,
+        installer.install(rt, alloc, dirs.1, store, asked),
+    )?;
     let refused = (entered(one), entered(two));
     Ok(Steps {
         opened,
         told,
         grown,
         refused,
-        fault,
     })
 }
 
-/// The text of a fault as it is printed, or no text.
-fn text_of<T: Drop>(alloc: Global, answer: Result<T, InstallFault>) -> Result<Bytes, NoMemory> {
-    let mut text = Bytes::new(alloc);
-    if let Err(fault) = answer {
-        fault.put(alloc, &mut text)?;
+/// Appends a fault as it is printed, if there is one.
+fn put_fault<T: Drop>(
+    alloc: Global,
+    text: &mut Bytes,
+    answer: Result<T, InstallFault>,
+) -> Result<(), NoMemory> {
+    match answer {
+        Ok(_) => Ok(()),
+        Err(fault) => fault.put(alloc, text),
     }
-    Ok(text)
 }
 
 /// The place at which a desk answers after an enter, or 0 if the enter was refused.
@@ -161,13 +198,21 @@ fn ended<R: Wait>(
     requires { (one.old.pair ≡ installer.pair) × (two.old.pair ≡ installer.pair) }
 {
     let mut ended = installer.end(rt)?;
-    let (mine, theirs) = (ended.receipt(), ended.receipt());
-    let (Ok(mine), Ok(theirs)) = (mine, theirs) else {
-        ended.close(rt);
-        return Err(NoMemory);
-    };
-    one.learn(mine);
-    two.learn(theirs);
+    let learned = both_learn(&mut ended, one, two);
     ended.close(rt);
+    learned?;
     Ok((one.value().count(), two.value().count()))
+}
+
+/// Two desks learn the end.
+fn both_learn(
+    ended: &mut Ended<Catalogue<Zone>>,
+    one: &mut Desk<Catalogue<Zone>>,
+    two: &mut Desk<Catalogue<Zone>>,
+) -> Result<(), NoMemory>
+    requires { (one.old.pair ≡ ended.old.pair) × (two.old.pair ≡ ended.old.pair) }
+{
+    one.learn(ended.receipt()?);
+    two.learn(ended.receipt()?);
+    Ok(())
 }

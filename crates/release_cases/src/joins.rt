@@ -1,10 +1,11 @@
 //! Whether a folder joins a history as a whole or not at all.
 use crate::installs::entered;
-use case_lines::{Answer, CaseFault, Row};
+use case_lines::{Answer, CaseFault, Row, Told};
 use catalogue::Catalogue;
 use installer::{InstallFault, InstallPolicy, Installer};
 use publication::Desk;
-use std::alloc::{AllocError, Global};
+use std::alloc::Global;
+use std::fmt;
 use std::sync::Wait;
 use td_base::MemoryStore;
 use zone_meaning::Zone;
@@ -17,6 +18,14 @@ struct Stand {
     zones: usize,
     names: usize,
     entered: u32,
+}
+
+impl fmt::Display for Stand {
+    fn fmt<W: fmt::Write>(&self, f: &mut fmt::Formatter<W>) -> fmt::Result {
+        let (releases, zones) = (self.releases, self.zones);
+        let (names, entered) = (self.names, self.entered);
+        write!(f, "{releases},{zones},{names},{entered}")
+    }
 }
 
 /// The result for a folder: whether it joined the history, and the resulting state. `None` if it is
@@ -34,41 +43,40 @@ pub fn joins<R: Wait>(
     store: &mut MemoryStore,
     asked: &InstallPolicy<'_>,
 ) -> Answer {
-    let dirs = (row.word(0)?, row.word(1)?);
-    let (first, second) = match installed(rt, alloc, dirs, store, asked) {
-        Ok(both) => both,
-        Err(InstallFault::NoMemory) => return Err(CaseFault::NoMemory),
-        Err(_fault) => return crate::strange(),
+    let [first, second, between, ..] = row.words() else {
+        return crate::strange();
     };
-    let mut out = Vec::new(alloc);
-    put_between(alloc, &mut out, first, row.word(2)?)?;
+    let dirs = (first.as_slice(), second.as_slice());
+    match installed(rt, alloc, dirs, store, asked) {
+        Ok((first, second)) => told_of(alloc, first, second, between.as_slice()),
+        Err(InstallFault::NoMemory) => Err(CaseFault::NoMemory),
+        Err(_fault) => crate::strange(),
+    }
+}
+
+/// The state after a failed try, if it is not this one, and the state at the end.
+fn told_of(alloc: Global, first: Joining, second: Joining, between: &[u8]) -> Answer {
+    let mut told = Told::new(alloc);
+    if let Some((false, stand)) = first {
+        tell_other(alloc, &mut told, &stand, between);
+    }
     if let Some((true, stand)) = second {
-        out.extend_from_slice(text_of(alloc, &stand)?.as_bytes())?;
+        told.text(&stand);
     }
-    Ok(out)
+    told.answer()
 }
 
-/// Appends the state after a failed try, if it is not this one.
-fn put_between(
-    alloc: Global,
-    out: &mut Vec<u8>,
-    first: Joining,
-    stand: &[u8],
-) -> Result<(), AllocError> {
-    if let Some((false, now)) = first {
-        let text = text_of(alloc, &now)?;
-        if text.as_bytes() != stand {
-            out.extend_from_slice(text.as_bytes())?;
-            out.push(b' ')?;
+/// Appends a state and a blank, if the state is not this one.
+fn tell_other(alloc: Global, told: &mut Told, stand: &Stand, other: &[u8]) {
+    match stand.to_string(alloc) {
+        Ok(text) => {
+            if text.as_bytes() != other {
+                told.bytes(text.as_bytes());
+                told.bytes(b" ");
+            }
         }
+        Err(_) => told.fail(CaseFault::NoMemory),
     }
-    Ok(())
-}
-
-fn text_of(alloc: Global, stand: &Stand) -> Result<String, AllocError> {
-    let (releases, zones) = (stand.releases, stand.zones);
-    let (names, entered) = (stand.names, stand.entered);
-    format!(in alloc; "{releases},{zones},{names},{entered}")
 }
 
 /// Installs the second folder after the first, and once more if it was out of memory.

@@ -1,8 +1,8 @@
 //! Tables of leap seconds.
-use case_lines::{Answer, CaseFault, Row, signed};
-use catalogue::Leaps;
+use case_lines::{Answer, CaseFault, Row, Told, signed};
+use catalogue::{LeapStep, Leaps};
 use leap_table::from_file;
-use std::alloc::{AllocError, Global};
+use std::alloc::Global;
 use td_base::{Bytes, Items, texts};
 use tzif_reader::{LeapLine, MOST_BYTES, ZoneFile};
 
@@ -18,7 +18,7 @@ fn told(alloc: Global, file: &ZoneFile) -> Answer {
         return crate::strange();
     }
     match from_file(alloc, file, b"the file", b"2025-12-28") {
-        Ok(table) => Ok(steps(alloc, &table)?),
+        Ok(table) => steps(alloc, &table),
         Err(fault) => crate::text(alloc, &fault),
     }
 }
@@ -36,12 +36,17 @@ fn file_with(alloc: Global, lines: &[u8]) -> Result<ZoneFile, CaseFault> {
 
 fn leap_lines(alloc: Global, lines: &[u8]) -> Result<Items<LeapLine>, CaseFault> {
     let mut leaps = Items::new(alloc);
+    add_lines(lines, &mut leaps)?;
+    Ok(leaps)
+}
+
+fn add_lines(lines: &[u8], leaps: &mut Items<LeapLine>) -> Result<(), CaseFault> {
     if lines != b"-".as_slice() {
         for line in lines.split(|byte| *byte == b',') {
             leaps.push(leap_line(line)?)?;
         }
     }
-    Ok(leaps)
+    Ok(())
 }
 
 fn leap_line(line: &[u8]) -> Result<LeapLine, CaseFault> {
@@ -58,13 +63,20 @@ fn short(word: &[u8]) -> Result<i32, CaseFault> {
 }
 
 /// The file and its expiry, and the steps after them.
-pub fn steps(alloc: Global, table: &Leaps) -> Result<Vec<u8>, AllocError> {
-    let mut out = Vec::from_slice(alloc, table.expires.as_slice())?;
-    let len = table.file.len();
-    out.extend_from_slice(format!(in alloc; " {len}")?.as_bytes())?;
+pub fn steps(alloc: Global, table: &Leaps) -> Answer {
+    let mut told = Told::new(alloc);
+    told.bytes(table.expires.as_slice());
+    told.bytes(b" ");
+    told.text(&table.file.len());
     for step in table.steps.as_slice() {
-        let (day, offset) = (step.day, step.offset);
-        out.extend_from_slice(format!(in alloc; ";{day} {offset}")?.as_bytes())?;
+        tell_step(&mut told, step);
     }
-    Ok(out)
+    told.answer()
+}
+
+fn tell_step(told: &mut Told, step: &LeapStep) {
+    told.bytes(b";");
+    told.text(&step.day);
+    told.bytes(b" ");
+    told.text(&step.offset);
 }

@@ -27,13 +27,14 @@ pub fn told(alloc: Global, row: &Row) -> Answer {
 /// `load-manifest NUMBER RELEASE`: the content of a release's manifest.
 fn manifest(alloc: Global, row: &Row) -> Answer {
     let (manifest, _store) = made(alloc, small(row, 0)?, small(row, 1)?)?;
-    Ok(said(alloc, &manifest)?)
+    said(alloc, &manifest)
 }
 
 /// `load-file NUMBER RELEASE PATH`: a file of a release, in hex digits, or `absent`.
 fn file(alloc: Global, row: &Row) -> Answer {
-    let (_manifest, mut store) = made(alloc, small(row, 0)?, small(row, 1)?)?;
-    file_in(alloc, row.word(2)?, &mut store)
+    let (number, r, path) = (small(row, 0)?, small(row, 1)?, row.word(2)?);
+    let (_manifest, mut store) = made(alloc, number, r)?;
+    file_in(alloc, path, &mut store)
 }
 
 fn file_in(alloc: Global, path: &[u8], store: &mut MemoryStore) -> Answer {
@@ -66,8 +67,8 @@ fn places(alloc: Global, row: &Row) -> Answer {
 
 fn places_in(alloc: Global, row: &Row, catalogue: &Catalogue<Zone>) -> Answer {
     let mut places = Vec::new(alloc);
-    for at in 1..row.words().len() {
-        places.push(catalogue.place_of(row.word(at)?))?;
+    for token in row.words().get(1..).unwrap_or(&[]) {
+        places.push(catalogue.place_of(token.as_slice()))?;
     }
     shown(alloc, &places.as_slice())
 }

@@ -14,6 +14,7 @@ mod printed;
 
 // Folders, histories of them, the catalogue of a history, and indexes of numbers.
 mod catalogues;
+mod changes;
 mod histories;
 mod indexes;
 mod values;
@@ -22,6 +23,7 @@ mod values;
 mod installs;
 mod joins;
 mod ruled;
+mod rules;
 mod stated;
 
 // The made load.
@@ -92,14 +94,30 @@ fn read_table<R: Wait + Input + Print>(
     let mut table = Table::new(alloc);
     let mut store = MemoryStore::new(alloc);
     for line in rt.lines(alloc) {
-        let line = line?;
-        if let Some(row) = table.row(line.as_str())? {
-            let answer = answer(rt, alloc, &row, &mut store, kept, asked);
-            judge(rt, &mut table, &row, answer)?;
-        }
+        try_line(rt, alloc, line, &mut table, &mut store, kept, asked)?;
     }
     let tally = table.tally();
     println!(rt; "{tally}")
+}
+
+/// Runs the row in a line, if it has one.
+fn try_line<R: Wait + Print>(
+    rt: &R,
+    alloc: Global,
+    line: io::Result<String>,
+    table: &mut Table,
+    store: &mut MemoryStore,
+    kept: &[Kept],
+    asked: &InstallPolicy<'_>,
+) -> io::Result<()>
+    requires { KeepsAll (map (λ k. k.kind) kept.now) }
+{
+    let line = line?;
+    let Some(row) = table.row(line.as_str())? else {
+        return Ok(());
+    };
+    let answer = answer(rt, alloc, &row, store, kept, asked);
+    judge(rt, table, &row, answer)
 }
 
 /// Reports a row whose answer is not the expected one.
@@ -123,14 +141,34 @@ fn answer<R: Wait>(
     requires { KeepsAll (map (λ k. k.kind) kept.now) }
 {
     match row.kind() {
-        "file" => put(alloc, row, store),
-        "install" => installs::install(rt, alloc, row, store, asked),
-        "open" => installs::open(rt, alloc, row, store),
-        "joins" => joins::joins(rt, alloc, row, store, asked),
         "stated" => stated::stated(rt, alloc, row, store, kept, asked),
-        "asked" => ruled::asked(alloc, row, kept),
+        "asked" => rules::asked(alloc, row, kept),
         "ruled" => ruled::ruled(rt, alloc, row, store, kept, asked),
+        _ => answer_without_rules(rt, alloc, row, store, asked),
+    }
+}
+
+/// The answer to a row of another kind, which uses no rule.
+fn answer_without_rules<R: Wait>(
+    rt: &R,
+    alloc: Global,
+    row: &Row,
+    store: &mut MemoryStore,
+    asked: &InstallPolicy<'_>,
+) -> Answer {
+    match row.kind() {
+        "install" => installs::install(rt, alloc, row, store, asked),
+        "joins" => joins::joins(rt, alloc, row, store, asked),
+        "open" => installs::open(rt, alloc, row, store),
         "serves" => stated::served(rt, alloc, row, store),
+        _ => answer_of_folders(alloc, row, store),
+    }
+}
+
+/// The answer to a row of another kind, which installs nothing.
+fn answer_of_folders(alloc: Global, row: &Row, store: &mut MemoryStore) -> Answer {
+    match row.kind() {
+        "file" => put(alloc, row, store),
         "examine" => values::examined(alloc, row, store),
         "history" => histories::told(alloc, row, store),
         "again" => histories::again(alloc, row, store),
@@ -138,7 +176,7 @@ fn answer<R: Wait>(
     }
 }
 
-/// The answer to a row of another kind, which uses no rule and installs nothing.
+/// The answer to a row of another kind, which uses no folder or the catalogue of some.
 fn answer_alone(alloc: Global, row: &Row, store: &mut MemoryStore) -> Answer {
     match row.kind() {
         "manifest" => manifests::read_back(alloc, row),
@@ -156,8 +194,12 @@ fn answer_alone(alloc: Global, row: &Row, store: &mut MemoryStore) -> Answer {
 
 /// `file PATH TEXT` puts a file into the store.
 fn put(alloc: Global, row: &Row, store: &mut MemoryStore) -> Answer {
-    let path = Bytes::from_slice(alloc, row.word(0)?)?;
-    store.put(path, Bytes::from_slice(alloc, row.word(1)?)?)?;
+    let [path, bytes, ..] = row.words() else {
+        return strange();
+    };
+    let path = Bytes::from_slice(alloc, path.as_slice())?;
+    let bytes = Bytes::from_slice(alloc, bytes.as_slice())?;
+    store.put(path, bytes)?;
     Ok(Vec::new(alloc))
 }
 

@@ -3,12 +3,13 @@
 ghost use Rattle.std.specs.Prelude.{map};
 ghost use Rattle.admission.specs.Rules.{KeepsAll};
 
-use crate::ruled::rules;
+use crate::rules::rules;
 use admission::Kept;
-use case_lines::{Answer, CaseFault, Row};
+use case_lines::{Answer, CaseFault, Row, Told};
 use installer::{InstallFault, InstallPolicy, Installer};
 use release_manifest::{MOST_BYTES, Manifest, ManifestLeaps, ManifestZone, read};
-use std::alloc::{AllocError, Global};
+use std::alloc::Global;
+use std::mem::replace;
 use std::sync::Wait;
 use td_base::{Bytes, FileRead, Items, MemoryStore, NoMemory, Store};
 
@@ -38,9 +39,8 @@ fn begun<R: Wait>(
     asked: &InstallPolicy<'_>,
 ) -> Answer {
     let first = manifest_of(alloc, row.word(1)?, store)?;
-    match Installer::open_manifest(rt, alloc, &first, store, 1) {
-        Ok((installer, desks)) => {
-            drop(desks);
+    match opened(rt, alloc, &first, store) {
+        Ok(installer) => {
             let mut installer = installer;
             let told = grown(rt, alloc, row, store, &mut installer, asked);
             installer.close(rt);
@@ -48,6 +48,18 @@ fn begun<R: Wait>(
         }
         Err(fault) => crate::text(alloc, &fault),
     }
+}
+
+/// An installer that begins with a manifest, and has no desk.
+fn opened<R: Wait>(
+    rt: &R,
+    alloc: Global,
+    manifest: &Manifest,
+    store: &mut MemoryStore,
+) -> Result<Installer, InstallFault> {
+    let (installer, desks) = Installer::open_manifest(rt, alloc, manifest, store, 1)?;
+    drop(desks);
+    Ok(installer)
 }
 
 /// Installs the second and the third manifest.
@@ -59,56 +71,45 @@ fn grown<R: Wait>(
     installer: &mut Installer,
     asked: &InstallPolicy<'_>,
 ) -> Answer {
-    let mut out = Vec::new(alloc);
-    put_count(alloc, &mut out, installer)?;
+    let mut told = Told::new(alloc);
+    tell_count(&mut told, installer);
     for at in 2..4 {
-        let fault = refused(rt, alloc, row.word(at)?, store, installer, asked)?;
-        put_after(alloc, &mut out, fault, installer)?;
+        match refused(rt, alloc, row, at, store, installer, asked) {
+            Ok(fault) => tell_after(&mut told, fault, installer),
+            Err(fault) => told.fail(fault),
+        }
     }
-    Ok(out)
+    told.answer()
 }
 
 /// The fault of installing a manifest, if it has one.
 fn refused<R: Wait>(
     rt: &R,
     alloc: Global,
-    dir: &[u8],
+    row: &Row,
+    at: usize,
     store: &mut MemoryStore,
     installer: &mut Installer,
     asked: &InstallPolicy<'_>,
 ) -> Result<Option<InstallFault>, CaseFault> {
-    let manifest = manifest_of(alloc, dir, store)?;
-    Ok(
-        installer
-            .install_manifest(rt, alloc, &manifest, store, asked)
-            .err(),
-    )
+    let manifest = manifest_of(alloc, row.word(at)?, store)?;
+    let installed = installer.install_manifest(rt, alloc, &manifest, store, asked);
+    Ok(installed.err())
 }
 
 /// Appends how many releases the history has after a step, which may have had a fault.
-pub fn put_after(
-    alloc: Global,
-    out: &mut Vec<u8>,
-    fault: Option<InstallFault>,
-    installer: &Installer,
-) -> Result<(), CaseFault> {
+pub fn tell_after(told: &mut Told, fault: Option<InstallFault>, installer: &Installer) {
     if let Some(fault) = fault {
-        out.extend_from_slice(crate::text(alloc, &fault)?.as_slice())?;
-        out.push(b' ')?;
+        told.text(&fault);
+        told.bytes(b" ");
     }
-    put_count(alloc, out, installer)?;
-    Ok(())
+    tell_count(told, installer);
 }
 
 /// Appends how many releases the history has.
-pub fn put_count(
-    alloc: Global,
-    out: &mut Vec<u8>,
-    installer: &Installer,
-) -> Result<(), AllocError> {
-    let count = installer.last().count();
-    out.extend_from_slice(format!(in alloc; "{count};")?.as_bytes())?;
-    Ok(())
+pub fn tell_count(told: &mut Told, installer: &Installer) {
+    told.text(&installer.last().count());
+    told.bytes(b";");
 }
 
 /// `serves DIR TEXT`: whether a history that begins with the manifest of a folder serves the
@@ -126,9 +127,8 @@ fn serves<R: Wait>(
     store: &mut MemoryStore,
 ) -> Answer {
     let first = manifest_of(alloc, dir, store)?;
-    match Installer::open_manifest(rt, alloc, &first, store, 1) {
-        Ok((installer, desks)) => {
-            drop(desks);
+    match opened(rt, alloc, &first, store) {
+        Ok(installer) => {
             let answer = installer.last_matches(alloc, asked, store);
             installer.close(rt);
             told(alloc, answer)
@@ -162,58 +162,57 @@ fn manifest_in(alloc: Global, dir: &[u8], text: &[u8]) -> Result<Manifest, CaseF
 }
 
 fn placed(alloc: Global, dir: &[u8], manifest: Manifest) -> Result<Manifest, NoMemory> {
-    let Manifest {
-        publisher,
-        version,
-        stamp,
-        zones,
-        leaps,
-    } = manifest;
-    let mut there = Items::new(alloc);
-    for zone in zones.into_vec() {
-        there.push(placed_zone(alloc, dir, zone)?)?;
+    let mut manifest = manifest;
+    place_files(alloc, dir, &mut manifest)?;
+    Ok(manifest)
+}
+
+fn place_files(alloc: Global, dir: &[u8], manifest: &mut Manifest) -> Result<(), NoMemory> {
+    place_zones(alloc, dir, &mut manifest.zones)?;
+    place_leaps(alloc, dir, &mut manifest.leaps)
+}
+
+/// Puts the files of zones in a folder.
+fn place_zones(alloc: Global, dir: &[u8], zones: &mut Items<ManifestZone>) -> Result<(), NoMemory> {
+    let mut all = replace(zones, Items::new(alloc)).into_vec();
+    let placed = place_each(alloc, dir, all.as_mut_slice());
+    *zones = Items::from(all);
+    placed
+}
+
+fn place_each(alloc: Global, dir: &[u8], zones: &mut [ManifestZone]) -> Result<(), NoMemory> {
+    for zone in zones.iter_mut() {
+        place(alloc, dir, &mut zone.file)?;
     }
-    Ok(Manifest {
-        publisher,
-        version,
-        stamp,
-        zones: there,
-        leaps: placed_leaps(alloc, dir, leaps)?,
-    })
+    Ok(())
 }
 
-fn placed_zone(alloc: Global, dir: &[u8], zone: ManifestZone) -> Result<ManifestZone, NoMemory> {
-    let ManifestZone {
-        tzid,
-        file,
-        aliases,
-    } = zone;
-    let file = path_in(alloc, dir, file.as_slice())?;
-    Ok(ManifestZone {
-        tzid,
-        file,
-        aliases,
-    })
-}
-
-fn placed_leaps(
+fn place_leaps(
     alloc: Global,
     dir: &[u8],
-    leaps: Option<ManifestLeaps>,
-) -> Result<Option<ManifestLeaps>, NoMemory> {
+    leaps: &mut Option<ManifestLeaps>,
+) -> Result<(), NoMemory> {
     match leaps {
-        None => Ok(None),
-        Some(ManifestLeaps { file, expires }) => {
-            let file = path_in(alloc, dir, file.as_slice())?;
-            Ok(Some(ManifestLeaps { file, expires }))
-        }
+        None => Ok(()),
+        Some(leaps) => place(alloc, dir, &mut leaps.file),
     }
+}
+
+/// Puts a file in a folder.
+fn place(alloc: Global, dir: &[u8], file: &mut Bytes) -> Result<(), NoMemory> {
+    *file = path_in(alloc, dir, file.as_slice())?;
+    Ok(())
 }
 
 /// The path of a file in a folder.
 fn path_in(alloc: Global, dir: &[u8], name: &[u8]) -> Result<Bytes, NoMemory> {
-    let mut path = Bytes::from_slice(alloc, dir)?;
-    path.push(b'/')?;
-    path.append(name)?;
+    let mut path = Bytes::new(alloc);
+    put_path(&mut path, dir, name)?;
     Ok(path)
+}
+
+fn put_path(path: &mut Bytes, dir: &[u8], name: &[u8]) -> Result<(), NoMemory> {
+    path.append(dir)?;
+    path.push(b'/')?;
+    path.append(name)
 }

@@ -3,7 +3,7 @@ use case_lines::{Answer, CaseFault, Row};
 use release_check::{CheckFault, examine};
 use release_manifest::{Manifest, ManifestLeaps};
 use std::alloc::Global;
-use td_base::{Bytes, Items, MemoryStore};
+use td_base::{Bytes, Items, MemoryStore, NoMemory};
 use td_civil::Moment;
 
 /// `examine PUBLISHER VERSION SECONDS EXPIRES`: the answer for a release without zones, with the
@@ -27,20 +27,21 @@ fn printed(alloc: Global, fault: &CheckFault) -> Answer {
 }
 
 fn value(alloc: Global, row: &Row) -> Result<Manifest, CaseFault> {
+    let (seconds, publisher, version) = (row.signed(2)?, row.word(0)?, row.word(1)?);
+    let leaps = leaps(alloc, row.word(3)?)?;
+    let publisher = Bytes::from_slice(alloc, publisher)?;
+    let version = Bytes::from_slice(alloc, version)?;
     Ok(Manifest {
-        publisher: Bytes::from_slice(alloc, row.word(0)?)?,
-        version: Bytes::from_slice(alloc, row.word(1)?)?,
-        stamp: Moment {
-            seconds: row.signed(2)?,
-        },
+        publisher,
+        version,
+        stamp: Moment { seconds },
         zones: Items::new(alloc),
-        leaps: Some(leaps(alloc, row)?),
+        leaps: Some(leaps),
     })
 }
 
-fn leaps(alloc: Global, row: &Row) -> Result<ManifestLeaps, CaseFault> {
-    Ok(ManifestLeaps {
-        file: Bytes::from_slice(alloc, b"leap")?,
-        expires: Bytes::from_slice(alloc, row.word(3)?)?,
-    })
+fn leaps(alloc: Global, expires: &[u8]) -> Result<ManifestLeaps, NoMemory> {
+    let file = Bytes::from_slice(alloc, b"leap")?;
+    let expires = Bytes::from_slice(alloc, expires)?;
+    Ok(ManifestLeaps { file, expires })
 }
