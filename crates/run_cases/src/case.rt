@@ -2,14 +2,14 @@ ghost use Rattle.std.specs.Prelude.{map};
 ghost use Rattle.admission.specs.Rules.{KeepsAll};
 ghost use Rattle.subscribers.specs.Wishes.{WantsAll};
 
-use crate::ending::RunResult;
+use crate::ending::{RunResult, is_of_ending};
 use crate::exchanges::are_met;
-use crate::outside::{File, ROOM, Sizes, calls, piece_sizes, source_of};
-use crate::plan::NetworkPlan;
+use crate::outside::{File, ROOM, Sizes, calls_with, sink_of, source_of};
+use crate::plan::{NetworkPlan, is_of_network, push_call};
 use crate::stage::RunStage;
 use crate::trial::Trial;
 use admission::Kept;
-use case_lines::CaseFault;
+use case_lines::{CaseFault, Texts, number};
 use std::alloc::{AllocError, Global};
 use std::sync::Wait;
 use std::thread::Threads;
@@ -55,19 +55,51 @@ impl Case {
         })
     }
 
-    /// Applies a line that has a number.
-    pub fn set(&mut self, word: &str, number: u64) -> Result<(), CaseFault> {
-        match word {
-            "room" => self.room = number as usize,
-            "read" => self.sizes.read = number as usize,
-            "write" => self.sizes.write = number as usize,
-            "fail-store" => self.store_failing.push(number)?,
-            "fail-input" => self.input_failing.push(number)?,
-            "fail-output" => self.output_failing.push(number)?,
-            "fail-start" => self.spawner_failing.push(number)?,
-            _ => return Err(CaseFault::Strange),
+    /// Applies a line of the table.
+    pub fn add(
+        &mut self,
+        alloc: Global,
+        texts: &Texts,
+        word: &str,
+        rest: &str,
+    ) -> Result<(), CaseFault> {
+        if is_of_ending(word) {
+            self.ending.add(alloc, texts, word, rest)
+        } else if is_of_network(word) {
+            self.network.add(alloc, texts, word, rest)
+        } else {
+            self.add_own(alloc, texts, word, rest)
         }
-        Ok(())
+    }
+
+    /// Applies a line that is not about the network or the ending.
+    fn add_own(
+        &mut self,
+        alloc: Global,
+        texts: &Texts,
+        word: &str,
+        rest: &str,
+    ) -> Result<(), CaseFault> {
+        match word {
+            "word" => push_word(&mut self.words, texts, rest),
+            "words" => push_words(alloc, &mut self.words, rest),
+            "input" => texts.append(rest.as_bytes(), &mut self.input),
+            "room" => read_size(&mut self.room, rest),
+            "read" => read_size(&mut self.sizes.read, rest),
+            "write" => read_size(&mut self.sizes.write, rest),
+            _ => self.add_failing(word, rest),
+        }
+    }
+
+    /// Applies a line with the number of a call that fails.
+    fn add_failing(&mut self, word: &str, call: &str) -> Result<(), CaseFault> {
+        match word {
+            "fail-store" => push_call(&mut self.store_failing, call),
+            "fail-input" => push_call(&mut self.input_failing, call),
+            "fail-output" => push_call(&mut self.output_failing, call),
+            "fail-start" => push_call(&mut self.spawner_failing, call),
+            _ => Err(CaseFault::Strange),
+        }
     }
 
     /// Whether a run ended as it must.
@@ -127,6 +159,15 @@ impl Case {
         }
     }
 
+    /// How often a line runs the case.
+    pub fn count_runs(&self, how: &str) -> usize {
+        match how {
+            "cut" | "unread" | "ended" => self.input.len(),
+            "unwritten" => self.ending.output.len(),
+            _ => 1,
+        }
+    }
+
     /// Runs the case over the files.
     pub fn run<R: Threads + Wait + Copy + Send + 'static>(
         &self,
@@ -142,39 +183,74 @@ impl Case {
     {
         let mut stage = RunStage::new(alloc, self, files, trial)?;
         let outcome = stage.play(rt, alloc, self.words.as_slice(), kept, wants);
-        stage.end(alloc, outcome)
+        stage.result(alloc, &outcome)
     }
 
     /// The input of a run.
     pub fn source(&self, alloc: Global, trial: Trial) -> Result<Faulty<MemorySource>, NoMemory> {
-        let mut bytes = self.input.as_slice();
-        let mut failing = calls(alloc, &self.input_failing)?;
-        let (mut first, mut size) = (self.sizes.read, self.sizes.read);
+        let (first, size) = self.read_sizes(trial);
+        let failing = calls_with(alloc, &self.input_failing, trial.failing_read())?;
+        let source = source_of(alloc, self.readable(trial), first, size)?;
+        Ok(Faulty::new(source, failing))
+    }
+
+    /// The most bytes of the first read of a run, and of those after it.
+    fn read_sizes(&self, trial: Trial) -> (usize, usize) {
         match trial {
-            Trial::Plain | Trial::Unwritten(_) => {}
-            Trial::Cut(number) => first = number,
-            Trial::Unread(number) => {
-                failing.push(number as u64)?;
-                first = 1;
-                size = 1;
+            Trial::Plain | Trial::Unwritten(_) | Trial::Ended(_) => {
+                (self.sizes.read, self.sizes.read)
             }
-            Trial::Ended(number) => bytes = prefix(bytes, number.saturating_sub(1)),
+            Trial::Cut(number) => (number, self.sizes.read),
+            Trial::Unread(_) => (1, 1),
         }
-        Ok(Faulty::new(source_of(alloc, bytes, first, size)?, failing))
+    }
+
+    /// The bytes of the input of a run.
+    fn readable(&self, trial: Trial) -> &[u8] {
+        let whole = self.input.as_slice();
+        match trial {
+            Trial::Ended(number) => prefix(whole, number.saturating_sub(1)),
+            _ => whole,
+        }
     }
 
     /// The output of a run.
     pub fn sink(&self, alloc: Global, trial: Trial) -> Result<Faulty<MemorySink>, NoMemory> {
-        let mut failing = calls(alloc, &self.output_failing)?;
-        let mut size = self.sizes.write;
-        if let Trial::Unwritten(number) = trial {
-            failing.push(number as u64)?;
-            size = 1;
-        }
-        let pieces = piece_sizes(alloc, size, size, self.ending.output.len())?;
-        let sink = MemorySink::in_pieces(alloc, self.room, pieces)?;
+        let failing = calls_with(alloc, &self.output_failing, trial.failing_write())?;
+        let size = match trial {
+            Trial::Unwritten(_) => 1,
+            _ => self.sizes.write,
+        };
+        let sink = sink_of(alloc, self.room, size, self.ending.output.len())?;
         Ok(Faulty::new(sink, failing))
     }
+}
+
+/// Reads a number of bytes.
+fn read_size(size: &mut usize, word: &str) -> Result<(), CaseFault> {
+    *size = number(word.as_bytes())? as usize;
+    Ok(())
+}
+
+/// Adds the word of a line.
+fn push_word(words: &mut Vec<Bytes>, texts: &Texts, word: &str) -> Result<(), CaseFault> {
+    let word = Bytes::from(texts.meaning(word)?);
+    words.push(word)?;
+    Ok(())
+}
+
+/// Adds the words of a line.
+fn push_words(alloc: Global, words: &mut Vec<Bytes>, line: &str) -> Result<(), CaseFault> {
+    for word in line.split(' ') {
+        push_plain(alloc, words, word.as_bytes())?;
+    }
+    Ok(())
+}
+
+fn push_plain(alloc: Global, words: &mut Vec<Bytes>, word: &[u8]) -> Result<(), CaseFault> {
+    let word = Bytes::from_slice(alloc, word)?;
+    words.push(word)?;
+    Ok(())
 }
 
 /// The first `count` bytes, or all if they are fewer.

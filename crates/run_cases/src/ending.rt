@@ -1,5 +1,5 @@
 use crate::exchanges::PastExchange;
-use case_lines::{CaseFault, Texts, cut, number, numbers, written};
+use case_lines::{CaseFault, Texts, Told, cut, number, numbers, written};
 use std::alloc::{AllocError, Global};
 use td_base::End;
 
@@ -45,6 +45,22 @@ pub struct ConnEnd {
     pub output: Vec<u8>,
 }
 
+/// Whether a line of this word tells how a run ends.
+pub fn is_of_ending(word: &str) -> bool {
+    match word {
+        "status"
+        | "output"
+        | "starts"
+        | "asks"
+        | "back"
+        | "served"
+        | "reaches"
+        | "up"
+        | "exchange" => true,
+        _ => false,
+    }
+}
+
 impl RunResult {
     pub fn new(alloc: Global) -> RunResult {
         RunResult {
@@ -58,131 +74,233 @@ impl RunResult {
         }
     }
 
-    /// Adds what a line of the table says, and returns whether the line describes an end.
+    /// Adds what a line of the table says of the end.
     pub fn add(
         &mut self,
         alloc: Global,
         texts: &Texts,
         word: &str,
         rest: &str,
-    ) -> Result<bool, CaseFault> {
-        let (first, second) = cut(rest);
+    ) -> Result<(), CaseFault> {
         match word {
-            "status" => self.status = byte(rest)?,
-            "output" => texts.append(rest.as_bytes(), &mut self.output)?,
-            "starts" => self.begun = number(rest.as_bytes())?,
-            "asks" => self.asked.push(NetworkAsked {
-                address: texts.meaning(first)?,
-                doors: number(second.as_bytes())?,
-            })?,
-            "back" => self.doors.push(DoorEnd {
-                coming: number(rest.as_bytes())?,
-                served: Vec::new(alloc),
-            })?,
-            "served" => match self.doors.last_mut() {
-                Some(door) => {
-                    let served = ConnEnd::read(alloc, texts, first, second)?;
-                    door.served.push(served)?;
-                }
-                None => return Err(CaseFault::Strange),
-            },
-            "reaches" => self.reached.push(texts.meaning(rest)?)?,
-            "up" => self.exchanges = Some(Vec::new(alloc)),
-            "exchange" => match &mut self.exchanges {
-                Some(all) => all.push(PastExchange::read(texts, rest, self.output.len())?)?,
-                None => return Err(CaseFault::Strange),
-            },
-            _ => return Ok(false),
+            "status" => read_status(&mut self.status, rest),
+            "output" => texts.append(rest.as_bytes(), &mut self.output),
+            "starts" => read_count(&mut self.begun, rest),
+            "asks" => push_asked(&mut self.asked, texts, rest),
+            "back" => push_door(alloc, &mut self.doors, rest),
+            "served" => push_served(alloc, &mut self.doors, texts, rest),
+            "reaches" => push_reached(&mut self.reached, texts, rest),
+            "up" => {
+                self.exchanges = Some(Vec::new(alloc));
+                Ok(())
+            }
+            "exchange" => self.add_exchange(texts, rest),
+            _ => Err(CaseFault::Strange),
         }
-        Ok(true)
+    }
+
+    fn add_exchange(&mut self, texts: &Texts, request: &str) -> Result<(), CaseFault> {
+        let after = self.output.len();
+        match &mut self.exchanges {
+            Some(all) => push_exchange(all, texts, request, after),
+            None => Err(CaseFault::Strange),
+        }
     }
 
     /// The end as the table would write it.
     pub fn told(&self, alloc: Global) -> Result<String, AllocError> {
-        let output = written(alloc, self.output.as_slice())?;
-        let status = self.status;
-        let mut text = format!(in alloc; "{status} {output}")?;
-        for asked in &self.asked {
-            let (address, doors) = (written(alloc, asked.address.as_slice())?, asked.doors);
-            text.push_str(format!(in alloc; ", asks {address} {doors}")?.as_str())?;
+        let mut told = Told::new(alloc);
+        self.tell(&mut told);
+        match told.answer() {
+            Ok(text) => written(alloc, text.as_slice()),
+            Err(_) => Err(AllocError),
         }
-        if self.begun > 0 {
-            let begun = self.begun;
-            text.push_str(format!(in alloc; ", starts {begun}")?.as_str())?;
-        }
-        for door in &self.doors {
-            door.tell(alloc, &mut text)?;
-        }
-        self.tell_upstream(alloc, &mut text)?;
-        Ok(text)
     }
 
-    fn tell_upstream(&self, alloc: Global, text: &mut String) -> Result<(), AllocError> {
+    fn tell(&self, told: &mut Told) {
+        told.value(&self.status);
+        told.bytes(b" ");
+        told.bytes(self.output.as_slice());
+        for asked in &self.asked {
+            asked.tell(told);
+        }
+        if self.begun > 0 {
+            told.bytes(b", starts ");
+            told.value(&self.begun);
+        }
+        for door in &self.doors {
+            door.tell(told);
+        }
+        self.tell_upstream(told);
+    }
+
+    fn tell_upstream(&self, told: &mut Told) {
         for address in &self.reached {
-            let address = written(alloc, address.as_slice())?;
-            text.push_str(format!(in alloc; ", reaches {address}")?.as_str())?;
+            told.bytes(b", reaches ");
+            told.bytes(address.as_slice());
         }
-        let Some(exchanges) = &self.exchanges else {
-            return Ok(());
-        };
-        text.push_str(", up")?;
-        for exchange in exchanges {
-            exchange.tell(alloc, text)?;
+        if let Some(exchanges) = &self.exchanges {
+            told.bytes(b", up");
+            for exchange in exchanges {
+                exchange.tell(told);
+            }
         }
-        Ok(())
+    }
+}
+
+impl NetworkAsked {
+    /// `ADDRESS DOORS`
+    fn read(texts: &Texts, rest: &str) -> Result<NetworkAsked, CaseFault> {
+        let (address, doors) = cut(rest);
+        let doors = number(doors.as_bytes())?;
+        Ok(NetworkAsked {
+            address: texts.meaning(address)?,
+            doors,
+        })
+    }
+
+    fn tell(&self, told: &mut Told) {
+        told.bytes(b", asks ");
+        told.bytes(self.address.as_slice());
+        told.bytes(b" ");
+        told.value(&self.doors);
     }
 }
 
 impl DoorEnd {
-    fn tell(&self, alloc: Global, text: &mut String) -> Result<(), AllocError> {
-        let coming = self.coming;
-        text.push_str(format!(in alloc; ", back {coming}")?.as_str())?;
+    fn tell(&self, told: &mut Told) {
+        told.bytes(b", back ");
+        told.value(&self.coming);
         for served in &self.served {
-            served.tell(alloc, text)?;
+            served.tell(told);
         }
-        Ok(())
     }
 }
 
 impl ConnEnd {
     /// `END PLACES TEXT`
-    fn read(alloc: Global, texts: &Texts, end: &str, rest: &str) -> Result<ConnEnd, CaseFault> {
+    fn read(alloc: Global, texts: &Texts, rest: &str) -> Result<ConnEnd, CaseFault> {
+        let (end, rest) = cut(rest);
         let (places, text) = cut(rest);
+        let end = end_of(end)?;
+        let places = read_places(alloc, texts, places)?;
         Ok(ConnEnd {
-            end: end_of(end)?,
-            places: read_places(alloc, texts.meaning(places)?.as_slice())?,
+            end,
+            places,
             output: texts.meaning(text)?,
         })
     }
 
-    fn tell(&self, alloc: Global, text: &mut String) -> Result<(), AllocError> {
-        let end = name_of(self.end);
-        let output = written(alloc, self.output.as_slice())?;
-        text.push_str(format!(in alloc; ", served {end} ")?.as_str())?;
-        if self.places.is_empty() {
-            text.push_str("-")?;
-        }
-        for (at, place) in self.places.iter().enumerate() {
-            let comma = if at == 0 { "" } else { "," };
-            text.push_str(format!(in alloc; "{comma}{place}")?.as_str())?;
-        }
-        text.push_str(format!(in alloc; " {output}")?.as_str())
+    fn tell(&self, told: &mut Told) {
+        told.bytes(b", served ");
+        told.bytes(name_of(self.end));
+        told.bytes(b" ");
+        tell_places(told, self.places.as_slice());
+        told.bytes(b" ");
+        told.bytes(self.output.as_slice());
     }
 }
 
 /// The places, separated by commas. A dash means none.
-fn read_places(alloc: Global, text: &[u8]) -> Result<Vec<u32>, CaseFault> {
-    let mut places = Vec::new(alloc);
-    for place in numbers(alloc, text)?.as_slice() {
-        places.push(u32::try_from(*place).ok().ok_or(CaseFault::Strange)?)?;
+fn tell_places(told: &mut Told, places: &[u32]) {
+    if places.is_empty() {
+        told.bytes(b"-");
     }
-    Ok(places)
+    for (at, place) in places.iter().enumerate() {
+        if at > 0 {
+            told.bytes(b",");
+        }
+        told.value(place);
+    }
+}
+
+/// The places, separated by commas. A dash means none.
+fn read_places(alloc: Global, texts: &Texts, word: &str) -> Result<Vec<u32>, CaseFault> {
+    let text = texts.meaning(word)?;
+    let places = numbers(alloc, text.as_slice())?;
+    small_numbers(alloc, places.as_slice())
+}
+
+fn small_numbers(alloc: Global, numbers: &[u64]) -> Result<Vec<u32>, CaseFault> {
+    let mut all = Vec::new(alloc);
+    for number in numbers {
+        push_small(&mut all, *number)?;
+    }
+    Ok(all)
+}
+
+fn push_small(all: &mut Vec<u32>, number: u64) -> Result<(), CaseFault> {
+    let number = u32::try_from(number).ok().ok_or(CaseFault::Strange)?;
+    all.push(number)?;
+    Ok(())
+}
+
+fn push_asked(all: &mut Vec<NetworkAsked>, texts: &Texts, rest: &str) -> Result<(), CaseFault> {
+    let asked = NetworkAsked::read(texts, rest)?;
+    all.push(asked)?;
+    Ok(())
+}
+
+fn push_door(alloc: Global, all: &mut Vec<DoorEnd>, coming: &str) -> Result<(), CaseFault> {
+    let coming = number(coming.as_bytes())?;
+    all.push(DoorEnd {
+        coming,
+        served: Vec::new(alloc),
+    })?;
+    Ok(())
+}
+
+/// Adds a connection to the last door.
+fn push_served(
+    alloc: Global,
+    doors: &mut Vec<DoorEnd>,
+    texts: &Texts,
+    rest: &str,
+) -> Result<(), CaseFault> {
+    match doors.last_mut() {
+        Some(door) => push_conn(alloc, &mut door.served, texts, rest),
+        None => Err(CaseFault::Strange),
+    }
+}
+
+fn push_conn(
+    alloc: Global,
+    all: &mut Vec<ConnEnd>,
+    texts: &Texts,
+    rest: &str,
+) -> Result<(), CaseFault> {
+    let served = ConnEnd::read(alloc, texts, rest)?;
+    all.push(served)?;
+    Ok(())
+}
+
+fn push_reached(all: &mut Vec<Vec<u8>>, texts: &Texts, address: &str) -> Result<(), CaseFault> {
+    let address = texts.meaning(address)?;
+    all.push(address)?;
+    Ok(())
+}
+
+fn push_exchange(
+    all: &mut Vec<PastExchange>,
+    texts: &Texts,
+    request: &str,
+    after: usize,
+) -> Result<(), CaseFault> {
+    let exchange = PastExchange::read(texts, request, after)?;
+    all.push(exchange)?;
+    Ok(())
 }
 
 /// A status, which is a byte.
-fn byte(word: &str) -> Result<u8, CaseFault> {
+fn read_status(status: &mut u8, word: &str) -> Result<(), CaseFault> {
     let number = number(word.as_bytes())?;
-    u8::try_from(number).ok().ok_or(CaseFault::Strange)
+    *status = u8::try_from(number).ok().ok_or(CaseFault::Strange)?;
+    Ok(())
+}
+
+fn read_count(count: &mut u64, word: &str) -> Result<(), CaseFault> {
+    *count = number(word.as_bytes())?;
+    Ok(())
 }
 
 /// The end of this name.
@@ -196,11 +314,11 @@ fn end_of(name: &str) -> Result<End, CaseFault> {
     }
 }
 
-fn name_of(end: End) -> &'static str {
+fn name_of(end: End) -> &'static [u8] {
     match end {
-        End::Closed => "closed",
-        End::ReadFault => "read",
-        End::WriteFault => "write",
-        End::NoMemory => "memory",
+        End::Closed => b"closed",
+        End::ReadFault => b"read",
+        End::WriteFault => b"write",
+        End::NoMemory => b"memory",
     }
 }

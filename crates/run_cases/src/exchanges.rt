@@ -1,5 +1,4 @@
-use case_lines::{CaseFault, Texts, written};
-use std::alloc::{AllocError, Global};
+use case_lines::{CaseFault, Texts, Told};
 
 /// The limit that each exchange of the table sets for its answer, in bytes.
 const MOST: u64 = 8_388_608;
@@ -24,14 +23,13 @@ impl PastExchange {
         })
     }
 
-    pub fn tell(&self, alloc: Global, text: &mut String) -> Result<(), AllocError> {
-        let request = written(alloc, self.request.as_slice())?;
-        text.push_str(format!(in alloc; ", exchange {request}")?.as_str())?;
+    pub fn tell(&self, told: &mut Told) {
+        told.bytes(b", exchange ");
+        told.bytes(self.request.as_slice());
         if self.most != MOST {
-            let most = self.most;
-            text.push_str(format!(in alloc; " of {most}")?.as_str())?;
+            told.bytes(b" of ");
+            told.value(&self.most);
         }
-        Ok(())
     }
 
     /// Whether another has the same request and limit.

@@ -1,4 +1,4 @@
-use case_lines::{CaseFault, number};
+use case_lines::{CaseFault, Texts, number};
 use std::alloc::Global;
 
 /// The doors and upstreams of a case's network, and its failing calls.
@@ -43,6 +43,23 @@ pub struct ConnPlan {
     pub writes_failing: Vec<u64>,
 }
 
+/// Whether a line of this word is about a network.
+pub fn is_of_network(word: &str) -> bool {
+    match word {
+        "door"
+        | "upstream"
+        | "answer"
+        | "fail-exchange"
+        | "fail-network"
+        | "conn"
+        | "idle"
+        | "fail-accept"
+        | "fail-conn-read"
+        | "fail-conn-write" => true,
+        _ => false,
+    }
+}
+
 impl NetworkPlan {
     /// A network without doors and upstreams, in which no call fails.
     pub fn new(alloc: Global) -> NetworkPlan {
@@ -53,45 +70,36 @@ impl NetworkPlan {
         }
     }
 
-    /// Adds a line of the table, with this text.
+    /// Adds a line of the table.
     pub fn add(
         &mut self,
         alloc: Global,
+        texts: &Texts,
         word: &str,
         rest: &str,
-        text: Vec<u8>,
     ) -> Result<(), CaseFault> {
         match word {
-            "door" => self.doors.push(DoorPlan {
-                steps: Vec::new(alloc),
-                failing: Vec::new(alloc),
-            })?,
-            "upstream" => self.upstreams.push(UpstreamPlan {
-                answers: Vec::new(alloc),
-                failing: Vec::new(alloc),
-            })?,
+            "door" => push_door(alloc, &mut self.doors),
+            "upstream" => push_upstream(alloc, &mut self.upstreams),
             "answer" | "fail-exchange" => match self.upstreams.last_mut() {
-                Some(upstream) => upstream.add(word, rest, text)?,
-                None => return Err(CaseFault::Strange),
+                Some(upstream) => upstream.add(texts, word, rest),
+                None => Err(CaseFault::Strange),
             },
-            "fail-network" => self.failing.push(number(rest.as_bytes())?)?,
+            "fail-network" => push_call(&mut self.failing, rest),
             _ => match self.doors.last_mut() {
-                Some(door) => door.add(alloc, word, rest, text)?,
-                None => return Err(CaseFault::Strange),
+                Some(door) => door.add(alloc, texts, word, rest),
+                None => Err(CaseFault::Strange),
             },
         }
-        Ok(())
     }
 }
 
 impl UpstreamPlan {
-    fn add(&mut self, word: &str, rest: &str, text: Vec<u8>) -> Result<(), CaseFault> {
+    fn add(&mut self, texts: &Texts, word: &str, rest: &str) -> Result<(), CaseFault> {
         match word {
-            "answer" => self.answers.push(text)?,
-            "fail-exchange" => self.failing.push(number(rest.as_bytes())?)?,
-            _ => return Err(CaseFault::Strange),
+            "answer" => push_answer(&mut self.answers, texts, rest),
+            _ => push_call(&mut self.failing, rest),
         }
-        Ok(())
     }
 }
 
@@ -99,40 +107,89 @@ impl DoorPlan {
     fn add(
         &mut self,
         alloc: Global,
+        texts: &Texts,
         word: &str,
         rest: &str,
-        text: Vec<u8>,
     ) -> Result<(), CaseFault> {
         match word {
-            "conn" => self.steps.push(StepPlan::Conn(ConnPlan {
-                input: text,
-                reads_failing: Vec::new(alloc),
-                writes_failing: Vec::new(alloc),
-            }))?,
-            "idle" => self.steps.push(StepPlan::Idle)?,
-            "fail-accept" => {
-                let (first, last) = rest.split_once(' ').unwrap_or((rest, rest));
-                let last = number(last.as_bytes())?;
-                for call in number(first.as_bytes())?..last.saturating_add(1) {
-                    self.failing.push(call)?;
-                }
-            }
+            "conn" => push_conn(alloc, &mut self.steps, texts, rest),
+            "idle" => push_step(&mut self.steps, StepPlan::Idle),
+            "fail-accept" => push_calls(&mut self.failing, rest),
             _ => match self.steps.last_mut() {
-                Some(StepPlan::Conn(conn)) => conn.add(word, number(rest.as_bytes())?)?,
-                Some(StepPlan::Idle) | None => return Err(CaseFault::Strange),
+                Some(StepPlan::Conn(conn)) => conn.add(word, rest),
+                Some(StepPlan::Idle) | None => Err(CaseFault::Strange),
             },
         }
-        Ok(())
     }
 }
 
 impl ConnPlan {
-    fn add(&mut self, word: &str, number: u64) -> Result<(), CaseFault> {
+    fn add(&mut self, word: &str, rest: &str) -> Result<(), CaseFault> {
         match word {
-            "fail-conn-read" => self.reads_failing.push(number)?,
-            "fail-conn-write" => self.writes_failing.push(number)?,
-            _ => return Err(CaseFault::Strange),
+            "fail-conn-read" => push_call(&mut self.reads_failing, rest),
+            "fail-conn-write" => push_call(&mut self.writes_failing, rest),
+            _ => Err(CaseFault::Strange),
         }
-        Ok(())
     }
+}
+
+/// Adds a door without steps.
+fn push_door(alloc: Global, doors: &mut Vec<DoorPlan>) -> Result<(), CaseFault> {
+    doors.push(DoorPlan {
+        steps: Vec::new(alloc),
+        failing: Vec::new(alloc),
+    })?;
+    Ok(())
+}
+
+/// Adds an upstream without answers.
+fn push_upstream(alloc: Global, upstreams: &mut Vec<UpstreamPlan>) -> Result<(), CaseFault> {
+    upstreams.push(UpstreamPlan {
+        answers: Vec::new(alloc),
+        failing: Vec::new(alloc),
+    })?;
+    Ok(())
+}
+
+fn push_answer(answers: &mut Vec<Vec<u8>>, texts: &Texts, text: &str) -> Result<(), CaseFault> {
+    let answer = texts.meaning(text)?;
+    answers.push(answer)?;
+    Ok(())
+}
+
+/// Adds a connection with this input.
+fn push_conn(
+    alloc: Global,
+    steps: &mut Vec<StepPlan>,
+    texts: &Texts,
+    input: &str,
+) -> Result<(), CaseFault> {
+    let conn = ConnPlan {
+        input: texts.meaning(input)?,
+        reads_failing: Vec::new(alloc),
+        writes_failing: Vec::new(alloc),
+    };
+    push_step(steps, StepPlan::Conn(conn))
+}
+
+fn push_step(steps: &mut Vec<StepPlan>, step: StepPlan) -> Result<(), CaseFault> {
+    steps.push(step)?;
+    Ok(())
+}
+
+/// Adds the number of a call that fails.
+pub fn push_call(failing: &mut Vec<u64>, word: &str) -> Result<(), CaseFault> {
+    let call = number(word.as_bytes())?;
+    failing.push(call)?;
+    Ok(())
+}
+
+/// `FIRST`, or `FIRST LAST`: adds the numbers of calls that fail.
+fn push_calls(failing: &mut Vec<u64>, rest: &str) -> Result<(), CaseFault> {
+    let (first, last) = rest.split_once(' ').unwrap_or((rest, rest));
+    let last = number(last.as_bytes())?;
+    for call in number(first.as_bytes())?..last.saturating_add(1) {
+        failing.push(call)?;
+    }
+    Ok(())
 }

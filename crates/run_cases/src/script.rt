@@ -12,7 +12,6 @@ use std::alloc::{AllocError, Global};
 use std::sync::Wait;
 use std::thread::Threads;
 use subscribers::Want;
-use td_base::Bytes;
 
 /// A table that is read line by line.
 #[derive(Drop)]
@@ -79,66 +78,38 @@ impl Script {
         requires wants { WantsAll (map (λ w. w.kind) wants.now) }
     {
         let (word, rest) = cut(line);
-        match word {
-            "" | "#" => {}
-            "file" => self.add_file(rest)?,
-            "hex" => self.add_hex_file(rest)?,
-            "remove" => self.files = Vec::new(self.alloc),
-            "case" => self.case = Some(Case::new(self.alloc, rest)?),
-            "run" => return self.run_case(rt, kept, wants, rest),
-            "runs" => self.stated = number(rest.as_bytes())?,
-            _ => {
-                if !self.texts.define(word, rest)? {
-                    self.add_to_case(word, rest)?;
-                }
-            }
+        if word == "run" {
+            return self.run_case(rt, kept, wants, rest);
         }
+        self.add(word, rest)?;
         Ok(None)
     }
 
-    /// `file PATH TEXT`
-    fn add_file(&mut self, rest: &str) -> Result<(), CaseFault> {
-        let (path, text) = cut(rest);
-        let (path, bytes) = (self.texts.meaning(path)?, self.texts.meaning(text)?);
-        self.files.push(File { path, bytes })?;
-        Ok(())
+    /// Applies a line that runs nothing.
+    fn add(&mut self, word: &str, rest: &str) -> Result<(), CaseFault> {
+        match word {
+            "" | "#" => Ok(()),
+            "file" => add_file(&mut self.files, &self.texts, rest),
+            "hex" => add_hex_file(self.alloc, &mut self.files, &self.texts, rest),
+            "remove" => {
+                self.files = Vec::new(self.alloc);
+                Ok(())
+            }
+            "case" => begin(self.alloc, &mut self.case, rest),
+            "runs" => state(&mut self.stated, rest),
+            _ => self.add_text(word, rest),
+        }
     }
 
-    /// `hex PATH DIGITS`
-    fn add_hex_file(&mut self, rest: &str) -> Result<(), CaseFault> {
-        let (path, digits) = cut(rest);
-        let path = self.texts.meaning(path)?;
-        let bytes = hex_bytes(self.alloc, digits.as_bytes())?;
-        self.files.push(File { path, bytes })?;
-        Ok(())
-    }
-
-    /// A line of a case.
-    fn add_to_case(&mut self, word: &str, rest: &str) -> Result<(), CaseFault> {
-        let Some(case) = &mut self.case else {
-            return Err(CaseFault::Strange);
-        };
-        if case.ending.add(self.alloc, &self.texts, word, rest)? {
+    /// A line that names a text, or one of a case.
+    fn add_text(&mut self, word: &str, rest: &str) -> Result<(), CaseFault> {
+        if self.texts.define(word, rest)? {
             return Ok(());
         }
-        let text = self.texts.meaning(rest)?;
-        match word {
-            "word" => push_word(self.alloc, case, text.as_slice())?,
-            "words" => push_words(self.alloc, case, rest)?,
-            "input" => case.input.extend_from_slice(text.as_slice())?,
-            "door"
-            | "upstream"
-            | "answer"
-            | "fail-exchange"
-            | "fail-network"
-            | "conn"
-            | "idle"
-            | "fail-accept"
-            | "fail-conn-read"
-            | "fail-conn-write" => case.network.add(self.alloc, word, rest, text)?,
-            _ => case.set(word, number(rest.as_bytes())?)?,
+        match &mut self.case {
+            Some(case) => case.add(self.alloc, &self.texts, word, rest),
+            None => Err(CaseFault::Strange),
         }
-        Ok(())
     }
 
     /// `run`, or `run cut`, `run unwritten`, `run unread` or `run ended`: once for each byte of the
@@ -156,37 +127,88 @@ impl Script {
         let Some(case) = &self.case else {
             return Err(CaseFault::Strange);
         };
-        let count = match how {
-            "cut" | "unread" | "ended" => case.input.len(),
-            "unwritten" => case.ending.output.len(),
-            _ => 1,
-        };
         let mut report = None;
-        for number in 1..count.saturating_add(1) {
+        for number in 1..case.count_runs(how).saturating_add(1) {
             let trial = Trial::of(how, number);
-            let ending = case.run(rt, self.alloc, kept, wants, self.files.as_slice(), trial)?;
-            let is_right = case.is_met_by(trial, &ending);
-            self.tally.count(is_right);
-            if !is_right {
-                report = Some(told(self.alloc, case, &ending)?);
+            let told = told_by(
+                rt,
+                self.alloc,
+                kept,
+                wants,
+                self.files.as_slice(),
+                case,
+                trial,
+            )?;
+            self.tally.count(told.is_none());
+            if told.is_some() {
+                report = told;
             }
         }
         Ok(report)
     }
 }
 
-fn push_word(alloc: Global, case: &mut Case, word: &[u8]) -> Result<(), CaseFault> {
-    let word = Bytes::from_slice(alloc, word)?;
-    case.words.push(word)?;
+/// Begins a case.
+fn begin(alloc: Global, case: &mut Option<Case>, title: &str) -> Result<(), CaseFault> {
+    let begun = Case::new(alloc, title)?;
+    *case = Some(begun);
     Ok(())
 }
 
-/// The words of a line.
-fn push_words(alloc: Global, case: &mut Case, words: &str) -> Result<(), CaseFault> {
-    for word in words.split(' ') {
-        push_word(alloc, case, word.as_bytes())?;
-    }
+/// Reads how many runs the table has.
+fn state(stated: &mut u64, word: &str) -> Result<(), CaseFault> {
+    *stated = number(word.as_bytes())?;
     Ok(())
+}
+
+/// `file PATH TEXT`
+fn add_file(files: &mut Vec<File>, texts: &Texts, rest: &str) -> Result<(), CaseFault> {
+    let (path, text) = cut(rest);
+    let bytes = texts.meaning(text)?;
+    push_file(files, texts, path, bytes)
+}
+
+/// `hex PATH DIGITS`
+fn add_hex_file(
+    alloc: Global,
+    files: &mut Vec<File>,
+    texts: &Texts,
+    rest: &str,
+) -> Result<(), CaseFault> {
+    let (path, digits) = cut(rest);
+    let bytes = hex_bytes(alloc, digits.as_bytes())?;
+    push_file(files, texts, path, bytes)
+}
+
+fn push_file(
+    files: &mut Vec<File>,
+    texts: &Texts,
+    path: &str,
+    bytes: Vec<u8>,
+) -> Result<(), CaseFault> {
+    let path = texts.meaning(path)?;
+    files.push(File { path, bytes })?;
+    Ok(())
+}
+
+/// Runs a case, and reports on it if it ended otherwise than the table says.
+fn told_by<R: Threads + Wait + Copy + Send + 'static>(
+    rt: &R,
+    alloc: Global,
+    kept: &[Kept],
+    wants: &[Want],
+    files: &[File],
+    case: &Case,
+    trial: Trial,
+) -> Result<Option<String>, CaseFault>
+    requires rules { KeepsAll (map (λ k. k.kind) kept.now) }
+    requires wants { WantsAll (map (λ w. w.kind) wants.now) }
+{
+    let ending = case.run(rt, alloc, kept, wants, files, trial)?;
+    if case.is_met_by(trial, &ending) {
+        return Ok(None);
+    }
+    Ok(Some(told(alloc, case, &ending)?))
 }
 
 /// The report on a run that ended otherwise.

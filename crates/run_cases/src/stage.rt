@@ -15,8 +15,8 @@ use std::sync::Wait;
 use std::thread::Threads;
 use subscribers::Want;
 use td_base::{
-    Bytes, Door, Faulty, MemoryDoor, MemoryNetwork, MemorySink, MemorySource, MemorySpawner,
-    MemoryStore, Network, NoMemory, Sink, Source, Spawner, Store,
+    Bytes, Door, Exchange, Faulty, HandedBackConn, MemoryDoor, MemoryNetwork, MemorySink,
+    MemorySource, MemorySpawner, MemoryStore, Network, NoMemory, Sink, Source, Spawner, Store,
 };
 use td_top::Outcome;
 
@@ -26,10 +26,42 @@ type CaseNetwork = WatchedNetwork<Faulty<MemoryNetwork<CaseDoor, CaseUpstream>>>
 #[derive(Drop)]
 pub struct RunStage {
     store: Faulty<MemoryStore>,
+    streams: Streams,
+    peers: Peers,
+}
+
+/// The streams of a run.
+#[derive(Drop)]
+struct Streams {
     input: Faulty<MemorySource>,
     output: Faulty<MemorySink>,
+}
+
+/// What a run reaches by the network, and what starts its works.
+#[derive(Drop)]
+struct Peers {
     network: CaseNetwork,
     spawner: WatchedSpawner<Faulty<MemorySpawner>>,
+}
+
+impl Streams {
+    fn new(alloc: Global, case: &Case, trial: Trial) -> Result<Streams, NoMemory> {
+        let input = case.source(alloc, trial)?;
+        Ok(Streams {
+            input,
+            output: case.sink(alloc, trial)?,
+        })
+    }
+}
+
+impl Peers {
+    fn new(alloc: Global, case: &Case) -> Result<Peers, NoMemory> {
+        let spawner = spawner(alloc, case)?;
+        Ok(Peers {
+            network: network(alloc, case)?,
+            spawner,
+        })
+    }
 }
 
 impl RunStage {
@@ -41,16 +73,11 @@ impl RunStage {
         trial: Trial,
     ) -> Result<RunStage, NoMemory> {
         let store = store(alloc, case, files)?;
-        let input = case.source(alloc, trial)?;
-        let output = case.sink(alloc, trial)?;
-        let network = network(alloc, case)?;
-        let spawner = spawner(alloc, case)?;
+        let streams = Streams::new(alloc, case, trial)?;
         Ok(RunStage {
             store,
-            input,
-            output,
-            network,
-            spawner,
+            streams,
+            peers: Peers::new(alloc, case)?,
         })
     }
 
@@ -73,27 +100,27 @@ impl RunStage {
             kept,
             wants,
             &mut self.store,
-            &mut self.input,
-            &mut self.output,
-            &mut self.network,
-            &mut self.spawner,
+            &mut self.streams.input,
+            &mut self.streams.output,
+            &mut self.peers.network,
+            &mut self.peers.spawner,
         )
     }
 
-    /// How the run ended.
-    pub fn end(
-        self,
+    /// How the run ended. It takes the requests that the network recorded.
+    pub fn result(
+        &mut self,
         alloc: Global,
-        outcome: Outcome<CaseDoor, CaseUpstream>,
+        outcome: &Outcome<CaseDoor, CaseUpstream>,
     ) -> Result<RunResult, NoMemory> {
-        let output = Vec::from_slice(alloc, self.output.inner().taken())?;
-        let doors = ends_of(alloc, outcome.doors.as_slice())?;
+        let output = Vec::from_slice(alloc, self.streams.output.inner().taken())?;
         let exchanges = exchanges_of(alloc, &outcome.up)?;
-        let calls = self.network.into_calls();
+        let doors = ends_of(alloc, outcome.doors.as_slice())?;
+        let calls = self.peers.network.take_calls(alloc);
         Ok(RunResult {
             status: outcome.status,
             output,
-            begun: self.spawner.begun(),
+            begun: self.peers.spawner.begun(),
             asked: calls.asked,
             reached: calls.reached,
             doors,
@@ -122,23 +149,44 @@ fn spawner(alloc: Global, case: &Case) -> Result<WatchedSpawner<Faulty<MemorySpa
 fn ends_of(alloc: Global, doors: &[CaseDoor]) -> Result<Vec<DoorEnd>, NoMemory> {
     let mut ends = Vec::new(alloc);
     for door in doors {
-        ends.push(door_end(alloc, door.inner())?)?;
+        push_end(alloc, &mut ends, door.inner())?;
     }
     Ok(ends)
 }
 
-fn door_end(alloc: Global, door: &MemoryDoor) -> Result<DoorEnd, NoMemory> {
-    let mut served = Vec::new(alloc);
-    for conn in door.finished() {
-        served.push(ConnEnd {
-            end: conn.report.end,
-            places: Vec::from_slice(alloc, conn.report.places.as_slice())?,
-            output: Vec::from_slice(alloc, conn.conn.inner().sink.taken())?,
-        })?;
-    }
-    Ok(DoorEnd {
+fn push_end(alloc: Global, ends: &mut Vec<DoorEnd>, door: &MemoryDoor) -> Result<(), NoMemory> {
+    let served = served_by(alloc, door)?;
+    ends.push(DoorEnd {
         coming: door.coming() as u64,
         served,
+    })?;
+    Ok(())
+}
+
+fn served_by(alloc: Global, door: &MemoryDoor) -> Result<Vec<ConnEnd>, NoMemory> {
+    let mut served = Vec::new(alloc);
+    for conn in door.finished() {
+        push_conn(alloc, &mut served, conn)?;
+    }
+    Ok(served)
+}
+
+fn push_conn(
+    alloc: Global,
+    served: &mut Vec<ConnEnd>,
+    conn: &HandedBackConn,
+) -> Result<(), NoMemory> {
+    let conn = conn_end(alloc, conn)?;
+    served.push(conn)?;
+    Ok(())
+}
+
+fn conn_end(alloc: Global, conn: &HandedBackConn) -> Result<ConnEnd, NoMemory> {
+    let places = Vec::from_slice(alloc, conn.report.places.as_slice())?;
+    Ok(ConnEnd {
+        end: conn.report.end,
+        places,
+        output: Vec::from_slice(alloc, conn.conn.inner().sink.taken())?,
     })
 }
 
@@ -156,13 +204,23 @@ fn exchanges_of(
 fn told_by(alloc: Global, upstream: &CaseUpstream) -> Result<Vec<PastExchange>, NoMemory> {
     let mut told = Vec::new(alloc);
     for exchange in upstream.inner().told() {
-        told.push(PastExchange {
-            request: Vec::from_slice(alloc, exchange.request.as_slice())?,
-            most: exchange.most,
-            after: 0,
-        })?;
+        push_exchange(alloc, &mut told, exchange)?;
     }
     Ok(told)
+}
+
+fn push_exchange(
+    alloc: Global,
+    told: &mut Vec<PastExchange>,
+    exchange: &Exchange,
+) -> Result<(), NoMemory> {
+    let request = Vec::from_slice(alloc, exchange.request.as_slice())?;
+    told.push(PastExchange {
+        request,
+        most: exchange.most,
+        after: 0,
+    })?;
+    Ok(())
 }
 
 /// The top call. Its contract is not needed here, and is long over objects with a full view.

@@ -24,4 +24,20 @@ impl Trial {
             _ => Trial::Plain,
         }
     }
+
+    /// The read that fails.
+    pub fn failing_read(self) -> Option<usize> {
+        match self {
+            Trial::Unread(number) => Some(number),
+            _ => None,
+        }
+    }
+
+    /// The write that fails.
+    pub fn failing_write(self) -> Option<usize> {
+        match self {
+            Trial::Unwritten(number) => Some(number),
+            _ => None,
+        }
+    }
 }

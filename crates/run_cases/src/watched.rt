@@ -1,6 +1,7 @@
 //! Objects of the outside that record the calls to them.
 use crate::ending::NetworkAsked;
 use std::alloc::Global;
+use std::mem;
 use td_base::{Begin, Made, Network, Spawner};
 
 /// The requests to a network, call by call.
@@ -23,18 +24,13 @@ impl<N> WatchedNetwork<N> {
     pub fn new(alloc: Global, inner: N) -> WatchedNetwork<N> {
         WatchedNetwork {
             inner,
-            calls: Calls {
-                asked: Vec::new(alloc),
-                reached: Vec::new(alloc),
-            },
+            calls: Calls::new(alloc),
         }
     }
-}
 
-impl<N: Drop> WatchedNetwork<N> {
-    /// The requests to it.
-    pub fn into_calls(self) -> Calls {
-        self.calls
+    /// Takes the requests to it so far.
+    pub fn take_calls(&mut self, alloc: Global) -> Calls {
+        mem::replace(&mut self.calls, Calls::new(alloc))
     }
 }
 
@@ -58,6 +54,13 @@ impl<N: Network> Network for WatchedNetwork<N> {
 
 /// Without memory a call is not recorded, and the run differs.
 impl Calls {
+    fn new(alloc: Global) -> Calls {
+        Calls {
+            asked: Vec::new(alloc),
+            reached: Vec::new(alloc),
+        }
+    }
+
     fn keep_asked(&mut self, alloc: Global, address: &[u8], doors: u32) {
         if let Ok(address) = Vec::from_slice(alloc, address) {
             let _ = self.asked.push(NetworkAsked {

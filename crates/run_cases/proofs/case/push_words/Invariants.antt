@@ -1,5 +1,5 @@
 use Rattle.std.specs.Prelude.{⊤}
-use Rattle.run_cases.proofs.script.push_words.Given as goal
+use Rattle.run_cases.proofs.case.push_words.Given as goal
 
 abbrev pub invariant-loop-word : goal.invariant-loop-word
 invariant-loop-word l = ⊤
