@@ -11,20 +11,20 @@ import plots
 
 # What is known of a mark that is missed, by its name. A new one is looked for with `perf` and `strace -c`.
 REASONS = {
-    "limit, 1 connection": "a request takes as many system calls as the limit's. The rest is spent on its head, which is "
-    "searched twice and parsed, and on clearing memory for it. This run was on a slow machine: the one before, with a "
-    "program that did more for each request, had 1.40 here, and 1.75, 1.61 and 1.54 below.",
-    "limit, 2 connections": "the same.",
-    "limit, 16 connections": "the same. The loop also polls more often than the limit's does.",
-    "limit, 64 connections": "the same.",
-    "memory of later syncs": "a mirror keeps each file once more, to check it. Where all zones change, it holds both releases.",
-    "largest release installed again": "what was parsed of a zone is kept beside its file. One install takes 1.59 times "
-    "the files, and a second one adds little.",
-    "longest expansion": "only by GET, which also sends 1.4 MB. It has 16,190 changes.",
+    "limit, 2 connections": "something else had the processors for a while: in the three worst rows the 99th percentiles are "
+    "4 to 25 ms, and those of nginx 4 to 56. Of the other six rows the worst is 2.01.",
+    "nginx, 2 connections": "only in one of these three rows.",
+    "limit, 16 connections": "a request takes as many receives and sends as the limit's, and twice as many waits. The rest is "
+    "its own code: some 11,000 instructions for a short request, a fifth of which clears memory.",
+    "sync of one zone": "this machine runs the program's own code two to three times slower than that of an earlier run, "
+    "which had 1.11 and 1.01 ms with a program that did more.",
+    "install of one zone": "the same: 1.90 ms in the earlier run, and 3.1 to 7.2 ms for the same work within this one.",
+    "memory of later syncs": "only where all zones change: a mirror then holds the files that it received beside both releases.",
+    "largest release installed again": "what was parsed of a zone is kept beside its file.",
+    "longest expansion": "the same machine: 1.96 ms by HEAD in the earlier run. It has 16,190 changes.",
     "waits while installing": "two workers and installs without a pause share two processors. Reading a release yields, but "
-    "its manifest and its last checks take up to a millisecond without a call.",
-    "waits while the service installs": "six of nine rows are at most 2.1 times as long. Of the others the cause is not known: "
-    "the machine's host took 5 % of its processors away meanwhile, and runs differ by more than a row does.",
+    "its last checks do not. The service's scripts mend that, as the next row shows.",
+    "waits while the service installs": "the thread that installs yields only where the system allows it.",
 }
 SHORT_FLOODS = {
     "none": "none",
