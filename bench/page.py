@@ -11,14 +11,15 @@ import plots
 
 # What is known of a mark that is missed, by its name. A new one is looked for with `perf` and `strace -c`.
 REASONS = {
-    "limit, 2 connections": "something else had the processors for a while: in the three worst rows the 99th percentiles are "
-    "4 to 25 ms, and those of nginx 4 to 56. Of the other six rows the worst is 2.01.",
-    "nginx, 2 connections": "only in one of these three rows.",
-    "limit, 16 connections": "a request takes as many receives and sends as the limit's, and twice as many waits. The rest is "
-    "its own code: some 11,000 instructions for a short request, a fifth of which clears memory.",
+    "limit, 1 connection": "the worst row is an exception: over 2 connections the same request has 1.47, and in a run half an hour "
+    "before, over one, each row had at most 1.39.",
+    "limit, 2 connections": "a request takes as many system calls as the limit's. The rest is its own code: some 11,000 "
+    "instructions for a short request, a fifth of which clears memory.",
+    "limit, 16 connections": "the same, and twice as many waits.",
+    "limit, 64 connections": "the same.",
     "sync of one zone": "this machine runs the program's own code two to three times slower than that of an earlier run, "
     "which had 1.11 and 1.01 ms with a program that did more.",
-    "install of one zone": "the same: 1.90 ms in the earlier run, and 3.1 to 7.2 ms for the same work within this one.",
+    "install of one zone": "the same: 1.90 ms in the earlier run, and 3.1 to 7.2 ms for the same work on this machine.",
     "memory of later syncs": "only where all zones change: a mirror then holds the files that it received beside both releases.",
     "largest release installed again": "what was parsed of a zone is kept beside its file.",
     "longest expansion": "the same machine: 1.96 ms by HEAD in the earlier run. It has 16,190 changes.",
