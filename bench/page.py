@@ -164,7 +164,28 @@ def changes(figures):
         cells = [[row["method"], f"{row['wall']:.2f}", f"{row['cost']:.2f}"] for row in figures["expansion"]]
         sections += ["An expansion over 8,000 years, as each request for another range computes it:",
                      table(["Method", "Milliseconds", "Processor, ms"], cells)]
-    return sections
+    return sections + (beside_earlier(figures) if "earlier" in figures else [])
+
+
+def costs_of(figures):
+    """What installs, syncs and expansions take, by their names: by the clock and of the processor."""
+    found = {}
+    for what in ("install", "sync"):
+        for row in figures.get("changes", {}).get(f"{what}s", []):
+            found[f"{what} that changes {row['what']}"] = row
+    for row in figures.get("expansion", []):
+        found[f"expansion by {row['method']}"] = row
+    return {name: (row["wall"], row["cost"]) for name, row in found.items()}
+
+
+def beside_earlier(figures):
+    """The same costs of the program of an earlier commit, measured in the same run."""
+    ours, theirs = costs_of(figures), costs_of(figures["earlier"])
+    cells = [[name, f"{theirs[name][0]:.2f}", f"{ours[name][0]:.2f}", ratio(ours[name][0], theirs[name][0]), ratio(ours[name][1], theirs[name][1])]
+             for name in ours if name in theirs]
+    said = f"""Times of two machines do not compare. So the program of commit {figures['earlier']['commit']} was measured in the
+        same run, each part right after this program's:"""
+    return [wrapped(said), table(["What", "Earlier, ms", "Now, ms", "Ratio", "of processor time"], cells)]
 
 
 def waits(rows):

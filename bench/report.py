@@ -1,8 +1,8 @@
 #!/usr/bin/env python3
 """Measures tzdistd in all parts, and makes docs/PERFORMANCE.md with its plots from the figures.
 
-    bench/report.py RELEASE_DIR [--quick | --smoke] [--program PATH] [--only PART,..] [--minutes N]
-                    [--note TEXT] [--out DIR]
+    bench/report.py RELEASE_DIR [--quick | --smoke] [--program PATH] [--earlier PATH] [--only PART,..]
+                    [--minutes N] [--note TEXT] [--out DIR]
     bench/report.py --from JSON [--out DIR]
 
     example: bench/report.py --quick release
@@ -11,7 +11,9 @@ The figures are one file, performance.json, with a description of the machine an
 page and its plots are made from it alone, so `--from docs/performance.json` makes them again without
 measuring. Without a flag all parts take an hour at most, with --quick a quarter of an hour, and
 with --smoke a minute or two, over a release of few zones: its figures say nothing. With --only the
-other parts keep the figures of the file that is there. The parts:
+other parts keep the figures of the file that is there. With --earlier, a program of an earlier commit,
+changes and expansion are measured of that program too, right after this one: times of two machines do
+not compare, and the two ratios do. The parts:
 
     requests   each request with 1, 2, 16 and 64 connections, with nginx and the program of limit.c
     changes    installs and syncs that change nothing, one zone and all zones
@@ -50,6 +52,8 @@ from served import PROGRAM, Failure
 
 # Growth comes last, since it can end between two of its points where time is short.
 PARTS = ["requests", "changes", "largest", "expansion", "calls", "attacks", "fleet", "waits", "growth"]
+# Those that are measured of an earlier program, too.
+COMPARED = ["changes", "expansion"]
 FULL = {"seconds": 3, "rounds": 5, "connections": [1, 2, 16, 64], "attack_seconds": 10, "largest": [4096, 65536],
         "growth": None, "growth_seconds": 2, "growth_most": 40, "devices": 5000, "period": 60, "changed": 5,
         "costly_until": "9999", "costly_floods": True}
@@ -69,6 +73,11 @@ def said(*words):
     except OSError:
         return ""
     return (done.stdout + done.stderr).strip().split("\n")[0]
+
+
+def commit_of(program):
+    """The commit of the clone in which a program was built."""
+    return said("git", "-C", os.path.dirname(program), "rev-parse", "--short=12", "HEAD")
 
 
 def described(program):
@@ -98,6 +107,7 @@ class Run:
         self.words, self.settings, self.room = words, settings, room
         self.begin, self.end = time.monotonic(), time.monotonic() + 60 * minutes
         self.measured = parts.Measured(words.folder, words.program, room, settings)
+        self.earlier = parts.Measured(words.folder, words.earlier, room, settings) if words.earlier else None
 
     def is_late(self):
         return time.monotonic() > self.end
@@ -111,6 +121,21 @@ class Run:
         if name == "waits":
             return {"waits": self.measured.installs_with_requests()}
         return {name: getattr(self.measured, name)()}
+
+    def compare(self, name, figures):
+        """Measures a part of the earlier program, too. What another run had of it goes, and so do the
+        figures of another commit."""
+        if name not in COMPARED:
+            return
+        known = figures.pop("earlier", {})
+        known.pop(name, None)
+        if self.earlier:
+            self.tell(f"{name}, of the earlier program")
+            commit = commit_of(self.words.earlier)
+            known = known if known.get("commit") == commit else {"commit": commit}
+            known[name] = getattr(self.earlier, name)()
+        if len(known) > 1:
+            figures["earlier"] = known
 
     def growth(self):
         import growth
@@ -167,6 +192,7 @@ def measure(words, kind, figures, keep):
             run.tell(name)
             try:
                 figures.update(run.part(name))
+                run.compare(name, figures)
             except (Failure, OSError, subprocess.SubprocessError) as fault:
                 run.tell(f"{name} failed: {fault}")
                 failed.append(name)
@@ -204,6 +230,7 @@ def parser():
     flags.add_argument("--quick", action="store_true", help="a quarter of an hour")
     flags.add_argument("--smoke", action="store_true", help="a minute or two, over few zones: only whether the parts run")
     flags.add_argument("--program", default=PROGRAM, help="the tzdistd to measure (default: the one that is built here)")
+    flags.add_argument("--earlier", metavar="PATH", help="a tzdistd in a clone of an earlier commit, to compare installs, syncs and expansions")
     flags.add_argument("--only", default=",".join(PARTS), help=f"parts of {','.join(PARTS)}")
     flags.add_argument("--minutes", type=float, help="after which no part begins (default: 55, 13.5 with --quick)")
     flags.add_argument("--note", default="", help="a sentence about the program or the machine, for the page")
@@ -233,11 +260,14 @@ def checked(flags, given=None):
         flags.error(f"{words.folder} is no release: make one by tools/pack_zoneinfo.py /usr/share/zoneinfo {words.folder}")
     if not os.access(words.program, os.X_OK):
         flags.error(f"{words.program} is not built: README.md says how, or name another by --program")
+    if words.earlier and not os.access(words.earlier, os.X_OK):
+        flags.error(f"--earlier: {words.earlier} is no program: build one in a clone of the earlier commit")
     if unknown := [it for it in words.only.split(",") if it not in PARTS]:
         flags.error(f"no part {', '.join(unknown)}: choose of {', '.join(PARTS)}")
     if missing := [package for tool, package in NEEDED.items() if not shutil.which(tool)]:
         flags.error(f"some tools are missing: on Debian, apt-get install {' '.join(missing)}")
     words.folder, words.program = os.path.abspath(words.folder), os.path.abspath(words.program)
+    words.earlier = words.earlier and os.path.abspath(words.earlier)
     return words
 
 

@@ -20,6 +20,7 @@ import tempfile
 import time
 import xml.etree.ElementTree as xml
 from pathlib import Path
+from types import SimpleNamespace
 
 sys.dont_write_bytecode = True
 TOP = Path(__file__).resolve().parent.parent
@@ -209,6 +210,8 @@ def figures_of(worst=1.0):
         "largest": {"zones": 4096, "file_bytes": 65536, "ready": 1.8, "install": 0.4, "release_kib": 262_144, "peak_kib": 300_000, "peak_after_kib": 330_000},
         "expansion": [{"method": "HEAD", "wall": 1.0, "cost": 1.0}], "waits": [{"request": "full list", "alone": 0.2, "installing": 0.3, "yielding": 0.25}],
         "attacks": attacks, "growth": points, "fleet": {"costs": {"server_new": 20.0}, "trial": trial},
+        "earlier": {"commit": "ba9876543210", "expansion": [{"method": "HEAD", "wall": 4.0, "cost": 2.0}],
+                    "changes": {"installs": [{"what": "one zone", "wall": 3.0, "cost": 4.0}], "syncs": [{"what": "one zone", "wall": 5.0, "cost": 2.5}]}},
     }
 
 
@@ -245,6 +248,31 @@ def marks_are_judged():
     older = page.marks({"waits": [{"request": "full list", "alone": 0.1, "installing": 0.15}]})
     same("figures without the service's way", [it[0] for it in older], ["waits while installing"])
     holds("no reason stands for a missed mark", "**limit, 16 connections**:" in page.markdown(figures_of(1.4)))
+
+
+def costs_stand_beside_those_of_an_earlier_program():
+    rows = [line for line in page.markdown(figures_of()).split("\n") if line.startswith(("| install that", "| sync that", "| expansion by"))]
+    same("rows", rows, ["| install that changes one zone | 3.00 | 1.00 | 0.33 | 0.25 |", "| sync that changes one zone | 5.00 | 1.00 | 0.20 | 0.40 |",
+                        "| expansion by HEAD | 4.00 | 1.00 | 0.25 | 0.50 |"])
+    without = {name: it for name, it in figures_of().items() if name != "earlier"}
+    holds("a program that was not measured is compared", "Earlier, ms" not in page.markdown(without))
+
+
+def an_earlier_program_is_measured_in_the_same_run():
+    run, figures = report.Run.__new__(report.Run), figures_of()
+    run.tell, run.earlier, run.words = lambda text: None, SimpleNamespace(expansion=lambda: ["new"], changes=lambda: ["more"]), SimpleNamespace(earlier=__file__)
+    run.compare("growth", figures)
+    same("a part that is not compared", figures, figures_of())
+    run.compare("expansion", figures)
+    here = report.commit_of(__file__)
+    same("figures of another commit", figures["earlier"], {"commit": here, "expansion": ["new"]})
+    run.compare("changes", figures)
+    same("both", figures["earlier"], {"commit": here, "expansion": ["new"], "changes": ["more"]})
+    run.earlier = None
+    run.compare("expansion", figures)
+    same("a run without it", figures["earlier"], {"commit": here, "changes": ["more"]})
+    run.compare("changes", figures)
+    holds("figures of another run are compared", "earlier" not in figures)
 
 
 def calls_are_counted_by_kind():
@@ -294,9 +322,13 @@ def refused(script, *words):
 
 def scripts_say_what_to_do():
     with tempfile.TemporaryDirectory() as room:
+        release = os.path.join(room, "release")
+        os.mkdir(release)
+        Path(release, "manifest.json").write_text("{}")
         wanted = {
             (growth, room): "tools/pack_zoneinfo.py", (growth, room, "--only", "weight"): "choose of zones",
             (report, room): "tools/pack_zoneinfo.py", (report,): "name a release", (report, room, "--out", f"{room}/none"): "no folder",
+            (report, release, "--program", sys.executable, "--earlier", f"{room}/none"): "is no program",
             (fleet, "--devices", "many"): "whole numbers", (fleet, "--from", f"{room}/none"): "bench/report.py",
             (fleet, "--spread", "2"): "at most 1",
         }
@@ -345,7 +377,8 @@ def the_limit_sends_what_was_made():
 CHECKS = [
     draws_are_binomial, the_busiest_second_is_that_of_the_simulation, each_device_asks_once_in_a_period, delays_are_those_of_the_simulation, delays_have_their_closed_forms, loads_add_up, answers_grow_with_the_fleet, made_zones_have_their_sizes, made_releases_have_their_names,
     bends_are_found,
-    pages_can_be_read, marks_are_judged, calls_are_counted_by_kind, axes_hold_their_values, the_page_is_made_of_its_figures, scripts_say_what_to_do,
+    pages_can_be_read, marks_are_judged, costs_stand_beside_those_of_an_earlier_program,
+    an_earlier_program_is_measured_in_the_same_run, calls_are_counted_by_kind, axes_hold_their_values, the_page_is_made_of_its_figures, scripts_say_what_to_do,
     help_has_an_example, a_page_is_made_without_measuring, the_limit_sends_what_was_made,
 ]
 
