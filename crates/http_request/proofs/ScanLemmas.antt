@@ -1,8 +1,10 @@
 -- The search keeps what the definition needs.
-use Rattle.std.proofs.Common.{◌≡◌, ◌≢◌, ℕ, ◌+◌, ◌<◌, ◌≤◌, List, [], ◌∷◌, ◌++◌, ◌==◌, ◌⊎◌, inl, inr, length, take, drop, get_or, Bool, true, false, not, ◌&&◌}
-use Rattle.std.proofs.Common.{◌||◌, None, refl, sym, ap, subst, ◌∙◌, arith, append_assoc, take-append-drop, length-take-le}
+use Rattle.std.proofs.Common.{◌≡◌, ◌≢◌, ℕ, zero, suc, ◌+◌, ◌-◌, ◌<◌, ◌≤◌, List, [], ◌∷◌, ◌++◌, ◌==◌, ◌⊎◌, inl, inr, length, take, drop, get_or, Bool, true, false, not, ◌&&◌}
+use Rattle.std.proofs.Common.{◌||◌, Option, None, Some, refl, sym, ap, subst, ◌∙◌, arith, append_assoc, take-append-drop, length-take-le, length-drop, get_or-drop}
 use Rattle.std.proofs.lemmas.Bool.{eq-eqb, eqb-true, cases_eq, ne_eqb, and_parts}
-use Rattle.std.proofs.lemmas.List.{take_more, drop_more, take_all, append-nil}
+use Rattle.std.proofs.lemmas.List.{take_more, take_rest, drop_more, take_all, append-nil}
+use Rattle.std.specs.Option.{unwrap_or}
+use Rattle.memchr.specs.Find.{IsFirstByte, Nowhere, Passes, is_byte}
 use Rattle.http_request.specs.Ends.{is_blank_line, feeds}
 use Rattle.http_request.specs.Scans.{IsScanned, ends_with, past, line_kind, line_past, is_other, Searches, end_from, head_end}
 use Rattle.http_request.specs.declared.scan.Scan.{Scan}
@@ -128,3 +130,39 @@ scan_other bytes scan s other h f =
 pub scan_open : (bytes : List ℕ) (scan : Scan) → IsScanned bytes scan → scan.seen ≡ length bytes → head_end bytes ≡ None
 scan_open bytes scan s e =
     ap head_end (sym (append-nil (take scan.seen bytes) ∙ take_all scan.seen bytes (omega (arith, e)))) ∙ (s.goes_on [] ∙ end_none scan.begun s.line scan.seen)
+
+-- so many bytes more of a line that has other bytes, none of which is a line feed
+scan_others : (bytes : List ℕ) (scan : Scan) (n : ℕ) → IsScanned bytes scan → scan.line ≡ line.Other → scan.seen + n ≤ length bytes
+    → ((k : ℕ) → k < n → get_or bytes (scan.seen + k) 0 ≢ 10) → IsScanned bytes (record scan { seen = scan.seen + n })
+scan_others bytes scan zero s other h none =
+    let from_start : scan.seen ≡ scan.seen + 0 = omega arith in
+    subst (λ i. IsScanned bytes (record scan { seen = i })) from_start s
+scan_others bytes scan (suc n) s other h none =
+    let one_more : scan.seen + n + 1 ≡ scan.seen + suc n = omega arith in
+    let before : IsScanned bytes (record scan { seen = scan.seen + n }) =
+    scan_others bytes scan n s other (omega (arith, h)) (λ k below. none k (omega (arith, below))) in
+    subst (λ i. IsScanned bytes (record scan { seen = i })) one_more
+    (scan_other bytes (record scan { seen = scan.seen + n }) before other (omega (arith, h)) (none n (omega arith)))
+
+-- what follows the searched bytes
+abbrev after : List ℕ → Scan → List ℕ
+after bytes scan = take (length bytes - scan.seen) (drop scan.seen bytes)
+
+after_at : (bytes : List ℕ) (scan : Scan) (k : ℕ) → get_or (after bytes scan) k 0 ≡ get_or bytes (scan.seen + k) 0
+after_at bytes scan k = ap (λ l. get_or l k 0) (take_rest bytes scan.seen) ∙ get_or-drop scan.seen bytes k 0
+
+length_after : (bytes : List ℕ) (scan : Scan) → scan.seen ≤ length bytes → scan.seen + length (after bytes scan) ≡ length bytes
+length_after bytes scan h = omega (arith, h, ap length (take_rest bytes scan.seen) ∙ length-drop scan.seen bytes)
+
+not_feed : (bytes : List ℕ) (scan : Scan) (n : ℕ) → Nowhere (Passes (is_byte 10) (after bytes scan)) 0 n
+    → (k : ℕ) → k < n → get_or bytes (scan.seen + k) 0 ≢ 10
+not_feed bytes scan n none k below e = none k (omega arith) below (eq-eqb _ 10 (after_at bytes scan k ∙ e))
+
+-- on to the next line feed
+pub scan_to_feed : (bytes : List ℕ) (scan : Scan) (found : Option ℕ) → IsScanned bytes scan → scan.line ≡ line.Other
+    → IsFirstByte (is_byte 10) (after bytes scan) found
+    → IsScanned bytes (record scan { seen = scan.seen + unwrap_or found (length (after bytes scan)) })
+scan_to_feed bytes scan None s other none =
+    scan_others bytes scan (length (after bytes scan)) s other (omega (arith, length_after bytes scan s.within)) (not_feed bytes scan (length (after bytes scan)) none)
+scan_to_feed bytes scan (Some n) s other some =
+    scan_others bytes scan n s other (omega (arith, some.0.high, length_after bytes scan s.within)) (not_feed bytes scan n some.0.before)

@@ -12,8 +12,24 @@ use httparse::spans::{EMPTY_HEADER_SPAN, HeaderSpan, RequestSpans, parse_request
 use std::alloc::Global;
 use td_base::NoMemory;
 
+/// How many fields are parsed at first. Most heads have fewer, and the room for them is cleared each
+/// time.
+const USUAL_FIELDS: usize = 16;
+
 /// Reads a window, which ends with the end of a head. So the result is never to wait.
 pub fn read(alloc: Global, window: &[u8]) -> Result<Step, NoMemory>
+    ensures reads { IfOk result (ReadsHead window.now) }
+    ensures err { OnErr result (IsServedMethod window.now) }
+{
+    let mut room = [EMPTY_HEADER_SPAN; USUAL_FIELDS];
+    match parse_request(window, &mut room) {
+        Ok(Status::Complete(spans)) => read_spans(alloc, window, &room, spans),
+        _ => read_with_most(alloc, window),
+    }
+}
+
+/// Reads a window again, with room for all fields that a head may have.
+fn read_with_most(alloc: Global, window: &[u8]) -> Result<Step, NoMemory>
     ensures reads { IfOk result (ReadsHead window.now) }
     ensures err { OnErr result (IsServedMethod window.now) }
 {

@@ -2,6 +2,8 @@ ghost use Rattle.std.specs.Prelude.{◌≡◌, ◌≤◌, ◌<◌, ◌+◌, ◌^
 ghost use Rattle.http_request.specs.Scans.{IsScanned, Searches, ends_with, past, line_past};
 ghost use Rattle.http_request.specs.declared.scan.ScannedLine.TheVariants as line;
 
+use memchr::memchr;
+
 /// The content so far of the current line.
 #[derive(Clone, Copy, PartialEq, Eq)]
 pub enum ScannedLine {
@@ -121,12 +123,10 @@ fn to_line_feed(bytes: &[u8], from: Scan) -> Scan
     ensures scanned { IsScanned bytes.now result }
     ensures forward { from.seen ≤ result.seen }
 {
-    let mut seen = from.seen;
-    'line: while seen < bytes.len() && bytes[seen] != b'\n' {
-        seen += 1;
-    }
+    let rest = &bytes[from.seen..];
+    let skipped = memchr(b'\n', rest).unwrap_or(rest.len());
     Scan {
-        seen,
+        seen: from.seen + skipped,
         feeds: from.feeds,
         begun: from.begun,
         line: from.line,

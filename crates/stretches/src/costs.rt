@@ -11,12 +11,19 @@ pub const MOST_QUICK_SLASHES: usize = 3;
 
 /// Whether received bytes have a line that requests something costly. Lines of later requests
 /// count, and parts of lines: no costly request hides behind a quick one.
+#[tactic(auto, unfolding(crate::specs::Costs::is_costly))]
 pub fn is_costly(bytes: &[u8]) -> bool
     ensures { result ≡ costs.is_costly bytes.now }
 {
-    bytes
-        .split(|&byte| byte == b'\n')
-        .any(|line| is_costly_line(line))
+    let mut left = Some(bytes);
+    'lines: while let Some(rest) = left {
+        let (line, after) = cut(rest, b'\n');
+        if is_costly_line(line) {
+            return true;
+        }
+        left = after;
+    }
+    false
 }
 
 /// Whether a line is the request line of something costly. A field line is not.

@@ -6,6 +6,8 @@ ghost use Rattle.std.specs.Str.{str_eq_ignore_ascii_case};
 ghost use Rattle.td_base.specs.TargetForm.{begins_any_case};
 ghost use Rattle.td_base.specs.Texts as texts;
 
+use memchr::memchr;
+
 /// The bytes before the first separator, and those after it if a separator exists.
 #[tactic(auto, unfolding(crate::specs::Texts::pieces))]
 pub fn cut(text: &[u8], separator: u8) -> (&[u8], Option<&[u8]>)
@@ -13,12 +15,10 @@ pub fn cut(text: &[u8], separator: u8) -> (&[u8], Option<&[u8]>)
         ≡ result.0.now ∷ texts.pieces_left separator (option_copied result.1) }
     ensures shorter { IfSome result.1 (λ rest. length rest.now < length text.now) }
 {
-    for (at, byte) in text.iter().enumerate() {
-        if *byte == separator {
-            return (&text[..at], Some(&text[at + 1..]));
-        }
+    match memchr(separator, text) {
+        Some(at) => (&text[..at], Some(&text[at + 1..])),
+        None => (text, None),
     }
-    (text, None)
 }
 
 /// The text without spaces and tabs at its ends.

@@ -1,13 +1,12 @@
-use Rattle.td_base.proofs.CutLemmas.{cut_at, past_other, no_separator}
+use Rattle.std.proofs.Common.{subst}
+use Rattle.memchr.specs.Find.{IsFirstByte, is_byte}
+use Rattle.td_base.proofs.CutLemmas.{cut_first, cut_none}
 use Rattle.td_base.proofs.texts.cut.Goals as goal
 
-pub returns-then-byte-separator-clause-cut : goal.returns-then-byte-separator-clause-cut
-returns-then-byte-separator-clause-cut c =
-    cut_at c.args.separator c.args.text.now c.loop-at.at c.loop-at-test.true c.loop-at.invariant c.if-byte-separator.true
+pub returns-in-Some-clause-cut : goal.returns-in-Some-clause-cut
+returns-in-Some-clause-cut c =
+    cut_first c.args.separator c.args.text.now c.in-Some.at (subst (IsFirstByte (is_byte c.args.separator) c.args.text.now) c.in-Some.is c.memchr.ensures)
 
-pub loop-at-preserved : goal.loop-at-preserved
-loop-at-preserved c =
-    past_other c.args.separator c.args.text.now c.loop-at.at c.loop-at-test.true c.loop-at.invariant c.if-byte-separator.false
-
-pub returns-clause-cut : goal.returns-clause-cut
-returns-clause-cut c = no_separator c.args.separator c.args.text.now c.loop-at.at c.loop-at-test.false c.loop-at.invariant
+pub returns-in-None-clause-cut : goal.returns-in-None-clause-cut
+returns-in-None-clause-cut c =
+    cut_none c.args.separator c.args.text.now (subst (IsFirstByte (is_byte c.args.separator) c.args.text.now) c.in-None.is c.memchr.ensures)
