@@ -17,7 +17,7 @@ pub fn door(alloc: Global, row: &Row) -> Answer {
     let mut door = faulty(alloc, row)?;
     let mut told = Told::new(alloc);
     'calls: for _ in 0..calls {
-        told.call(shown(alloc, &serve(&mut door)));
+        told.call(shown(alloc, &serve(alloc, &mut door)));
     }
     tell(&mut told, door.inner());
     told.answer()
@@ -60,14 +60,14 @@ fn push(alloc: Global, door: &mut MemoryDoor, step: &[u8]) -> Result<(), CaseFau
 
 #[tactic(auto, using(crate::proofs::BackLemmas::is_out, crate::proofs::BackLemmas::is_back, crate::proofs::BackLemmas::is_idle, crate::proofs::BackLemmas::is_ended, crate::proofs::BackLemmas::is_failed))]
 /// Requests the next connection, echoes one read of it, and hands it back.
-fn serve<D: Door>(door: &mut D) -> DoorAnswer
+fn serve<D: Door>(alloc: Global, door: &mut D) -> DoorAnswer
     requires { IsDoorSettled (D.seen door.old) }
     ensures { IsDoorSettled (D.seen door.new) }
 {
     match door.accept() {
         Accepted::Given(mut conn) => {
             echo(&mut conn);
-            door.finish(conn, report());
+            door.finish(conn, report(alloc));
             DoorAnswer::Given
         }
         Accepted::Idle => DoorAnswer::Idle,
@@ -76,10 +76,10 @@ fn serve<D: Door>(door: &mut D) -> DoorAnswer
     }
 }
 
-fn report() -> Report {
+fn report(alloc: Global) -> Report {
     Report {
         end: End::Closed,
-        places: Places::new(),
+        places: Places::new(alloc),
         computed: 0,
     }
 }

@@ -78,8 +78,8 @@ pub fn short(alloc: Global, row: &Row) -> Answer {
 /// `places NUMBER NUMBER`: the places of a report.
 pub fn places(alloc: Global, row: &Row) -> Answer {
     let (first, second) = (given::small(row, 0)?, given::small(row, 1)?);
-    let mut places = Places::new();
-    places.push(first);
-    places.push(second);
+    let mut places = Places::new(alloc);
+    places.push(first)?;
+    places.push(second)?;
     shown(alloc, &places.as_slice())
 }

@@ -9,9 +9,15 @@ use td_base::{Conn, NoMemory, ReadStep};
 /// The most bytes that one read of a connection requests.
 pub const PIECE: usize = 4_096;
 
-/// How many bytes one read requests: more than most heads have. The room for them is cleared each
-/// time, so more would cost each request.
-const ROOM: usize = 1_024;
+/// How many bytes one read requests: more than most heads have. The room for them is cleared for
+/// each stretch of a connection, so more would cost each request.
+const ROOM: usize = 512;
+
+/// Room for what one read gives.
+pub type Room = [u8; ROOM];
+
+/// Such room.
+pub const CLEARED: Room = [0; ROOM];
 
 /// What was received from a connection.
 #[derive(Drop)]
@@ -40,7 +46,12 @@ pub enum ReadPiece {
 }
 
 /// The next head. Reads pieces only while the held bytes contain no whole head.
-pub fn hear<C: Conn>(alloc: Global, heads: &mut Heads, conn: &mut C) -> Result<Arrival, NoMemory>
+pub fn hear<C: Conn>(
+    alloc: Global,
+    heads: &mut Heads,
+    conn: &mut C,
+    room: &mut Room,
+) -> Result<Arrival, NoMemory>
     requires { heads.old.size ≤ most_held }
     ensures hears { Hears (C.seen conn.old) (C.seen conn.new) heads.old.rest heads.new.rest
         result }
@@ -50,7 +61,7 @@ pub fn hear<C: Conn>(alloc: Global, heads: &mut Heads, conn: &mut C) -> Result<A
         match heads.next(alloc)? {
             Next::Request(head) => return Ok(Arrival::Request(head)),
             Next::Bad(status) => return Ok(Arrival::Refused(status)),
-            Next::More => match feed(heads, conn) {
+            Next::More => match feed(heads, conn, room) {
                 ReadPiece::Fed => {}
                 ReadPiece::Ended => return Ok(Arrival::Ended),
                 ReadPiece::Failed => return Ok(Arrival::ReadFault),
@@ -61,15 +72,14 @@ pub fn hear<C: Conn>(alloc: Global, heads: &mut Heads, conn: &mut C) -> Result<A
 }
 
 /// Reads one piece and holds it.
-fn feed<C: Conn>(heads: &mut Heads, conn: &mut C) -> ReadPiece
-    requires room { length heads.old.rest < MOST_HEAD_BYTES }
+fn feed<C: Conn>(heads: &mut Heads, conn: &mut C, room: &mut Room) -> ReadPiece
+    requires fits { length heads.old.rest < MOST_HEAD_BYTES }
     requires held { heads.old.size ≤ most_held }
     ensures feeds { Feeds (C.seen conn.old) (C.seen conn.new) heads.old.rest heads.new.rest
         result }
     ensures held { heads.new.size ≤ most_held }
 {
-    let mut room = [0; ROOM];
-    match conn.read(&mut room) {
+    match conn.read(room) {
         ReadStep::Got(count) => match heads.feed(&room[..count]) {
             Ok(()) => ReadPiece::Fed,
             Err(_) => {

@@ -1,4 +1,5 @@
-ghost use Rattle.std.specs.Prelude.{◌≡◌, ◌<◌, ◌≤◌, ◌+◌, ℕ, List, length, [], true, IsTrue};
+ghost use Rattle.std.specs.Prelude.{◌≡◌, ◌<◌, ◌≤◌, ◌+◌, ◌++◌, ◌∷◌, ℕ, List, length, [], true};
+ghost use Rattle.std.specs.Prelude.{IsTrue, OnOk, OnErr};
 ghost use Rattle.std.specs.Prelude.{Ok, Some, None, if◌then◌else◌};
 ghost use Rattle.std.specs.List.{AllByRecursion};
 ghost use mathlib.Core.List.{IsPrefix};
@@ -17,7 +18,7 @@ ghost use Rattle.td_base.specs.Views.{ConnView};
 ghost use Rattle.td_base.specs.declared.report.End.TheVariants as end;
 ghost use Rattle.td_base.specs.declared.report.TheConstants.{MOST_PLACES};
 
-use crate::hearing::{Arrival, hear};
+use crate::hearing::{Arrival, CLEARED, Room, hear};
 use crate::kept_answers::KeptAnswers;
 use crate::places::place_of;
 use crate::replying::reply_to;
@@ -89,7 +90,7 @@ pub fn serve_over<C: Conn>(
         × AllByRecursion (λ p. p ≡ length desk.old.seen) result.places }
 {
     kept.computed = 0;
-    let mut places = Places::new();
+    let mut places = Places::new(alloc);
     let end = serve_requests(alloc, role, desk, kept, conn, &mut places);
     Report {
         end,
@@ -147,8 +148,10 @@ fn answer_requests<C: Conn>(
     ensures first { ComputesFirst kept.old kept.new places.old places.new }
 {
     let mut heads = Heads::new(alloc);
+    let mut room = CLEARED;
     'requests: loop {
-        if let Some(end) = answer_next(alloc, role, desk, kept, conn, &mut heads, places)? {
+        let more = answer_next(alloc, role, desk, kept, conn, &mut heads, &mut room, places)?;
+        if let Some(end) = more {
             return Ok(end);
         }
     }
@@ -162,12 +165,13 @@ fn answer_next<C: Conn>(
     kept: &mut KeptAnswers,
     conn: &mut C,
     heads: &mut Heads,
+    room: &mut Room,
     places: &mut Places,
 ) -> Result<Option<End>, NoMemory>
     requires role { IsPlainRole role.now }
     requires kept { KeepsAnswers desk.old role.now kept.old }
     requires held { heads.old.size ≤ most_held }
-    requires room { length places.old < MOST_PLACES }
+    requires fits { length places.old < MOST_PLACES }
     ensures served { (before : ConnView)
         → IsServing desk.old role.now before (C.seen conn.old) heads.old.rest places.old
         → ServesOn desk.new role.now before (C.seen conn.new) heads.new.rest places.new result }
@@ -179,7 +183,7 @@ fn answer_next<C: Conn>(
     ensures computed { ComputesFew kept.old.computed kept.new.computed places.old places.new }
     ensures first { ComputesFirst kept.old kept.new places.old places.new }
 {
-    match hear(alloc, heads, conn)? {
+    match hear(alloc, heads, conn, room)? {
         Arrival::Request(head) => answer_one(alloc, role, desk, kept, conn, head, places),
         Arrival::Refused(status) => Ok(Some(refuse(conn, status))),
         Arrival::Ended => Ok(Some(End::Closed)),
@@ -208,12 +212,37 @@ fn answer_one<C: Conn>(
     ensures first { ComputesFirst kept.old kept.new places.old places.new }
 {
     let close = is_last(places, &head);
-    desk.enter()?;
-    places.push(place_of(desk));
+    enter(desk, places)?;
     match reply_to(alloc, role, desk, kept, conn, head, close)? {
         Written::Whole => Ok(ended_by(close)),
         Written::Cut => Ok(Some(End::WriteFault)),
     }
+}
+
+/// Lets the desk enter, and records the place of the catalogue that it then holds. Room for the
+/// place is made first, so that each enter has its place.
+fn enter(desk: &mut Desk<Catalogue<Zone>>, places: &mut Places) -> Result<(), NoMemory>
+    requires { length places.old < MOST_PLACES }
+    ensures ok { OnOk result ((desk.new.enters ≡ desk.old.enters + 1)
+        × (desk.new.seen ≡ desk.new.entered)) }
+    ensures err { OnErr result ((desk.new.seen ≡ desk.old.seen)
+        × (desk.new.ended ≡ desk.old.ended) × (desk.old.enters ≤ desk.new.enters)
+        × (desk.new.enters ≤ desk.old.enters + 1)) }
+    ensures placed { OnOk result ((places.new ≡ places.old ++ length desk.new.seen ∷ [])
+        × (1 ≤ length desk.new.seen)) }
+    ensures unplaced { OnErr result (places.new ≡ places.old) }
+    ensures pair { desk.new.pair ≡ desk.old.pair }
+    ensures seen { IsPrefix desk.old.seen desk.new.seen }
+    ensures ended { desk.old.ended ≡ true
+        → (desk.new.seen ≡ desk.old.seen) × (desk.new.ended ≡ true) }
+{
+    places.push(0)?;
+    if desk.enter().is_err() {
+        places.pop();
+        return Err(NoMemory);
+    }
+    places.replace_last(place_of(desk));
+    Ok(())
 }
 
 /// How the connection ends after a whole reply, if it ends.

@@ -10,31 +10,31 @@ use td_base::{Accepted, Conn, Door, End, Places, ReadStep, Report, WriteStep};
 /// them, and a read waits for at most TURNS turns.
 pub fn beside<R: Threads>(rt: &R, alloc: Global, row: &Row) -> Answer {
     let (left, right) = gate_pair(alloc, small(row, 0)?)?;
-    let (left, right) = join(rt, move || serve(left), move || serve(right));
+    let (left, right) = join(rt, move || serve(alloc, left), move || serve(alloc, right));
     told(alloc, &left, &right)
 }
 
 /// `gates-alone TURNS`: the same when one thread serves them one after the other.
 pub fn alone(alloc: Global, row: &Row) -> Answer {
     let (left, right) = gate_pair(alloc, small(row, 0)?)?;
-    let left = serve(left);
-    let right = serve(right);
+    let left = serve(alloc, left);
+    let right = serve(alloc, right);
     told(alloc, &left, &right)
 }
 
 /// `gates-turned TURNS`: the same when the second is served first.
 pub fn turned(alloc: Global, row: &Row) -> Answer {
     let (left, right) = gate_pair(alloc, small(row, 0)?)?;
-    let right = serve(right);
-    let left = serve(left);
+    let right = serve(alloc, right);
+    let left = serve(alloc, left);
     told(alloc, &left, &right)
 }
 
 /// Answers the requests of the door's connection, each with two bytes, and hands it back.
-fn serve(mut door: GateDoor) -> GateDoor {
+fn serve(alloc: Global, mut door: GateDoor) -> GateDoor {
     if let Accepted::Given(mut conn) = door.accept() {
         let end = answer_each(&mut conn);
-        let places = Places::new();
+        let places = Places::new(alloc);
         let report = Report {
             end,
             places,

@@ -67,9 +67,10 @@ impl<R: Clock + Eprint + Copy> Talk<R> {
         let Some(conn) = self.conn.take() else {
             return Err(CaseFault::Strange);
         };
+        let alloc = *self.clients.allocator();
         let report = Report {
             end: End::Closed,
-            places: Places::new(),
+            places: Places::new(alloc),
             computed: 0,
         };
         self.door.finish(conn, report);

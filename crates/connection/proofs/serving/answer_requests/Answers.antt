@@ -16,7 +16,7 @@ requests-init g c =
 
 pub returns-in-Some-clause-served : goal.returns-in-Some-clause-served
 returns-in-Some-clause-served g c =
-    serving.ended _ _ _ _ _ _ _ _ c.in-Some.is (c.in_ok-end.ensures.served _ c.requests.invariant.serving)
+    serving.ended _ _ _ _ _ _ _ _ c.in-Some.is (c.in_ok-more.ensures.served _ c.requests.invariant.serving)
 
 pub returns-in-Some-clause-first : goal.returns-in-Some-clause-first
 returns-in-Some-clause-first g c =
