@@ -1,4 +1,5 @@
 //! The event loop of a listener over its own connections.
+use crate::incoming::PIECE;
 use crate::listening::{Listening, end_listening};
 use crate::now::{Now, micros, thread_micros};
 use crate::resting::{LISTENS, Resting};
@@ -43,6 +44,9 @@ pub struct Hall<R> {
     poll: Poll,
     events: Events<Global>,
     resting: Resting,
+    /// Room for a received piece, shared by all connections: clearing it for each would cost each
+    /// request.
+    room: [u8; PIECE],
     most: usize,
     shares: Shares,
     /// Whether a connection may wait at the socket, and since when.
@@ -105,6 +109,7 @@ impl<R: Clock + Eprint + Copy> Hall<R> {
             poll,
             events,
             resting: Resting::new(alloc),
+            room: [0; PIECE],
             most,
             shares,
             comes: true,
@@ -172,7 +177,7 @@ impl<R: Clock + Eprint + Copy> Hall<R> {
         self.shared.charge(self.queue, cost);
         let unfinished = wire.is_unfinished();
         wire.weigh(is_long_turn(cost, unfinished));
-        let rest = wire.rest_after(end, now);
+        let rest = wire.rest_after(&mut self.room, end, now);
         self.keep(wire, rest, now);
     }
 
@@ -226,7 +231,7 @@ impl<R: Clock + Eprint + Copy> Hall<R> {
     fn give_up(&mut self, kind: ErrorKind) {
         self.broken = Some(kind);
         let now = self.now();
-        self.resting.leave(now);
+        self.resting.leave(&mut self.room, now);
         if self.shares.breaks() {
             end_listening(&self.listening);
             let clock = self.clock;
@@ -262,7 +267,7 @@ impl<R: Clock + Eprint + Copy> Hall<R> {
     pub fn leave(&mut self) {
         self.tick();
         let now = self.now();
-        self.resting.leave(now);
+        self.resting.leave(&mut self.room, now);
     }
 
     /// Sends what was written and not yet taken, for a moment, before this time of its clock. It

@@ -10,12 +10,11 @@ use std::alloc::Global;
 use std::io::Read;
 use stretches::Intake;
 
-/// How many bytes are received at a time: more than most heads have. The room for them is cleared
-/// each time, so more would cost each request.
-const PIECE: usize = 1_024;
+/// How many bytes are received at a time: more than most heads have.
+pub const PIECE: usize = 4_096;
 
 /// How many pieces are received before other connections have their turn.
-const MOST_PIECES: u32 = 64;
+const MOST_PIECES: u32 = 16;
 
 /// What a read in a stretch gave.
 #[derive(Clone, Copy, PartialEq, Eq)]
@@ -113,15 +112,17 @@ impl Incoming {
         }
     }
 
-    /// Receives until a head can be given or nothing more has come. Returns whether bytes came.
-    pub fn hear<R: Read>(&mut self, stream: &mut R) -> bool
+    /// Receives until a head can be given or nothing more has come. Returns whether bytes came. The
+    /// room may hold anything before.
+    pub fn hear<R: Read>(&mut self, stream: &mut R, room: &mut [u8]) -> bool
+        requires { 0 < length room.old }
         ensures kept { self.new.broken ≡ false
             → Keeps (to_give self.old (R.remaining stream.old))
             (to_give self.new (R.remaining stream.new)) }
     {
         let mut moved = false;
         for _ in 0..MOST_PIECES {
-            if self.intake.look() || !self.hear_more(stream) {
+            if self.intake.look() || !self.hear_more(stream, room) {
                 break;
             }
             moved = true;
@@ -141,7 +142,8 @@ impl Incoming {
     /// Receives a piece, if one may have come, and returns whether bytes came. A piece that did not
     /// fill its room was the last, unless an event came since. An end that came with it causes no
     /// other event.
-    fn hear_more<R: Read>(&mut self, stream: &mut R) -> bool
+    fn hear_more<R: Read>(&mut self, stream: &mut R, room: &mut [u8]) -> bool
+        requires { 0 < length room.old }
         ensures kept { self.new.broken ≡ false
             → Keeps (to_give self.old (R.remaining stream.old))
             (to_give self.new (R.remaining stream.new)) }
@@ -155,12 +157,13 @@ impl Incoming {
         if self.ended || (self.drained && !self.ending) {
             return false;
         }
-        self.receive(stream)
+        self.receive(stream, room)
     }
 
     /// Receives a piece, and returns whether bytes came.
-    fn receive<R: Read>(&mut self, stream: &mut R) -> bool
-        requires { self.old.broken ≡ false }
+    fn receive<R: Read>(&mut self, stream: &mut R, room: &mut [u8]) -> bool
+        requires sound { self.old.broken ≡ false }
+        requires room { 0 < length room.old }
         ensures kept { self.new.broken ≡ false
             → Keeps (to_give self.old (R.remaining stream.old))
             (to_give self.new (R.remaining stream.new)) }
@@ -168,10 +171,9 @@ impl Incoming {
             → (self.old.ended ≡ true) ⊎ IsAtEnd (R.remaining stream.new) }
         ensures sound { result ≡ true → self.new.broken ≡ false }
     {
-        let mut room = [0; PIECE];
-        match receive(stream, &mut room) {
+        match receive(stream, room) {
             Received::Bytes(count) => {
-                self.drained = count < PIECE;
+                self.drained = count < room.len();
                 self.hold(&room[..count])
             }
             Received::Nothing => {
@@ -230,7 +232,7 @@ impl Incoming {
         match self.give(room) {
             Some(count) => Given::Bytes(count),
             None => {
-                self.hear_more(stream);
+                self.hear_more(stream, room);
                 self.give_now(room)
             }
         }

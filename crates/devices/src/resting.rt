@@ -1,4 +1,6 @@
 //! The connections of a listener that no worker serves.
+ghost use Rattle.std.specs.Prelude.{◌<◌, length};
+
 use crate::now::Now;
 use crate::outgoing::MOST_UNSENT;
 use crate::wire::{Rest, Wire};
@@ -187,31 +189,38 @@ impl Resting {
         }
     }
 
-    /// Handles events. It returns whether one was that of the listening socket.
-    pub fn stir_all(&mut self, events: &Events<Global>, now: Now) -> bool {
+    /// Handles events. It returns whether one was that of the listening socket. What is received
+    /// comes into this room first.
+    pub fn stir_all(&mut self, events: &Events<Global>, room: &mut [u8], now: Now) -> bool
+        requires { 0 < length room.old }
+    {
         let mut listens = false;
         for event in events.iter() {
             if event.token() == LISTENS {
                 listens = true;
             } else {
-                self.stir(event, now);
+                self.stir(event, room, now);
             }
         }
         listens
     }
 
     /// Handles an event of a connection.
-    fn stir(&mut self, event: &Event, now: Now) {
+    fn stir(&mut self, event: &Event, room: &mut [u8], now: Now)
+        requires { 0 < length room.old }
+    {
         let Token(place) = event.token();
         let key = place.saturating_sub(1);
         if let Some(wire) = self.wires.get_mut(key) {
             wire.wake(event.is_read_closed() || event.is_error());
         }
-        self.advance(key, now);
+        self.advance(key, room, now);
     }
 
     /// Does what can be done for a connection that waits in no queue.
-    fn advance(&mut self, key: usize, now: Now) {
+    fn advance(&mut self, key: usize, room: &mut [u8], now: Now)
+        requires { 0 < length room.old }
+    {
         let Some(wire) = self.wires.get_mut(key) else {
             return;
         };
@@ -219,7 +228,7 @@ impl Resting {
             return;
         }
         let (unsent, held) = (wire.unsent(), wire.room());
-        let rest = wire.advance(now);
+        let rest = wire.advance(room, now);
         let (unsent_after, held_after) = (wire.unsent(), wire.room());
         self.unsent = self
             .unsent
@@ -291,22 +300,26 @@ impl Resting {
     }
 
     /// No connection is served any more: each is closed once what was written has been sent.
-    pub fn leave(&mut self, now: Now) {
+    pub fn leave(&mut self, room: &mut [u8], now: Now)
+        requires { 0 < length room.old }
+    {
         for key in 0..self.wires.capacity() {
             if let Some(wire) = self.wires.get_mut(key) {
                 wire.leave();
             }
-            self.advance(key, now);
+            self.advance(key, room, now);
         }
     }
 
     /// Closes the connections that rested for too long.
-    pub fn sweep(&mut self, now: Now) {
+    pub fn sweep(&mut self, room: &mut [u8], now: Now)
+        requires { 0 < length room.old }
+    {
         let mut from = 0;
         for _ in 0..self.roll.len() {
             match self.roll.next_over(from, now.millis) {
                 Some(key) => {
-                    self.give_up(key, now);
+                    self.give_up(key, room, now);
                     from = key.saturating_add(1);
                 }
                 None => return,
@@ -316,8 +329,10 @@ impl Resting {
 
     /// Closes a connection that makes no progress now. It is tried once more, since the system
     /// reports room in a socket only once much of it is free.
-    fn give_up(&mut self, key: usize, now: Now) {
-        self.advance(key, now);
+    fn give_up(&mut self, key: usize, room: &mut [u8], now: Now)
+        requires { 0 < length room.old }
+    {
+        self.advance(key, room, now);
         let is_over = match self.wires.get(key) {
             Some(wire) => !wire.queued && wire.life().is_over(now.millis),
             None => false,

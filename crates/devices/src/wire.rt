@@ -365,12 +365,13 @@ impl<S: Read + Write> Wire<S> {
     }
 
     /// Receives until a head is whole, or nothing more has come.
-    fn hear(&mut self, millis: u64)
+    fn hear(&mut self, room: &mut [u8], millis: u64)
+        requires { 0 < length room.old }
         ensures { self.new.incoming.broken ≡ false
             → Keeps (to_give self.old.incoming (S.remaining self.old.stream))
             (to_give self.new.incoming (S.remaining self.new.stream)) }
     {
-        if self.incoming.hear(&mut self.stream) {
+        if self.incoming.hear(&mut self.stream, room) {
             self.moved = millis;
         }
     }

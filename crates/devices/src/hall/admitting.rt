@@ -84,7 +84,7 @@ impl<R: Clock + Eprint + Copy> Hall<R> {
     fn receive(&mut self, stream: TcpStream) -> Option<Wire<TcpStream>> {
         let now = self.now();
         let mut wire = Wire::new(self.alloc, stream, now);
-        let rest = wire.advance(now);
+        let rest = wire.advance(&mut self.room, now);
         let is_quick = wire.queue() != Queue::Heavy;
         if rest == Rest::Ready && (is_quick || self.resting.heavy() >= self.most / 2) {
             return Some(wire);

@@ -87,13 +87,14 @@ impl<R: Clock + Eprint + Copy> Hall<R> {
         self.polled = self.micros;
         self.read_ran();
         let now = self.now();
-        if self.resting.stir_all(&self.events, now) && !self.comes {
+        let listens = self.resting.stir_all(&self.events, &mut self.room, now);
+        if listens && !self.comes {
             self.comes = true;
             self.came = self.time;
         }
         if self.time.saturating_sub(self.swept) >= SWEEP_MILLIS {
             self.swept = self.time;
-            self.resting.sweep(now);
+            self.resting.sweep(&mut self.room, now);
         }
         Ok(())
     }

@@ -1,4 +1,6 @@
 //! What a TCP connection does between its turns: it sends, receives, and closes.
+ghost use Rattle.std.specs.Prelude.{◌<◌, length};
+
 use crate::incoming::Incoming;
 use crate::now::Now;
 use crate::socket::{Received, receive};
@@ -8,9 +10,6 @@ use std::os::fd::{AsRawFd, RawFd};
 use stretches::Fate;
 use td_base::End;
 
-/// How many bytes are thrown away at a time.
-const PIECE: usize = 4_096;
-
 impl Wire<TcpStream> {
     /// The descriptor of its stream.
     pub fn descriptor(&self) -> RawFd {
@@ -18,17 +17,21 @@ impl Wire<TcpStream> {
     }
 
     /// Ends a stretch that ended so, and does all that can be done for it without waiting.
-    pub fn rest_after(&mut self, end: End, now: Now) -> Rest {
+    pub fn rest_after(&mut self, room: &mut [u8], end: End, now: Now) -> Rest
+        requires { 0 < length room.old }
+    {
         if self.finish(end, now) == Fate::Breaks {
             Rest::Gone
         } else {
-            self.advance(now)
+            self.advance(room, now)
         }
     }
 
     /// Does all that can be done for it without waiting. What was written is sent first, and then
-    /// bytes are received until it can be served.
-    pub fn advance(&mut self, now: Now) -> Rest {
+    /// bytes are received, into this room, until it can be served.
+    pub fn advance(&mut self, room: &mut [u8], now: Now) -> Rest
+        requires { 0 < length room.old }
+    {
         if self.unsent() > 0 {
             if !self.flush(now) {
                 return Rest::Gone;
@@ -38,15 +41,17 @@ impl Wire<TcpStream> {
             }
         }
         match self.stage {
-            Stage::Open => self.listen(now),
-            Stage::Leaving => self.shut(now.millis),
-            Stage::Shut(thrown) => self.linger(thrown),
+            Stage::Open => self.listen(room, now),
+            Stage::Leaving => self.shut(room, now.millis),
+            Stage::Shut(thrown) => self.linger(room, thrown),
         }
     }
 
     /// Receives until it can be served.
-    fn listen(&mut self, now: Now) -> Rest {
-        self.hear(now.millis);
+    fn listen(&mut self, room: &mut [u8], now: Now) -> Rest
+        requires { 0 < length room.old }
+    {
+        self.hear(room, now.millis);
         if self.incoming.is_ready() {
             self.classify();
             Rest::Ready
@@ -60,22 +65,25 @@ impl Wire<TcpStream> {
 
     /// Ends the sending side, and waits for the peer to end its own. Closing a socket with unread
     /// bytes resets its connection, and the peer may lose the end of its last reply.
-    fn shut(&mut self, millis: u64) -> Rest {
+    fn shut(&mut self, room: &mut [u8], millis: u64) -> Rest
+        requires { 0 < length room.old }
+    {
         if self.stream.shutdown(Shutdown::Write).is_err() || self.incoming.is_over() {
             return Rest::Gone;
         }
         self.moved = millis;
         self.stage = Stage::Shut(0);
         self.incoming = Incoming::new(self.alloc);
-        self.linger(0)
+        self.linger(room, 0)
     }
 
     /// Throws away what still comes.
-    fn linger(&mut self, thrown: usize) -> Rest {
-        let mut room = [0; PIECE];
+    fn linger(&mut self, room: &mut [u8], thrown: usize) -> Rest
+        requires { 0 < length room.old }
+    {
         let mut thrown = thrown;
         for _ in 0..MOST_PIECES {
-            match receive(&mut self.stream, &mut room) {
+            match receive(&mut self.stream, room) {
                 Received::Bytes(count) => thrown = thrown.saturating_add(count),
                 Received::Nothing => break,
                 Received::End | Received::Broken => return Rest::Gone,
