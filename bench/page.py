@@ -11,11 +11,11 @@ import plots
 
 # What is known of a mark that is missed, by its name. A new one is looked for with `perf` and `strace -c`.
 REASONS = {
-    "limit, 1 connection": "the worst row is an exception: over 2 connections the same request has 1.47, and in a run half an hour "
-    "before, over one, each row had at most 1.39.",
-    "limit, 2 connections": "a request takes as many system calls as the limit's. The rest is its own code: some 11,000 "
-    "instructions for a short request, a fifth of which clears memory.",
-    "limit, 16 connections": "the same, and twice as many waits.",
+    "limit, 1 connection": "a request takes as many system calls as the limit's, and three quarters of its processor time are the "
+    "system's. The rest is its own code: some 8,800 instructions for a short request.",
+    "limit, 2 connections": "a request takes as many system calls as the limit's, and three quarters of its processor time are the "
+    "system's. The rest is its own code: some 8,800 instructions for a short request.",
+    "limit, 16 connections": "the same, and more than twice as many waits.",
     "limit, 64 connections": "the same.",
     "sync of one zone": "this machine runs the program's own code two to three times slower than that of an earlier run, "
     "which had 1.11 and 1.01 ms with a program that did more.",
@@ -65,6 +65,17 @@ def ratio(one, other):
 # --- sections ------------------------------------------------------------------------------------
 
 
+def last_of_each(runs):
+    """Later runs of some parts, each with the parts that no run after it measured again."""
+    found, later = [], set()
+    for run in reversed(runs):
+        parts = [it for it in run["parts"] if it not in later]
+        later.update(parts)
+        if parts:
+            found.insert(0, {**run, "parts": parts})
+    return found
+
+
 def introduction(figures):
     machine, run, release = figures["machine"], figures["run"], figures["release"]
     kind = {"full": "", "quick": " --quick", "smoke": " --smoke"}[run["kind"]]
@@ -83,7 +94,7 @@ def introduction(figures):
     ]
     if run["kind"] == "smoke":
         sentences.append("**This was a smoke run: its figures say only that all parts run.**")
-    for again in figures.get("again", []):
+    for again in last_of_each(figures.get("again", [])):
         sentences.append(f"Measured again on {again['date']}, of commit {again['commit'][:12]}: {', '.join(again['parts'])}.")
     if run.get("skipped"):
         sentences.append(f"There was no time for these parts: {', '.join(run['skipped'])}.")

@@ -275,6 +275,12 @@ def an_earlier_program_is_measured_in_the_same_run():
     holds("figures of another run are compared", "earlier" not in figures)
 
 
+def parts_that_were_measured_again_are_named_once():
+    runs = [{"date": "1", "parts": ["changes", "calls"]}, {"date": "2", "parts": ["calls"]}, {"date": "3", "parts": ["changes"]}]
+    same("the last run of each part", page.last_of_each(runs), runs[1:])
+    same("one that is measured in part", page.last_of_each(runs[:2]), [{"date": "1", "parts": ["changes"]}, runs[1]])
+
+
 def calls_are_counted_by_kind():
     text = """% time     seconds  usecs/call     calls    errors syscall
 ------ ----------- ----------- --------- --------- ----------------
@@ -378,7 +384,7 @@ CHECKS = [
     draws_are_binomial, the_busiest_second_is_that_of_the_simulation, each_device_asks_once_in_a_period, delays_are_those_of_the_simulation, delays_have_their_closed_forms, loads_add_up, answers_grow_with_the_fleet, made_zones_have_their_sizes, made_releases_have_their_names,
     bends_are_found,
     pages_can_be_read, marks_are_judged, costs_stand_beside_those_of_an_earlier_program,
-    an_earlier_program_is_measured_in_the_same_run, calls_are_counted_by_kind, axes_hold_their_values, the_page_is_made_of_its_figures, scripts_say_what_to_do,
+    an_earlier_program_is_measured_in_the_same_run, parts_that_were_measured_again_are_named_once, calls_are_counted_by_kind, axes_hold_their_values, the_page_is_made_of_its_figures, scripts_say_what_to_do,
     help_has_an_example, a_page_is_made_without_measuring, the_limit_sends_what_was_made,
 ]
 
