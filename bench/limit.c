@@ -3,6 +3,9 @@
  *
  *     limit PORT PROCESSES FILE..     a request for /N gets the bytes of the Nth FILE, from 0
  *
+ * The processes accept by turns, so each has its share of the connections, as each worker of
+ * tzdistd has. One process with all of them needs fewer waits, but leaves the others idle.
+ *
  * bench/serve.py builds it with `cc -O2` and measures it next to tzdistd and nginx.
  */
 #define _GNU_SOURCE
@@ -15,6 +18,7 @@
 #include <stdlib.h>
 #include <string.h>
 #include <sys/epoll.h>
+#include <sys/mman.h>
 #include <sys/prctl.h>
 #include <sys/socket.h>
 #include <sys/stat.h>
@@ -23,7 +27,8 @@
 
 struct reply { char *bytes; size_t size; } *replies;
 struct peer { int socket; struct reply *reply; size_t held, sent; char head[8192]; };
-int count;
+int count, processes;
+volatile int *turns; /* how many connections all processes have accepted */
 
 /* Sends what is due and receives once. The result is 0 if the peer has ended. */
 static int turn(struct peer *peer) {
@@ -51,9 +56,9 @@ static int turn(struct peer *peer) {
     }
 }
 
-static void serve(int listener) {
+static void serve(int listener, int own) {
     int queue = epoll_create1(0), yes = 1;
-    struct epoll_event event = {.events = EPOLLIN | EPOLLEXCLUSIVE}, events[64];
+    struct epoll_event event = {.events = EPOLLIN}, events[64];
     epoll_ctl(queue, EPOLL_CTL_ADD, listener, &event);
     for (;;) {
         int ready = epoll_wait(queue, events, 64, -1);
@@ -62,9 +67,10 @@ static void serve(int listener) {
             if (peer && !turn(peer)) {
                 close(peer->socket);
                 free(peer);
-            } else if (!peer) {
+            } else if (!peer && *turns % processes == own) {
                 int socket = accept4(listener, NULL, NULL, SOCK_NONBLOCK);
                 if (socket < 0 || !(peer = calloc(1, sizeof *peer))) continue;
+                ++*turns;
                 peer->socket = socket;
                 setsockopt(socket, IPPROTO_TCP, TCP_NODELAY, &yes, sizeof yes);
                 event.events = EPOLLIN | EPOLLOUT | EPOLLET;
@@ -92,8 +98,11 @@ int main(int words, char **word) {
     setsockopt(listener, SOL_SOCKET, SO_REUSEADDR, &yes, sizeof yes);
     if (bind(listener, (struct sockaddr *)&at, sizeof at)) return perror("bind"), 1;
     if (listen(listener, 4096)) return perror("listen"), 1;
-    for (int left = atoi(word[2]); left; left--)
-        if (!fork()) prctl(PR_SET_PDEATHSIG, SIGKILL), serve(listener);
+    turns = mmap(NULL, sizeof *turns, PROT_READ | PROT_WRITE, MAP_SHARED | MAP_ANONYMOUS, -1, 0);
+    if (turns == MAP_FAILED) return perror("mmap"), 1;
+    processes = atoi(word[2]);
+    for (int own = 0; own < processes; own++)
+        if (!fork()) prctl(PR_SET_PDEATHSIG, SIGKILL), serve(listener, own);
     while (wait(NULL) > 0) {}
     return 0;
 }
