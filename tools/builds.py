@@ -116,7 +116,6 @@ class Estimate:
     def __init__(self, crates, names, times, at_once):
         self.crates, self.names, self.times = crates, names, times
         self.width = max(1, min(at_once, processors()))
-        self.whole = self.seconds_of(names)
         self.begin = time.monotonic()
 
     def seconds_of(self, names):
@@ -129,16 +128,20 @@ class Estimate:
                 chains[name] = own + max((chain(it) for it in self.crates[name]), default=0)
             return chains[name]
 
-        work = sum(self.times.get(it, UNKNOWN_TIME) for it in left)
-        return max(work / self.width, max((chain(it) for it in self.names), default=0))
+        return max(self.shared_work(left), max((chain(it) for it in self.names), default=0))
+
+    def shared_work(self, names):
+        """The seconds by the clock that all processors together work on these."""
+        return sum(self.times.get(it, UNKNOWN_TIME) for it in names) / self.width
 
     def so_far(self):
         return round((time.monotonic() - self.begin) / 60)
 
     def left(self, names):
-        """The minutes that are left, at the pace of this machine so far."""
+        """The minutes that are left, at the pace of this machine so far: what the work took that is
+        done. The longest chain tells no pace, since most crates are not in it."""
         seconds, elapsed = self.seconds_of(names), time.monotonic() - self.begin
-        done = self.whole - seconds
+        done = self.shared_work(self.names) - self.shared_work(names)
         pace = min(4, max(0.25, elapsed / done)) if done > 300 and elapsed > 300 else 1
         return max(1, round(seconds * pace / 60))
 

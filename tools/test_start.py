@@ -17,6 +17,7 @@ import tempfile
 import time
 from pathlib import Path
 
+from builds import Estimate
 from checks import LONG, holds, run_checks, same
 from served import DATA, Client, Failure, address_of, free_port
 
@@ -251,6 +252,19 @@ def ends_a_build_by_signals(top):
         same("what still runs", left, [])
 
 
+def reckons_by_the_work_that_is_done(_program):
+    """Not by the longest chain, in which little is done while processors work on other crates."""
+    sides = [f"side{number}" for number in range(8)]
+    crates = {"base": [], "top": ["base"], **{it: [] for it in sides}}
+    times = {"base": 400, "top": 3600, **{it: 600 for it in sides}}
+    estimate = Estimate(crates, list(crates), times, 4)
+    estimate.width = 4  # also where this machine has fewer processors
+    same("the minutes before anything is done", estimate.left(list(crates)), 67)
+    for elapsed, minutes in ((1300, 60), (2600, 120), (650, 30)):
+        estimate.begin = time.monotonic() - elapsed
+        same(f"the minutes for the top after {elapsed} seconds", estimate.left(["top"]), minutes)
+
+
 def running_in(room):
     return [it for it in Path("/proc").iterdir() if it.name.isdigit() and runs_in(it, room)]
 
@@ -327,6 +341,7 @@ CHECKS = (
     looks_with_what_is_compiled,
     finds_what_a_loader_runs,
     ends_a_build_by_signals,
+    reckons_by_the_work_that_is_done,
     says_what_failed_in_a_compilation,
     packs_where_there_is_no_release,
     says_why_it_did_not_start,
