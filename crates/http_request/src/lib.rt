@@ -4,7 +4,8 @@
 //! [`Heads`] takes pieces by `feed`, and its `next` gives the head at the beginning of the held
 //! bytes. `Steps` of `specs/Steps.antt` defines the result of `next`. `Gives` and `Asks` of
 //! `specs/Asks.antt` define the heads given so far, over all the bytes that were fed. It depends on
-//! `td_base`, `httparse` and `http`; `stretches`, `devices`, `actions` and `connection` use it.
+//! `td_base`, `httparse`, `memchr` and `http`; `stretches`, `devices`, `actions` and `connection`
+//! use it.
 #![tactic(auto)]
 
 // Heads from the bytes of a connection.

@@ -16,8 +16,8 @@ use itoa::Buffer;
 use td_base::{Bytes, NoMemory, ShortText};
 use td_civil::{Moment, Observance, utc_text};
 
-/// The most bytes that come after a name.
-const MOST_AFTER_NAME: usize = 91;
+/// The most bytes of the text of a change, which comes after the name.
+const MOST_CHANGE_TEXT: usize = 91;
 
 /// Appends an observance, with a comma before it if it comes after a value.
 pub(crate) fn put_observance(
@@ -31,14 +31,14 @@ pub(crate) fn put_observance(
 {
     put_opening(out, after_value)?;
     put_escaped(out, observance.name.as_slice())?;
-    let rest = after_name(observance.onset, observance.from, observance.to);
+    let rest = change_text(observance.onset, observance.from, observance.to);
     out.append(rest.as_slice())?;
     Ok(())
 }
 
-/// What comes after the name: the moment and the offsets, in seconds east of UTC. It is put together
-/// apart, since one append costs less than seven.
-fn after_name(onset: Moment, from: i32, to: i32) -> ShortText<MOST_AFTER_NAME>
+/// The text of a change, which comes after the name: the moment, and the offsets in seconds east of
+/// UTC. It is made in room of its own, since one append costs less than seven.
+fn change_text(onset: Moment, from: i32, to: i32) -> ShortText<MOST_CHANGE_TEXT>
     requires { IsWithinBounds onset.seconds }
     ensures { result ≡ codes "\",\"onset\":\"" ++ (text_of onset.seconds
         ++ (codes "\",\"utc-offset-from\":" ++ (signed_decimal from

@@ -15,7 +15,7 @@ returns c =
     rw (
       c.in_ok-append.ensures.ok,
       c.as_slice-2.ensures.value,
-      c.after_name-rest.ensures,
+      c.change_text-rest.ensures,
       c.in_ok-put_escaped.ensures,
       c.in_ok-put_opening.ensures,
       c.as_slice.ensures.value,

@@ -1,7 +1,7 @@
 use Rattle.std.proofs.Common.{rules, FitsSigned, w32, to_z-of_z, ap, ◌∙◌}
 use Rattle.std.specs.Fmt.{signed_decimal}
 use Rattle.json_forms.proofs.ObservanceText.{rest_joined}
-use Rattle.json_forms.proofs.observance_text.after_name.Goals as goal
+use Rattle.json_forms.proofs.observance_text.change_text.Goals as goal
 
 pub returns : goal.returns
 returns c =
