@@ -17,25 +17,26 @@ use td_base::{Accepted, Door, FaultyConn, MemoryConn, MemoryStore, Report};
 pub struct GrowingDoor<'a, R> {
     pub rt: &'a R,
     pub alloc: Global,
-    pub installer: &'a mut Installer,
-    pub store: &'a mut MemoryStore,
+    pub installer: Installer,
+    pub store: MemoryStore,
     pub steps: VecDeque<u8>,
     pub manifests: VecDeque<Manifest>,
     pub door: ListedDoor,
 }
 
 impl<R: Wait> GrowingDoor<'_, R> {
-    /// The door, without its installer.
-    pub fn into_door(self) -> ListedDoor {
+    /// Closes the installer, and returns the door.
+    pub fn close(self) -> ListedDoor {
         let GrowingDoor {
-            rt: _,
+            rt,
             alloc: _,
-            installer: _,
+            installer,
             store: _,
             steps: _,
             manifests: _,
             door,
         } = self;
+        installer.close(rt);
         door
     }
 }
@@ -99,8 +100,8 @@ impl<R: Wait> Door for GrowingDoor<'_, R> {
         grow(
             self.rt,
             self.alloc,
-            self.installer,
-            self.store,
+            &mut self.installer,
+            &mut self.store,
             &mut self.steps,
             &mut self.manifests,
         );

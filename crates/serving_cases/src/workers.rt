@@ -4,7 +4,7 @@ use crate::listed_door::ListedDoor;
 use case_lines::{Answer, CaseFault, Row};
 use catalogue::Catalogue;
 use connection::{DoorDone, DoorWork};
-use desk_pool::StopFlag;
+use desk_pool::{StopFlag, StopSign};
 use installer::Installer;
 use publication::Desk;
 use release_manifest::{Manifest, read};
@@ -23,20 +23,46 @@ const LARGE_REPLY: usize = 66_048;
 /// file `z` of zones. For each connection it prints the place at which it was answered and how many
 /// answers were computed for that. A plus sign means that the list has over 65,536 bytes.
 pub fn worker<R: Wait>(rt: &R, alloc: Global, row: &Row) -> Answer {
-    let mut store = store_of(alloc, row.word(1)?)?;
     let first = manifest_of(alloc, row.word(2)?)?;
+    let plan = plan_of(alloc, row)?;
+    let mut store = store_of(alloc, row.word(1)?)?;
     match Installer::open_manifest(rt, alloc, &first, &mut store, 1) {
         Ok((installer, desks)) => {
-            let (mut installer, mut desks) = (installer, desks);
-            let told = match desks.pop() {
-                Some(desk) => works(rt, alloc, row, &mut installer, &mut store, desk),
-                None => Err(CaseFault::Strange),
-            };
-            installer.close(rt);
-            told
+            let mut desks = desks;
+            let desk = desks.pop().unwrap();
+            let door = serve_plan(rt, alloc, plan, installer, store, desk);
+            Ok(told(alloc, &door)?)
         }
         Err(_) => Err(CaseFault::Strange),
     }
+}
+
+/// What a row says of its worker.
+#[derive(Drop)]
+struct WorkerPlan {
+    steps: VecDeque<u8>,
+    manifests: VecDeque<Manifest>,
+    door: ListedDoor,
+    sign: StopSign,
+}
+
+fn plan_of(alloc: Global, row: &Row) -> Result<WorkerPlan, CaseFault> {
+    let steps = steps_of(alloc, row)?;
+    let manifests = later_manifests(alloc, row)?;
+    let door = ListedDoor::new(alloc, row.word(0)?)?;
+    let sign = lowered_sign(alloc)?;
+    Ok(WorkerPlan {
+        steps,
+        manifests,
+        door,
+        sign,
+    })
+}
+
+/// The sign of a flag that is never raised.
+fn lowered_sign(alloc: Global) -> Result<StopSign, NoMemory> {
+    let mut flag = StopFlag::new(alloc)?;
+    flag.share()
 }
 
 /// A store of one file.
@@ -73,25 +99,29 @@ fn steps_of(alloc: Global, row: &Row) -> Result<VecDeque<u8>, CaseFault> {
     Ok(steps)
 }
 
-/// Lets a worker serve the door.
-fn works<R: Wait>(
+/// Lets a worker serve the door of a plan, closes the installer, and returns the door.
+fn serve_plan<R: Wait>(
     rt: &R,
     alloc: Global,
-    row: &Row,
-    installer: &mut Installer,
-    store: &mut MemoryStore,
+    plan: WorkerPlan,
+    installer: Installer,
+    store: MemoryStore,
     desk: Desk<Catalogue<Zone>>,
-) -> Answer {
-    let mut flag = StopFlag::new(alloc)?;
-    let sign = flag.share()?;
+) -> ListedDoor {
+    let WorkerPlan {
+        steps,
+        manifests,
+        door,
+        sign,
+    } = plan;
     let door = GrowingDoor {
         rt,
         alloc,
         installer,
         store,
-        steps: steps_of(alloc, row)?,
-        manifests: later_manifests(alloc, row)?,
-        door: ListedDoor::new(alloc, row.word(0)?)?,
+        steps,
+        manifests,
+        door,
     };
     let DoorDone {
         door,
@@ -99,7 +129,7 @@ fn works<R: Wait>(
         sign: _,
         worn: _,
     } = DoorWork::new(alloc, Role::Primary, door, desk, sign).run(rt);
-    Ok(told(alloc, &door.into_door())?)
+    door.close()
 }
 
 fn told(alloc: Global, door: &ListedDoor) -> Result<Vec<u8>, AllocError> {
