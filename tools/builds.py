@@ -22,11 +22,17 @@ PROVED = CRATE / "out" / "tzdistd"
 COMPILED = CRATE / "out" / "tzdistd-unproved"
 TIMES = TOP / "tools" / "crate_times.txt"
 
-# What the proof of one crate may take of memory, in GB, and of the top crate with several jobs.
-CRATE_MEMORY, TOP_MEMORY = 2.5, 6
+# What the proof of one crate may take of memory, in GB.
+CRATE_MEMORY = 4
+# What a proof reads of a crate, and what the gate's run of the program reads.
+PARTS_OF_PROOF = ("src", "specs", "proofs")
+PARTS_OF_RUN = ("stdin", "stdout", "args", "status", "data")
 # How long a compilation takes on a processor of 2.5 GHz, and when it is given up, in seconds.
 USUAL_COMPILATION, LONGEST_COMPILATION = 120, 1800
 HEARTBEAT = 60
+# What `rt ci` prints of a crate: that this run or an earlier one proved it, or that none did.
+PROVED_LINE = re.compile(r"(?:rt: )?(\w+) (?:proved$|is kept: )")
+NOT_PROVED = "NOT PROVED"
 # The seconds that are reckoned for a crate that was not measured.
 UNKNOWN_TIME = 120
 
@@ -94,20 +100,8 @@ def processors():
 
 
 def crates_at_once():
-    """How many crates to prove at once. One that waits for another holds a place, so some more
-    than there are processors are best."""
-    return max(1, min(processors() + processors() // 2, int(memory_available() / CRATE_MEMORY)))
-
-
-def jobs_for_one():
-    """How many jobs one crate gets that others wait for."""
-    return processors() if memory_available() >= TOP_MEMORY else 1
-
-
-def base_of(names, crates):
-    """The crate that most of these stand on, so that they wait for it."""
-    below = [used_by(it, crates) for it in names]
-    return max(names, key=lambda name: sum(name in it for it in below))
+    """How many crates to prove at once: one a processor, as many as memory holds."""
+    return max(1, min(processors(), int(memory_available() / CRATE_MEMORY)))
 
 
 class Estimate:
@@ -147,10 +141,9 @@ class Estimate:
 
 
 class Running:
-    """An `rt` that was started in a crate's folder, the program's or another, with the lines that it
-    prints."""
+    """An `rt` that was started in a folder, with the lines that it prints."""
 
-    def __init__(self, words, environment=None, folder=CRATE):
+    def __init__(self, words, environment, folder):
         try:
             self.child = subprocess.Popen(
                 ["rt", *words], cwd=folder, stdin=subprocess.DEVNULL, stdout=subprocess.PIPE,
@@ -161,27 +154,16 @@ class Running:
             raise BuildFailed(
                 f"rt does not start ({error.strerror}): install the toolchain, and put its rt on PATH"
             ) from None
-        self.printed, self.finished = [], []
+        self.printed = []
         self.reader = threading.Thread(target=self._read, daemon=True)
         self.reader.start()
 
     def _read(self):
         for line in self.child.stdout:
             self.printed.append(line.rstrip("\n"))
-            if line.startswith("== ") and line != "== summary\n":
-                self.finished.append(line[3:].strip())
 
     def is_over(self):
         return self.child.poll() is not None
-
-    def wait(self, report):
-        """Waits for the end, and calls `report` each minute."""
-        last = time.monotonic()
-        while not self.is_over():
-            if time.monotonic() - last > HEARTBEAT:
-                last = time.monotonic()
-                report()
-            time.sleep(0.5)
 
     def stop(self):
         """Ends rt, and what is left of what it started, also where a signal ends this."""
@@ -196,8 +178,11 @@ class Running:
             self.child.wait()
 
     def last_lines(self, most=15):
+        """The last lines, or those before the first that says what was not proved."""
         self.reader.join(5)
-        return "\n".join(f"    {it}" for it in self.printed[-most:])
+        ends = [at for at, it in enumerate(self.printed, 1) if it.endswith(NOT_PROVED)]
+        lines = self.printed[: ends[0]] if ends else self.printed
+        return "\n".join(f"    {it}" for it in lines[-most:])
 
     def __enter__(self):
         return self
@@ -206,92 +191,95 @@ class Running:
         self.stop()
 
 
-def say_progress(running, said, names, estimate):
-    """Prints a line for each crate that was proved since the last call."""
-    for name in running.finished[len(said):]:
-        said.append(name)
-        left = [it for it in names if it not in said]
-        if name in names:
+def copy_for_proof(names, room):
+    """Copies what the proofs of these crates read, and the program's run, into a folder: all that
+    `rt ci` needs, without edits and other crates."""
+    shutil.copyfile(TOP / "HANDLES", room / "HANDLES")
+    lines = (TOP / "crates.txt").read_text().splitlines(keepends=True)
+    kept = [it for it in lines if set(crates_in(it)) & set(names)]
+    (room / "crates.txt").write_text("".join(kept))
+    for name in names:
+        for part in PARTS_OF_PROOF + (PARTS_OF_RUN if name == "tzdistd" else ()):
+            source, target = TOP / "crates" / name / part, room / "crates" / name / part
+            target.parent.mkdir(parents=True, exist_ok=True)
+            if source.is_dir():
+                shutil.copytree(source, target, symlinks=True)
+            elif source.is_file():
+                shutil.copyfile(source, target)
+
+
+def proved_in(line):
+    """The crate that a line of `rt ci` reports as proved, by this run or an earlier one, or None."""
+    found = PROVED_LINE.match(line)
+    return found and found[1]
+
+
+def report_proofs(running, names, estimate):
+    """Prints a line for each crate that is proved, and one each minute, until `rt` ends."""
+    seen, left, last_report = 0, list(names), time.monotonic()
+    while True:
+        is_over = running.is_over()
+        if is_over:
+            running.reader.join(5)
+        for line in running.printed[seen:]:
+            seen, name = seen + 1, proved_in(line)
+            if name in left:
+                left.remove(name)
+                last_report = time.monotonic()
+                say(
+                    f"{len(names) - len(left)} of {len(names)} crates: {name} ({purpose_of(name)}); "
+                    f"{estimate.so_far()} minutes so far, about {estimate.left(left)} left"
+                )
+        if is_over:
+            return
+        if time.monotonic() - last_report > HEARTBEAT:
+            last_report = time.monotonic()
             say(
-                f"{len(names) - len(left)} of {len(names)} crates: {name} ({purpose_of(name)}); "
-                f"{estimate.so_far()} minutes so far, about {estimate.left(left)} left"
+                f"  still proving; {estimate.so_far()} minutes so far, about {estimate.left(left)} left"
             )
+        time.sleep(0.5)
 
 
-def prove_the_base(base, names, estimate):
-    """Proves the crate that the others wait for, with all processors."""
-    with Running(["check", "--jobs", str(jobs_for_one())], folder=TOP / "crates" / base) as running:
-        running.wait(lambda: say(f"  still proving {base}; about {estimate.left(names)} minutes left"))
-        if running.child.returncode:
-            raise BuildFailed(f"a proof failed: mend it, and start again\n{running.last_lines()}")
+def prove_in_copy(names, estimate, at_once):
+    """Proves the crates and builds the program in a copy, by `rt ci`: it proves several crates at
+    once, first those that most others wait for, and keeps each for later runs of the gate."""
+    with tempfile.TemporaryDirectory(prefix="tzdistd-proof-") as room:
+        room = Path(room)
+        copy_for_proof(names, room)
+        environment = {**os.environ, "RT_JOBS": str(at_once)}
+        with Running(["ci"], environment, room) as running:
+            report_proofs(running, names, estimate)
+            built = room / "crates" / "tzdistd" / "out" / "tzdistd"
+            if running.child.returncode or not built.is_file():
+                raise BuildFailed(
+                    "the program was not proved and built: mend what rt reports, and start again\n"
+                    + running.last_lines()
+                )
+            put_program(built, PROVED)
 
 
-def is_chain(names, below):
-    """Whether each of these crates stands below or above each other one, so that they wait for one
-    another."""
-    return all(one in below[other] or other in below[one] for one in names for other in names)
+def put_program(built, place):
+    """Copies a program to its place, where it appears whole."""
+    place.parent.mkdir(parents=True, exist_ok=True)
+    part = place.with_suffix(".part")
+    shutil.copyfile(built, part)
+    part.chmod(0o755)
+    os.replace(part, place)
 
 
-def prove_side_by_side(names, crates, estimate):
-    """Proves several crates at once, until those that are left wait for one another and the lowest of
-    them begins; returns these. What is kept is not done again."""
-    below = {it: used_by(it, crates) for it in names}
-    with Running(["all", "check", "--jobs", str(estimate.width)]) as running:
-        said, last_report = [], time.monotonic()
-        while not running.is_over():
-            before = len(said)
-            say_progress(running, said, names, estimate)
-            left = [it for it in names if it not in said]
-            if len(left) < 2:
-                return left
-            if len(said) > before:
-                last_report = time.monotonic()
-                # what ended just now was the last that the lowest one waited for
-                if is_chain(left, below) and said[-1] in below[left[0]]:
-                    return left
-            elif time.monotonic() - last_report > HEARTBEAT:
-                last_report = time.monotonic()
-                say(f"  still proving; about {estimate.left(left)} minutes left")
-            time.sleep(1)
-        if running.child.returncode:
-            raise BuildFailed(f"a proof failed: mend it, and start again\n{running.last_lines()}")
-        return names[-1:]
-
-
-def prove_the_rest(left, count, estimate, release):
-    """Proves the crates that wait for one another, each with several jobs; the program is built and
-    checks the release."""
-    jobs = str(jobs_for_one())
-    with Running(["run", "--jobs", jobs, "--", "check", str(release)]) as running:
-        say(f"The last {len(left)} of {count} crates begin, one after the other: {' '.join(left)}")
-        running.wait(lambda: say(
-            f"  still proving {' '.join(left)}; "
-            f"{estimate.so_far()} minutes so far, at most about {estimate.left(left)} left"
-        ))
-        if running.child.returncode or not PROVED.is_file():
-            raise BuildFailed(
-                "the program was not proved and built: mend what rt reports, and start again\n"
-                + running.last_lines()
-            )
-
-
-def proved_program(release, at_once=None):
+def proved_program(at_once=None):
     """The proved program; it is proved and built first where it is not there, or is older than its
     sources."""
-    if is_current(PROVED, ("src", "specs", "proofs")):
+    if is_current(PROVED, PARTS_OF_PROOF):
         return PROVED
     crates = crates_in((TOP / "crates.txt").read_text())
-    names = used_by("tzdistd", crates)
-    base, times = base_of(names, crates), measured_times()
-    times[base] = times.get(base, UNKNOWN_TIME) / jobs_for_one()
-    estimate = Estimate(crates, names, times, at_once or crates_at_once())
+    names, at_once = used_by("tzdistd", crates), at_once or crates_at_once()
+    estimate = Estimate(crates, names, measured_times(), at_once)
     say(
         f"Proving {len(names)} crates, then building the program: about {estimate.left(names)} minutes "
         f"from nothing on {processors()} processors. What an earlier run proved is kept."
     )
-    prove_the_base(base, names, estimate)
-    left = prove_side_by_side(names, crates, estimate)
-    prove_the_rest(left, len(names), estimate, release)
+    prove_in_copy(names, estimate, at_once)
     say(f"{len(names)} of {len(names)} crates are proved, and the program is built: {PROVED}")
     return PROVED
 
@@ -324,17 +312,13 @@ def compiled_program():
     if is_current(COMPILED, ("src",)):
         return COMPILED
     say("Compiling the program, without proofs: about two minutes.")
-    COMPILED.parent.mkdir(parents=True, exist_ok=True)
     with tempfile.TemporaryDirectory(prefix="tzdistd-look-") as room:
         environment = {**os.environ, "TMPDIR": room}
         # a load runs for long enough to be seen
         words = ["try", "--seconds", "600", "--", "load", "1000"]
-        with Running(words, environment) as running:
+        with Running(words, environment, CRATE) as running:
             found = wait_for_program(running, os.path.realpath(room))
-            part = COMPILED.with_suffix(".part")
-            shutil.copyfile(found, part)
-            part.chmod(0o755)
-            os.replace(part, COMPILED)
+            put_program(found, COMPILED)
     return COMPILED
 
 

@@ -45,13 +45,13 @@ def release_in(folder, zoneinfo):
     return folder
 
 
-def program_for(given, release):
+def program_for(given):
     """The program to start: the one that was named, the compiled one, or the proved one."""
     if given.program:
         if not os.access(given.program, os.X_OK):
             raise NotStarted(f"{given.program} is no program that can be started: give the built tzdistd")
         return given.program
-    return compiled_program() if given.look else proved_program(release, given.jobs)
+    return compiled_program() if given.look else proved_program(given.jobs)
 
 
 def say_what_to_do(address, look):
@@ -168,7 +168,7 @@ def main():
     signal.signal(signal.SIGTERM, signal.default_int_handler)
     try:
         release = release_in(given.release, given.zoneinfo.resolve())
-        program = program_for(given, release)
+        program = program_for(given)
         return serve(program, given, release)
     except (BuildFailed, NotStarted) as fault:
         print(f"start.py: {fault}", file=sys.stderr)

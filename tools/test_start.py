@@ -24,8 +24,9 @@ from served import DATA, Client, Failure, address_of, free_port
 TOOLS = Path(__file__).resolve().parent
 CRATES = (
     "td_base: arrayvec\ncatalogue: td_base\ntarget: td_base\ntd_top: td_base catalogue target\n"
-    "tzdistd: td_base td_top\n"
+    "tzdistd: td_base td_top\nother: td_base\n"
 )
+PROVED = "td_base catalogue target td_top tzdistd"
 RELEASE = os.path.join(DATA, "data", "a")
 
 # A loader by which the toolchain may start what it compiled.
@@ -33,13 +34,15 @@ LOADER = "/lib64/ld-linux-x86-64.so.2"
 
 # What it compiled waits for its input, so that start.py sees it on a fast machine, too.
 FAKE_RT = """#!/bin/sh
-echo "$@" >>"$RT_CALLS"
+echo "$@ $RT_JOBS" >>"$RT_CALLS"
+find . -type f | sort >"$RT_CALLS.files"
 case "$*" in
-  *"$RT_FAILS"*) echo "error: a goal is left"; exit 1 ;;
+  *"$RT_FAILS"*) echo "error: a goal is left"; echo "rt: target NOT PROVED"; seq 40; exit 1 ;;
 esac
 case "$1" in
-  all) for it in $RT_PROVES; do echo "== $it"; sleep 0.2; done; sleep 60 & wait $! ;;
-  run) mkdir -p out; cp "$RT_PROGRAM" out/tzdistd ;;
+  ci) for it in $RT_PROVES; do echo "== $it"; echo "rt: $it proved"; sleep 0.2; done
+    [ -z "$RT_STAYS" ] || { sleep 60 & wait $!; }
+    mkdir -p crates/tzdistd/out; cp "$RT_PROGRAM" crates/tzdistd/out/tzdistd ;;
   try) cp "$RT_PROGRAM" "$TMPDIR/program"; sleep 60 | $RT_LOADER "$TMPDIR/program" answer "$RT_RELEASE" >/dev/null ;;
 esac
 """
@@ -58,6 +61,7 @@ class Top:
             if path.is_file() and not path.name.startswith("test_"):
                 shutil.copy(path, self.room / "tools" / path.name)
         (self.room / "crates.txt").write_text(CRATES)
+        (self.room / "HANDLES").write_text("Handles allowed: none.\n")
         for line in CRATES.splitlines():
             source = self.room / "crates" / line.split(":")[0] / "src"
             source.mkdir(parents=True)
@@ -67,11 +71,11 @@ class Top:
         rt.write_text(FAKE_RT)
         rt.chmod(0o755)
 
-    def start(self, *words, fails="no words", release=RELEASE, loader="", proves="td_base catalogue target"):
+    def start(self, *words, fails="no words", release=RELEASE, loader="", proves=PROVED, stays=""):
         environment = {
             **os.environ, "PATH": f"{self.room}/bin:{os.environ['PATH']}", "RT_CALLS": str(self.calls),
             "RT_PROGRAM": str(self.program), "RT_RELEASE": RELEASE, "RT_FAILS": fails, "RT_LOADER": loader,
-            "RT_PROVES": proves,
+            "RT_PROVES": proves, "RT_STAYS": stays,
         }
         words = [sys.executable, "tools/start.py", "--address", self.address, *words]
         words += ["--release", str(release)] if release else []
@@ -174,22 +178,25 @@ def ends_in_order_by_signals(top):
 
 @in_top
 def proves_where_there_is_no_program(top):
+    edits = top.room / "crates" / "target" / "must-fail"
+    edits.mkdir()
+    (edits / "wrong.edit").write_text("an edit\n")
+    (top.room / "crates" / "tzdistd" / "stdin").write_text("quit\n")
     with top.start("--jobs", "3") as started:
         started.until("^1 of 5 crates: td_base .A crate for a test.; 0 minutes so far, about")
         started.until("^2 of 5 crates: catalogue ")
-        started.until("^The last 2 of 5 crates begin, one after the other: td_top tzdistd")
         started.until("^5 of 5 crates are proved, and the program is built")
         started.until("^ready 1-")
         serves(top)
         started.say("quit")
         same("the status", started.ended()[0], 0)
-    base, first, second = top.called()
-    holds("the crate that the others wait for is proved first", re.fullmatch(r"check --jobs \d+", base))
-    holds("crates are proved at once", re.fullmatch(r"all check --jobs \d+", first))
-    holds("the program checks the release", re.fullmatch(rf"run --jobs \d+ -- check {RELEASE}", second))
+    same("rt is called once, for so many crates at a time", top.called(), ["ci 3"])
+    copied = Path(f"{top.calls}.files").read_text().split()
+    sources = [f"./crates/{it}/src/lib.rt" for it in PROVED.split()]
+    same("what it proves", copied, sorted(["./HANDLES", "./crates.txt", "./crates/tzdistd/stdin", *sources]))
     with top.start() as started:
         started.until("^ready 1-")
-    same("what is built is not built again", len(top.called()), 3)
+    same("what is built is not built again", len(top.called()), 1)
 
 
 @in_top
@@ -201,16 +208,16 @@ def builds_again_where_a_source_is_newer(top):
     with top.start() as started:
         started.until("^1 of 5 crates")
         started.until("^ready 1-")
-    same("all steps were done again", len(top.called()), 6)
+    same("all was proved again", len(top.called()), 2)
 
 
 @in_top
 def says_what_failed_in_a_proof(top):
-    for fails, words in (("check", "a proof failed: mend it"), ("all check", "a proof failed: mend it"), ("run --jobs", "was not proved and built: mend")):
-        with top.start(fails=fails) as started:
-            status, _, errors = started.ended()
-        same("the status", status, 1)
-        holds(f"what to do is said: {errors}", words in errors and "error: a goal is left" in errors)
+    with top.start(fails="ci") as started:
+        status, _, errors = started.ended()
+    same("the status", status, 1)
+    holds(f"what to do is said: {errors}", "was not proved and built: mend" in errors)
+    holds(f"the end is that of the crate that failed: {errors}", errors.endswith("a goal is left\n    rt: target NOT PROVED\n"))
 
 
 @in_top
@@ -241,7 +248,7 @@ def finds_what_a_loader_runs(top):
 def ends_a_build_by_signals(top):
     for number in (signal.SIGINT, signal.SIGTERM):
         # a proof that does not end before the signal comes
-        with top.start(proves="td_base") as started:
+        with top.start(proves="td_base", stays="yes") as started:
             started.until("^1 of 5 crates")
             started.child.send_signal(number)
             status, _, errors = started.ended()
