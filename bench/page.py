@@ -13,9 +13,10 @@ import plots
 REASONS = {
     "limit, 1 connection": "a request takes as many system calls as the limit's, and three quarters of its processor time are the "
     "system's. The rest is its own code: some 8,800 instructions for a short request.",
-    "limit, 2 connections": "a request takes as many system calls as the limit's, and three quarters of its processor time are the "
-    "system's. The rest is its own code: some 8,800 instructions for a short request.",
-    "limit, 16 connections": "the same, and more than twice as many waits.",
+    "limit, 2 connections": "one process of the limit often served all connections in this run, which takes fewer waits. Since then "
+    "its processes share them, as workers do.",
+    "limit, 16 connections": "the same, and more than twice as many waits. Three quarters of a request's processor time are the system's, "
+    "and some 8,800 instructions are the program's.",
     "limit, 64 connections": "the same.",
     "sync of one zone": "this machine runs the program's own code two to three times slower than that of an earlier run, "
     "which had 1.11 and 1.01 ms with a program that did more.",
