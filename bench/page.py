@@ -18,12 +18,12 @@ REASONS = {
     "limit, 16 connections": "the same, and more than twice as many waits. Three quarters of a request's processor time are the system's, "
     "and some 8,800 instructions are the program's.",
     "limit, 64 connections": "the same.",
-    "sync of one zone": "this machine runs the program's own code two to three times slower than that of an earlier run, "
-    "which had 1.11 and 1.01 ms with a program that did more.",
-    "install of one zone": "the same: 1.90 ms in the earlier run, and 3.1 to 7.2 ms for the same work on this machine.",
+    "sync of one zone": "most of it is the mirror's own install, of all zones. The section on changes has the earlier program's time.",
+    "install of one zone": "of its processor time two fifths are calls of the system for 447 files, a quarter is the C library's, "
+    "mostly for memory, and a third the program's own, none of it above four parts in a hundred.",
     "memory of later syncs": "only where all zones change: a mirror then holds the files that it received beside both releases.",
     "largest release installed again": "what was parsed of a zone is kept beside its file.",
-    "longest expansion": "the same machine: 1.96 ms by HEAD in the earlier run. It has 16,190 changes.",
+    "longest expansion": "it has 16,190 changes, each of some 1,100 instructions.",
     "waits while installing": "two workers and installs without a pause share two processors. Reading a release yields, but "
     "its last checks do not. The service's scripts mend that, as the next row shows.",
     "waits while the service installs": "the thread that installs yields only where the system allows it.",
