@@ -6,8 +6,9 @@
     tools/start.py --address 127.0.0.1:9000 --workers 4 --release DIR
 
 Each step is done only where its result is missing: the release in `release/`, and the program in
-`crates/tzdistd/out/`. Lines that are typed go to the server's console. Ctrl-C, SIGTERM and `quit`
-end the server in order, and its status is the script's.
+`crates/tzdistd/out/`. It is proved in a temporary copy of 2 GB, in the folder that TMPDIR names.
+Lines that are typed go to the server's console. Ctrl-C, SIGTERM and `quit` end the server in order,
+and its status is the script's.
 
 Python's standard library only.
 """
