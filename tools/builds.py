@@ -31,7 +31,7 @@ PARTS_OF_RUN = ("stdin", "stdout", "args", "status", "data")
 USUAL_COMPILATION, LONGEST_COMPILATION = 120, 1800
 HEARTBEAT = 60
 # What `rt ci` prints of a crate: that this run or an earlier one proved it, or that none did.
-PROVED_LINE = re.compile(r"(?:rt: )?(\w+) (?:proved$|is kept: )")
+PROVED_LINE = re.compile(r"(?:rt: )?(\w+) (proved$|is kept: )")
 NOT_PROVED = "NOT PROVED"
 # The seconds that are reckoned for a crate that was not measured.
 UNKNOWN_TIME = 120
@@ -105,39 +105,64 @@ def crates_at_once():
 
 
 class Estimate:
-    """How many minutes are left, from the measured times of the crates that are not proved yet."""
+    """How many minutes are left: by a plan from the measured times, at the pace of this machine."""
 
     def __init__(self, crates, names, times, at_once):
-        self.crates, self.names, self.times = crates, names, times
+        self.crates, self.names, self.times = crates, list(names), times
         self.width = max(1, min(at_once, processors()))
+        self.work_done, self.pace = 0, 1
         self.begin = time.monotonic()
 
-    def seconds_of(self, names):
-        """The seconds by the clock: of all work over the processors, or of the longest chain."""
-        left, chains = set(names), {}
+    def time_of(self, name):
+        return self.times.get(name, UNKNOWN_TIME)
 
-        def chain(name):
-            if name not in chains:
-                own = self.times.get(name, UNKNOWN_TIME) if name in left else 0
-                chains[name] = own + max((chain(it) for it in self.crates[name]), default=0)
-            return chains[name]
+    def plan(self):
+        """When each crate is proved, in seconds: it begins once those that it uses are proved and a
+        processor is free, first the one on which the longest chain waits."""
+        waiting, running, now, ends = set(self.names), {}, 0, []
+        chains = self.chains()
+        while waiting or running:
+            free = [it for it in waiting
+                    if not any(used in waiting or used in running for used in self.crates[it])]
+            for name in sorted(free, key=chains.get, reverse=True)[: self.width - len(running)]:
+                waiting.remove(name)
+                running[name] = now + self.time_of(name)
+            name = min(running, key=running.get)
+            now = running.pop(name)
+            ends.append((now, name))
+        return ends
 
-        return max(self.shared_work(left), max((chain(it) for it in self.names), default=0))
+    def chains(self):
+        """Of each crate, the seconds of the longest chain of crates that begins with it and in which
+        each waits for the one before."""
+        chains = {}
+        for name in reversed(list(self.crates)):
+            if name in self.names:
+                waits = [chains[it] for it in chains if name in self.crates[it]]
+                chains[name] = self.time_of(name) + max(waits, default=0)
+        return chains
 
-    def shared_work(self, names):
-        """The seconds by the clock that all processors together work on these."""
-        return sum(self.times.get(it, UNKNOWN_TIME) for it in names) / self.width
+    def count(self, name, is_kept):
+        """Counts a crate as proved: by an earlier run, or by this one, which shows its pace."""
+        if is_kept:
+            self.names.remove(name)
+            return
+        self.work_done += self.time_of(name)
+        elapsed, work, position = time.monotonic() - self.begin, 0, 0
+        for position, name in self.plan():
+            work += self.time_of(name)
+            if self.work_done <= work:
+                break
+        if position > 240:
+            self.pace = min(4, max(0.25, elapsed / position))
 
     def so_far(self):
         return round((time.monotonic() - self.begin) / 60)
 
-    def left(self, names):
-        """The minutes that are left, at the pace of this machine so far: what the work took that is
-        done. The longest chain tells no pace, since most crates are not in it."""
-        seconds, elapsed = self.seconds_of(names), time.monotonic() - self.begin
-        done = self.shared_work(self.names) - self.shared_work(names)
-        pace = min(4, max(0.25, elapsed / done)) if done > 300 and elapsed > 300 else 1
-        return max(1, round(seconds * pace / 60))
+    def left(self):
+        """The minutes that are left."""
+        end = max((seconds for seconds, _ in self.plan()), default=0)
+        return max(1, round((end * self.pace + self.begin - time.monotonic()) / 60))
 
 
 class Running:
@@ -209,9 +234,9 @@ def copy_for_proof(names, room):
 
 
 def proved_in(line):
-    """The crate that a line of `rt ci` reports as proved, by this run or an earlier one, or None."""
+    """The crate that a line of `rt ci` reports as proved, and whether an earlier run did that."""
     found = PROVED_LINE.match(line)
-    return found and found[1]
+    return (found[1], found[2] != "proved") if found else (None, False)
 
 
 def report_proofs(running, names, estimate):
@@ -222,20 +247,21 @@ def report_proofs(running, names, estimate):
         if is_over:
             running.reader.join(5)
         for line in running.printed[seen:]:
-            seen, name = seen + 1, proved_in(line)
+            seen, (name, is_kept) = seen + 1, proved_in(line)
             if name in left:
                 left.remove(name)
+                estimate.count(name, is_kept)
                 last_report = time.monotonic()
                 say(
                     f"{len(names) - len(left)} of {len(names)} crates: {name} ({purpose_of(name)}); "
-                    f"{estimate.so_far()} minutes so far, about {estimate.left(left)} left"
+                    f"{estimate.so_far()} minutes so far, about {estimate.left()} left"
                 )
         if is_over:
             return
         if time.monotonic() - last_report > HEARTBEAT:
             last_report = time.monotonic()
             say(
-                f"  still proving; {estimate.so_far()} minutes so far, about {estimate.left(left)} left"
+                f"  still proving; {estimate.so_far()} minutes so far, about {estimate.left()} left"
             )
         time.sleep(0.5)
 
@@ -276,7 +302,7 @@ def proved_program(at_once=None):
     names, at_once = used_by("tzdistd", crates), at_once or crates_at_once()
     estimate = Estimate(crates, names, measured_times(), at_once)
     say(
-        f"Proving {len(names)} crates, then building the program: about {estimate.left(names)} minutes "
+        f"Proving {len(names)} crates, then building the program: about {estimate.left()} minutes "
         f"from nothing on {processors()} processors. What an earlier run proved is kept."
     )
     prove_in_copy(names, estimate, at_once)

@@ -259,17 +259,29 @@ def ends_a_build_by_signals(top):
         same("what still runs", left, [])
 
 
-def reckons_by_the_work_that_is_done(_program):
-    """Not by the longest chain, in which little is done while processors work on other crates."""
+def reckons_by_a_plan(_program):
+    """One crate that all wait for, a long one, and others beside that on three processors."""
     sides = [f"side{number}" for number in range(8)]
-    crates = {"base": [], "top": ["base"], **{it: [] for it in sides}}
+    crates = {"base": [], "top": ["base"], **{it: ["base"] for it in sides}}
     times = {"base": 400, "top": 3600, **{it: 600 for it in sides}}
-    estimate = Estimate(crates, list(crates), times, 4)
-    estimate.width = 4  # also where this machine has fewer processors
-    same("the minutes before anything is done", estimate.left(list(crates)), 67)
-    for elapsed, minutes in ((1300, 60), (2600, 120), (650, 30)):
-        estimate.begin = time.monotonic() - elapsed
-        same(f"the minutes for the top after {elapsed} seconds", estimate.left(["top"]), minutes)
+    for pace in (0.5, 1, 2):
+        estimate = Estimate(crates, list(crates), times, 4)
+        estimate.width = 4  # also where this machine has fewer processors
+        same("the minutes before anything is done", estimate.left(), 67)
+        for name, seconds, minutes in (("base", 400, 60), ("side0", 1000, 50), ("side1", 1000, 50),
+                                       ("side2", 1000, 50), ("side3", 1600, 40)):
+            estimate.begin = time.monotonic() - seconds * pace
+            estimate.count(name, False)
+            same(f"the minutes after {name} at pace {pace}", estimate.left(), round(minutes * pace))
+
+
+def reckons_without_what_is_kept(_program):
+    crates = {"base": [], "top": ["base"]}
+    estimate = Estimate(crates, list(crates), {"base": 600, "top": 1200}, 2)
+    estimate.count("base", True)
+    same("the minutes that are left", estimate.left(), 20)
+    estimate.count("top", True)
+    same("the minutes where all is kept", estimate.left(), 1)
 
 
 def running_in(room):
@@ -348,7 +360,7 @@ CHECKS = (
     looks_with_what_is_compiled,
     finds_what_a_loader_runs,
     ends_a_build_by_signals,
-    reckons_by_the_work_that_is_done,
+    reckons_by_a_plan, reckons_without_what_is_kept,
     says_what_failed_in_a_compilation,
     packs_where_there_is_no_release,
     says_why_it_did_not_start,

@@ -1,8 +1,9 @@
 //! Folders that are installed, for desks.
 ghost use Rattle.std.specs.Prelude.{◌≡◌};
 
-use case_lines::{Answer, CaseFault, Row, Told};
+use case_lines::{Answer, CaseFault, Row, Told, printed};
 use catalogue::Catalogue;
+use folder_rows::strange;
 use installer::{InstallFault, InstallPolicy, Installer};
 use publication::{Desk, Ended};
 use std::alloc::Global;
@@ -17,7 +18,7 @@ pub fn open<R: Wait>(rt: &R, alloc: Global, row: &Row, store: &mut MemoryStore) 
             installer.close(rt);
             Ok(Vec::new(alloc))
         }
-        Err(fault) => crate::text(alloc, &fault),
+        Err(fault) => printed(alloc, &fault),
     }
 }
 
@@ -57,7 +58,7 @@ pub fn install<R: Wait>(
     match run(rt, alloc, row, store, asked, &mut fault) {
         Ok((steps, ended)) => told(alloc, &steps, ended, fault.as_slice()),
         Err(InstallFault::NoMemory) => Err(CaseFault::NoMemory),
-        Err(_fault) => crate::strange(),
+        Err(_fault) => strange(),
     }
 }
 

@@ -2,6 +2,7 @@
 use crate::installs::entered;
 use case_lines::{Answer, CaseFault, Row, Told};
 use catalogue::Catalogue;
+use folder_rows::strange;
 use installer::{InstallFault, InstallPolicy, Installer};
 use publication::Desk;
 use std::alloc::Global;
@@ -44,13 +45,13 @@ pub fn joins<R: Wait>(
     asked: &InstallPolicy<'_>,
 ) -> Answer {
     let [first, second, between, ..] = row.words() else {
-        return crate::strange();
+        return strange();
     };
     let dirs = (first.as_slice(), second.as_slice());
     match installed(rt, alloc, dirs, store, asked) {
         Ok((first, second)) => told_of(alloc, first, second, between.as_slice()),
         Err(InstallFault::NoMemory) => Err(CaseFault::NoMemory),
-        Err(_fault) => crate::strange(),
+        Err(_fault) => strange(),
     }
 }
 

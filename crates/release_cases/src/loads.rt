@@ -1,7 +1,7 @@
 //! The made load: its releases, its requests and the line of its counts.
-use crate::manifests::said;
 use case_lines::{Answer, CaseFault, Row, shown};
 use catalogue::Catalogue;
+use folder_rows::{said, strange};
 use installer::{InstallFault, first_stated, next_stated};
 use made_load::{LoadCounts, release, requests, summary};
 use release_manifest::Manifest;
@@ -20,7 +20,7 @@ pub fn told(alloc: Global, row: &Row) -> Answer {
         "load-requests" => asked(alloc, row),
         "load-place-of" => places(alloc, row),
         "load-summary" => line(alloc, row),
-        _ => crate::strange(),
+        _ => strange(),
     }
 }
 
@@ -41,7 +41,7 @@ fn file_in(alloc: Global, path: &[u8], store: &mut MemoryStore) -> Answer {
     match store.read_file(alloc, path, MOST_BYTES) {
         FileRead::Found(bytes) => hex_of(alloc, bytes.as_slice()),
         FileRead::Absent => Ok(Vec::from_slice(alloc, b"absent")?),
-        FileRead::Failed => crate::strange(),
+        FileRead::Failed => strange(),
         FileRead::NoMemory => Err(CaseFault::NoMemory),
     }
 }
@@ -116,14 +116,14 @@ fn stated(made: Result<Catalogue<Zone>, InstallFault>) -> Result<Catalogue<Zone>
     match made {
         Ok(catalogue) => Ok(catalogue),
         Err(InstallFault::NoMemory) => Err(CaseFault::NoMemory),
-        Err(_fault) => crate::strange(),
+        Err(_fault) => strange(),
     }
 }
 
 /// A release of a load, if the load has one of this number.
 fn made(alloc: Global, n: u32, r: u32) -> Result<(Manifest, MemoryStore), CaseFault> {
     if r < 1 || n < r || 1_000 < n {
-        return crate::strange();
+        return strange();
     }
     Ok(release(alloc, n, r)?)
 }
@@ -132,7 +132,7 @@ fn made(alloc: Global, n: u32, r: u32) -> Result<(Manifest, MemoryStore), CaseFa
 fn small(row: &Row, at: usize) -> Result<u32, CaseFault> {
     let number = row.number(at)?;
     if number > u32::MAX as u64 {
-        return crate::strange();
+        return strange();
     }
     Ok(number as u32)
 }

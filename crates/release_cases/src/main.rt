@@ -7,18 +7,6 @@ ghost use Rattle.std.specs.Prelude.{◌≡◌, map};
 ghost use Rattle.admission.specs.Rules.{KeepsAll, allows};
 ghost use Rattle.subscribers.specs.Wishes.{takes_by};
 
-// Manifests and tables of leap seconds.
-mod leap_tables;
-mod manifests;
-mod printed;
-
-// Folders, histories of them, the catalogue of a history, and indexes of numbers.
-mod catalogues;
-mod changes;
-mod histories;
-mod indexes;
-mod values;
-
 // Installs, and rules for them.
 mod installs;
 mod joins;
@@ -30,13 +18,13 @@ mod stated;
 mod loads;
 
 use admission::{Changed, Delta, Kept, RuleKind, Rules, Test, changes_at_most, changes_no_past};
-use case_lines::{Answer, CaseFault, Row, Table};
+use case_lines::{Answer, Row, Table};
 use installer::InstallPolicy;
 use std::alloc::Global;
 use std::io;
 use std::sync::Wait;
 use subscribers::{Want, WantTest, Wish, WishKind, is_any, is_past, is_under};
-use td_base::{Bytes, MemoryStore};
+use td_base::MemoryStore;
 
 #[tactic(auto, using(admission::proofs::lemmas::Keeping::both_kept))]
 fn main(rt: HostRuntime) -> io::Result<()> {
@@ -161,68 +149,24 @@ fn answer_without_rules<R: Wait>(
         "joins" => joins::joins(rt, alloc, row, store, asked),
         "open" => installs::open(rt, alloc, row, store),
         "serves" => stated::served(rt, alloc, row, store),
-        _ => answer_of_folders(alloc, row, store),
+        _ => answer_without_installs(alloc, row, store),
     }
 }
 
 /// The answer to a row of another kind, which installs nothing.
-fn answer_of_folders(alloc: Global, row: &Row, store: &mut MemoryStore) -> Answer {
+fn answer_without_installs(alloc: Global, row: &Row, store: &mut MemoryStore) -> Answer {
     match row.kind() {
-        "file" => put(alloc, row, store),
-        "examine" => values::examined(alloc, row, store),
-        "history" => histories::told(alloc, row, store),
-        "again" => histories::again(alloc, row, store),
-        _ => answer_alone(alloc, row, store),
-    }
-}
-
-/// The answer to a row of another kind, which uses no folder or the catalogue of some.
-fn answer_alone(alloc: Global, row: &Row, store: &mut MemoryStore) -> Answer {
-    match row.kind() {
-        "manifest" => manifests::read_back(alloc, row),
-        "printed" => printed::printed(alloc, row),
-        "leap-table" => leap_tables::table(alloc, row),
         "load-manifest" | "load-file" | "load-requests" | "load-place-of" | "load-summary" => {
             loads::told(alloc, row)
         }
-        "after" => indexes::after(alloc, row),
-        "positions-after" => indexes::positions(alloc, row),
         "laws" => laws(alloc),
-        _ => catalogues::asked(alloc, row, store),
+        _ => folder_rows::answer(alloc, row, store),
     }
 }
 
-/// `file PATH TEXT` puts a file into the store.
-fn put(alloc: Global, row: &Row, store: &mut MemoryStore) -> Answer {
-    let [path, bytes, ..] = row.words() else {
-        return strange();
-    };
-    let path = Bytes::from_slice(alloc, path.as_slice())?;
-    let bytes = Bytes::from_slice(alloc, bytes.as_slice())?;
-    store.put(path, bytes)?;
-    Ok(Vec::new(alloc))
-}
-
-/// Laws, each of which does nothing.
+/// Calls the laws, each of which does nothing.
 fn laws(alloc: Global) -> Answer {
-    release_manifest::one_meaning();
-    release_manifest::one_reading();
-    leap_table::steps_are_dated();
-    leap_table::dates_are_plain();
-    release_check::one_folder();
-    release_check::fitting_release();
-    release_check::held_before();
+    folder_rows::laws();
     installer::given_is_served();
-    catalogues::laws();
     Ok(Vec::new(alloc))
-}
-
-/// The text of a fault or of a value, as it is printed.
-fn text<T: std::fmt::Display>(alloc: Global, value: &T) -> Answer {
-    Ok(format!(in alloc; "{value}")?.into_bytes())
-}
-
-/// A word that no case has.
-fn strange<T>() -> Result<T, CaseFault> {
-    Err(CaseFault::Strange)
 }

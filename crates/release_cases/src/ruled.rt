@@ -6,7 +6,7 @@ use crate::installs::opened;
 use crate::rules::rules;
 use crate::stated::{tell_after, tell_count};
 use admission::Kept;
-use case_lines::{Answer, Row, Told};
+use case_lines::{Answer, Row, Told, printed};
 use installer::{InstallFault, InstallPolicy, Installer};
 use std::alloc::Global;
 use std::sync::Wait;
@@ -43,7 +43,7 @@ fn begun<R: Wait>(
             installer.close(rt);
             told
         }
-        Err(fault) => crate::text(alloc, &fault),
+        Err(fault) => printed(alloc, &fault),
     }
 }
 

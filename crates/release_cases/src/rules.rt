@@ -4,6 +4,7 @@ ghost use Rattle.admission.specs.Rules.{KeepsAll};
 
 use admission::{Changed, Chosen, Delta, Kept, RuleKind, Rules};
 use case_lines::{Answer, CaseFault, Row, shown, signed};
+use folder_rows::strange;
 use std::alloc::Global;
 use td_base::{Bytes, Items};
 use td_civil::Moment;
@@ -21,7 +22,7 @@ fn rule(word: &[u8]) -> Result<Chosen, CaseFault> {
         });
     }
     let Some(number) = word.strip_prefix(b"from=") else {
-        return crate::strange();
+        return strange();
     };
     let number = signed(number)?;
     Ok(Chosen {
@@ -41,7 +42,7 @@ pub fn rules<'k>(alloc: Global, kept: &'k [Kept], word: &[u8]) -> Result<Rules<'
     let mut chosen = Vec::new(alloc);
     add_rules(word, &mut chosen)?;
     if chosen.len() > MOST_RULES {
-        return crate::strange();
+        return strange();
     }
     Ok(Rules::new(kept, chosen))
 }

@@ -5,7 +5,8 @@ ghost use Rattle.admission.specs.Rules.{KeepsAll};
 
 use crate::rules::rules;
 use admission::Kept;
-use case_lines::{Answer, CaseFault, Row, Told};
+use case_lines::{Answer, CaseFault, Row, Told, printed};
+use folder_rows::strange;
 use installer::{InstallFault, InstallPolicy, Installer};
 use release_manifest::{MOST_BYTES, Manifest, ManifestLeaps, ManifestZone, read};
 use std::alloc::Global;
@@ -46,7 +47,7 @@ fn begun<R: Wait>(
             installer.close(rt);
             told
         }
-        Err(fault) => crate::text(alloc, &fault),
+        Err(fault) => printed(alloc, &fault),
     }
 }
 
@@ -133,14 +134,14 @@ fn serves<R: Wait>(
             installer.close(rt);
             told(alloc, answer)
         }
-        Err(fault) => crate::text(alloc, &fault),
+        Err(fault) => printed(alloc, &fault),
     }
 }
 
 fn told(alloc: Global, answer: Result<bool, InstallFault>) -> Answer {
     match answer {
-        Ok(served) => crate::text(alloc, &served),
-        Err(fault) => crate::text(alloc, &fault),
+        Ok(served) => printed(alloc, &served),
+        Err(fault) => printed(alloc, &fault),
     }
 }
 
@@ -149,7 +150,7 @@ fn manifest_of(alloc: Global, dir: &[u8], store: &mut MemoryStore) -> Result<Man
     let path = path_in(alloc, dir, b"manifest.json")?;
     match store.read_file(alloc, path.as_slice(), MOST_BYTES as u64) {
         FileRead::Found(text) => manifest_in(alloc, dir, text.as_slice()),
-        _ => crate::strange(),
+        _ => strange(),
     }
 }
 
@@ -157,7 +158,7 @@ fn manifest_of(alloc: Global, dir: &[u8], store: &mut MemoryStore) -> Result<Man
 fn manifest_in(alloc: Global, dir: &[u8], text: &[u8]) -> Result<Manifest, CaseFault> {
     match read(alloc, text) {
         Ok(manifest) => Ok(placed(alloc, dir, manifest)?),
-        Err(_fault) => crate::strange(),
+        Err(_fault) => strange(),
     }
 }
 

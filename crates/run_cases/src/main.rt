@@ -9,17 +9,8 @@ ghost use Rattle.subscribers.specs.Wishes.{WantsAll, takes_by};
 // The table, line by line.
 mod script;
 
-// A case, how its runs differ, and how they must end.
-mod case;
-mod ending;
-mod exchanges;
-mod trial;
-
-// The objects in memory over which it runs.
-mod outside;
-mod plan;
+// The objects in memory over which a case runs.
 mod stage;
-mod watched;
 
 use admission::{Changed, Delta, Kept, RuleKind, Test, changes_at_most, changes_no_past};
 use script::Script;

@@ -2,12 +2,10 @@ ghost use Rattle.std.specs.Prelude.{map};
 ghost use Rattle.admission.specs.Rules.{KeepsAll};
 ghost use Rattle.subscribers.specs.Wishes.{WantsAll};
 
-use crate::case::Case;
-use crate::ending::RunResult;
-use crate::outside::File;
-use crate::trial::Trial;
+use crate::stage::run;
 use admission::Kept;
 use case_lines::{CaseFault, Tally, Texts, cut, hex_bytes, number};
+use run_plans::{Case, File, RunResult, Trial};
 use std::alloc::{AllocError, Global};
 use std::sync::Wait;
 use std::thread::Threads;
@@ -204,7 +202,7 @@ fn told_by<R: Threads + Wait + Copy + Send + 'static>(
     requires rules { KeepsAll (map (λ k. k.kind) kept.now) }
     requires wants { WantsAll (map (λ w. w.kind) wants.now) }
 {
-    let ending = case.run(rt, alloc, kept, wants, files, trial)?;
+    let ending = run(rt, alloc, kept, wants, files, case, trial)?;
     if case.is_met_by(trial, &ending) {
         return Ok(None);
     }

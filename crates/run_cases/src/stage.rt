@@ -3,13 +3,11 @@ ghost use Rattle.std.specs.Prelude.{map};
 ghost use Rattle.admission.specs.Rules.{KeepsAll};
 ghost use Rattle.subscribers.specs.Wishes.{WantsAll};
 
-use crate::case::Case;
-use crate::ending::{ConnEnd, DoorEnd, RunResult};
-use crate::exchanges::PastExchange;
-use crate::outside::{CaseDoor, CaseUpstream, File, calls, network_of, store_of};
-use crate::trial::Trial;
-use crate::watched::{WatchedNetwork, WatchedSpawner};
 use admission::Kept;
+use run_plans::{
+    Case, CaseDoor, CaseUpstream, ConnEnd, DoorEnd, File, PastExchange, RunResult, Trial,
+    WatchedNetwork, WatchedSpawner, calls, network_of, store_of,
+};
 use std::alloc::Global;
 use std::sync::Wait;
 use std::thread::Threads;
@@ -22,9 +20,27 @@ use td_top::Outcome;
 
 type CaseNetwork = WatchedNetwork<Faulty<MemoryNetwork<CaseDoor, CaseUpstream>>>;
 
+/// Runs a case over the files.
+pub fn run<R: Threads + Wait + Copy + Send + 'static>(
+    rt: &R,
+    alloc: Global,
+    kept: &[Kept],
+    wants: &[Want],
+    files: &[File],
+    case: &Case,
+    trial: Trial,
+) -> Result<RunResult, NoMemory>
+    requires rules { KeepsAll (map (λ k. k.kind) kept.now) }
+    requires wants { WantsAll (map (λ w. w.kind) wants.now) }
+{
+    let mut stage = RunStage::new(alloc, case, files, trial)?;
+    let outcome = stage.play(rt, alloc, case.words.as_slice(), kept, wants);
+    stage.result(alloc, &outcome)
+}
+
 /// The objects of a run.
 #[derive(Drop)]
-pub struct RunStage {
+struct RunStage {
     store: Faulty<MemoryStore>,
     streams: Streams,
     peers: Peers,
@@ -66,7 +82,7 @@ impl Peers {
 
 impl RunStage {
     /// The objects of a run of a case over the files.
-    pub fn new(
+    fn new(
         alloc: Global,
         case: &Case,
         files: &[File],
@@ -82,7 +98,7 @@ impl RunStage {
     }
 
     /// Runs the top call over them.
-    pub fn play<R: Threads + Wait + Copy + Send + 'static>(
+    fn play<R: Threads + Wait + Copy + Send + 'static>(
         &mut self,
         rt: &R,
         alloc: Global,
@@ -108,7 +124,7 @@ impl RunStage {
     }
 
     /// How the run ended. It takes the requests that the network recorded.
-    pub fn result(
+    fn result(
         &mut self,
         alloc: Global,
         outcome: &Outcome<CaseDoor, CaseUpstream>,

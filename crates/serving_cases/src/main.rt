@@ -1,12 +1,6 @@
-//! Tests `publication`, `connection`, `answer_cache` and `desk_pool` over the cases of a table on
-//! standard input. Reports each case whose answer is not the expected one. The table explains its
-//! own lines.
+//! Tests `connection` over the cases of a table on standard input. Reports each case whose answer
+//! is not the expected one. The table explains its own lines.
 #![tactic(auto)]
-
-// A publisher of numbers: its desks, and copies that refuse a call.
-mod races;
-mod refusals;
-mod tallies;
 
 // One connection over a desk.
 mod desks;
@@ -18,21 +12,10 @@ mod growing_door;
 mod listed_door;
 mod workers;
 
-// Cached answers.
-mod echo;
-mod gets;
-
-// The flag that stops workers, and works next to a foreground task.
-mod counted;
-mod flags;
-mod late_spawner;
-mod pools;
-
 use case_lines::{Answer, CaseFault, Row, Table};
 use std::alloc::Global;
 use std::io;
 use std::sync::Wait;
-use std::thread::Threads;
 
 fn main(rt: HostRuntime) -> io::Result<()> {
     let alloc = rt.alloc();
@@ -50,24 +33,8 @@ fn main(rt: HostRuntime) -> io::Result<()> {
 }
 
 /// The answer to a row.
-fn answer<R>(rt: &R, alloc: Global, row: &Row) -> Answer
-where
-    R: Threads + Wait + Copy + Send + Sync + 'static,
-{
+fn answer<R: Wait>(rt: &R, alloc: Global, row: &Row) -> Answer {
     match row.kind() {
-        "works" => pools::works(rt, alloc, row),
-        "race" => races::raced(rt, alloc),
-        "flag-beside" => flags::beside(rt, alloc),
-        "flag" => flags::signs(alloc),
-        _ => waiting(rt, alloc, row),
-    }
-}
-
-/// The answer to a row that starts no threads.
-fn waiting<R: Wait>(rt: &R, alloc: Global, row: &Row) -> Answer {
-    match row.kind() {
-        "publishes" => refusals::publish(rt, alloc, row),
-        "learns" => races::learns(rt, alloc),
         "stream" => streams::stream(rt, alloc, row),
         "once" => streams::once(rt, alloc, row),
         "failing" => streams::failing(rt, alloc, row),
@@ -75,7 +42,6 @@ fn waiting<R: Wait>(rt: &R, alloc: Global, row: &Row) -> Answer {
         "door" => doors::door(rt, alloc, row),
         "computed" => streams::computed(rt, alloc, row),
         "worker" => workers::worker(rt, alloc, row),
-        "get" => gets::gets(alloc, row),
         "laws" => laws(alloc),
         _ => Err(CaseFault::Strange),
     }

@@ -1,0 +1,148 @@
+//! The catalogue of a history of folders. Each row begins with the folders, separated by commas.
+use crate::answering::strange;
+use crate::histories::catalogue_of;
+use crate::leap_tables::steps;
+use crate::{changes, indexes};
+use case_lines::{Answer, CaseFault, Row, Told, shown};
+use catalogue::{
+    Catalogue, Entry, KEPT_TOKENS, entries_are_plain, fits_what_is_held, histories_grow,
+    order_is_free, tokens_are_apart, tokens_are_plain, tokens_find_places,
+};
+use std::alloc::Global;
+use td_base::MemoryStore;
+use zone_meaning::{Zone, file};
+
+/// The answer of a catalogue.
+pub fn asked(alloc: Global, row: &Row, store: &mut MemoryStore) -> Answer {
+    let catalogue = catalogue_of(alloc, row.word(0)?, store)?;
+    told(alloc, row, store, &catalogue)
+}
+
+fn told(alloc: Global, row: &Row, store: &mut MemoryStore, catalogue: &Catalogue<Zone>) -> Answer {
+    match row.kind() {
+        "changed" => changes::changed(alloc, row, store, catalogue),
+        "stands" => stands(alloc, catalogue),
+        "leaps" => leaps(alloc, catalogue),
+        "find-name" => shown(alloc, &catalogue.find_name(row.word(1)?)),
+        "place-of" => shown(alloc, &catalogue.place_of(row.word(1)?)),
+        "changed-since" => changed(alloc, row, catalogue),
+        "token" => token(alloc, row, catalogue),
+        "entry" => entry(alloc, row, catalogue),
+        "name" => name(alloc, row, catalogue),
+        _ => strange(),
+    }
+}
+
+/// `stands DIRS`: how many releases, zones and names it has, and the stamp, publisher and version
+/// of the last release.
+fn stands(alloc: Global, catalogue: &Catalogue<Zone>) -> Answer {
+    let mut told = Told::new(alloc);
+    tell_counts(&mut told, catalogue);
+    told.text(&catalogue.last_stamp().seconds);
+    told.bytes(b" ");
+    told.bytes(catalogue.publisher());
+    told.bytes(b" ");
+    told.bytes(catalogue.version());
+    told.answer()
+}
+
+fn tell_counts(told: &mut Told, catalogue: &Catalogue<Zone>) {
+    told.text(&catalogue.count());
+    told.bytes(b" ");
+    told.text(&catalogue.len());
+    told.bytes(b" ");
+    told.text(&catalogue.name_count());
+    told.bytes(b" ");
+}
+
+/// `leaps DIRS`: expiry, length of the file and steps of its table, if it has one.
+fn leaps(alloc: Global, catalogue: &Catalogue<Zone>) -> Answer {
+    match catalogue.leaps() {
+        Some(table) => steps(alloc, table),
+        None => Ok(Vec::from_slice(alloc, b"none")?),
+    }
+}
+
+/// The place in a row.
+fn place(row: &Row) -> Result<u32, CaseFault> {
+    indexes::place(row.number(1)?)
+}
+
+/// `changed-since DIRS PLACE`: the positions of the zones that changed after a place.
+fn changed(alloc: Global, row: &Row, catalogue: &Catalogue<Zone>) -> Answer {
+    let changed = catalogue.changed_since(alloc, place(row)?)?;
+    shown(alloc, &changed.as_slice())
+}
+
+/// `token DIRS PLACE`.
+fn token(alloc: Global, row: &Row, catalogue: &Catalogue<Zone>) -> Answer {
+    let place = place(row)?;
+    if place == 0 || catalogue.count() < place || catalogue.count() - place >= KEPT_TOKENS {
+        return strange();
+    }
+    Ok(Vec::from_slice(alloc, catalogue.token(place).as_slice())?)
+}
+
+/// `name DIRS POSITION`.
+fn name(alloc: Global, row: &Row, catalogue: &Catalogue<Zone>) -> Answer {
+    let position = row.number(1)? as usize;
+    if position >= catalogue.name_count() {
+        return strange();
+    }
+    Ok(Vec::from_slice(alloc, catalogue.name(position))?)
+}
+
+/// `entry DIRS POSITION`: identifier and aliases, the length of the file, the tag, the place of the
+/// last change, and the stamp, publisher and version of that release.
+fn entry(alloc: Global, row: &Row, catalogue: &Catalogue<Zone>) -> Answer {
+    let position = row.number(1)? as usize;
+    if position >= catalogue.len() {
+        return strange();
+    }
+    entry_text(alloc, catalogue.entry(position))
+}
+
+fn entry_text(alloc: Global, entry: &Entry<Zone>) -> Answer {
+    let mut told = Told::new(alloc);
+    tell_names(&mut told, entry);
+    tell_file(&mut told, entry);
+    tell_change(&mut told, entry);
+    told.answer()
+}
+
+fn tell_names(told: &mut Told, entry: &Entry<Zone>) {
+    told.bytes(entry.content.tzid.as_slice());
+    for alias in entry.content.aliases.as_slice() {
+        told.bytes(b",");
+        told.bytes(alias.as_slice());
+    }
+}
+
+fn tell_file(told: &mut Told, entry: &Entry<Zone>) {
+    told.bytes(b" ");
+    told.text(&file(&entry.content.zone).len());
+    told.bytes(b" ");
+    told.bytes(entry.tag.as_slice());
+}
+
+fn tell_change(told: &mut Told, entry: &Entry<Zone>) {
+    told.bytes(b" ");
+    told.text(&entry.changed);
+    told.bytes(b" ");
+    told.text(&entry.stamp.seconds);
+    told.bytes(b" ");
+    told.bytes(entry.publisher.as_slice());
+    told.bytes(b" ");
+    told.bytes(entry.version.as_slice());
+}
+
+/// Laws, each of which does nothing.
+pub fn laws() {
+    order_is_free::<Zone>();
+    entries_are_plain::<Zone>();
+    fits_what_is_held::<Zone>();
+    histories_grow::<Zone>();
+    tokens_are_plain();
+    tokens_are_apart();
+    tokens_find_places();
+}
