@@ -82,12 +82,7 @@ impl Peers {
 
 impl RunStage {
     /// The objects of a run of a case over the files.
-    fn new(
-        alloc: Global,
-        case: &Case,
-        files: &[File],
-        trial: Trial,
-    ) -> Result<RunStage, NoMemory> {
+    fn new(alloc: Global, case: &Case, files: &[File], trial: Trial) -> Result<RunStage, NoMemory> {
         let store = store(alloc, case, files)?;
         let streams = Streams::new(alloc, case, trial)?;
         Ok(RunStage {
