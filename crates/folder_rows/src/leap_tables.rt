@@ -1,7 +1,7 @@
 //! Tables of leap seconds.
+use crate::answering::strange;
 use case_lines::{Answer, CaseFault, Row, Told, printed, signed};
 use catalogue::{LeapStep, Leaps};
-use crate::answering::strange;
 use leap_table::from_file;
 use std::alloc::Global;
 use td_base::{Bytes, Items, texts};

@@ -1,6 +1,6 @@
 //! Faults, as they are printed, that the tables do not reach at each place.
-use case_lines::{Answer, CaseFault, Row};
 use crate::answering::strange;
+use case_lines::{Answer, CaseFault, Row};
 use release_manifest::{ManifestFault, Path};
 use std::alloc::Global;
 
