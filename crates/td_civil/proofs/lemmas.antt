@@ -1,4 +1,5 @@
 -- Lemmas that proofs of other crates may cite.
+pub mod CalendarAgain
 pub mod Counting
 pub mod DateText
 pub mod ReadBack

@@ -1,6 +1,7 @@
 pub mod Answer
 pub mod Bounds
 pub mod Calendar
+pub mod Cycles
 pub mod Reading
 pub mod SameLocal
 pub mod Stamp

@@ -31,5 +31,5 @@ pub use laws::{
 };
 pub use local_time::{Local, Name, Observance};
 pub use moment_fault::BadMoment;
-pub use moment_text::{local_stamp, moment_of, utc_text};
-pub use moment_type::{HI, LO, Moment};
+pub use moment_text::{local_stamp, moment_of, text_later, utc_text};
+pub use moment_type::{CYCLE, HI, LO, Moment};

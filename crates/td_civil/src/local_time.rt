@@ -50,3 +50,18 @@ pub struct Observance {
     pub dst: bool,
     pub name: Name,
 }
+
+impl Observance {
+    /// A copy.
+    pub fn copy(&self) -> Observance
+        ensures { result ≡ self.now }
+    {
+        Observance {
+            onset: self.onset,
+            from: self.from,
+            to: self.to,
+            dst: self.dst,
+            name: self.name.copy(),
+        }
+    }
+}

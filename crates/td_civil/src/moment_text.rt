@@ -5,7 +5,9 @@ ghost use Rattle.td_civil.specs.Stamp.{Spells, ShowsLocal};
 ghost use Rattle.td_civil.specs.Calendar.{text_of, local_text_of};
 ghost use Rattle.td_civil.specs.Reading.{moment_in};
 ghost use Rattle.td_civil.specs.Answer.{moment_read};
+ghost use Rattle.td_civil.specs.declared.moment_type.TheConstants.{CYCLE};
 
+use crate::digits::{digit, two_at};
 use crate::fields::Fields;
 use crate::{BadMoment, Moment};
 
@@ -29,6 +31,37 @@ pub fn utc_text(m: Moment) -> [u8; 20]
     ensures exact { result ≡ text_of m.seconds }
 {
     Fields::at(m.seconds).spelling()
+}
+
+/// The text of the moment one period of the calendar later, from that of a moment: the year is 400
+/// more.
+pub fn text_later(text: &[u8; 20]) -> [u8; 20]
+    ensures { (m : ℤ) → IsWithinBounds m → IsWithinBounds (m +ℤ CYCLE) → text.now ≡ text_of m
+        → result ≡ text_of (m +ℤ CYCLE) }
+{
+    let century = two_at(text.as_slice(), 0) + 4;
+    [
+        digit(century / 10),
+        digit(century),
+        text[2],
+        text[3],
+        text[4],
+        text[5],
+        text[6],
+        text[7],
+        text[8],
+        text[9],
+        text[10],
+        text[11],
+        text[12],
+        text[13],
+        text[14],
+        text[15],
+        text[16],
+        text[17],
+        text[18],
+        text[19],
+    ]
 }
 
 /// The local time of a moment as `YYYYMMDDTHHMMSS` (RFC 5545, section 3.3.5). `offset` is in

@@ -13,6 +13,9 @@ pub const LO: i64 = -5_364_662_400;
 /// The end of the moments that the service handles, 9999-01-01T00:00:00Z; it is not one of them.
 pub const HI: i64 = 253_370_764_800;
 
+/// The period of the calendar in seconds: 400 years, which are 146,097 days and whole weeks.
+pub const CYCLE: i64 = 12_622_780_800;
+
 impl Moment {
     /// Whether it lies from [`LO`] on and before [`HI`].
     pub fn has_meaning(self) -> bool

@@ -4,11 +4,10 @@ use Rattle.std.proofs.Common.{arith, ℤ, pos, neg_ℤ, ◌+ℤ◌, ◌*ℤ◌, 
 use Rattle.std.proofs.lemmas.Int.{by_lt_z, ints}
 use Rattle.jiff_core.specs.Calendar.{IsBetween, is_leap_year, days_in_month, days_of_years, days_of_months, day_of_year, day_count, days_from_civil}
 use Rattle.jiff_core.specs.Calendar.{weekday_number}
-use Rattle.jiff_core.specs.March.{march_days}
 use Rattle.jiff_core.proofs.SignedLemmas.{signed_arith, one_part}
-use Rattle.jiff_core.proofs.MarchLemmas.{leap_day, days_of_years-march_days}
 use Rattle.jiff_core.proofs.CalendarLemmas.{days_from_civil-day_count, weekday_number-add, weekday_number_bound}
 use Rattle.td_civil.specs.Bounds.{HasMeaning}
+use Rattle.td_civil.proofs.lemmas.CalendarAgain.{leap_again, month_again, days_again}
 use Rattle.td_civil.specs.declared.local_time.Local.{Local}
 use Rattle.posix_footer.specs.declared.rule_types.DayForm.{DayForm}
 use Rattle.posix_footer.specs.declared.rule_types.DayForm.TheVariants as day
@@ -23,58 +22,6 @@ use Rattle.posix_footer.specs.StateAt.{is_daylight, state_by, state_of, IsLatest
 use Rattle.posix_footer.proofs.DaylightLemmas.{daylight_is}
 use Rattle.posix_footer.proofs.lemmas.StateLemmas.{year_of, onset_rises, onset_after, onset_before, latest_is}
 use Rattle.posix_footer.proofs.lemmas.YearLemmas.{year_1800, year_9999}
-
--- ---- the calendar
-
-plus_same : (a b c d : ℕ) → a ≡ c → b ≡ d → a + b ≡ c + d
-plus_same a b c d p q = ap (λ x. x + b) p ∙ ap (λ x. c + x) q
-
-leap_again : (n : ℕ) → is_leap_year (pos (n + 400)) ≡ is_leap_year (pos n)
-leap_again n =
-    let four : (n + 400) % 4 ≡ n % 4 = omega arith in
-    let hundred : (n + 400) % 100 ≡ n % 100 = omega arith in
-    let all : (n + 400) % 400 ≡ n % 400 = omega arith in
-    leap_by ((n + 400) % 4) ((n + 400) % 100) ((n + 400) % 400) (n % 4) (n % 100) (n % 400) four hundred all
-  where
-    leap_by : (a b c x y z : ℕ) → a ≡ x → b ≡ y → c ≡ z → ((a == 0) && (not (b == 0) || (c == 0))) ≡ ((x == 0) && (not (y == 0) || (z == 0)))
-    leap_by a b c x y z p q r = rw (p, q, r) refl
-
-month_again : (n m : ℕ) → days_in_month (pos (n + 400)) m ≡ days_in_month (pos n) m
-month_again n m =
-    ap (λ b. if m == 2 then (if b then 29 else 28) else (if (m == 4) || (m == 6) || (m == 9) || (m == 11) then 30 else 31)) (leap_again n)
-
-months_again : (n m : ℕ) → days_of_months (pos (n + 400)) m ≡ days_of_months (pos n) m
-unfolding days_of_months
-months_again n zero = refl
-months_again n (suc m) = plus_same _ _ _ _ (months_again n m) (month_again n (suc m))
-
-years_by : (n a b k l : ℕ) → a + k ≡ march_days (n + 400) + 1 → b + l ≡ march_days n + 1 → k ≡ l → a ≡ b + 146097
-years_by n a b k l late now same = omega arith
-
-years_again : (n : ℕ) → days_of_years (n + 400) ≡ days_of_years n + 146097
-years_again n =
-    years_by n _ _ (leap_day (pos (n + 400))) (leap_day (pos n)) (days_of_years-march_days (n + 400)) (days_of_years-march_days n)
-    (ap (λ b. cond b 1 0) (leap_again n))
-
-count_by : (a b x y : ℕ) → a ≡ b + 146097 → x ≡ y → a + (x - 1) ≡ b + (y - 1) + 146097
-count_by a b x y years same = rw (years, same) (omega arith)
-
-count_again : (n m d : ℕ) → day_count (pos (n + 400)) m d ≡ day_count (pos n) m d + 146097
-unfolding day_count
-count_again n m d =
-    let at : n + 400 + 10000 ≡ n + 10000 + 400 = omega arith in
-    count_by (days_of_years (n + 400 + 10000)) (days_of_years (n + 10000)) (day_of_year (pos (n + 400)) m d) (day_of_year (pos n) m d)
-    (ap days_of_years at ∙ years_again (n + 10000)) (ap (λ k. k + d) (months_again n (m - 1)))
-
--- a date comes again 146,097 days later
-days_again : (n m d : ℕ) → days_from_civil (pos (n + 400)) m d ≡ days_from_civil (pos n) m d +ℤ pos 146097
-days_again n m d = omega (
-  arith,
-  signed_arith,
-  count_again n m d,
-  days_from_civil-day_count (pos (n + 400)) m d,
-  days_from_civil-day_count (pos n) m d,
-)
 
 -- which are whole weeks
 weekday_again : (d later : ℤ) → later ≡ d +ℤ pos 146097 → weekday_from_sunday later ≡ weekday_from_sunday d
