@@ -58,7 +58,7 @@ decided_same one two footer t first second h k low alike v from before =
     (λ late. same_later one two footer t v first second h k (omega (arith, signed_arith)) (alike t low (omega (arith, signed_arith))))
 
 -- then the states come again with the calendar
-late_again : (z : ZoneFile) (footer : Option Footer) (t v w : ℤ) → HasTypes z → IfSome footer IsLawful → HaveAllBegun z t → t ≤ℤ v → w ≡ v +ℤ pos 12622780800
+pub late_again : (z : ZoneFile) (footer : Option Footer) (t v w : ℤ) → HasTypes z → IfSome footer IsLawful → HaveAllBegun z t → t ≤ℤ v → w ≡ v +ℤ pos 12622780800
     → HasMeaning v → HasMeaning w → state_at z footer w ≡ state_at z footer v
 late_again z None t v w types lawful h low is meaning after_cycle =
     plain_late z t w types h (omega (arith, signed_arith, is)) ∙ sym (plain_late z t v types h low)

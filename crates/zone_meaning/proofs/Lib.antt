@@ -5,5 +5,6 @@ pub mod Differing
 pub mod lemmas
 pub mod RangeMeaning
 pub mod Refusals
+pub mod LateStates
 pub mod Walking
 pub mod ZoneNames

@@ -2,6 +2,7 @@
 pub mod ChangeLists
 pub mod Members
 pub mod NameLemmas
+pub mod Periods
 pub mod RangeLemmas
 pub mod RuleLemmas
 pub mod Types

@@ -12,11 +12,8 @@ ghost use Rattle.zone_meaning.specs.Walks.{HaveBegun};
 
 use crate::Zone;
 use crate::zone_type::{lists_of_parts, parts_of};
-use td_civil::{HI, LO, Moment};
+use td_civil::{CYCLE, HI, LO, Moment};
 use tzif_reader::ZoneLists;
-
-/// The period of the calendar in seconds: 400 years, which are 146,097 days and whole weeks.
-const CYCLE: i64 = 12_622_780_800;
 
 /// A moment before which two zones differ, if they ever do.
 pub(crate) fn decided_by(one: &Zone, two: &Zone) -> Moment
@@ -99,7 +96,7 @@ fn last_of_both(one: &ZoneLists, two: &ZoneLists) -> Moment
 
 /// A moment by which every transition has passed: the last one, or the start of 1800 if that is
 /// later.
-fn last_turn(lists: &ZoneLists) -> Moment
+pub(crate) fn last_turn(lists: &ZoneLists) -> Moment
     requires types { HasTypes lists.now }
     requires ends { IfSome (slice_get lists.now.moments (length lists.now.moments - 1))
         (λ m. m.seconds <ℤ HI) }

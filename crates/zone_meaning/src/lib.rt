@@ -23,8 +23,9 @@ mod agreement;
 mod lookup;
 mod zone_names;
 
-// The observances of a range.
+// The observances of a range, and from when on they repeat.
 mod observing;
+mod repeating;
 mod stepping;
 mod walk;
 
@@ -43,6 +44,7 @@ pub use laws::{last_observance_tells_the_state, names_are_printable, observances
 pub use lookup::at;
 pub use observing::{Changes, observances};
 pub use reading::{zone_from_lists, zone_of};
+pub use repeating::repeats_from;
 pub use zone_fault::ZoneFault;
 pub use zone_names::has_printable_names;
 pub use zone_type::{Zone, file, footer, leap_count, lists};

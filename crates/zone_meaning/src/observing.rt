@@ -1,8 +1,8 @@
 //! The observances of a range (RFC 7808, section 5.4).
 ghost use Rattle.std.specs.Prelude.{◌≡◌, [], None, IfOk};
-ghost use Rattle.zone_meaning.specs.Observed.{observed, IsRange};
+ghost use Rattle.zone_meaning.specs.Observed.{changes_between, observed, IsRange};
 ghost use Rattle.zone_meaning.specs.State.{zone_state};
-ghost use Rattle.zone_meaning.specs.WalkLeft.{HandsOut};
+ghost use Rattle.zone_meaning.specs.WalkLeft.{left, HandsOut, IsSoundWalk};
 
 use crate::Zone;
 use crate::lookup::{begun, state_when};
@@ -43,29 +43,28 @@ impl<'a> Changes<'a> {
         requires { IsRange a.seconds b.seconds }
         ensures { result ≡ observed (zone_state zone.now) a.seconds b.seconds }
     {
-        let parts = parts_of(zone);
-        let lists = lists_of_parts(parts);
-        let begun = begun(&lists, a);
-        let state = state_when(&lists, &parts.footer, begun, a);
+        let walk = walk_from(zone, a, b);
         let first = Observance {
             onset: a,
-            from: state.offset,
-            to: state.offset,
-            dst: state.dst,
-            name: state.name.copy(),
-        };
-        let walk = Walk {
-            lists,
-            footer: &parts.footer,
-            end: b,
-            at: a,
-            begun,
-            state,
-            ahead: None,
+            from: walk.state.offset,
+            to: walk.state.offset,
+            dst: walk.state.dst,
+            name: walk.state.name.copy(),
         };
         Changes {
             first: Some(first),
             walk,
+        }
+    }
+
+    /// The changes after a moment and before another, without the state at the first.
+    pub fn after(zone: &'a Zone, a: Moment, b: Moment) -> Self
+        requires { IsRange a.seconds b.seconds }
+        ensures { result ≡ changes_between (zone_state zone.now) a.seconds b.seconds }
+    {
+        Changes {
+            first: None,
+            walk: walk_from(zone, a, b),
         }
     }
 
@@ -78,6 +77,28 @@ impl<'a> Changes<'a> {
             Some(first) => Some(first),
             None => self.walk.next(),
         }
+    }
+}
+
+/// A walk at a moment, which goes on to before another.
+fn walk_from<'a>(zone: &'a Zone, a: Moment, b: Moment) -> Walk<'a>
+    requires { IsRange a.seconds b.seconds }
+    ensures sound { IsSoundWalk result }
+    ensures state { result.state ≡ zone_state zone.now a.seconds }
+    ensures left { left result ≡ changes_between (zone_state zone.now) a.seconds b.seconds }
+{
+    let parts = parts_of(zone);
+    let lists = lists_of_parts(parts);
+    let begun = begun(&lists, a);
+    let state = state_when(&lists, &parts.footer, begun, a);
+    Walk {
+        lists,
+        footer: &parts.footer,
+        end: b,
+        at: a,
+        begun,
+        state,
+        ahead: None,
     }
 }
 
