@@ -1,5 +1,5 @@
 -- The observances of a sound zone are plain, and how far a document of them is written.
-use Rattle.std.proofs.Common.{◌≡◌, ℕ, List, [], ◌∷◌, ◌++◌, true, refl, ap, sym, subst, ◌∙◌, arith, append_assoc, append-nil, ◌⊎◌, inl, inr}
+use Rattle.std.proofs.Common.{◌≡◌, ℕ, List, [], ◌∷◌, true, refl, ap, sym, subst, ◌∙◌, arith, ◌⊎◌, inl, inr}
 use Rattle.std.proofs.lemmas.Bool.{and_parts}
 use Rattle.std.proofs.lemmas.Bool.Decides.{nat_tests}
 use Rattle.std.proofs.lemmas.Int.{ints}
@@ -10,7 +10,6 @@ use Rattle.td_civil.specs.Bounds.{IsWithinBounds}
 use Rattle.td_civil.specs.declared.moment_type.TheConstants.{LO, HI}
 use Rattle.td_civil.specs.declared.local_time.Local.{Local}
 use Rattle.td_civil.specs.declared.local_time.Observance.{Observance}
-use Rattle.json_forms.specs.Begun.{IsExpansionBegun, TextSoFar}
 use Rattle.json_forms.specs.PlainTexts.{IsPlainObservance}
 use Rattle.posix_footer.specs.Items.{is_designation_byte}
 use Rattle.zone_meaning.specs.Names.{is_printable_name}
@@ -71,27 +70,3 @@ plain_observances file a b sound range =
       name = name_is_plain o.name (observance_name file a b o sound.no_fault sound.names range.1 there);
       onset = onset_within (zone_state file) a b o range ((are_observed (zone_state file) a b range.1).each o there);
     })
-
--- ---- the document
-
--- some of the observances are written, and these are left
-pub record IsWritten (all : List Observance) (until : ℤ) (rest : List Observance) (w : TextSoFar) : Type 0 where
-  pub done : List Observance
-  pub begun : IsExpansionBegun [] until done w
-  pub whole : all ≡ done ++ rest
-  pub plain : AllByRecursion IsPlainObservance rest
-
-pub one_more : (all : List Observance) (until : ℤ) (rest : List Observance) (o : Observance) (left : List Observance) (old new : TextSoFar)
-    → rest ≡ o ∷ left → (w : IsWritten all until rest old) → IsExpansionBegun [] until (w.done ++ o ∷ []) new → IsWritten all until left new
-one_more all until rest o left old new is w begun = record {
-  done = w.done ++ o ∷ [];
-  begun = begun;
-  whole = w.whole ∙ (ap (λ xs. w.done ++ xs) is ∙ sym (append_assoc w.done (o ∷ []) left));
-  plain = (subst (AllByRecursion IsPlainObservance) is w.plain).1;
-}
-
-pub all_written : (all : List Observance) (until : ℤ) (rest : List Observance) (w : TextSoFar) → rest ≡ [] → IsWritten all until rest w
-    → IsExpansionBegun [] until all w
-all_written all until rest w none h =
-    subst (λ xs. IsExpansionBegun [] until xs w)
-    (sym (h.whole ∙ (ap (λ ys. h.done ++ ys) none ∙ append-nil h.done))) h.begun

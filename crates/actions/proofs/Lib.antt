@@ -6,4 +6,5 @@ pub mod Named
 pub mod ChangedZones
 pub mod TextNames
 pub mod Offered
+pub mod Parts
 pub mod Aliases

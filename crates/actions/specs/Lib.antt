@@ -9,5 +9,6 @@ pub mod Getting
 pub mod LeapSeconds
 pub mod Listing
 pub mod Moments
+pub mod Periods
 pub mod Tags
 pub mod Offering

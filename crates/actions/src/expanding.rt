@@ -10,6 +10,7 @@ ghost use Rattle.actions.specs.declared.bounds.BoundRule.TheVariants as rule;
 
 use crate::bounds::{BoundRule, begin_of, bounds_in, finish_of};
 use crate::documents::{document, refusal};
+use crate::periods::put_observed;
 use catalogue::Catalogue;
 use http_answer::Answer;
 use json_forms::{ExpansionWriter, Problem};
@@ -17,7 +18,7 @@ use std::alloc::Global;
 use target::Param;
 use td_base::{Bytes, NoMemory};
 use td_civil::Moment;
-use zone_meaning::{Changes, Zone};
+use zone_meaning::Zone;
 
 /// Answers the action `expand` (RFC 7808, section 5.4).
 pub fn expand(
@@ -82,10 +83,7 @@ fn expansion(
     ensures { IfOk result (λ text. text
         ≡ expansion name.now zone.now from.seconds until.seconds) }
 {
-    let mut changes = Changes::new(zone, from, until);
     let mut text = ExpansionWriter::begin(Bytes::new(alloc), until)?;
-    'changes: while let Some(change) = changes.next() {
-        text.observance(&change)?;
-    }
+    put_observed(alloc, &mut text, zone, from, until)?;
     text.end(name.as_slice(), from)
 }

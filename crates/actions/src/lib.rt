@@ -23,6 +23,7 @@ mod formats;
 mod getting;
 mod leap_seconds;
 mod listing;
+mod periods;
 
 // What several actions need.
 mod bounds;

@@ -7,7 +7,9 @@ ghost use Rattle.json_forms.specs.PlainTexts.{IsPlainObservance, IsPlainZone};
 
 use case_lines::{Answer, CaseFault, Row};
 use catalogue::{LeapStep, Leaps};
-use json_forms::{ExpansionWriter, ListWriter, ListZone, expand_text, leap_text, list_text};
+use json_forms::{
+    ExpansionWriter, ListWriter, ListZone, ObservanceText, expand_text, leap_text, list_text,
+};
 use serde_json::Value;
 use std::alloc::Global;
 use td_base::{Bytes, Items, NoMemory, ShortText};
@@ -201,7 +203,8 @@ fn east(alloc: Global) -> Answer {
         seconds: 1_767_225_600,
     };
     let mut east = ExpansionWriter::begin(Bytes::new(alloc), until)?;
-    east.observance(&observance(1_735_689_600, 0, 10_800, b"+03"))?;
+    let first = ObservanceText::new(observance(1_735_689_600, 0, 10_800, b"+03"));
+    east.write(&first)?;
     Ok(east.end(b"A/B", from)?.into_vec())
 }
 

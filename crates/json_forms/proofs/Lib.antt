@@ -7,6 +7,6 @@ pub mod lemmas
 pub mod LeapReads
 pub mod ListTaken
 pub mod ListUtf8
-pub mod ObservanceText
+pub mod PieceTexts
 pub mod ReadBack
 pub mod TreeTokens

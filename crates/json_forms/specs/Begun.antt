@@ -51,3 +51,10 @@ pub record IsExpansionBegun
     (before : List ℕ) (until : ℤ) (observances : List Observance) (w : TextSoFar) : Type 0 where
   pub so_far : w.text ≡ before ++ print (expansion_tokens until observances)
   pub place : w.after_value ≡ ends_value (expansion_tokens until observances)
+
+-- these observances are appended to what was written
+abbrev pub Appends : TextSoFar → TextSoFar → List Observance → Type 0
+Appends old new more =
+    (before : List ℕ) (until : ℤ) (observances : List Observance)
+    → IsExpansionBegun before until observances old
+    → IsExpansionBegun before until (observances ++ more) new

@@ -1,13 +1,13 @@
 pub mod AliasTokens
 pub mod Begun
 pub mod CapabilitiesDocument
-pub mod Escapes
 pub mod ExpansionDocument
 pub mod FaultText
 pub mod JsonTexts
 pub mod LeapDocument
 pub mod ListDocument
 pub mod ListReading
+pub mod Pieces
 pub mod PlainTexts
 pub mod ProblemDocument
 pub mod SoundLists

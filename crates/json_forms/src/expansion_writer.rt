@@ -3,11 +3,11 @@ ghost use Rattle.std.specs.List.{AllByRecursion};
 ghost use Rattle.td_base.specs.Names.{IsPlain};
 ghost use Rattle.td_civil.specs.Bounds.{IsWithinBounds};
 ghost use Rattle.td_civil.specs.declared.local_time.Observance.{Observance};
-ghost use Rattle.json_forms.specs.Begun.{IsExpansionBegun};
+ghost use Rattle.json_forms.specs.Begun.{Appends, IsExpansionBegun};
 ghost use Rattle.json_forms.specs.ExpansionDocument.{expansion_document};
 ghost use Rattle.json_forms.specs.PlainTexts.{IsPlainObservance};
 
-use crate::observance_text::put_observance;
+use crate::ObservanceText;
 use crate::tree_writer::{put_member, put_moment};
 use json::Writer;
 use std::alloc::Global;
@@ -51,14 +51,10 @@ impl ExpansionWriter {
     }
 
     /// Writes one more observance.
-    pub fn observance(&mut self, observance: &Observance) -> Result<(), NoMemory>
-        requires { IsPlainObservance observance.now }
-        ensures { (before : List ℕ) (until : ℤ) (observances : List Observance)
-            → IsExpansionBegun before until observances self.old
-            → OnOk result
-            (IsExpansionBegun before until (observances ++ observance.now ∷ []) self.new) }
+    pub fn write(&mut self, observance: &ObservanceText) -> Result<(), NoMemory>
+        ensures { OnOk result (Appends self.old self.new (observance.now ∷ [])) }
     {
-        put_observance(&mut self.out, self.after_value, observance)?;
+        observance.put(&mut self.out, self.after_value)?;
         self.after_value = true;
         Ok(())
     }
@@ -122,7 +118,7 @@ fn expansion_of(
 {
     let mut expansion = ExpansionWriter::begin(Bytes::new(alloc), until)?;
     for observance in observances {
-        expansion.observance(observance)?;
+        expansion.write(&ObservanceText::new(observance.copy()))?;
     }
     expansion.end(tzid, from)
 }

@@ -6,8 +6,8 @@
 //! `leap_document`, and a refusal `problem_document`.
 //!
 //! Documents that grow with the data are not built first: `ListWriter` and `ExpansionWriter` take
-//! one item at a time. A zone is written token by token, an observance in pieces that are mostly
-//! fixed. The others are built as a `Value` and printed. The server writes these documents
+//! one item at a time. A zone is written token by token, an observance in three pieces, of which a
+//! period of the calendar changes only the year. The others are built as a `Value` and printed. The server writes these documents
 //! (`actions`), and its clients read them (`mirror`, `made_load`).
 #![tactic(auto)]
 
@@ -44,6 +44,7 @@ pub use leap_writer::leap_text;
 pub use list_fault::BadList;
 pub use list_reader::read_list;
 pub use list_writer::{ListWriter, list_text};
+pub use observance_text::ObservanceText;
 pub use problem_reader::read_problem;
 pub use problem_type::Problem;
 pub use problem_writer::problem_text;

@@ -1,125 +1,135 @@
-//! The text of an observance, appended in pieces that are mostly fixed. It is the text that a
-//! `Writer` gives for the observance's tokens.
-ghost use Rattle.std.specs.Prelude.{◌≡◌, ◌++◌, [], ◌∷◌, IsTrue, codes, cond, OnOk};
-ghost use Rattle.std.specs.Fmt.{signed_decimal};
-ghost use Rattle.std.specs.List.{list_all};
+//! The text of an observance in three pieces, so that the same change in another year needs only
+//! another year. Together they are what a `Writer` gives for the observance's tokens.
+ghost use Rattle.std.specs.Prelude.{◌≡◌, ◌+◌, ◌≤◌, ◌++◌, ◌+ℤ◌, IsTrue, OnOk, cond, drop, length};
 ghost use Rattle.json.specs.Print.{escape, escape_byte, print_from};
 ghost use Rattle.td_base.specs.Names.{is_printable, IsPlain};
 ghost use Rattle.td_civil.specs.Bounds.{IsWithinBounds};
-ghost use Rattle.td_civil.specs.Calendar.{text_of};
-ghost use Rattle.json_forms.specs.Escapes.{is_unescaped};
+ghost use Rattle.td_civil.specs.Cycles.{observance_later};
+ghost use Rattle.td_civil.specs.declared.moment_type.TheConstants.{CYCLE};
 ghost use Rattle.json_forms.specs.ExpansionDocument.{observance_data};
+ghost use Rattle.json_forms.specs.Pieces.{head_text, tail_text};
 ghost use Rattle.json_forms.specs.PlainTexts.{IsPlainObservance};
 ghost use Rattle.json_forms.specs.TreeTokens.{tree_tokens};
 
 use itoa::Buffer;
+use std::marker::Model;
 use td_base::{Bytes, NoMemory, ShortText};
-use td_civil::{Moment, Observance, utc_text};
+use td_civil::{CYCLE, Name, Observance, text_later, utc_text};
 
-/// The most bytes of the text of a change, which comes after the name.
-const MOST_CHANGE_TEXT: usize = 91;
+/// The most bytes of what comes before the moment: a name has at most 32, each of which may have a
+/// backslash before it.
+const MOST_HEAD: usize = 85;
 
-/// Appends an observance, with a comma before it if it comes after a value.
-pub(crate) fn put_observance(
-    out: &mut Bytes,
-    after_value: bool,
-    observance: &Observance,
-) -> Result<(), NoMemory>
-    requires { IsPlainObservance observance.now }
-    ensures { OnOk result (out.new
-        ≡ out.old ++ print_from after_value (tree_tokens (observance_data observance.now))) }
-{
-    put_opening(out, after_value)?;
-    put_escaped(out, observance.name.as_slice())?;
-    let rest = change_text(observance.onset, observance.from, observance.to);
-    out.append(rest.as_slice())?;
-    Ok(())
+/// The most bytes of what comes after the moment.
+const MOST_TAIL: usize = 60;
+
+/// An observance with its text as JSON (RFC 7808, section 6.3). Contracts see the observance.
+#[derive(Drop)]
+pub struct ObservanceText {
+    observance: Observance,
+    /// What comes before the moment, with a comma first.
+    head: ShortText<MOST_HEAD>,
+    /// The moment in UTC.
+    onset: [u8; 20],
+    tail: ShortText<MOST_TAIL>,
 }
 
-/// The text of a change, which comes after the name: the moment, and the offsets in seconds east of
-/// UTC. It is made in room of its own, since one append costs less than seven.
-fn change_text(onset: Moment, from: i32, to: i32) -> ShortText<MOST_CHANGE_TEXT>
-    requires { IsWithinBounds onset.seconds }
-    ensures { result ≡ codes "\",\"onset\":\"" ++ (text_of onset.seconds
-        ++ (codes "\",\"utc-offset-from\":" ++ (signed_decimal from
-        ++ (codes ",\"utc-offset-to\":" ++ (signed_decimal to ++ codes "}"))))) }
-{
-    let (mut digits, mut text) = (Buffer::new(), ShortText::new());
-    text.append(b"\",\"onset\":\"");
-    text.append(&utc_text(onset));
-    text.append(b"\",\"utc-offset-from\":");
-    text.append(digits.format(from).as_bytes());
-    text.append(b",\"utc-offset-to\":");
-    text.append(digits.format(to).as_bytes());
-    text.append(b"}");
-    text
+impl Model for ObservanceText {
+    ghost use Rattle.td_civil.specs.declared.local_time.Observance.{Observance};
+    ghost use Rattle.json_forms.specs.Pieces.{HasPieces};
+
+    ghost Value = { Observance };
+
+    ghost view = { λ t. t.observance };
+
+    ghost invariant = { λ t. HasPieces t.observance t.head t.onset t.tail };
 }
 
-/// Appends what stands before the name.
-fn put_opening(out: &mut Bytes, after_value: bool) -> Result<(), NoMemory>
-    ensures { OnOk result (out.new
-        ≡ out.old ++ (cond after_value (44 ∷ []) [] ++ codes "{\"name\":\"")) }
-{
-    if after_value {
-        out.append(b",{\"name\":\"")
-    } else {
-        out.append(b"{\"name\":\"")
-    }
-}
-
-/// Appends a plain text as it stands within a JSON string.
-#[tactic(auto, using(crate::proofs::ObservanceText::text_stays))]
-fn put_escaped(out: &mut Bytes, text: &[u8]) -> Result<(), NoMemory>
-    requires { IsPlain text.now }
-    ensures { OnOk result (out.new ≡ out.old ++ escape text.now) }
-{
-    if are_unescaped(text) {
-        out.append(text)
-    } else {
-        put_escaped_bytes(out, text)
-    }
-}
-
-/// Whether no byte has a backslash before it there.
-fn are_unescaped(text: &[u8]) -> bool
-    ensures { result ≡ list_all is_unescaped text.now }
-{
-    for &byte in text {
-        if !is_unescaped(byte) {
-            return false;
+impl ObservanceText {
+    /// The text of an observance.
+    pub fn new(observance: Observance) -> ObservanceText
+        requires { IsPlainObservance observance }
+        ensures { result ≡ observance }
+    {
+        let head = head_text(&observance.name);
+        let onset = utc_text(observance.onset);
+        let tail = tail_text(observance.from, observance.to);
+        ObservanceText {
+            observance,
+            head,
+            onset,
+            tail,
         }
     }
-    true
-}
 
-/// Whether a plain byte has no backslash before it there.
-#[tactic(auto, unfolding(crate::specs::Escapes::is_unescaped))]
-fn is_unescaped(byte: u8) -> bool
-    ensures { result ≡ is_unescaped byte }
-{
-    byte != b'"' && byte != b'\\'
-}
-
-/// Appends the text byte by byte.
-fn put_escaped_bytes(out: &mut Bytes, text: &[u8]) -> Result<(), NoMemory>
-    requires { IsPlain text.now }
-    ensures { OnOk result (out.new ≡ out.old ++ escape text.now) }
-{
-    for &byte in text {
-        put_escaped_byte(out, byte)?;
+    /// Goes on to the same change one period of the calendar later.
+    pub fn go_on(&mut self)
+        requires here { IsWithinBounds self.old.onset.seconds }
+        requires later { IsWithinBounds (self.old.onset.seconds +ℤ CYCLE) }
+        ensures { self.new ≡ observance_later self.old }
+    {
+        self.onset = text_later(&self.onset);
+        self.observance.onset.seconds += CYCLE;
     }
-    Ok(())
+
+    /// Appends the text, with a comma before it if it comes after a value.
+    pub(crate) fn put(&self, out: &mut Bytes, after_value: bool) -> Result<(), NoMemory>
+        ensures { OnOk result (out.new
+            ≡ out.old ++ print_from after_value (tree_tokens (observance_data self.now))) }
+    {
+        out.append(opening(self.head.as_slice(), after_value))?;
+        out.append(self.onset.as_slice())?;
+        out.append(self.tail.as_slice())?;
+        Ok(())
+    }
 }
 
-/// Appends a byte as it stands there: a quote and a backslash have a backslash before them.
-#[tactic(auto, using(crate::proofs::ObservanceText::byte_stays), unfolding(json::specs::Print::escape_byte))]
-fn put_escaped_byte(out: &mut Bytes, byte: u8) -> Result<(), NoMemory>
-    requires { IsTrue (is_printable byte) }
-    ensures { OnOk result (out.new ≡ out.old ++ escape_byte byte) }
+/// What comes before the moment, with its comma only after a value.
+fn opening(head: &[u8], after_value: bool) -> &[u8]
+    requires { 1 ≤ length head.now }
+    ensures { result.now ≡ cond after_value head.now (drop 1 head.now) }
+{
+    if after_value { head } else { &head[1..] }
+}
+
+/// What comes before the moment: the name as it stands within a JSON string.
+fn head_text(name: &Name) -> ShortText<MOST_HEAD>
+    requires { IsPlain name.now }
+    ensures { result ≡ head_text name.now }
+{
+    let mut head = ShortText::new();
+    head.append(b",{\"name\":\"");
+    for &byte in name.as_slice() {
+        put_escaped(&mut head, byte);
+    }
+    head.append(b"\",\"onset\":\"");
+    head
+}
+
+/// Appends a printable byte as it stands within a JSON string.
+#[tactic(auto, using(crate::proofs::PieceTexts::byte_stays), unfolding(json::specs::Print::escape_byte))]
+fn put_escaped(text: &mut ShortText<MOST_HEAD>, byte: u8)
+    requires printable { IsTrue (is_printable byte) }
+    requires room { length text.old + 2 ≤ MOST_HEAD }
+    ensures appended { text.new ≡ text.old ++ escape_byte byte }
+    ensures bound { length text.new ≤ length text.old + 2 }
 {
     match byte {
-        b'"' => out.append(b"\\\""),
-        b'\\' => out.append(b"\\\\"),
-        _ => out.push(byte),
+        b'"' => text.append(b"\\\""),
+        b'\\' => text.append(b"\\\\"),
+        _ => text.append(&[byte]),
     }
+}
+
+/// What comes after the moment: the offsets in seconds east of UTC.
+fn tail_text(from: i32, to: i32) -> ShortText<MOST_TAIL>
+    ensures { result ≡ tail_text from to }
+{
+    let (mut digits, mut tail) = (Buffer::new(), ShortText::new());
+    tail.append(b"\",\"utc-offset-from\":");
+    tail.append(digits.format(from).as_bytes());
+    tail.append(b",\"utc-offset-to\":");
+    tail.append(digits.format(to).as_bytes());
+    tail.append(b"}");
+    tail
 }

@@ -1,4 +1,4 @@
-use Rattle.std.proofs.Common.{◌≡◌, [], refl, subst, IfOk}
+use Rattle.std.proofs.Common.{◌≡◌, [], ◌∙◌, subst, IfOk}
 use Rattle.std.proofs.lemmas.List.{take_all}
 use Rattle.json_forms.specs.Begun.{IsExpansionBegun}
 use Rattle.json_forms.specs.ExpansionDocument.{expansion_document}
@@ -9,9 +9,9 @@ use Rattle.json_forms.proofs.expansion_writer.expansion_of.Goals as goal
 pub loop-observance-preserved : goal.loop-observance-preserved
 loop-observance-preserved c = record {
   begun =
-      subst (λ observances. IsExpansionBegun [] c.args.until.seconds observances c.observance.new.self)
-      (take_next c.args.observances.now c.loop-observance.observance-index c.observance-item.result _ c.loop-observance-test.true c.observance-item.is refl)
-      (c.in_ok-observance.ensures [] c.args.until.seconds _ c.loop-observance.invariant.begun);
+      subst (λ observances. IsExpansionBegun [] c.args.until.seconds observances c.write.new.self)
+      (take_next c.args.observances.now c.loop-observance.observance-index c.observance-item.result _ c.loop-observance-test.true c.observance-item.is (c.new-in-loop-observance.ensures ∙ c.copy.ensures))
+      (c.in_ok-write.ensures [] c.args.until.seconds _ c.loop-observance.invariant.begun);
   plain =
       (all_next IsPlainObservance c.args.observances.now c.loop-observance.observance-index c.observance-item.result
       c.loop-observance-test.true c.observance-item.is c.loop-observance.invariant.plain).1;

@@ -1,11 +1,14 @@
 -- The text of an observance, and the pieces that are appended for it.
-use Rattle.std.proofs.Common.{◌≡◌, ◌≢◌, ℕ, ◌+◌, ◌%◌, Bool, true, false, IsTrue, List, [], ◌∷◌, ◌++◌, cond, codes, nat_le, refl, sym, ap, ap₂, ◌∙◌, append_assoc, arith, ℤ}
+use Rattle.std.proofs.Common.{◌≡◌, ◌≢◌, ℕ, ◌+◌, ◌%◌, Bool, true, false, IsTrue, List, [], ◌∷◌, ◌++◌, cond, codes, nat_le, ◌≤◌, length, drop, refl, sym, ap, ap₂, ◌∙◌, append_assoc, arith, ℤ}
 use Rattle.std.proofs.lemmas.Bool.Decides.{nat_tests}
 use Rattle.std.proofs.lemmas.Bool.{and_parts}
-use Rattle.std.specs.Prelude.{not, ◌==◌}
-use Rattle.std.specs.List.{list_all}
+use Rattle.std.specs.Fmt.{signed_decimal}
 use Rattle.td_base.specs.Names.{is_printable, IsPlain}
-use Rattle.json_forms.specs.Escapes.{is_unescaped}
+use Rattle.json_forms.specs.ExpansionDocument.{observance_data}
+use Rattle.json_forms.specs.Pieces.{head_text, HasPieces}
+use Rattle.json_forms.specs.TreeTokens.{tree_tokens}
+use Rattle.json_forms.proofs.Integers.{integer_text}
+use Rattle.td_civil.specs.declared.local_time.Observance.{Observance}
 use Rattle.json.specs.Print.{escape, escape_byte, print_from}
 use Rattle.json.specs.Token as token
 use Rattle.td_civil.specs.Stamp.{Stamp, spelling}
@@ -17,20 +20,6 @@ unfolding escape_byte
 byte_stays b plain no_quote no_backslash =
     let least : IsTrue (nat_le 32 b) = (and_parts (nat_le 32 b) (nat_le b 126) plain).0 in
     grind (arith, nat_tests)
-
-unescaped_stays : (b : ℕ) → IsTrue (is_printable b) → IsTrue (is_unescaped b) → escape_byte b ≡ b ∷ []
-unfolding is_unescaped
-unescaped_stays b plain own =
-    let parts = and_parts (not (b == 34)) (not (b == 92)) own in
-    byte_stays b plain (grind (arith, nat_tests)) (grind (arith, nat_tests))
-
--- nor does a text of such bytes
-pub text_stays : (text : List ℕ) → IsPlain text → list_all is_unescaped text ≡ true → escape text ≡ text
-text_stays [] plain own = refl
-text_stays (b ∷ bs) plain own =
-    let parts = and_parts (is_printable b) (list_all is_printable bs) plain in
-    let owns = and_parts (is_unescaped b) (list_all is_unescaped bs) own in
-    ap₂ (λ x y. x ++ y) (unescaped_stays b parts.0 owns.0) (text_stays bs parts.1 owns.1)
 
 digit_stays : (n : ℕ) → escape_byte (48 + n % 10) ≡ (48 + n % 10) ∷ []
 unfolding escape_byte
@@ -89,29 +78,57 @@ unfolding print_from escape_byte offsets
 observance_printed true name stamp from to stays = ap (λ l. codes ",{\"name\":\"" ++ l) (strings_joined name stamp from to stays)
 observance_printed false name stamp from to stays = ap (λ l. codes "{\"name\":\"" ++ l) (strings_joined name stamp from to stays)
 
-joined : (a b c d e : List ℕ) → ((a ++ (b ++ c)) ++ d) ++ e ≡ a ++ (b ++ (c ++ (d ++ e)))
-joined a b c d e = simp append_assoc
+-- the pieces as they are kept
+head_joined : (a n x s t : List ℕ) → (a ++ (n ++ x)) ++ (s ++ t) ≡ a ++ (n ++ (x ++ (s ++ t)))
+head_joined a n x s t = simp append_assoc
 
--- as they are appended one after another, with what comes after the name in one piece
+three_joined : (out h s t : List ℕ) → ((out ++ h) ++ s) ++ t ≡ out ++ (h ++ (s ++ t))
+three_joined out h s t = simp append_assoc
+
+-- what comes before the moment, where a value came before or not
+abbrev opening : Bool → List ℕ → List ℕ
+opening true name = head_text name
+opening false name = drop 1 (head_text name)
+
+opened : (after : Bool) (name stamp from to : List ℕ)
+    → opening after name ++ (stamp ++ (codes "\",\"utc-offset-from\":" ++ (from ++ (codes ",\"utc-offset-to\":" ++ (to ++ codes "}")))))
+    ≡ pieces after name stamp from to
+opened true name stamp from to = head_joined (codes ",{\"name\":\"") (escape name) (codes "\",\"onset\":\"") stamp _
+opened false name stamp from to = head_joined (codes "{\"name\":\"") (escape name) (codes "\",\"onset\":\"") stamp _
+
+-- as they are appended one after another
 pub observance_appended : (out : List ℕ) (after : Bool) (name stamp from to : List ℕ) → escape stamp ≡ stamp
-    → ((out ++ (cond after (44 ∷ []) [] ++ codes "{\"name\":\"")) ++ escape name)
-    ++ (codes "\",\"onset\":\"" ++ (stamp ++ (codes "\",\"utc-offset-from\":" ++ (from ++ (codes ",\"utc-offset-to\":" ++ (to ++ codes "}"))))))
+    → ((out ++ opening after name) ++ stamp) ++ (codes "\",\"utc-offset-from\":" ++ (from ++ (codes ",\"utc-offset-to\":" ++ (to ++ codes "}"))))
     ≡ out ++ print_from after
     (token.begin_object ∷ token.key (codes "name") ∷ token.string name ∷ token.key (codes "onset") ∷ token.string stamp
     ∷ token.key (codes "utc-offset-from") ∷ token.number from ∷ token.key (codes "utc-offset-to") ∷ token.number to ∷ token.end_object ∷ [])
 observance_appended out after name stamp from to stays =
-    joined out (cond after (44 ∷ []) []) (codes "{\"name\":\"") (escape name) _
-    ∙ ap (λ l. out ++ l) (sym (observance_printed after name stamp from to stays))
+    three_joined out (opening after name) stamp _
+    ∙ ap (λ l. out ++ l) (opened after name stamp from to ∙ sym (observance_printed after name stamp from to stays))
 
-seven_joined : (a b c d e f g : List ℕ) → (((((a ++ b) ++ c) ++ d) ++ e) ++ f) ++ g ≡ a ++ (b ++ (c ++ (d ++ (e ++ (f ++ g)))))
-seven_joined a b c d e f g = simp append_assoc
+-- the text of an observance from its pieces
+pub pieces_appended : (out head onset tail : List ℕ) (after : Bool) (o : Observance) → HasPieces o head onset tail
+    → ((out ++ cond after head (drop 1 head)) ++ onset) ++ tail ≡ out ++ print_from after (tree_tokens (observance_data o))
+unfolding observance_data
+pieces_appended out head onset tail true o h =
+    rw (h.head_is, h.onset_is, h.tail_is, integer_text o.from, integer_text o.to)
+    (observance_appended out true o.name (text_of o.onset.seconds) (signed_decimal o.from) (signed_decimal o.to) (stamp_stays o.onset.seconds))
+pieces_appended out head onset tail false o h =
+    rw (h.head_is, h.onset_is, h.tail_is, integer_text o.from, integer_text o.to)
+    (observance_appended out false o.name (text_of o.onset.seconds) (signed_decimal o.from) (signed_decimal o.to) (stamp_stays o.onset.seconds))
 
--- what comes after the name, as it is put together
-pub rest_joined : (t0 t1 t2 t3 t4 t5 t6 t7 a b c stamp from to : List ℕ)
-    → t0 ≡ [] → t1 ≡ t0 ++ codes "\",\"onset\":\"" → t2 ≡ t1 ++ a → a ≡ stamp
-    → t3 ≡ t2 ++ codes "\",\"utc-offset-from\":" → t4 ≡ t3 ++ b → b ≡ from
-    → t5 ≡ t4 ++ codes ",\"utc-offset-to\":" → t6 ≡ t5 ++ c → c ≡ to → t7 ≡ t6 ++ codes "}"
-    → t7 ≡ codes "\",\"onset\":\"" ++ (stamp ++ (codes "\",\"utc-offset-from\":" ++ (from ++ (codes ",\"utc-offset-to\":" ++ (to ++ codes "}")))))
-rest_joined t0 t1 t2 t3 t4 t5 t6 t7 a b c stamp from to h0 h1 h2 is_stamp h3 h4 is_from h5 h6 is_to h7 =
-    rw (h7, h6, is_to, h5, h4, is_from, h3, h2, is_stamp, h1, h0)
-    (seven_joined (codes "\",\"onset\":\"") stamp (codes "\",\"utc-offset-from\":") from (codes ",\"utc-offset-to\":") to (codes "}"))
+five_joined : (a b c d e : List ℕ) → (((a ++ b) ++ c) ++ d) ++ e ≡ a ++ (b ++ (c ++ (d ++ e)))
+five_joined a b c d e = simp append_assoc
+
+-- what comes after the moment, as it is put together
+pub tail_joined : (t0 t1 t2 t3 t4 t5 b c from to : List ℕ)
+    → t0 ≡ [] → t1 ≡ t0 ++ codes "\",\"utc-offset-from\":" → t2 ≡ t1 ++ b → b ≡ from
+    → t3 ≡ t2 ++ codes ",\"utc-offset-to\":" → t4 ≡ t3 ++ c → c ≡ to → t5 ≡ t4 ++ codes "}"
+    → t5 ≡ codes "\",\"utc-offset-from\":" ++ (from ++ (codes ",\"utc-offset-to\":" ++ (to ++ codes "}")))
+tail_joined t0 t1 t2 t3 t4 t5 b c from to h0 h1 h2 is_from h3 h4 is_to h5 =
+    rw (h5, h4, is_to, h3, h2, is_from, h1, h0)
+    (five_joined (codes "\",\"utc-offset-from\":") from (codes ",\"utc-offset-to\":") to (codes "}"))
+
+-- what comes before it has its comma at least
+pub head_is_long : (o : Observance) (head onset tail : List ℕ) → HasPieces o head onset tail → 1 ≤ length head
+head_is_long o head onset tail h = rw h.head_is (omega arith)
