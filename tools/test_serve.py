@@ -7,15 +7,21 @@ Each check starts servers of its own at free ports, and ends them. It needs Pyth
 library alone. The status is 0 where all is well, and 1 where a check failed.
 """
 
+import calendar
 import json
 import os
+import shutil
 import signal
 import socket
 import sys
 import tempfile
 import threading
 import time
+from collections import Counter
 from concurrent.futures import ThreadPoolExecutor
+from datetime import datetime
+from urllib.parse import quote
+from zoneinfo import ZoneInfo
 
 sys.dont_write_bytecode = True
 
@@ -38,6 +44,48 @@ BACK = "refused 3 StampBack 2025-03-22T00:00:00Z 2025-01-20T00:00:00Z"
 IDLE, PROGRESS, HEAD, OWED = 60, 10, 30, 2
 # After how many seconds all is given up.
 WHOLE = 1800
+
+# Zones with rules of several kinds, and one without: half an hour, a negative daylight saving time,
+# and a change on the day before.
+FAR_ZONES = ("America/New_York", "Europe/Dublin", "Australia/Lord_Howe", "America/Nuuk", "Asia/Tokyo")
+ZONEINFO = "/usr/share/zoneinfo"
+
+
+def far_years(program):
+    """An expansion over 8,000 years has each change of a zone, as Python's zoneinfo has them."""
+    with tempfile.TemporaryDirectory() as room:
+        zones = [{"tzid": it, "file": str(number)} for number, it in enumerate(FAR_ZONES)]
+        for number, name in enumerate(FAR_ZONES):
+            shutil.copyfile(os.path.join(ZONEINFO, name), os.path.join(room, str(number)))
+        manifest = {"publisher": "Test", "version": "1", "stamp": "2025-06-01T00:00:00Z", "zones": zones}
+        with open(os.path.join(room, "manifest.json"), "w") as file:
+            json.dump(manifest, file)
+        with Served([room], program=program) as server, Client(server.port) as client:
+            for number, name in enumerate(FAR_ZONES):
+                target = f"{ZONES}/{quote(name, safe='')}/observances"
+                reply = client.ask(f"{target}?start=1970-01-01T00:00:00Z&end=9998-01-01T00:00:00Z")
+                with open(os.path.join(room, str(number)), "rb") as file:
+                    zone = ZoneInfo.from_file(file)
+                has_each_change(name, zone, json.loads(reply.body)["observances"])
+
+
+def has_each_change(name, zone, observances):
+    """Whether offsets follow one another as those of a zone, as many in each year as 400 years before."""
+
+    def offset(moment):
+        return int(datetime.fromtimestamp(moment, zone).utcoffset().total_seconds())
+
+    onsets = [calendar.timegm(time.strptime(it["onset"], "%Y-%m-%dT%H:%M:%SZ")) for it in observances]
+    for place, (onset, it) in enumerate(zip(onsets, observances)):
+        known = (offset(onset - 1) if place else offset(onset), offset(onset))
+        same(f"{name}: the offsets at {it['onset']}", (it["utc-offset-from"], it["utc-offset-to"]), known)
+        if place:
+            holds(f"{name}: {it['onset']} comes after the one before", onsets[place - 1] < onset)
+            middle = (onsets[place - 1] + onset) // 2
+            same(f"{name}: the offset before {it['onset']}", offset(middle), it["utc-offset-from"])
+    counts = Counter(int(it["onset"][:4]) for it in observances)
+    for year in range(2500, 9998):
+        same(f"{name}: the changes of {year}", counts[year], counts[2100 + (year - 2100) % 400])
 
 
 def replies(program):
@@ -901,6 +949,7 @@ CHECKS = [
     many_idle,
     whole_releases,
     replies,
+    far_years,
     pipelined,
     bad_requests,
     installs,
