@@ -23,7 +23,7 @@ REASONS = {
     "mostly for memory, and a third the program's own, none of it above four parts in a hundred.",
     "memory of later syncs": "only where all zones change: a mirror then holds the files that it received beside both releases.",
     "largest release installed again": "what was parsed of a zone is kept beside its file.",
-    "longest expansion": "it has 16,190 changes, each of some 1,100 instructions.",
+    "longest expansion": "it has 16,190 changes. By HEAD it keeps the mark; a GET also sends 1.8 MB.",
     "waits while installing": "two workers and installs without a pause share two processors. Reading a release yields, but "
     "its last checks do not. The service's scripts mend that, as the next row shows.",
     "waits while the service installs": "the thread that installs yields only where the system allows it.",
