@@ -2,7 +2,7 @@
 use Rattle.std.proofs.Common.{◌≡◌, ℕ, ◌+◌, Bool, true, false, if◌then◌else◌, List, [], ◌∷◌, ◌++◌, length, map, refl, ap, sym, ◌∙◌}
 use Rattle.std.proofs.lemmas.List.{map-append, length-map}
 use Rattle.std.proofs.lemmas.Simd.{map-map}
-use Rattle.catalogue.specs.HeldZones.{held_content, held_names, names_at, numbered}
+use Rattle.catalogue.specs.HeldZones.{held_content, held_names, indexed_names, names_at, numbered}
 use Rattle.catalogue.specs.Holdings.{names_held}
 use Rattle.catalogue.specs.Order.{is_before, put_by, rising_by}
 use Rattle.catalogue.specs.Releases.{ContentData}
@@ -37,7 +37,7 @@ texts_numbered n (texts ∷ rest) =
     ∙ ap (λ xs. xs ++ map (λ (m : Name). m.text) (numbered (n + 1) rest)) (texts_at n texts)
     ∙ ap (λ xs. texts ++ xs) (texts_numbered (n + 1) rest)
 
-pub names_indexed : {Z : Type 0} (bytes : Z → List ℕ) (c : Catalogue Z) → map (λ n. n.text) c.names ≡ names_held bytes c
+pub names_indexed : {Z : Type 0} (bytes : Z → List ℕ) (c : Catalogue Z) → map (λ n. n.text) (indexed_names c.names) ≡ names_held bytes c
 unfolding names_held
 names_indexed bytes c =
     ap (map (λ (n : Name). n.text)) c.indexed
@@ -46,5 +46,5 @@ names_indexed bytes c =
     ∙ ap joined_names (sym (map-map (λ (d : ContentData). d.tzid ∷ d.aliases) (held_content bytes) c.held))
     ∙ joined-names_of (map (held_content bytes) c.held))
 
-pub name_count_held : {Z : Type 0} (bytes : Z → List ℕ) (c : Catalogue Z) → length c.names ≡ length (names_held bytes c)
-name_count_held bytes c = sym (length-map c.names (λ (n : Name). n.text)) ∙ ap length (names_indexed bytes c)
+pub name_count_held : {Z : Type 0} (bytes : Z → List ℕ) (c : Catalogue Z) → length (indexed_names c.names) ≡ length (names_held bytes c)
+name_count_held bytes c = sym (length-map (indexed_names c.names) (λ (n : Name). n.text)) ∙ ap length (names_indexed bytes c)

@@ -43,6 +43,10 @@ held_names {Z} h =
 abbrev pub names_at : ℕ → List (List ℕ) → List Name
 names_at n texts = map (λ t. record { text = t; zone = n }) texts
 
+-- an index of names
+abbrev pub indexed_names : Arc (List Name) Global → List Name
+indexed_names index = arc_value {X = List Name} index
+
 -- the names of zones that are numbered from this number on
 abbrev pub numbered : ℕ → List (List (List ℕ)) → List Name
 numbered n [] = []

@@ -2,7 +2,8 @@ ghost use Rattle.std.specs.Prelude.{◌≡◌, ◌+◌, ◌-◌, ◌≤◌, ◌<
 ghost use Rattle.std.specs.Option.{IsSomeAnd};
 ghost use Rattle.std.specs.List.{slice_get};
 ghost use Rattle.td_base.specs.Names.{IsPlain};
-ghost use Rattle.catalogue.specs.HeldZones.{entry_data, held_change, held_names, numbered};
+ghost use Rattle.catalogue.specs.HeldZones.{entry_data, held_change, held_names, indexed_names};
+ghost use Rattle.catalogue.specs.HeldZones.{numbered};
 ghost use Rattle.catalogue.specs.Histories.{last_release, meta, retired, token_of};
 ghost use Rattle.catalogue.specs.Order.{rising_by};
 ghost use Rattle.catalogue.specs.Plain.{IsPlainEntry};
@@ -26,12 +27,15 @@ pub struct Catalogue<Z> {
     pub(crate) chain: [u8; 32],
     pub(crate) count: u32,
     pub(crate) tokens: Items<Token>,
-    pub(crate) names: Items<Name>,
+    /// The names of these zones, in rising order. Catalogues of one history share them until they
+    /// change.
+    pub(crate) names: Arc<Items<Name>>,
     /// Index of the places at which the entries last changed.
     pub(crate) index: ChangeIndex,
     ghost some: { 1 ≤ count },
     ghost counted: { length tokens ≡ count - retired count },
-    ghost indexed: { names ≡ rising_by (λ n. n.text) (numbered 0 (map held_names held)) },
+    ghost indexed: { indexed_names names
+        ≡ rising_by (λ n. n.text) (numbered 0 (map held_names held)) },
     ghost changes: { index ≡ map held_change held },
 }
 

@@ -5,7 +5,9 @@ ghost use Rattle.catalogue.specs.Releases.{ContentData, HasLengths, IsShort, con
 ghost use Rattle.catalogue.specs.Releases.{release_data};
 ghost use Rattle.catalogue.specs.Digests.{content_digest, linked, token_text};
 ghost use Rattle.catalogue.specs.Histories.{Fits, FitsAfter, entry_from, retired};
-ghost use Rattle.catalogue.specs.HeldZones.{held_digest, held_entry};
+ghost use Rattle.catalogue.specs.HeldZones.{held_digest, held_entry, held_names, indexed_names};
+ghost use Rattle.catalogue.specs.HeldZones.{numbered};
+ghost use Rattle.catalogue.specs.Order.{rising_by};
 ghost use Rattle.catalogue.specs.Holdings.{ForEachHistory, StandsFor, place_count, release_held};
 ghost use Rattle.catalogue.specs.Holdings.{release_of};
 
@@ -16,7 +18,7 @@ use crate::entries::Held;
 use crate::head::Head;
 use crate::holding::Catalogue;
 use crate::limits::KEPT_TOKENS;
-use crate::names::all_names;
+use crate::names::{Name, share_names};
 use crate::order::in_order;
 use crate::{Content, Entry, Release, ZoneData};
 use std::alloc::Global;
@@ -115,16 +117,19 @@ fn parted<Z>(release: Release<Z>) -> (Head, Items<Content<Z>>)
     (head, zones)
 }
 
-/// The catalogue of a place, from its head and zones, the chain value of the place before and the
-/// earlier tokens that stay.
+/// The catalogue of a place, from its head and zones, their names, the chain value of the place
+/// before and the earlier tokens that stay.
 fn closed<Z: Drop>(
     alloc: Global,
     place: u32,
     head: Head,
     held: Items<Arc<Held<Z>>>,
+    names: Arc<Items<Name>>,
     before: &[u8; 32],
     tokens: Items<Token>,
 ) -> Result<Catalogue<Z>, NoMemory>
+    requires names { indexed_names names
+        ≡ rising_by (λ n. n.text) (numbered 0 (map held_names held)) }
     requires lengths { HasLengths (release_of head []) }
     requires zones { length held < 2 ^ 32 }
     requires some { 1 ≤ place }
@@ -137,7 +142,6 @@ fn closed<Z: Drop>(
     ensures tokens { IfOk result (λ c. c.tokens ≡ tokens ++ token_text place c.chain ∷ []) }
 {
     let chain = link(before, &head, held.as_slice());
-    let names = all_names(alloc, held.as_slice())?;
     let index = index_changes(alloc, held.as_slice())?;
     let mut tokens = tokens;
     tokens.push(token(place, &chain))?;
@@ -164,7 +168,8 @@ impl<Z: ZoneData + Drop> Catalogue<Z> {
         let (head, zones) = parted(release);
         let contents = in_order(alloc, zones)?;
         let held = all_changed(alloc, contents, 1, &head)?;
-        let catalogue = closed(alloc, 1, head, held, &[0; 32], Items::new(alloc))?;
+        let names = share_names(alloc, held.as_slice())?;
+        let catalogue = closed(alloc, 1, head, held, names, &[0; 32], Items::new(alloc))?;
         Ok(catalogue)
     }
 
@@ -181,8 +186,9 @@ impl<Z: ZoneData + Drop> Catalogue<Z> {
         let contents = in_order(alloc, zones)?;
         let place = self.count + 1;
         let held = self.all_next(alloc, contents, place, &head)?;
+        let names = self.names_next(alloc, held.as_slice())?;
         let tokens = copy_last(alloc, &self.tokens)?;
-        let catalogue = closed(alloc, place, head, held, &self.chain, tokens)?;
+        let catalogue = closed(alloc, place, head, held, names, &self.chain, tokens)?;
         Ok(catalogue)
     }
 }

@@ -1,9 +1,10 @@
-ghost use Rattle.std.specs.Prelude.{◌≡◌, ◌<◌, ◌∷◌, ◌++◌, ◌^◌, IfOk, OnOk, Some, length, map};
+ghost use Rattle.std.specs.Prelude.{◌≡◌, ◌<◌, ◌∷◌, ◌++◌, ◌^◌, IfOk, OnOk, Some, length};
+ghost use Rattle.std.specs.Prelude.{map, true};
 ghost use Rattle.std.specs.List.{slice_get};
 ghost use Rattle.std.specs.Cmp.Lexicographic.{slice_cmp};
 ghost use Rattle.std.specs.Ordering.{nat_cmp};
 ghost use Rattle.catalogue.specs.Order.{rising_by};
-ghost use Rattle.catalogue.specs.HeldZones.{held_names, names_at, numbered};
+ghost use Rattle.catalogue.specs.HeldZones.{held_names, indexed_names, names_at, numbered};
 
 use crate::Content;
 use crate::entries::Held;
@@ -62,8 +63,41 @@ fn put_names<Z>(
     Ok(())
 }
 
+/// Whether zones have the same names as others, one for one.
+pub fn have_same_names<Z>(zones: &[Arc<Held<Z>>], others: &[Arc<Held<Z>>]) -> bool
+    ensures { result ≡ true → map held_names zones.now ≡ map held_names others.now }
+{
+    if zones.len() != others.len() {
+        return false;
+    }
+    for at in 0..zones.len() {
+        if !has_same_names(&zones[at].entry.content, &others[at].entry.content) {
+            return false;
+        }
+    }
+    true
+}
+
+/// Whether two zones have the same identifier and the same aliases.
+fn has_same_names<Z>(zone: &Content<Z>, other: &Content<Z>) -> bool
+    ensures { result ≡ true
+        → zone.now.tzid ∷ zone.now.aliases ≡ other.now.tzid ∷ other.now.aliases }
+{
+    zone.tzid == other.tzid && zone.aliases.as_slice() == other.aliases.as_slice()
+}
+
+/// The names of all zones, in rising order, for catalogues that share them.
+pub fn share_names<Z>(alloc: Global, held: &[Arc<Held<Z>>]) -> Result<Arc<Items<Name>>, NoMemory>
+    requires { length held.now < 2 ^ 32 }
+    ensures { IfOk result (λ r. indexed_names r
+        ≡ rising_by (λ n. n.text) (numbered 0 (map held_names held.now))) }
+{
+    let names = Arc::new(alloc, all_names(alloc, held)?)?;
+    Ok(names)
+}
+
 /// The names of all zones, in rising order.
-pub fn all_names<Z>(alloc: Global, held: &[Arc<Held<Z>>]) -> Result<Items<Name>, NoMemory>
+fn all_names<Z>(alloc: Global, held: &[Arc<Held<Z>>]) -> Result<Items<Name>, NoMemory>
     requires { length held.now < 2 ^ 32 }
     ensures { IfOk result (λ r.
         r ≡ rising_by (λ n. n.text) (numbered 0 (map held_names held.now))) }

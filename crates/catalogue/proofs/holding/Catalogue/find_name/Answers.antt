@@ -4,7 +4,7 @@ use Rattle.std.proofs.lemmas.Fn.{always_returns_same}
 use Rattle.std.proofs.lemmas.Simd.{map-map}
 use Rattle.std.specs.List.{IsDistinct}
 use Rattle.std.specs.Str.{bytes_eq}
-use Rattle.catalogue.specs.HeldZones.{held_content, held_entry, held_names, numbered}
+use Rattle.catalogue.specs.HeldZones.{held_content, held_entry, held_names, indexed_names, numbered}
 use Rattle.catalogue.specs.Histories.{meta}
 use Rattle.catalogue.specs.Holdings.{StandsFor}
 use Rattle.catalogue.specs.Lookups.{place_named}
@@ -19,7 +19,7 @@ use Rattle.catalogue.proofs.holding.Catalogue.find_name.Goals as goal
 
 -- the names are those of the entries
 names_are : {Z : Type 0} (bytes : Z → List ℕ) (sound : ReleaseData → Type 0) (k : Catalogue Z) (H : List ReleaseData) → StandsFor bytes sound k H
-    → k.names ≡ names_listed (meta H)
+    → indexed_names k.names ≡ names_listed (meta H)
 names_are bytes sound k H s =
     k.indexed ∙ ap (λ xss. rising_by (λ (n : Name). n.text) (numbered 0 xss))
     (sym (map-map entry_names (held_entry bytes) k.held) ∙ ap (map entry_names) s.entries)
@@ -38,7 +38,7 @@ apart bytes sound k H s =
 pub returns-in-Ok-clause-within : goal.returns-in-Ok-clause-within
 returns-in-Ok-clause-within g c =
     let held = c.args.self.now.held in
-    let names = c.as_slice-names.ensures ∙ c.args.self.now.indexed in
+    let names = c.as_slice-names.ensures ∙ c.deref.ensures ∙ c.args.self.now.indexed in
     rw names (rw (length-map held held_names) at
     (zone_is_there (map held_names held) c.in-Ok.found c.index-names-found.result (rw names at c.in-Ok.ensures.bound)))
 
@@ -46,7 +46,7 @@ pub returns-in-Ok-clause-place : goal.returns-in-Ok-clause-place
 unfolding place_named
 returns-in-Ok-clause-place g c = λ H s.
     let name = c.args.name.now in
-    let names = c.as_slice-names.ensures ∙ names_are g.Z.ZoneData.bytes g.Z.ZoneData.sound c.args.self.now H s in
+    let names = c.as_slice-names.ensures ∙ c.deref.ensures ∙ names_are g.Z.ZoneData.bytes g.Z.ZoneData.sound c.args.self.now H s in
     let hit = c.in-Ok.ensures.position (compared name) (always_returns_same _ _ _ (λ a r f' called. search rules)) in
     rw names (place_found (meta H) name c.in-Ok.found c.index-names-found.result (apart g.Z.ZoneData.bytes g.Z.ZoneData.sound c.args.self.now H s)
     (rw names at c.in-Ok.ensures.bound)
@@ -56,7 +56,7 @@ pub returns-in-Err-clause-place : goal.returns-in-Err-clause-place
 unfolding place_named
 returns-in-Err-clause-place g c = λ H s.
     let name = c.args.name.now in
-    let names = c.as_slice-names.ensures ∙ names_are g.Z.ZoneData.bytes g.Z.ZoneData.sound c.args.self.now H s in
+    let names = c.as_slice-names.ensures ∙ c.deref.ensures ∙ names_are g.Z.ZoneData.bytes g.Z.ZoneData.sound c.args.self.now H s in
     let missed = c.in-Err.ensures.position (compared name) (always_returns_same _ _ _ (λ a r f' called. search rules)) in
     let parts = rw names at missed in
     place_missed (meta H) name (none_same name (names_listed (meta H)) c.in-Err.field-0 (parts (searchable (meta H) name)))

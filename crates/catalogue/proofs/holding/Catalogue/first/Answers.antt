@@ -24,6 +24,18 @@ all_changed-requires g c =
     c.in_ok-contents.ensures ∙ ap (λ zs. rising_by (λ (d : ContentData). d.tzid) (map (content_data bytes) zs)) c.parted-head.ensures.zones in
     each_mapped (content_as_is bytes) IsShort c.in_ok-contents.contents (rw sorted short)
 
+pub closed-requires-clause-lengths : goal.closed-requires-clause-lengths
+closed-requires-clause-lengths g c =
+    let lengths = g.met.Z.ZoneData.lengths (release_data g.Z.ZoneData.bytes c.args.release) c.requires.sound in
+    rw c.parted-head.ensures.head (record {
+      stamp = lengths.stamp;
+      publisher = lengths.publisher;
+      version = lengths.version;
+      files = tt;
+      leap_file = lengths.leap_file;
+      leap_expiry = lengths.leap_expiry;
+    })
+
 pub closed-requires-clause-zones : goal.closed-requires-clause-zones
 closed-requires-clause-zones g c =
     let bytes = g.Z.ZoneData.bytes in

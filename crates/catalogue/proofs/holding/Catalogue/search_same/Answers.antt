@@ -3,7 +3,7 @@ use Rattle.catalogue.specs.Releases.{content_as_is, same_content}
 use Rattle.catalogue.specs.HeldZones.{held_content}
 use Rattle.catalogue.specs.Lookups.{place_named}
 use Rattle.catalogue.proofs.lemmas.SameZones.{none_held, other_held}
-use Rattle.catalogue.proofs.holding.Catalogue.find_same.Goals as goal
+use Rattle.catalogue.proofs.holding.Catalogue.search_same.Goals as goal
 
 pub returns-in_err-at-clause-none : goal.returns-in_err-at-clause-none
 returns-in_err-at-clause-none g c = λ _ H s.
