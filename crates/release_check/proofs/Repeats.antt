@@ -1,65 +1,44 @@
--- Names that are kept in order, and the first of them that stood before.
-use Rattle.std.proofs.Common.{◌≡◌, ℕ, ◌+◌, ◌<◌, Bool, true, false, not, ◌||◌, if◌then◌else◌, List}
+-- Names that are kept, and the first of them that stood before.
+use Rattle.std.proofs.Common.{◌≡◌, ℕ, ◌+◌, ◌<◌, Bool, true, false, not, ◌||◌, cond, if◌then◌else◌, List}
 use Rattle.std.proofs.Common.{[], ◌∷◌, ◌++◌, length, map, take, drop, get_or, Option, Some, refl}
 use Rattle.std.proofs.Common.{ap, sym, ◌∙◌}
-use Rattle.std.specs.Cmp.Lexicographic.{slice_cmp}
 use Rattle.std.specs.List.{list_any}
-use Rattle.std.specs.Ordering.{nat_cmp, is_eq, match_ordering}
 use Rattle.std.specs.Str.{bytes_eq}
-use Rattle.std.specs.BTreeSet.{insert_key}
-use Rattle.std.specs.declared.cmp.Ordering.{Ordering}
-use Rattle.std.specs.declared.cmp.Ordering.TheVariants.{Less, Equal, Greater}
 use Rattle.std.proofs.lemmas.List.{at_drop_more, map-append, take_more}
+use Rattle.std.proofs.lemmas.Cmp.{nat_list_eq_equiv}
 use Rattle.std.proofs.lemmas.List.Folds.{list_any-append}
-use Rattle.std.proofs.lemmas.Map.Text.{is_eq-slice_cmp}
-use Rattle.td_civil.proofs.lemmas.Spelled.{same_text}
 use Rattle.release_check.specs.Faults.{duplicate_fault}
 use Rattle.release_check.specs.declared.check_fault.CheckFault.{CheckFault}
 use Rattle.release_check.specs.declared.check_fault.CheckFault.TheVariants as fault
 
--- tests in another order, and a test twice
-or_moved : (a b c : Bool) → (a || (b || c)) ≡ (b || (a || c))
-or_moved true true c = refl
-or_moved true false c = refl
-or_moved false true c = refl
-or_moved false false c = refl
-
-or_twice : (a c : Bool) → (a || c) ≡ (a || (a || c))
-or_twice true c = refl
-or_twice false c = refl
-
+-- tests in another order
 or_last : (a c : Bool) → (a || c) ≡ (c || (a || false))
 or_last true true = refl
 or_last true false = refl
 or_last false true = refl
 or_last false false = refl
 
--- the names that are kept, after one more was put in its place
-pub kept_more : {X : Type 0} (name : X → List ℕ) (keys : List X) (x : X) (text : List ℕ)
-    → list_any (bytes_eq text) (map name (insert_key (λ a b. slice_cmp nat_cmp (name a) (name b)) keys x))
-    ≡ (bytes_eq text (name x) || list_any (bytes_eq text) (map name keys))
-kept_more {X} name [] x text = refl
-kept_more {X} name (y ∷ ys) x text = by (slice_cmp nat_cmp (name x) (name y)) refl (kept_more name ys x text)
-  where
-    more : List X
-    more = insert_key (λ a b. slice_cmp nat_cmp (name a) (name b)) ys x
-
-    by : (o : Ordering) → slice_cmp nat_cmp (name x) (name y) ≡ o
-        → list_any (bytes_eq text) (map name more) ≡ (bytes_eq text (name x) || list_any (bytes_eq text) (map name ys))
-        → list_any (bytes_eq text) (map name (match_ordering o (x ∷ y ∷ ys) (y ∷ ys) (y ∷ more)))
-        ≡ (bytes_eq text (name x) || list_any (bytes_eq text) (map name (y ∷ ys)))
-    by Less is later = refl
-    by Equal is later =
-        let same : name x ≡ name y = same_text (name x) (name y) (sym (is_eq-slice_cmp (name x) (name y)) ∙ ap is_eq is) in
-        rw same (or_twice (bytes_eq text (name y)) (list_any (bytes_eq text) (map name ys)))
-    by Greater is later =
-        ap (λ b. bytes_eq text (name y) || b) later ∙ or_moved (bytes_eq text (name y)) (bytes_eq text (name x)) (list_any (bytes_eq text) (map name ys))
-
 -- whether a name is kept
-pub is_kept : {X : Type 0} (name : X → List ℕ) (keys : List X) (x : X)
-    → list_any (λ k. is_eq (slice_cmp nat_cmp (name x) (name k))) keys ≡ list_any (bytes_eq (name x)) (map name keys)
-is_kept name [] x = refl
-is_kept name (y ∷ ys) x = rw (is_eq-slice_cmp (name x) (name y), is_kept name ys x) refl
+pub is_kept : {X : Type 0} (name : X → List ℕ) (keys : List X) (text : List ℕ)
+    → list_any (λ k. bytes_eq text (name k)) keys ≡ list_any (bytes_eq text) (map name keys)
+is_kept name [] text = refl
+is_kept name (y ∷ ys) text = ap (λ b. bytes_eq text (name y) || b) (is_kept name ys text)
+
+same_or : (one text : List ℕ) (a b : Bool) → a ≡ cond (bytes_eq one text) true b → a ≡ (bytes_eq text one || b)
+same_or one text a b e = e ∙ by (bytes_eq one text) (bytes_eq text one) b (nat_list_eq_equiv.symm one text)
+  where
+    by : (x y b : Bool) → x ≡ y → cond x true b ≡ (y || b)
+    by true y b e = rw (← e) refl
+    by false y b e = rw (← e) refl
+
+-- the names that are kept, after one more was put among them
+pub kept_more : {X : Type 0} (name : X → List ℕ) (keys more : List X) (one text : List ℕ)
+    → list_any (λ k. bytes_eq text (name k)) more ≡ cond (bytes_eq one text) true (list_any (λ k. bytes_eq text (name k)) keys)
+    → list_any (bytes_eq text) (map name more) ≡ (bytes_eq text one || list_any (bytes_eq text) (map name keys))
+kept_more name keys more one text put =
+    sym (is_kept name more text)
+    ∙ same_or one text _ _ put
+    ∙ ap (λ b. bytes_eq text one || b) (is_kept name keys text)
 
 -- the names before the next, and it
 next_is : {X : Type 0} (name : X → List ℕ) (xs : List X) (i : ℕ) (d : X) → i < length xs

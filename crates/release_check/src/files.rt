@@ -23,22 +23,25 @@ pub fn read_in<S: Store>(
     ensures { FindsIn (S.seen store.old) (S.seen store.new) result
         (IsFile (path_in dir.now name.now) most result) }
 {
+    if dir.is_empty() {
+        return read_path(alloc, name, most, store);
+    }
     let path = path_in(alloc, dir, name)?;
-    read_path(alloc, path, most, store)
+    read_path(alloc, path.as_slice(), most, store)
 }
 
 /// The first bytes of the file at a path: as many as requested, or the whole file.
 fn read_path<S: Store>(
     alloc: Global,
-    path: Bytes,
+    path: &[u8],
     most: u64,
     store: &mut S,
 ) -> Result<Bytes, CheckFault>
-    ensures { FindsIn (S.seen store.old) (S.seen store.new) result (IsFile path most result) }
+    ensures { FindsIn (S.seen store.old) (S.seen store.new) result (IsFile path.now most result) }
 {
-    match store.read_file(alloc, path.as_slice(), most) {
+    match store.read_file(alloc, path, most) {
         FileRead::Found(bytes) => Ok(bytes),
-        FileRead::Absent => Err(CheckFault::Absent(path)),
+        FileRead::Absent => Err(CheckFault::Absent(Bytes::from_slice(alloc, path)?)),
         FileRead::Failed => Err(CheckFault::ReadFault),
         FileRead::NoMemory => Err(CheckFault::NoMemory),
     }
@@ -48,10 +51,12 @@ fn read_path<S: Store>(
 fn path_in(alloc: Global, dir: &[u8], name: &[u8]) -> Result<Bytes, NoMemory>
     ensures { IfOk result (λ path. path ≡ path_in dir.now name.now) }
 {
-    let mut path = Bytes::from_slice(alloc, dir)?;
+    let room = dir.len().saturating_add(name.len()).saturating_add(1);
+    let mut path = Vec::with_capacity(alloc, room)?;
+    path.extend_from_slice(dir)?;
     if !dir.is_empty() {
         path.push(b'/')?;
     }
-    path.append(name)?;
-    Ok(path)
+    path.extend_from_slice(name)?;
+    Ok(Bytes::from(path))
 }

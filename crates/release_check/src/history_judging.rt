@@ -12,7 +12,7 @@ ghost use Rattle.release_check.specs.declared.check_fault.CheckFault.TheVariants
 use crate::check_fault::CheckFault;
 use catalogue::{Catalogue, MOST_RELEASES};
 use std::alloc::Global;
-use std::collections::BTreeSet;
+use std::collections::HashSet;
 use td_base::Bytes;
 use td_civil::Moment;
 use zone_meaning::Zone;
@@ -35,11 +35,10 @@ pub fn judge_stamp(stamp: Moment, last: Option<&Catalogue<Zone>>) -> Result<(), 
     }
 }
 
-/// Looks for the least name of the last release that is not one of the new names, which are kept in
-/// order.
+/// Looks for the least name of the last release that is not one of the new names.
 pub fn judge_drops<'a>(
     alloc: Global,
-    new: &BTreeSet<&'a [u8]>,
+    new: &HashSet<&'a [u8]>,
     last: Option<&'a Catalogue<Zone>>,
 ) -> Result<(), CheckFault>
     ensures { (names : List (List ℕ))
@@ -56,7 +55,7 @@ pub fn judge_drops<'a>(
 /// The same for the names of a catalogue, in their order.
 fn judge_names<'a>(
     alloc: Global,
-    new: &BTreeSet<&'a [u8]>,
+    new: &HashSet<&'a [u8]>,
     last: &'a Catalogue<Zone>,
 ) -> Result<(), CheckFault>
     ensures { JudgesUnread (first_missing (names_held zone_bytes last.now)
@@ -71,8 +70,8 @@ fn judge_names<'a>(
     Ok(())
 }
 
-/// Whether a name is one of those that are kept in order.
-fn is_among<'a>(name: &'a [u8], names: &BTreeSet<&'a [u8]>) -> bool
+/// Whether a name is one of these.
+fn is_among<'a>(name: &'a [u8], names: &HashSet<&'a [u8]>) -> bool
     ensures { result ≡ list_any (bytes_eq name.now) (map (λ n. n.now) names.now.keys) }
 {
     names.contains(&name)

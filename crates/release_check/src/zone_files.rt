@@ -52,7 +52,7 @@ fn read_zone<S: Store>(
     ensures of { IfOk result (λ c. IsOf zone.now (content_data zone_bytes c)) }
 {
     let file = read_in(alloc, dir, zone.file.as_slice(), ZONE_ROOM, store)?;
-    let before = zone_before(last, zone.tzid.as_slice());
+    let before = zone_before(last, number, zone.tzid.as_slice());
     let meant = zone_in(alloc, number, file, before)?;
     Ok(Content {
         tzid: Bytes::from_slice(alloc, zone.tzid.as_slice())?,
@@ -61,9 +61,20 @@ fn read_zone<S: Store>(
     })
 }
 
-/// The zone of the last release that has this name, if there is one.
-fn zone_before<'a>(last: Option<&'a Catalogue<Zone>>, name: &[u8]) -> Option<&'a Zone> {
+/// The zone of the last release that has this name, if there is one. Mostly it has the same number
+/// there, so that one is looked at before all are searched.
+fn zone_before<'a>(
+    last: Option<&'a Catalogue<Zone>>,
+    number: usize,
+    name: &[u8],
+) -> Option<&'a Zone> {
     let last = last?;
+    if number < last.len() {
+        let content = &last.entry(number).content;
+        if content.tzid.as_slice() == name {
+            return Some(&content.zone);
+        }
+    }
     let at = last.find_name(name)?;
     Some(&last.entry(at).content.zone)
 }
