@@ -1,18 +1,18 @@
 -- What maps and sets keep, as rising lists.
 use Rattle.std.proofs.Common.{Ordering, Less, Equal, Greater, ◌≡◌, ℕ, suc, Bool, true, false, cond}
-use Rattle.std.proofs.Common.{Option, None, Some, List, [], ◌∷◌, ◌++◌, refl, sym, ap, ◌∙◌, map}
+use Rattle.std.proofs.Common.{Option, Some, List, [], ◌∷◌, ◌++◌, refl, sym, ap, ◌∙◌, map}
 use Rattle.std.proofs.Common.{slice_index_or, length, drop, ◌<◌, ◌+◌, arith, ◌||◌, not, subst}
-use Rattle.std.proofs.Common.{filter, if◌then◌else◌, option_map}
-use Rattle.std.specs.List.{list_any}
-use Rattle.std.specs.BTreeMap.{insert_entry, is_at}
+use Rattle.std.proofs.Common.{filter, option_map}
+use Rattle.std.specs.List.{All, list_any}
+use Rattle.std.specs.BTreeMap.{BTreeMap, get, insert_entry, is_at}
 use Rattle.std.specs.BTreeSet.{insert_key}
-use Rattle.std.specs.Option.{option_or}
-use Rattle.td_base.specs.Views.{File, file_at}
+use Rattle.td_base.specs.Views.{file_at}
 use Rattle.std.specs.Map.{keys_of, lookup, values_of}
 use Rattle.std.specs.Ordering.{nat_cmp, match_ordering}
 use Rattle.std.specs.Cmp.Lexicographic.{slice_cmp, nat_list_eq_equiv}
 use Rattle.std.specs.Str.{bytes_eq}
 use Rattle.std.proofs.lemmas.Map.Text.{is_eq-slice_cmp}
+use Rattle.std.proofs.lemmas.Slice.Eq.{bytes_eq-Decides}
 use Rattle.std.proofs.Math.Seq.{drop-cons}
 use Rattle.json_forms.specs.declared.zone_list.ListZone.{ListZone}
 use Rattle.sync_core.specs.Keeping.{by_name, has_listed_name}
@@ -235,6 +235,31 @@ files_stored (f ∷ fs) path = rw (nat_list_eq_equiv.symm f.tzid path) (by (byte
         → cond b (Some f.bytes) (file_at (map stored_file fs) path) ≡ option_map bytes_of (cond b (Some f) o)
     by true o again = refl
     by false o again = again
+
+-- an entry that the map finds by its name
+abbrev pub IsFound : BTreeMap (List ℕ) (List ℕ) → List ℕ × List ℕ → Type 0
+IsFound m e = get (slice_cmp nat_cmp) m e.0 ≡ Some e.1
+
+-- a file that is the next one, by its name
+pub next_found : (m : BTreeMap (List ℕ) (List ℕ)) (next bytes name : List ℕ) → get (slice_cmp nat_cmp) m next ≡ Some bytes → next ≡ name
+    → file_at (map stored_file (files_kept m.entries)) name ≡ Some bytes
+next_found m next bytes name found same =
+    files_stored (files_kept m.entries) name ∙ ap (file_bytes (files_kept m.entries)) (sym same) ∙ sym (file_found next m.entries (Some bytes) (sym found))
+
+-- a name that does not differ
+pub same_name : (xs ys : List ℕ) (differs : Bool) → differs ≡ not (bytes_eq xs ys) → differs ≡ false → xs ≡ ys
+same_name xs ys differs is same = (bytes_eq-Decides xs ys).0 (by (bytes_eq xs ys) (sym is ∙ same))
+  where
+    by : (b : Bool) → not b ≡ false → b ≡ true
+    by true e = refl
+    by false e = sym e
+
+-- what holds of all holds of those after the first
+pub all_rest : {A : Type 0} (P : A → Type 0) (x : A) (xs ys : List A) → ys ≡ x ∷ xs → All P ys → All P xs
+all_rest P x xs ys is all = λ k d less. subst (All P) is all (suc k) d (omega (arith, less))
+
+pub all_first : {A : Type 0} (P : A → Type 0) (x : A) (xs ys : List A) → ys ≡ x ∷ xs → All P ys → P x
+all_first P x xs ys is all = subst (All P) is all 0 x (omega arith)
 
 pub merged_rises : (listed kept merged : List ListZone) → Rising entry_name kept → merged ≡ put_all entry_name listed kept → Rising entry_name merged
 merged_rises listed kept merged r is = subst (Rising entry_name) (sym is) (rising_put_all entry_name listed kept r)
