@@ -13,11 +13,13 @@ import plots
 REASONS = {
     "limit, 1 connection": "a request takes as many system calls as the limit's, and three quarters of its processor time are the "
     "system's. The rest is its own code: some 8,800 instructions for a short request.",
-    "limit, 2 connections": "one process of the limit often served all connections in this run, which takes fewer waits. Since then "
-    "its processes share them, as workers do.",
-    "limit, 16 connections": "the same, and more than twice as many waits. Three quarters of a request's processor time are the system's, "
-    "and some 8,800 instructions are the program's.",
-    "limit, 64 connections": "the same.",
+    "limit, 2 connections": "single rows vary by a tenth between runs; most keep it.",
+    "limit, 16 connections": "of a short reply the program's own code is a larger part, and single rows vary by a tenth between runs.",
+    "limit, 64 connections": "single rows vary by a tenth between runs; most keep it.",
+    **{
+        f"nginx, {count}": "nginx sends the 68 kB of a full list from the file, without a copy of its own."
+        for count in ("1 connection", "2 connections", "16 connections", "64 connections")
+    },
     "sync of one zone": "most of it is the mirror's own install, of all zones. The section on changes has the earlier program's time.",
     "install of one zone": "of its processor time two fifths are calls of the system for 447 files, a quarter is the C library's, "
     "mostly for memory, and a third the program's own, none of it above four parts in a hundred.",
