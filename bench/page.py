@@ -330,6 +330,15 @@ def request_marks(rows):
     return found
 
 
+def reasons(names):
+    """The items that say why marks are missed: one for all marks with the same reason."""
+    named = {}
+    for name in names:
+        named.setdefault(REASONS.get(name, "the cause is not known yet."), []).append(f"**{name}**")
+    items = (f"- {'; '.join(them)}: {why}" for why, them in named.items())
+    return [textwrap.fill(it, 100, subsequent_indent="  ") for it in items]
+
+
 def judged(figures):
     found = marks(figures)
     if not found:
@@ -338,8 +347,7 @@ def judged(figures):
     cells = [[name, wanted, said, "kept" if kept else "**missed**"] for name, wanted, said, kept in found]
     sections = ["## Marks", table(["Mark", "Wanted", "Measured (the worst)", ""], cells, 4)]
     if missed:
-        reasons = [f"- **{name}**: {REASONS.get(name, 'the cause is not known yet.')}" for name, *_ in missed]
-        sections += ["Why the missed ones are missed:", "\n".join(textwrap.fill(it, 100, subsequent_indent="  ") for it in reasons)]
+        sections += ["Why the missed ones are missed:", "\n".join(reasons([it[0] for it in missed]))]
     return sections
 
 

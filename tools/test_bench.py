@@ -248,6 +248,8 @@ def marks_are_judged():
     older = page.marks({"waits": [{"request": "full list", "alone": 0.1, "installing": 0.15}]})
     same("figures without the service's way", [it[0] for it in older], ["waits while installing"])
     holds("no reason stands for a missed mark", "**limit, 16 connections**:" in page.markdown(figures_of(1.4)))
+    said = [it.split(":")[0].split() for it in page.reasons(["nginx, 1 connection", "longest expansion", "nginx, 2 connections"])]
+    same("a reason is said once", said, ["- **nginx, 1 connection**; **nginx, 2 connections**".split(), "- **longest expansion**".split()])
 
 
 def costs_stand_beside_those_of_an_earlier_program():
