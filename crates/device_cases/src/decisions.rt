@@ -2,8 +2,8 @@
 use case_lines::{Answer, CaseFault, Row, Told, shown};
 use std::alloc::Global;
 use stretches::{
-    FailureWindow, Life, Phase, Queue, Roll, Shared, Waiting, WorkerTurn, is_costly, is_long_turn,
-    turn_limit,
+    FailureWindow, Life, Phase, Queue, Shared, Timeouts, Waiting, WorkerTurn, is_costly,
+    is_long_turn, turn_limit,
 };
 
 /// How many words of a row describe what a connection waits for, and since when.
@@ -12,24 +12,24 @@ const LIFE_WORDS: usize = 5;
 /// The most connections of a row.
 const MOST_LIVES: usize = 16;
 
-/// `roll NOW (PHASE MOVED TURNED HELD SINCE)..`: the connection that is the first to be evicted for
+/// `timeouts NOW (PHASE MOVED TURNED HELD SINCE)..`: the connection that is the first to be evicted for
 /// a new one, and the one that has held most memory for the longest time. Then the first over its
 /// time limit. They are counted from 0.
-pub fn roll(alloc: Global, row: &Row) -> Answer {
+pub fn timeouts(alloc: Global, row: &Row) -> Answer {
     let now = row.number(0)?;
-    let mut roll = Roll::new(alloc);
+    let mut timeouts = Timeouts::new(alloc);
     for key in 0..MOST_LIVES {
         if row.words().len() < (key + 1) * LIFE_WORDS + 1 {
             break;
         }
-        roll.set(key, life(row, key * LIFE_WORDS + 1)?)?;
+        timeouts.set(key, life(row, key * LIFE_WORDS + 1)?)?;
     }
     shown(
         alloc,
         &(
-            roll.first_to_yield(now),
-            roll.heaviest(now),
-            roll.next_over(0, now),
+            timeouts.first_to_yield(now),
+            timeouts.heaviest(now),
+            timeouts.next_over(0, now),
         ),
     )
 }

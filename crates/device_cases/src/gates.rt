@@ -11,7 +11,7 @@ use td_base::{Accepted, Conn, Door, End, Places, ReadStep, Report, WriteStep};
 pub fn beside<R: Threads>(rt: &R, alloc: Global, row: &Row) -> Answer {
     let (left, right) = gate_pair(alloc, small(row, 0)?)?;
     let (left, right) = join(rt, move || serve(alloc, left), move || serve(alloc, right));
-    told(alloc, &left, &right)
+    as_line(alloc, &left, &right)
 }
 
 /// `gates-alone TURNS`: the same when one thread serves them one after the other.
@@ -19,7 +19,7 @@ pub fn alone(alloc: Global, row: &Row) -> Answer {
     let (left, right) = gate_pair(alloc, small(row, 0)?)?;
     let left = serve(alloc, left);
     let right = serve(alloc, right);
-    told(alloc, &left, &right)
+    as_line(alloc, &left, &right)
 }
 
 /// `gates-turned TURNS`: the same when the second is served first.
@@ -27,7 +27,7 @@ pub fn turned(alloc: Global, row: &Row) -> Answer {
     let (left, right) = gate_pair(alloc, small(row, 0)?)?;
     let right = serve(alloc, right);
     let left = serve(alloc, left);
-    told(alloc, &left, &right)
+    as_line(alloc, &left, &right)
 }
 
 /// Answers the requests of the door's connection, each with two bytes, and hands it back.
@@ -62,7 +62,7 @@ fn answer_each<C: Conn>(conn: &mut C) -> End {
     End::NoMemory
 }
 
-fn told(alloc: Global, left: &GateDoor, right: &GateDoor) -> Answer {
+fn as_line(alloc: Global, left: &GateDoor, right: &GateDoor) -> Answer {
     let mut told = Told::new(alloc);
     tell_served(&mut told, left);
     told.bytes(b"|");

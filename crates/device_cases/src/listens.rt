@@ -16,11 +16,11 @@ where
 {
     let address = row.word(0)?;
     if address != b"taken".as_slice() {
-        return told(rt, alloc, address);
+        return outcome_of(rt, alloc, address);
     }
     let door = open(rt, alloc)?;
     let taken = address_of(alloc, &door)?;
-    told(rt, alloc, taken.as_slice())
+    outcome_of(rt, alloc, taken.as_slice())
 }
 
 /// The address of a door.
@@ -28,7 +28,7 @@ fn address_of<R: Clock + Eprint + Copy>(alloc: Global, door: &RealDoor<R>) -> An
     printed(alloc, &door.local_addr().map_err(refused)?)
 }
 
-fn told<R>(rt: &R, alloc: Global, address: &[u8]) -> Answer
+fn outcome_of<R>(rt: &R, alloc: Global, address: &[u8]) -> Answer
 where
     R: Net<Listener = TcpListener, Stream = TcpStream> + Clock + Eprint + Copy,
 {

@@ -99,7 +99,7 @@ fn alone(alloc: Global, row: &Row) -> Answer {
         "writes" => streams::writes(alloc, row),
         "gates-alone" => gates::alone(alloc, row),
         "gates-turned" => gates::turned(alloc, row),
-        "roll" => decisions::roll(alloc, row),
+        "timeouts" => decisions::timeouts(alloc, row),
         "queues" => decisions::queues(alloc, row),
         "turn" => decisions::turn(alloc, row),
         "limit" => decisions::limit(alloc, row),

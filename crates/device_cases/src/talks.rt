@@ -99,7 +99,7 @@ fn looking<R: Clock + Eprint + Copy>(alloc: Global, talk: &mut Talk<R>, name: &[
     match name {
         b"twice" => shown(alloc, &talk.twice()),
         b"next" => shown(alloc, &talk.next()),
-        b"resting" => shown(alloc, &talk.door.resting()),
+        b"resting" => shown(alloc, &talk.door.idle()),
         b"failure" => shown(alloc, &talk.door.failure()),
         _ => Err(CaseFault::Strange),
     }

@@ -27,17 +27,17 @@ mod socket;
 mod unsent;
 mod wire;
 
-// The listeners at a TCP socket, and the connections that rest at them.
-mod hall;
+// The listeners at a TCP socket, and the connections that wait at them.
+mod acceptor;
+mod idle_connections;
 mod listening;
 mod passing;
 mod real_door;
 mod real_network;
-mod resting;
 mod shares;
 
 // Another server, and one exchange with it.
-mod asking;
+mod exchanging;
 mod patience;
 mod real_upstream;
 
@@ -50,11 +50,12 @@ mod gates;
 // What may move to another thread.
 mod send_sync;
 
+pub use acceptor::IDLE_ANSWER_MILLIS;
 pub use blocking::Blocking;
 pub use gate_conn::GateConn;
 pub use gate_door::GateDoor;
 pub use gates::gate_pair;
-pub use hall::IDLE_ANSWER_MILLIS;
+pub use idle_connections::MOST_HELD_OF_ALL;
 pub use outgoing::{MOST_UNSENT, STRETCH_BYTES};
 pub use patience::{EXCHANGE_SECONDS, PROGRESS_WAIT_SECONDS};
 pub use real_conn::RealConn;
@@ -65,6 +66,5 @@ pub use real_source::RealSource;
 pub use real_spawner::RealSpawner;
 pub use real_store::{LookFailure, RealStore};
 pub use real_upstream::RealUpstream;
-pub use resting::MOST_HELD_OF_ALL;
 pub use shares::RESERVED_DESCRIPTORS;
 pub use wire::LINGER_BYTES;

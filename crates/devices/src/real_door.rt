@@ -2,7 +2,7 @@ ghost use Rattle.std.specs.Prelude.{◌≡◌};
 ghost use Rattle.td_base.specs.Doors.{IsNewDoor};
 ghost use Rattle.devices.specs.RealDoors.{door_view};
 
-use crate::hall::Hall;
+use crate::acceptor::Acceptor;
 use crate::real_conn::RealConn;
 use std::io;
 use std::io::{Eprint, ErrorKind};
@@ -18,7 +18,7 @@ const MOST_TURNS: u32 = 65_536;
 /// connections. One that is handed back it keeps until its next head has come, or closes.
 #[derive(Drop)]
 pub struct RealDoor<R> {
-    hall: Hall<R>,
+    acceptor: Acceptor<R>,
     last: Option<DoorAnswer>,
     faults: u64,
     failure: Option<ErrorKind>,
@@ -26,11 +26,11 @@ pub struct RealDoor<R> {
 
 impl<R: Clock + Eprint + Copy> RealDoor<R> {
     /// A listener that was not called yet.
-    pub(crate) fn new(hall: Hall<R>) -> RealDoor<R>
+    pub(crate) fn new(acceptor: Acceptor<R>) -> RealDoor<R>
         ensures { IsNewDoor (door_view result) }
     {
         RealDoor {
-            hall,
+            acceptor,
             last: None,
             faults: 0,
             failure: None,
@@ -39,7 +39,7 @@ impl<R: Clock + Eprint + Copy> RealDoor<R> {
 
     /// The address at which it listens.
     pub fn local_addr(&self) -> io::Result<SocketAddr> {
-        self.hall.local_addr()
+        self.acceptor.local_addr()
     }
 
     /// Why the last failed accept failed.
@@ -56,9 +56,9 @@ impl<R: Clock + Eprint + Copy> RealDoor<R> {
         self.faults
     }
 
-    /// How many connections rest at it.
-    pub fn resting(&self) -> usize {
-        self.hall.resting()
+    /// How many of its connections no worker serves.
+    pub fn idle(&self) -> usize {
+        self.acceptor.idle()
     }
 }
 
@@ -68,7 +68,7 @@ pub fn drain<R: Clock + Eprint + Copy>(doors: &mut [RealDoor<R>], millis: u64) {
     let Some(first) = doors.first_mut() else {
         return;
     };
-    let end = first.hall.time().saturating_add(millis);
+    let end = first.acceptor.time().saturating_add(millis);
     leave(doors);
     for _ in 0..MOST_TURNS {
         if !drain_in_turn(doors, end) {
@@ -80,7 +80,7 @@ pub fn drain<R: Clock + Eprint + Copy>(doors: &mut [RealDoor<R>], millis: u64) {
 /// No connection is served any more.
 fn leave<R: Clock + Eprint + Copy>(doors: &mut [RealDoor<R>]) {
     for door in doors.iter_mut() {
-        door.hall.leave();
+        door.acceptor.leave();
     }
 }
 
@@ -89,7 +89,7 @@ fn leave<R: Clock + Eprint + Copy>(doors: &mut [RealDoor<R>]) {
 fn drain_in_turn<R: Clock + Eprint + Copy>(doors: &mut [RealDoor<R>], end: u64) -> bool {
     let mut owes = false;
     for door in doors.iter_mut() {
-        owes |= door.hall.drain(end);
+        owes |= door.acceptor.drain(end);
     }
     owes
 }
@@ -100,10 +100,10 @@ impl<R: Clock + Eprint + Copy> Door for RealDoor<R> {
     ghost seen = { door_view };
 
     fn accept(&mut self) -> Accepted<RealConn<TcpStream, R>> {
-        match self.hall.next() {
+        match self.acceptor.next() {
             Ok(Some(wire)) => {
                 self.last = Some(DoorAnswer::Given);
-                Accepted::Given(RealConn::new(wire, self.hall.clock()))
+                Accepted::Given(RealConn::new(wire, self.acceptor.clock()))
             }
             Ok(None) => {
                 self.last = Some(DoorAnswer::Idle);
@@ -119,6 +119,6 @@ impl<R: Clock + Eprint + Copy> Door for RealDoor<R> {
     }
 
     fn finish(&mut self, conn: RealConn<TcpStream, R>, report: Report) {
-        self.hall.take_back(conn.into_wire(), report.end);
+        self.acceptor.take_back(conn.into_wire(), report.end);
     }
 }

@@ -3,7 +3,7 @@ ghost use Rattle.td_base.specs.Views.{Rose};
 ghost use Rattle.td_base.specs.Doors.{IsNewDoor};
 ghost use Rattle.devices.specs.RealDoors.{door_view};
 
-use crate::hall::Hall;
+use crate::acceptor::Acceptor;
 use crate::listening::{Listening, lengthen};
 use crate::real_door::RealDoor;
 use crate::real_upstream::RealUpstream;
@@ -164,8 +164,8 @@ fn door_at<R: Net + Clock + Eprint + Copy>(
 ) -> io::Result<RealDoor<R>>
     ensures { IfOk result (λ door. IsNewDoor (door_view door)) }
 {
-    let hall = Hall::new(rt, *rt, alloc, listening, all, doors, most)?;
-    Ok(RealDoor::new(hall))
+    let acceptor = Acceptor::new(rt, *rt, alloc, listening, all, doors, most)?;
+    Ok(RealDoor::new(acceptor))
 }
 
 /// Binds a socket that does not block.

@@ -2,7 +2,7 @@ ghost use Rattle.std.specs.Prelude.{◌≡◌, ◌≤◌, None, length, IfOk};
 ghost use Rattle.td_base.specs.Upstreams.{IsNewUpstream};
 ghost use Rattle.devices.specs.RealUpstreams.{upstream_view};
 
-use crate::asking::{AskFault, ask};
+use crate::exchanging::{AskFault, ask};
 use std::alloc::Global;
 use std::io::ErrorKind;
 use std::net::{Net, TcpStream};

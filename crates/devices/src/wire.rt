@@ -31,7 +31,7 @@ const PROGRESS_BYTES: usize = 65_536;
 
 /// The state of a connection that no worker serves.
 #[derive(Clone, Copy, PartialEq, Eq)]
-pub enum Rest {
+pub enum Readiness {
     /// It can be served.
     Ready,
     /// It waits for its peer.

@@ -18,7 +18,7 @@ pub fn begin(alloc: Global, mirror: &mut Mirror) -> Answer {
 /// `told WHAT`: what the mirror had requested, and whether it is then in sync. WHAT is a list
 /// (`{..`), `refused` for a refused token, or a file. It is `lost` when no answer comes, and after
 /// `restart` the mirror starts again.
-pub fn told(alloc: Global, mirror: &mut Mirror, row: &Row) -> Answer {
+pub fn take_reply(alloc: Global, mirror: &mut Mirror, row: &Row) -> Answer {
     let what = row.word(0)?;
     let mut told = Told::new(alloc);
     tell_ask(alloc, &mut told, mirror);

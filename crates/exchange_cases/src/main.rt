@@ -55,7 +55,7 @@ fn read_table<R: Input + Print>(
     let mut table = Table::new(alloc);
     for line in rt.lines(alloc) {
         let line = line?;
-        let told = told(alloc, &mut table, mirror, store, line.as_str())?;
+        let told = report_on(alloc, &mut table, mirror, store, line.as_str())?;
         if let Some(told) = told {
             println!(rt; "{told}")?;
         }
@@ -65,7 +65,7 @@ fn read_table<R: Input + Print>(
 }
 
 /// The report on the next line.
-fn told(
+fn report_on(
     alloc: Global,
     table: &mut Table,
     mirror: &mut Mirror,
@@ -85,7 +85,7 @@ fn told(
 fn answer(alloc: Global, mirror: &mut Mirror, store: &mut MemoryStore, row: &Row) -> Answer {
     match row.kind() {
         "begin" => following::begin(alloc, mirror),
-        "told" => following::told(alloc, mirror, row),
+        "told" => following::take_reply(alloc, mirror, row),
         "sync" => syncs::sync(alloc, mirror, row),
         "mirror-held" => holding::held(alloc, mirror),
         _ => of_releases(alloc, store, row),

@@ -6,13 +6,13 @@ use std::alloc::Global;
 /// `pattern TEXT`: whether other characters may precede and follow it, and the text; or the fault.
 pub fn pattern(alloc: Global, row: &Row) -> Answer {
     match read(alloc, row.word(0)?) {
-        Ok(pattern) => told(alloc, &pattern),
+        Ok(pattern) => as_line(alloc, &pattern),
         Err(BadPattern::NoMemory) => Err(CaseFault::NoMemory),
         Err(fault) => printed(alloc, &fault),
     }
 }
 
-fn told(alloc: Global, pattern: &Pattern) -> Answer {
+fn as_line(alloc: Global, pattern: &Pattern) -> Answer {
     let mut told = Told::new(alloc);
     told.value(&pattern.lead);
     told.bytes(b" ");

@@ -16,13 +16,13 @@ pub fn list_fault(alloc: Global, row: &Row) -> Answer {
 /// `read-list TEXT`: the token of the list, and its zones, each after a bar.
 pub fn list(alloc: Global, row: &Row) -> Answer {
     match read_list(alloc, row.word(0)?) {
-        Ok(list) => told(alloc, &list),
+        Ok(list) => as_line(alloc, &list),
         Err(BadList::NoMemory) => Err(CaseFault::NoMemory),
         Err(_) => Err(CaseFault::Strange),
     }
 }
 
-fn told(alloc: Global, list: &ListDoc) -> Answer {
+fn as_line(alloc: Global, list: &ListDoc) -> Answer {
     let mut told = Told::new(alloc);
     told.bytes(list.token.as_slice());
     for zone in list.zones.as_slice() {

@@ -95,11 +95,11 @@ fn answer_to(alloc: Global, catalogue: &Catalogue<Zone>, head: &Head) -> case_li
     requires form { IsTrue (has_form head.now.target) }
 {
     let answer = answer(alloc, catalogue, &Role::Primary, head)?;
-    told(alloc, &answer)
+    as_line(alloc, &answer)
 }
 
 /// Status, kind, tag and body. A dash means no tag, and nothing means an empty body.
-fn told(alloc: Global, answer: &http_answer::Answer) -> case_lines::Answer {
+fn as_line(alloc: Global, answer: &http_answer::Answer) -> case_lines::Answer {
     let mut told = Told::new(alloc);
     told.value(&answer.status);
     told.bytes(b" ");

@@ -14,11 +14,11 @@ const HOST: &[u8] = b"y";
 pub fn sync(alloc: Global, mirror: &mut Mirror, row: &Row) -> Answer {
     let mut upstream = server(alloc, row)?;
     let outcome = mirror::sync(alloc, mirror, HOST, &mut upstream);
-    told(alloc, upstream.inner().told(), outcome)
+    as_line(alloc, upstream.inner().told(), outcome)
 }
 
 /// The requested targets, and the outcome.
-fn told(alloc: Global, exchanges: &[Exchange], outcome: Result<(), SyncFault>) -> Answer {
+fn as_line(alloc: Global, exchanges: &[Exchange], outcome: Result<(), SyncFault>) -> Answer {
     let mut told = Told::new(alloc);
     for exchange in exchanges {
         tell_target(&mut told, exchange);

@@ -13,10 +13,10 @@ pub fn target(alloc: Global, row: &Row) -> Answer {
 
 fn asked_by(alloc: Global, text: &[u8]) -> Answer {
     let asked = read(alloc, text)?;
-    told(alloc, &asked)
+    as_line(alloc, &asked)
 }
 
-fn told(alloc: Global, asked: &Asked) -> Answer {
+fn as_line(alloc: Global, asked: &Asked) -> Answer {
     let mut told = Told::new(alloc);
     tell_action(&mut told, asked);
     told.answer()

@@ -35,13 +35,13 @@ fn named(alloc: Global, row: &Row) -> Result<Bytes, CaseFault> {
 /// `mirror-reply TEXT`: the status and the body, or why the text is not a reply.
 pub fn reply(alloc: Global, row: &Row) -> Answer {
     match http_client::read(alloc, row.word(0)?) {
-        Ok(reply) => told(alloc, &reply),
+        Ok(reply) => as_line(alloc, &reply),
         Err(BadReply::NoMemory) => Err(CaseFault::NoMemory),
         Err(fault) => printed(alloc, &fault),
     }
 }
 
-fn told(alloc: Global, reply: &Reply) -> Answer {
+fn as_line(alloc: Global, reply: &Reply) -> Answer {
     let mut told = Told::new(alloc);
     told.value(&reply.status);
     told.bytes(b" ");

@@ -9,7 +9,7 @@ pub fn answer(alloc: Global, row: &Row, store: &mut MemoryStore) -> Answer {
     match row.kind() {
         "file" => put(alloc, row, store),
         "examine" => values::examined(alloc, row, store),
-        "history" => histories::told(alloc, row, store),
+        "history" => histories::as_line(alloc, row, store),
         "again" => histories::again(alloc, row, store),
         "manifest" => manifests::read_back(alloc, row),
         "printed" => printed::printed(alloc, row),

@@ -15,10 +15,15 @@ use zone_meaning::{Zone, file};
 /// The answer of a catalogue.
 pub fn asked(alloc: Global, row: &Row, store: &mut MemoryStore) -> Answer {
     let catalogue = catalogue_of(alloc, row.word(0)?, store)?;
-    told(alloc, row, store, &catalogue)
+    as_line(alloc, row, store, &catalogue)
 }
 
-fn told(alloc: Global, row: &Row, store: &mut MemoryStore, catalogue: &Catalogue<Zone>) -> Answer {
+fn as_line(
+    alloc: Global,
+    row: &Row,
+    store: &mut MemoryStore,
+    catalogue: &Catalogue<Zone>,
+) -> Answer {
     match row.kind() {
         "changed" => changes::changed(alloc, row, store, catalogue),
         "stands" => stands(alloc, catalogue),

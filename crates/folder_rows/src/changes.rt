@@ -23,10 +23,10 @@ pub fn changed(
 
 fn told_of(alloc: Global, last: &Catalogue<Zone>, next: &Release<Zone>) -> Answer {
     let delta = delta_of(alloc, last, next)?;
-    told(alloc, &delta)
+    as_line(alloc, &delta)
 }
 
-fn told(alloc: Global, delta: &Delta) -> Answer {
+fn as_line(alloc: Global, delta: &Delta) -> Answer {
     let mut told = Told::new(alloc);
     for change in delta.changed.as_slice() {
         tell_change(&mut told, change);

@@ -12,7 +12,7 @@ use td_base::{Bytes, MemoryStore, NoMemory};
 use zone_meaning::Zone;
 
 /// `history DIR ..`: for each folder in turn, how many zones it has, or its fault.
-pub fn told(alloc: Global, row: &Row, store: &mut MemoryStore) -> Answer {
+pub fn as_line(alloc: Global, row: &Row, store: &mut MemoryStore) -> Answer {
     let mut told = Told::new(alloc);
     let mut last = None;
     for dir in row.words() {

@@ -11,10 +11,10 @@ use tzif_reader::{LeapLine, MOST_BYTES, ZoneFile};
 /// The lines are `TIME:CORRECTION`, separated by commas. A dash means none.
 pub fn table(alloc: Global, row: &Row) -> Answer {
     let file = file_with(alloc, row.word(0)?)?;
-    told(alloc, &file)
+    as_line(alloc, &file)
 }
 
-fn told(alloc: Global, file: &ZoneFile) -> Answer {
+fn as_line(alloc: Global, file: &ZoneFile) -> Answer {
     if file.leaps.len() > MOST_BYTES {
         return strange();
     }

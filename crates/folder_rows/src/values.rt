@@ -10,10 +10,10 @@ use td_civil::Moment;
 /// table of leap seconds of the folder `with-leap`.
 pub fn examined(alloc: Global, row: &Row, store: &mut MemoryStore) -> Answer {
     let manifest = value(alloc, row)?;
-    told(alloc, &manifest, store)
+    as_line(alloc, &manifest, store)
 }
 
-fn told(alloc: Global, manifest: &Manifest, store: &mut MemoryStore) -> Answer {
+fn as_line(alloc: Global, manifest: &Manifest, store: &mut MemoryStore) -> Answer {
     match examine(alloc, manifest, b"with-leap", store, None) {
         Ok(_release) => Ok(Vec::from_slice(alloc, b"ok")?),
         Err(fault) => printed(alloc, &fault),

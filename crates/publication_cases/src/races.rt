@@ -106,7 +106,7 @@ pub fn raced<R: Threads + Wait + Sync>(rt: &R, alloc: Global) -> Answer {
 
 /// Publishes two values. One desk learns the later receipt first and then the earlier one; the
 /// other learns nothing. Returns what they hold after each of these, and after an enter.
-fn told<R: Wait>(
+fn values_held<R: Wait>(
     rt: &R,
     publisher: &mut Publisher<SharedTally>,
     one: &mut Desk<SharedTally>,
@@ -148,7 +148,7 @@ pub fn learns<R: Wait>(rt: &R, alloc: Global) -> Answer {
     let (mut publisher, mut desks) = (publisher, desks);
     let mut two = desks.pop().unwrap();
     let mut one = desks.pop().unwrap();
-    let found = told(rt, &mut publisher, &mut one, &mut two);
+    let found = values_held(rt, &mut publisher, &mut one, &mut two);
     publisher.close(rt);
     match found {
         Some(numbers) => shown(alloc, &numbers),

@@ -56,14 +56,14 @@ pub fn install<R: Wait>(
 ) -> Answer {
     let mut fault = Bytes::new(alloc);
     match run(rt, alloc, row, store, asked, &mut fault) {
-        Ok((steps, ended)) => told(alloc, &steps, ended, fault.as_slice()),
+        Ok((steps, ended)) => as_line(alloc, &steps, ended, fault.as_slice()),
         Err(InstallFault::NoMemory) => Err(CaseFault::NoMemory),
         Err(_fault) => strange(),
     }
 }
 
 /// The places after each step, and the fault of the third folder.
-fn told(alloc: Global, steps: &Steps, ended: (u32, u32), fault: &[u8]) -> Answer {
+fn as_line(alloc: Global, steps: &Steps, ended: (u32, u32), fault: &[u8]) -> Answer {
     let mut told = Told::new(alloc);
     for places in [steps.opened, steps.told, steps.grown, steps.refused, ended] {
         told.value(&places);

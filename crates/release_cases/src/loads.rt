@@ -13,7 +13,7 @@ use zone_meaning::Zone;
 const MOST_BYTES: u64 = 4_096;
 
 /// The answer to a row of a load.
-pub fn told(alloc: Global, row: &Row) -> Answer {
+pub fn as_line(alloc: Global, row: &Row) -> Answer {
     match row.kind() {
         "load-manifest" => manifest(alloc, row),
         "load-file" => file(alloc, row),

@@ -157,7 +157,7 @@ fn answer_without_rules<R: Wait>(
 fn answer_without_installs(alloc: Global, row: &Row, store: &mut MemoryStore) -> Answer {
     match row.kind() {
         "load-manifest" | "load-file" | "load-requests" | "load-place-of" | "load-summary" => {
-            loads::told(alloc, row)
+            loads::as_line(alloc, row)
         }
         "laws" => laws(alloc),
         _ => folder_rows::answer(alloc, row, store),

@@ -132,13 +132,13 @@ fn serves<R: Wait>(
         Ok(installer) => {
             let answer = installer.last_matches(alloc, asked, store);
             installer.close(rt);
-            told(alloc, answer)
+            as_line(alloc, answer)
         }
         Err(fault) => printed(alloc, &fault),
     }
 }
 
-fn told(alloc: Global, answer: Result<bool, InstallFault>) -> Answer {
+fn as_line(alloc: Global, answer: Result<bool, InstallFault>) -> Answer {
     match answer {
         Ok(served) => printed(alloc, &served),
         Err(fault) => printed(alloc, &fault),

@@ -206,11 +206,11 @@ fn told_by<R: Threads + Wait + Copy + Send + 'static>(
     if case.is_met_by(trial, &ending) {
         return Ok(None);
     }
-    Ok(Some(told(alloc, case, &ending)?))
+    Ok(Some(as_line(alloc, case, &ending)?))
 }
 
 /// The report on a run that ended otherwise.
-fn told(alloc: Global, case: &Case, ending: &RunResult) -> Result<String, AllocError> {
+fn as_line(alloc: Global, case: &Case, ending: &RunResult) -> Result<String, AllocError> {
     let (title, ending) = (case.title.as_str(), ending.told(alloc)?);
     format!(in alloc; "{title}: ended with {ending}")
 }

@@ -10,7 +10,7 @@ use Rattle.run_ends.specs.Operator.{GetsAnswer, Talk, Talks, audience, changed, 
 -- what a line was to those who hear of installs
 abbrev pub event_of : {whole : List ReleaseData} → {t u : Talk} → {asked : Line} → {answer : List ℕ}
     → GetsAnswer whole t asked answer u → Event
-event_of (handled (Some r) growth handles is) = Event.Grows r
+event_of (handled (Some r) feed handles is) = Event.Grows r
 event_of (changed event changes history is) = event
 event_of other = Event.IsRefused
 

@@ -6,7 +6,7 @@ pub mod Tells
 pub mod Opening
 pub mod Replies
 pub mod Following
-pub mod Growth
+pub mod Feeds
 pub mod Site
 pub mod Operator
 pub mod Audiences

@@ -19,7 +19,7 @@ use Rattle.subscribers.specs.Views.{SubscriberView}
 use Rattle.subscribers.specs.declared.subscribe_fault.SubscribeFault.TheVariants as fault
 use Rattle.subscribers.specs.declared.subscriber_list.TheConstants.{MOST_SUBSCRIBERS}
 use Rattle.subscribers.specs.declared.wish.Wish.{Wish}
-use Rattle.run_ends.specs.Growth.{GrowthView, Grows, Handles}
+use Rattle.run_ends.specs.Feeds.{FeedView, Grows, Handles}
 use Rattle.run_ends.specs.Replies.{last_token, nobody_text}
 
 -- a talk so far: the releases published, the least place that a status may tell, by what the
@@ -27,7 +27,7 @@ use Rattle.run_ends.specs.Replies.{last_token, nobody_text}
 pub record Talk : Type 0 where
   pub published : List ReleaseData
   pub least : ℕ
-  pub growth : GrowthView
+  pub feed : FeedView
   pub subscribers : List SubscriberView
 
 -- the releases published in a talk, and who hears of them
@@ -35,9 +35,9 @@ abbrev pub audience : Talk → Audience
 audience t = record { history = t.published; subscribers = t.subscribers }
 
 -- the server is ready, over these releases, and nobody has subscribed
-abbrev pub talk_begun : List ReleaseData → GrowthView → Talk
-talk_begun H growth =
-    record { published = H; least = length H; growth = growth; subscribers = [] }
+abbrev pub talk_begun : List ReleaseData → FeedView → Talk
+talk_begun H feed =
+    record { published = H; least = length H; feed = feed; subscribers = [] }
 
 -- releases that were joined by one more, or by none
 abbrev pub with_joined : List ReleaseData → Option ReleaseData → List ReleaseData
@@ -56,17 +56,17 @@ heard_by subscribers H None = subscribers
 heard_by subscribers H (Some r) = all_hear (H ++ r ∷ []) subscribers
 
 -- a line made the history grow by a release, or by none
-abbrev pub grown : Talk → Option ReleaseData → GrowthView → Talk
-grown t joined growth = record {
+abbrev pub grown : Talk → Option ReleaseData → FeedView → Talk
+grown t joined feed = record {
   published = with_joined t.published joined;
   least = least_after t joined;
-  growth = growth;
+  feed = feed;
   subscribers = heard_by t.subscribers t.published joined;
 }
 
--- a line that the talk does not do itself, so that the growth is asked for it
-abbrev pub IsForGrowth : Line → Type 0
-IsForGrowth asked =
+-- a line that the talk does not do itself, so that the feed is asked for it
+abbrev pub IsForFeed : Line → Type 0
+IsForFeed asked =
     (asked ≢ line.Status) × (asked ≢ line.Quit) × ((wish : Wish) → asked ≢ line.Watch wish)
     × ((number : ℕ) → asked ≢ line.News number)
 
@@ -110,8 +110,8 @@ ChangesHearing a asked answer event = ⊥
 -- what one line gets said, and what it makes of the talk
 pub data GetsAnswer (whole : List ReleaseData) (t : Talk) (asked : Line) (answer : List ℕ)
     (u : Talk) : Type 0 where
-  handled : (joined : Option ReleaseData) (growth : GrowthView)
-      → Handles t.published t.growth asked answer joined growth → u ≡ grown t joined growth
+  handled : (joined : Option ReleaseData) (feed : FeedView)
+      → Handles t.published t.feed asked answer joined feed → u ≡ grown t joined feed
       → GetsAnswer whole t asked answer u
   -- it is this to those who hear, and the history is as it was
   changed : (event : Event) → ChangesHearing (audience t) asked answer event
@@ -120,7 +120,7 @@ pub data GetsAnswer (whole : List ReleaseData) (t : Talk) (asked : Line) (answer
       → GetsAnswer whole t asked answer u
   only_told : (least : ℕ) → TellsOnly whole t asked answer least → u ≡ record t { least = least }
       → GetsAnswer whole t asked answer u
-  unknown : IsForGrowth asked → (Grows t.growth asked → ⊥) → answer ≡ reply_text said.Unknown
+  unknown : IsForFeed asked → (Grows t.feed asked → ⊥) → answer ≡ reply_text said.Unknown
       → u ≡ t → GetsAnswer whole t asked answer u
   -- memory ran out, and nothing was done
   no_memory : TakesMemory asked → answer ≡ reply_text said.NoMemory → u ≡ t

@@ -3,22 +3,22 @@
 use Rattle.std.specs.Prelude.{◌≤◌, ℕ}
 use Rattle.td_base.specs.Views.{LaterSink, LaterSource, SinkView, SourceView, StoreView}
 use Rattle.td_base.specs.DoorViews.{NetworkView}
-use Rattle.run_ends.specs.Growth.{GrowthView, LaterGrowth}
+use Rattle.run_ends.specs.Feeds.{FeedView, LaterFeed}
 use Rattle.run_ends.specs.Outside.{World, outside, world}
 use Rattle.run_ends.specs.declared.site.RunIo.{RunIo}
 
 -- an operator's console: what the history grows by, the input and the output
 pub record ConsoleView : Type 0 where
-  pub growth : GrowthView
+  pub feed : FeedView
   pub input : SourceView
   pub output : SinkView
 
-abbrev pub console : GrowthView → SourceView → SinkView → ConsoleView
-console growth input output = record { growth = growth; input = input; output = output }
+abbrev pub console : FeedView → SourceView → SinkView → ConsoleView
+console feed input output = record { feed = feed; input = input; output = output }
 
 -- any calls were made
 pub record LaterConsole (before after : ConsoleView) : Type 0 where
-  pub growth : LaterGrowth before.growth after.growth
+  pub feed : LaterFeed before.feed after.feed
   pub input : LaterSource before.input after.input
   pub output : LaterSink before.output after.output
 
@@ -32,9 +32,9 @@ abbrev pub site : ConsoleView → NetworkView → ℕ → SiteView
 site console network spawner = record { console = console; network = network; spawner = spawner }
 
 -- what a history grows by, in a world
-abbrev pub site_in : GrowthView → World → SiteView
-site_in growth w = record {
-  console = record { growth = growth; input = w.outside.input; output = w.outside.output };
+abbrev pub site_in : FeedView → World → SiteView
+site_in feed w = record {
+  console = record { feed = feed; input = w.outside.input; output = w.outside.output };
   network = w.network;
   spawner = w.spawner;
 }
@@ -46,10 +46,10 @@ pub record LaterSite (before after : SiteView) : Type 0 where
   pub spawner : before.spawner ≤ after.spawner
 
 -- what is seen of the objects that were lent, with what the history grows by
-abbrev pub site_of : {C K N W : Type 0} → GrowthView → (C → SourceView) → (K → SinkView)
+abbrev pub site_of : {C K N W : Type 0} → FeedView → (C → SourceView) → (K → SinkView)
     → (N → NetworkView) → (W → ℕ) → RunIo C K N W → SiteView
-site_of growth input output network spawner s =
-    site (console growth (input s.input.now) (output s.output.now)) (network s.net.now)
+site_of feed input output network spawner s =
+    site (console feed (input s.input.now) (output s.output.now)) (network s.net.now)
     (spawner s.spawner.now)
 
 -- with a store

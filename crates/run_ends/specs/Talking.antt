@@ -40,7 +40,7 @@ pub record LaterScene (before now : Scene) : Type 0 where
 -- a talk that begins at a scene
 abbrev pub talk_begun_at : Scene → Talk
 talk_begun_at s =
-    record (talk_begun (history_of s.session.installer.list) s.console.growth)
+    record (talk_begun (history_of s.session.installer.list) s.console.feed)
     { subscribers = s.session.installer.subscribers }
 
 -- all that is said: that the server is ready, and what each line gets said
@@ -53,7 +53,7 @@ pub record TalksOver (before now : Scene) (asked : List Line) (told : List (List
     : Type 0 where
   pub later : LaterScene before now
   pub talks : (whole : List ReleaseData) → BeginsWhole now.session whole
-      → (t : Talk) × StandsAt now.console.growth now.session t
+      → (t : Talk) × StandsAt now.console.feed now.session t
       × Talks whole (talk_begun_at before) asked told t
 
 -- the first of the lines in the bytes that were read
@@ -145,10 +145,10 @@ pub record AnswersOperator (opening whole : List ReleaseData) (before now : Cons
   pub last : Talk
   pub reads : ReadsLines before.input now.input read asked ignored
   pub needed : IsReadNeeded read asked
-  pub talks : Talks whole (talk_begun opening before.growth) asked told last
-  pub hears : TellsEachChange (audience (talk_begun opening before.growth)) (events_of talks) last
+  pub talks : Talks whole (talk_begun opening before.feed) asked told last
+  pub hears : TellsEachChange (audience (talk_begun opening before.feed)) (events_of talks) last
   pub published : last.published ≡ whole
-  pub growth : last.growth ≡ now.growth
+  pub feed : last.feed ≡ now.feed
   pub written : WritesTalk ended opening before.output now.output told
   pub ends : EndsBy before now asked ignored ended
   pub fails : FailsReads ended before.input now.input

@@ -20,7 +20,7 @@ pub fn door<R: Wait>(rt: &R, alloc: Global, row: &Row) -> Answer {
     let (publisher, desk) = one_desk(rt, alloc)?;
     let done = work(rt, alloc, desk, steps, raised);
     publisher.close(rt);
-    Ok(told(alloc, &done?)?)
+    Ok(as_line(alloc, &done?)?)
 }
 
 /// Lets a worker serve a door of these steps.
@@ -40,7 +40,7 @@ fn work<R: Wait>(
     Ok(DoorWork::new(alloc, Role::Primary, door, desk, sign).run(rt))
 }
 
-fn told(alloc: Global, done: &DoorDone<ListedDoor>) -> Result<Vec<u8>, AllocError> {
+fn as_line(alloc: Global, done: &DoorDone<ListedDoor>) -> Result<Vec<u8>, AllocError> {
     let mut out = Vec::new(alloc);
     for (conn, report) in &done.door.finished {
         out.push(letter(conn, report))?;

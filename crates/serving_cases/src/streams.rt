@@ -87,7 +87,7 @@ fn differs(alloc: Global, cut: usize) -> Answer {
 fn served(alloc: Global, desk: &mut Desk<Catalogue<Zone>>, input: &[u8], cut: usize) -> Answer {
     let mut conn = conn_of(alloc, input, cut)?;
     let report = serve(alloc, &Role::Primary, desk, &mut conn);
-    Ok(told(alloc, conn.sink.taken(), &report)?)
+    Ok(as_line(alloc, conn.sink.taken(), &report)?)
 }
 
 fn served_failing(
@@ -100,7 +100,7 @@ fn served_failing(
     let inner = conn_of(alloc, input, cut)?;
     let mut conn = FaultyConn::new(inner, one(alloc, calls.0)?, one(alloc, calls.1)?);
     let report = serve(alloc, &Role::Primary, desk, &mut conn);
-    Ok(told(alloc, conn.inner().sink.taken(), &report)?)
+    Ok(as_line(alloc, conn.inner().sink.taken(), &report)?)
 }
 
 fn conn_of(alloc: Global, input: &[u8], cut: usize) -> Result<MemoryConn, NoMemory> {
@@ -118,7 +118,7 @@ fn one(alloc: Global, number: u64) -> Result<Items<u64>, NoMemory> {
 
 /// What was written, a bar, how the connection ended, how many of its requests have a place, and
 /// how many answers were computed.
-fn told(alloc: Global, taken: &[u8], report: &Report) -> Result<Vec<u8>, AllocError> {
+fn as_line(alloc: Global, taken: &[u8], report: &Report) -> Result<Vec<u8>, AllocError> {
     let mut out = Vec::from_slice(alloc, taken)?;
     let (end, computed) = (report.end, report.computed);
     let places = report.places.as_slice().len();

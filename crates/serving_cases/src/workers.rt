@@ -31,7 +31,7 @@ pub fn worker<R: Wait>(rt: &R, alloc: Global, row: &Row) -> Answer {
             let mut desks = desks;
             let desk = desks.pop().unwrap();
             let door = serve_plan(rt, alloc, plan, installer, store, desk);
-            Ok(told(alloc, &door)?)
+            Ok(as_line(alloc, &door)?)
         }
         Err(_) => Err(CaseFault::Strange),
     }
@@ -132,7 +132,7 @@ fn serve_plan<R: Wait>(
     door.close()
 }
 
-fn told(alloc: Global, door: &ListedDoor) -> Result<Vec<u8>, AllocError> {
+fn as_line(alloc: Global, door: &ListedDoor) -> Result<Vec<u8>, AllocError> {
     let mut out = Vec::new(alloc);
     for (conn, report) in &door.finished {
         for place in report.places.as_slice() {

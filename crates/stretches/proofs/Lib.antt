@@ -3,4 +3,4 @@ pub mod CallLemmas
 pub mod CostLemmas
 pub mod FrontLemmas
 pub mod QueueLemmas
-pub mod RollLemmas
+pub mod TimeoutLemmas

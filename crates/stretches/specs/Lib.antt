@@ -6,6 +6,6 @@ pub mod Fronts
 pub mod Intakes
 pub mod Lives
 pub mod Queues
-pub mod Rolls
+pub mod Timeouts
 pub mod Shares
 pub mod Turns

@@ -3,7 +3,7 @@
 //! be given in it, [`turn_limit`] and [`WorkerTurn`] when it ends by the clock, [`fate_after`] what
 //! becomes of the connection then. [`Shared`] says which queue is served next, [`is_costly`] and
 //! [`is_long_turn`] what waits in the queue of costly requests. [`Life`] says how long a connection
-//! may rest, [`Roll`] which one is closed when descriptors or memory run short. [`FailureWindow`]
+//! may rest, [`Timeouts`] which one is closed when descriptors or memory run short. [`FailureWindow`]
 //! says when a listener is broken, [`accepts`] which of several takes a new connection.
 //!
 //! It stands on `http_request`, which finds the end of a head; `devices` calls it. Nothing here
@@ -17,7 +17,7 @@ mod looking;
 // What becomes of a connection, how long it rests, and which one is closed for another.
 mod fate;
 mod life;
-mod roll;
+mod timeouts;
 
 // When a turn ends, and which connection has the next.
 mod costs;
@@ -44,8 +44,8 @@ pub use life::{
 };
 pub use looking::{Look, look_at};
 pub use queues::{Queue, Shared, Waiting};
-pub use roll::Roll;
 pub use share::{GRACE_MILLIS, accepts};
+pub use timeouts::Timeouts;
 pub use turn::{
     FIRST_TURN_MICROS, LONG_TURN_MICROS, ROUND_MICROS, SHORT_TURN_MICROS, WorkerTurn, is_long_turn,
     turn_limit,

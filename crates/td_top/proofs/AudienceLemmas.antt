@@ -21,13 +21,13 @@ use Rattle.subscribers.specs.Views.{SubscriberView, changed_numbered, emptied, n
 use Rattle.subscribers.specs.declared.subscribe_fault.SubscribeFault.TheVariants as fault
 use Rattle.subscribers.specs.declared.subscriber_list.TheConstants.{MOST_SUBSCRIBERS}
 use Rattle.subscribers.specs.declared.wish.Wish.{Wish}
-use Rattle.run_ends.specs.Growth.{GrowthView}
+use Rattle.run_ends.specs.Feeds.{FeedView}
 use Rattle.td_top.specs.Replies.{SaysWhy}
 use Rattle.run_ends.specs.Replies.{nobody_text}
 use Rattle.run_ends.specs.Sessions.{AnswersLine, LaterSession}
 use Rattle.run_ends.specs.Operator.{ChangesHearing, TakesMemory, audience, changed, no_memory}
 use Rattle.run_ends.specs.declared.session.Session.{Session}
-use Rattle.td_top.proofs.lemmas.GrowthLemmas.{growth_refl}
+use Rattle.td_top.proofs.lemmas.FeedLemmas.{feed_refl}
 use Rattle.run_ends.proofs.lemmas.SessionLemmas.{session_refl}
 use Rattle.td_top.proofs.LineLemmas.{stays, tells_on}
 
@@ -52,13 +52,13 @@ left_later old new is desk = hears_later old new old.installer.subscribers is de
 abbrev heard_at : Session → Audience
 heard_at a = record { history = history_of a.installer.list; subscribers = a.installer.subscribers }
 
-pub hears : (g : GrowthView) (old new : Session) (asked : Line) (answer : List ℕ) (event : Event) → LaterSession old new
+pub hears : (g : FeedView) (old new : Session) (asked : Line) (answer : List ℕ) (event : Event) → LaterSession old new
     → new.installer.list ≡ old.installer.list → (audience_after (heard_at old) event).history ≡ history_of old.installer.list
     → new.installer.subscribers ≡ (audience_after (heard_at old) event).subscribers → ChangesHearing (heard_at old) asked answer event
     → AnswersLine g g old new asked answer
 unfolding AnswersLine
 hears g old new asked answer event later same history subscribers changes = record {
-  growth = growth_refl g;
+  feed = feed_refl g;
   later = later;
   answers = λ whole talk begins stands.
       let at : heard_at old ≡ audience talk = rw (stands.published, stands.subscribers) refl in (
@@ -66,7 +66,7 @@ hears g old new asked answer event later same history subscribers changes = reco
         record {
           published = stands.published ∙ ap history_of (sym same);
           least = omega (arith, stands.least, prefix_length old.desk.seen new.desk.seen later.seen);
-          growth = stands.growth;
+          feed = stands.feed;
           subscribers = ap (λ a. (audience_after a event).subscribers) (sym at) ∙ sym subscribers;
         },
         changed event (subst (λ a. ChangesHearing a asked answer event) at changes)
@@ -83,7 +83,7 @@ fewer n m few = by_cases (cases_lt n m)
     by_cases (inl less) = less
     by_cases (inr many) = absurd (few many)
 
-pub is_watched : (g : GrowthView) (old new : Session) (wish : Wish) (number : ℕ) (answer : List ℕ)
+pub is_watched : (g : FeedView) (old new : Session) (wish : Wish) (number : ℕ) (answer : List ℕ)
     → new.installer ≡ with_subscribers (old.installer.subscribers ++ newcomer wish (length old.installer.list) ∷ []) old.installer → new.desk ≡ old.desk
     → number ≡ length new.installer.subscribers → (MOST_SUBSCRIBERS ≤ length old.installer.subscribers → ⊥) → answer ≡ reply_text (said.Watching number)
     → AnswersLine g g old new (line.Watch wish) answer
@@ -95,12 +95,12 @@ is_watched g old new wish number answer is desk count few says =
     (refl, fewer (length before) MOST_SUBSCRIBERS few, says ∙ ap (λ n. reply_text (said.Watching n)) counted)
 
 -- a line for which memory ran out leaves all as it was
-pub is_starved : (g : GrowthView) (old new : Session) (asked : Line) (answer : List ℕ) → new.installer ≡ old.installer → new.desk ≡ old.desk
+pub is_starved : (g : FeedView) (old new : Session) (asked : Line) (answer : List ℕ) → new.installer ≡ old.installer → new.desk ≡ old.desk
     → TakesMemory asked → answer ≡ reply_text said.NoMemory → AnswersLine g g old new asked answer
 is_starved g old new asked answer same desk takes says =
     stays g old new asked answer (left_later old new same desk) same (λ whole talk at. no_memory takes says refl)
 
-pub is_full : (g : GrowthView) (old new : Session) (wish : Wish) (answer : List ℕ) → new.installer ≡ old.installer → new.desk ≡ old.desk
+pub is_full : (g : FeedView) (old new : Session) (wish : Wish) (answer : List ℕ) → new.installer ≡ old.installer → new.desk ≡ old.desk
     → MOST_SUBSCRIBERS ≤ length old.installer.subscribers → SaysWhy (fault_text fault.WatchFull) answer → AnswersLine g g old new (line.Watch wish) answer
 is_full g old new wish answer same desk many (inl none) = is_starved g old new (line.Watch wish) answer same desk tt none
 is_full g old new wish answer same desk many (inr says) =
@@ -128,7 +128,7 @@ pub has_number : (xs : List SubscriberView) (k : ℕ) (text : List ℕ) → Some
     → (0 < k) × (k ≤ length xs)
 has_number xs k text e = there xs k (numbered_from xs k) refl (held_by (numbered_from xs k) text e).0
 
-pub is_told : (g : GrowthView) (old new : Session) (number : ℕ) (text answer : List ℕ)
+pub is_told : (g : FeedView) (old new : Session) (number : ℕ) (text answer : List ℕ)
     → new.installer ≡ with_subscribers (changed_numbered emptied number old.installer.subscribers) old.installer → new.desk ≡ old.desk
     → Some text ≡ option_map (λ s. news_text s.held) (numbered_from old.installer.subscribers number) → answer ≡ text
     → AnswersLine g g old new (line.News number) answer
@@ -137,7 +137,7 @@ is_told g old new number text answer is desk holds says =
     hears g old new (line.News number) answer (Event.Clears number) (hears_later old new _ is desk) (ap (λ i. i.list) is) refl (ap (λ i. i.subscribers) is)
     (refl, found.0, says ∙ found.1 ∙ rw (eq-eqb number number refl) refl)
 
-pub is_of_nobody : (g : GrowthView) (a : Session) (number : ℕ) (answer : List ℕ)
+pub is_of_nobody : (g : FeedView) (a : Session) (number : ℕ) (answer : List ℕ)
     → None ≡ option_map (λ s. news_text s.held) (numbered_from a.installer.subscribers number) → SaysWhy nobody_text answer
     → AnswersLine g g a a (line.News number) answer
 is_of_nobody g a number answer none (inl starved) = is_starved g a a (line.News number) answer refl refl tt starved

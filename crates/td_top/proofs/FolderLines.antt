@@ -14,7 +14,7 @@ use Rattle.installer.specs.declared.install_fault.InstallFault.TheVariants as in
 use Rattle.release_check.specs.declared.check_fault.CheckFault.TheVariants as fault
 use Rattle.subscribers.specs.Hearing.{all_hear}
 use Rattle.run_ends.specs.Folders.{InstallsFolder, installed, refused, starved, unread}
-use Rattle.run_ends.specs.Growth.{AsksFolder, folders}
+use Rattle.run_ends.specs.Feeds.{AsksFolder, folders}
 use Rattle.td_top.specs.Replies.{SaysRefused}
 use Rattle.run_ends.specs.Replies.{last_token}
 use Rattle.run_ends.specs.Sessions.{AnswersLine, LaterSession}

@@ -29,13 +29,13 @@ use Rattle.sync_core.specs.Published.{HasFiles, manifest_of}
 use Rattle.run_ends.specs.Folders.{IsRefusal}
 use Rattle.run_ends.specs.Following.{StatesAfter, StatesLast, SyncsAs, faulted, faulted_starved, installed, refused, settled, starved, unchanged}
 use Rattle.td_top.specs.FollowingSteps.{OpensStated, PublishesStated}
-use Rattle.run_ends.specs.Growth.{Grows, following}
+use Rattle.run_ends.specs.Feeds.{Grows, following}
 use Rattle.td_top.specs.Replies.{SaysFaulted, SaysRefused}
 use Rattle.run_ends.specs.Replies.{last_token}
 use Rattle.run_ends.specs.Sessions.{AnswersLine, LaterSession}
 use Rattle.run_ends.specs.declared.session.Session.{Session}
 use Rattle.run_ends.proofs.lemmas.Installing.{no_refusal}
-use Rattle.td_top.proofs.lemmas.GrowthLemmas.{later_sync}
+use Rattle.td_top.proofs.lemmas.FeedLemmas.{later_sync}
 use Rattle.td_top.proofs.LineLemmas.{is_done}
 use Rattle.run_ends.proofs.lemmas.SessionLemmas.{session_refl}
 

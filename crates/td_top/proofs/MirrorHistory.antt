@@ -28,7 +28,7 @@ use Rattle.sync_world.specs.Hearing.{action_service}
 use Rattle.sync_world.specs.Holding.{HoldsLast}
 use Rattle.sync_world.specs.Worlds.{SyncWorld, WorldStep, world_begun}
 use Rattle.run_ends.specs.Following.{SaysStated, StatesAfter, StatesLast, SyncsAs, SyncsMirror, faulted, faulted_starved, installed, refused, settled, starved, unchanged}
-use Rattle.run_ends.specs.Growth.{GrowthView, Handles, following}
+use Rattle.run_ends.specs.Feeds.{FeedView, Handles, following}
 use Rattle.run_ends.specs.MirrorHistory.{FollowsPrimary, IsLastOfPrimary, IsOfPrimary, IsStatedByShare, Publish, PublishInTurn, all_exchanges, confirmed}
 use Rattle.run_ends.specs.MirrorHistory.{confirmed_at, joined, joined_at, kept, kept_at, memory_ran_out, none, none_yet, release_refused, sync_failed}
 use Rattle.run_ends.specs.Operator.{GetsAnswer, Talk, Talks, changed, handled, no_memory, only_told, talk_begun, unknown, with_joined}
@@ -70,7 +70,7 @@ record SoFar (host : List ℕ) (first : UpstreamView) (u : Talk) : Type 0 where
   pub shares : List Share
   pub after : MirrorState
   pub upstream : UpstreamView
-  pub growth : u.growth ≡ following host after upstream
+  pub feed : u.feed ≡ following host after upstream
   pub syncs : SyncsInTurn (request_text host) Means empty_mirror shares after
   pub told : TellsMore first.told upstream.told (all_exchanges shares)
   pub publish : Publish shares u.published
@@ -82,15 +82,15 @@ share_of host s t old new result h = record { taken = h.taken; untaken = h.untak
 module _ (host : List ℕ) (first : UpstreamView) where
   -- with one sync more
   more_so : (u v : Talk) (so : SoFar host first u) (t : MirrorState) (new : UpstreamView) (result : Result (Unit {0}) SyncFault)
-      → (h : SyncsAs host so.after t so.upstream new result) → v.growth ≡ following host t new
+      → (h : SyncsAs host so.after t so.upstream new result) → v.feed ≡ following host t new
       → Publish (so.shares ++ share_of host so.after t so.upstream new result h ∷ []) v.published → SoFar host first v
-  more_so u v so t new result h growth publish =
+  more_so u v so t new result h feed publish =
       let share = share_of host so.after t so.upstream new result h in
       record {
         shares = so.shares ++ share ∷ [];
         after = t;
         upstream = new;
-        growth = growth;
+        feed = feed;
         syncs = syncs_more (request_text host) Means empty_mirror so.after so.shares share so.syncs h.ends;
         told = subst (λ l. TellsMore first.told new.told l) (sym (exchanges_more so.shares share))
             (tells_on first.told so.upstream.told new.told (all_exchanges so.shares) (h.taken ++ h.untaken) so.told h.told);
@@ -99,56 +99,56 @@ module _ (host : List ℕ) (first : UpstreamView) where
 
   -- what was said of what the mirror states
   stated_so : (u v : Talk) (so : SoFar host first u) (t : MirrorState) (new : UpstreamView) (answer : List ℕ) (r : Option ReleaseData)
-      → SyncsAs host so.after t so.upstream new (Ok tt) → SaysStated t u.published answer r → v.growth ≡ following host t new
+      → SyncsAs host so.after t so.upstream new (Ok tt) → SaysStated t u.published answer r → v.feed ≡ following host t new
       → v.published ≡ with_joined u.published r → SoFar host first v
-  stated_so u v so t new answer r h (installed release other states is) growth published =
-      more_so u v so t new (Ok tt) h growth
+  stated_so u v so t new answer r h (installed release other states is) feed published =
+      more_so u v so t new (Ok tt) h feed
       (subst (λ H. Publish (so.shares ++ share_of host so.after t so.upstream new (Ok tt) h ∷ []) H) (sym published)
       (joined so.shares (share_of host so.after t so.upstream new (Ok tt) h) u.published release so.publish (refl, states)))
-  stated_so u v so t new answer r h (unchanged last is) growth published =
-      more_so u v so t new (Ok tt) h growth
+  stated_so u v so t new answer r h (unchanged last is) feed published =
+      more_so u v so t new (Ok tt) h feed
       (subst (λ H. Publish (so.shares ++ share_of host so.after t so.upstream new (Ok tt) h ∷ []) H) (sym published)
       (confirmed so.shares (share_of host so.after t so.upstream new (Ok tt) h) u.published so.publish refl last))
-  stated_so u v so t new answer r h (refused e other states of is) growth published =
-      more_so u v so t new (Ok tt) h growth
+  stated_so u v so t new answer r h (refused e other states of is) feed published =
+      more_so u v so t new (Ok tt) h feed
       (subst (λ H. Publish (so.shares ++ share_of host so.after t so.upstream new (Ok tt) h ∷ []) H) (sym published)
       (kept so.shares (share_of host so.after t so.upstream new (Ok tt) h) u.published so.publish (release_refused e states)))
-  stated_so u v so t new answer r h (starved is) growth published =
-      more_so u v so t new (Ok tt) h growth
+  stated_so u v so t new answer r h (starved is) feed published =
+      more_so u v so t new (Ok tt) h feed
       (subst (λ H. Publish (so.shares ++ share_of host so.after t so.upstream new (Ok tt) h ∷ []) H) (sym published)
       (kept so.shares (share_of host so.after t so.upstream new (Ok tt) h) u.published so.publish memory_ran_out))
 
   -- a sync that ended by a fault published nothing
   fault_so : (u v : Talk) (so : SoFar host first u) (t : MirrorState) (new : UpstreamView) (e : SyncFault) (r : Option ReleaseData)
-      → SyncsAs host so.after t so.upstream new (Err e) → r ≡ None → v.growth ≡ following host t new → v.published ≡ with_joined u.published r
+      → SyncsAs host so.after t so.upstream new (Err e) → r ≡ None → v.feed ≡ following host t new → v.published ≡ with_joined u.published r
       → SoFar host first v
-  fault_so u v so t new e r h isnt growth published =
-      more_so u v so t new (Err e) h growth
+  fault_so u v so t new e r h isnt feed published =
+      more_so u v so t new (Err e) h feed
       (subst (λ H. Publish (so.shares ++ share_of host so.after t so.upstream new (Err e) h ∷ []) H)
       (sym (published ∙ ap (λ x. with_joined u.published x) isnt))
       (kept so.shares (share_of host so.after t so.upstream new (Err e) h) u.published so.publish (sync_failed e refl)))
 
   synced_so : (u v : Talk) (so : SoFar host first u) (t : MirrorState) (new : UpstreamView) (answer : List ℕ) (r : Option ReleaseData)
-      → SyncsMirror host so.after t so.upstream new u.published answer r → v.growth ≡ following host t new
+      → SyncsMirror host so.after t so.upstream new u.published answer r → v.feed ≡ following host t new
       → v.published ≡ with_joined u.published r → SoFar host first v
-  synced_so u v so t new answer r (settled h says) growth published = stated_so u v so t new answer r h says growth published
-  synced_so u v so t new answer r (faulted e h some is isnt) growth published = fault_so u v so t new e r h isnt growth published
-  synced_so u v so t new answer r (faulted_starved e h is isnt) growth published = fault_so u v so t new e r h isnt growth published
+  synced_so u v so t new answer r (settled h says) feed published = stated_so u v so t new answer r h says feed published
+  synced_so u v so t new answer r (faulted e h some is isnt) feed published = fault_so u v so t new e r h isnt feed published
+  synced_so u v so t new answer r (faulted_starved e h is isnt) feed published = fault_so u v so t new e r h isnt feed published
 
   -- a line that makes the history of a mirror grow is one that syncs
-  handled_so : (u v : Talk) (so : SoFar host first u) (g : GrowthView) (asked : Line) (answer : List ℕ) (r : Option ReleaseData)
-      → Handles u.published (following host so.after so.upstream) asked answer r g → v.growth ≡ g → v.published ≡ with_joined u.published r → SoFar host first v
-  handled_so u v so (following name t new) asked answer r handles growth published =
-      synced_so u v so t new answer r handles.2 (growth ∙ ap (λ x. following x t new) handles.1) published
-  handled_so u v so other asked answer r handles growth published = absurd handles
+  handled_so : (u v : Talk) (so : SoFar host first u) (g : FeedView) (asked : Line) (answer : List ℕ) (r : Option ReleaseData)
+      → Handles u.published (following host so.after so.upstream) asked answer r g → v.feed ≡ g → v.published ≡ with_joined u.published r → SoFar host first v
+  handled_so u v so (following name t new) asked answer r handles feed published =
+      synced_so u v so t new answer r handles.2 (feed ∙ ap (λ x. following x t new) handles.1) published
+  handled_so u v so other asked answer r handles feed published = absurd handles
 
   -- a line that leaves the history as it is
-  left_so : (u v : Talk) → SoFar host first u → v.growth ≡ u.growth → v.published ≡ u.published → SoFar host first v
-  left_so u v so growth published = record {
+  left_so : (u v : Talk) → SoFar host first u → v.feed ≡ u.feed → v.published ≡ u.published → SoFar host first v
+  left_so u v so feed published = record {
     shares = so.shares;
     after = so.after;
     upstream = so.upstream;
-    growth = growth ∙ so.growth;
+    feed = feed ∙ so.feed;
     syncs = so.syncs;
     told = so.told;
     publish = subst (λ H. Publish so.shares H) (sym published) so.publish;
@@ -156,13 +156,13 @@ module _ (host : List ℕ) (first : UpstreamView) where
 
   line_so : (whole : List ReleaseData) (u v : Talk) (asked : Line) (answer : List ℕ) → GetsAnswer whole u asked answer v → SoFar host first u
       → SoFar host first v
-  line_so whole u v asked answer (handled r growth handles is) so =
-      handled_so u v so growth asked answer r (subst (λ g. Handles u.published g asked answer r growth) so.growth handles) (ap (λ t. t.growth) is)
+  line_so whole u v asked answer (handled r feed handles is) so =
+      handled_so u v so feed asked answer r (subst (λ g. Handles u.published g asked answer r feed) so.feed handles) (ap (λ t. t.feed) is)
       (ap (λ t. t.published) is)
-  line_so whole u v asked answer (changed event a b is) so = left_so u v so (ap (λ t. t.growth) is) (ap (λ t. t.published) is)
-  line_so whole u v asked answer (only_told least a is) so = left_so u v so (ap (λ t. t.growth) is) (ap (λ t. t.published) is)
-  line_so whole u v asked answer (unknown a b c is) so = left_so u v so (ap (λ t. t.growth) is) (ap (λ t. t.published) is)
-  line_so whole u v asked answer (no_memory a b is) so = left_so u v so (ap (λ t. t.growth) is) (ap (λ t. t.published) is)
+  line_so whole u v asked answer (changed event a b is) so = left_so u v so (ap (λ t. t.feed) is) (ap (λ t. t.published) is)
+  line_so whole u v asked answer (only_told least a is) so = left_so u v so (ap (λ t. t.feed) is) (ap (λ t. t.published) is)
+  line_so whole u v asked answer (unknown a b c is) so = left_so u v so (ap (λ t. t.feed) is) (ap (λ t. t.published) is)
+  line_so whole u v asked answer (no_memory a b is) so = left_so u v so (ap (λ t. t.feed) is) (ap (λ t. t.published) is)
 
   talk_so : (whole : List ReleaseData) (t u : Talk) (asked : List Line) (told : List (List ℕ)) → Talks whole t asked told u → SoFar host first t
       → SoFar host first u
@@ -179,7 +179,7 @@ first_so host first ready s r h states =
       shares = share ∷ [];
       after = s;
       upstream = ready;
-      growth = refl;
+      feed = refl;
       syncs = (h.ends, refl);
       told = subst (λ l. TellsMore first.told ready.told l) (sym (append-nil (h.taken ++ h.untaken))) h.told;
       publish = joined [] share [] r none (refl, states);
@@ -250,9 +250,9 @@ module _ (laws : Laws) (H : List ReleaseData) (steps : List WorldStep) (xs : Lis
       (one_had past share r _ _ parts.1 parts.2 stated)
 
 follows_so : (laws : Laws) (host : List ℕ) (first last : UpstreamView) (u : Talk) (t : MirrorState) (history : List ReleaseData) → SoFar host first u
-    → u.published ≡ history → u.growth ≡ following host t last → FollowsPrimary host first last history
-follows_so laws host first last u t history so published growth =
-    let same : so.upstream ≡ last = cc (sym so.growth ∙ growth) in
+    → u.published ≡ history → u.feed ≡ following host t last → FollowsPrimary host first last history
+follows_so laws host first last u t history so published feed =
+    let same : so.upstream ≡ last = cc (sym so.feed ∙ feed) in
     record {
       shares = so.shares;
       after = so.after;
@@ -268,11 +268,11 @@ follows_so laws host first last u t history so published growth =
 
 pub follows_primary : (laws : Laws) (host : List ℕ) (first ready last : UpstreamView) (s t : MirrorState) (r : ReleaseData) (history : List ReleaseData)
     (asked : List Line) (told : List (List ℕ)) (u : Talk) → SyncsAs host empty_mirror s first ready (Ok tt) → StatesAfter [] s (Ok r)
-    → Talks history (talk_begun (r ∷ []) (following host s ready)) asked told u → u.published ≡ history → u.growth ≡ following host t last
+    → Talks history (talk_begun (r ∷ []) (following host s ready)) asked told u → u.published ≡ history → u.feed ≡ following host t last
     → FollowsPrimary host first last history
-follows_primary laws host first ready last s t r history asked told u h states talks published growth =
+follows_primary laws host first ready last s t r history asked told u h states talks published feed =
     follows_so laws host first last u t history
-    (talk_so host first history (talk_begun (r ∷ []) (following host s ready)) u asked told talks (first_so host first ready s r h states)) published growth
+    (talk_so host first history (talk_begun (r ∷ []) (following host s ready)) u asked told talks (first_so host first ready s r h states)) published feed
 
 -- nothing was talked of
 pub follows_first : (laws : Laws) (host : List ℕ) (first ready last : UpstreamView) (s t : MirrorState) (r : ReleaseData)

@@ -20,7 +20,7 @@ use Rattle.sync_core.specs.Mirrors.{MirrorState, empty_mirror}
 use Rattle.run_ends.specs.Following.{StatesAfter, SyncsAs}
 use Rattle.td_top.specs.FollowingSteps.{OpensStated}
 use Rattle.run_ends.specs.Commands.{mirror}
-use Rattle.run_ends.specs.Growth.{GrowthView, following}
+use Rattle.run_ends.specs.Feeds.{FeedView, following}
 use Rattle.run_ends.specs.Running.Mirroring.{Mirrors, ReachesServer, not_synced, opened, out_of_memory, refused, unreached}
 use Rattle.td_top.specs.MirroringSteps.{FollowEnds, FollowsOn, ServesStated, StatedEnds, TellsWhy}
 use Rattle.td_top.specs.MirroringSteps as steps
@@ -37,29 +37,29 @@ use Rattle.run_ends.specs.declared.status.Status.TheVariants as status
 use Rattle.run_ends.proofs.lemmas.Endings.{left_sink, printed_later}
 use Rattle.run_ends.proofs.lemmas.Reaching.{not_told}
 use Rattle.run_ends.proofs.lemmas.Runs.{runs_as}
-use Rattle.td_top.proofs.lemmas.GrowthLemmas.{later_sync}
-use Rattle.td_top.proofs.lemmas.GrowthLemmas.{growth_refl, growth_trans}
+use Rattle.td_top.proofs.lemmas.FeedLemmas.{later_sync}
+use Rattle.td_top.proofs.lemmas.FeedLemmas.{feed_refl, feed_trans}
 use Rattle.td_top.proofs.MirrorHistory.{Laws, follows_first, follows_primary}
 
 -- ---- a refusal
 
 -- nothing but the output was touched
-later_output : (g : GrowthView) (i : SourceView) (o p : SinkView) (n : NetworkView) (r : ℕ) → LaterSink o p
+later_output : (g : FeedView) (i : SourceView) (o p : SinkView) (n : NetworkView) (r : ℕ) → LaterSink o p
     → LaterSite (site (console g i o) n r) (site (console g i p) n r)
 later_output g i o p n r sink = record {
-  console = record { growth = growth_refl g; input = source_refl i; output = sink };
+  console = record { feed = feed_refl g; input = source_refl i; output = sink };
   network = omega arith;
   spawner = omega arith;
 }
 
 -- nothing was done
-pub left_all : (g : GrowthView) (i : SourceView) (o : SinkView) (n : NetworkView) (r : ℕ)
+pub left_all : (g : FeedView) (i : SourceView) (o : SinkView) (n : NetworkView) (r : ℕ)
     → LaterSite (site (console g i o) n r) (site (console g i o) n r)
 left_all g i o n r = later_output g i o o n r (sink_refl o)
 
-tells_why : (called : Status) (why : List ℕ) (g : GrowthView) (i : SourceView) (o p : SinkView) (n : NetworkView) (r : ℕ) (end : Status)
+tells_why : (called : Status) (why : List ℕ) (g : FeedView) (i : SourceView) (o p : SinkView) (n : NetworkView) (r : ℕ) (end : Status)
     → Printed called (refused_line why) o p end → TellsWhy called why (site (console g i o) n r) (site (console g i p) n r) end
-tells_why called why g i o p n r end h = record { printed = h; growth = refl; input = refl; network = refl; spawner = refl }
+tells_why called why g i o p n r end h = record { printed = h; feed = refl; input = refl; network = refl; spawner = refl }
 
 -- ---- what a settled mirror states
 
@@ -80,7 +80,7 @@ module _ (host address : List ℕ) (workers : ℕ) (s : MirrorState) where
         (subst (λ H. OpenedEnds (role.Secondary host) address workers H before after h.history doors is) opens.2 h.ends);
   }
 
-  why_stated : (e : InstallFault) (g : GrowthView) (i : SourceView) (o p : SinkView) (n : NetworkView) (r : ℕ) (is : Status) → OpensStated s (Err e)
+  why_stated : (e : InstallFault) (g : FeedView) (i : SourceView) (o p : SinkView) (n : NetworkView) (r : ℕ) (is : Status) → OpensStated s (Err e)
       → RefusesInstall e o p is → ServesStated host address workers s (site (console g i o) n r) (site (console g i p) n r) [] is
   why_stated install.NoMemory g i o p n r is opens h =
       subst (λ x. ServesStated host address workers s (site (console g i o) n r) (site (console g i p) n r) [] x) (sym h.0)
@@ -97,7 +97,7 @@ module _ (host address : List ℕ) (workers : ℕ) (s : MirrorState) where
       (record { later = later_output g i o p n r (left_sink o p left.1); ends = steps.out_of_memory })
   why_stated (install.Policy k) g i o p n r is opens h = absurd (opens.2 tt)
 
-  pub stated_refused : (e : InstallFault) (g : GrowthView) (i : SourceView) (o p : SinkView) (n : NetworkView) (r : ℕ) (doors : List DoorView)
+  pub stated_refused : (e : InstallFault) (g : FeedView) (i : SourceView) (o p : SinkView) (n : NetworkView) (r : ℕ) (doors : List DoorView)
       (is told : Status) → OpensStated s (Err e) → RefusesInstall e o p told → is ≡ told → doors ≡ []
       → ServesStated host address workers s (site (console g i o) n r) (site (console g i p) n r) doors is
   stated_refused e g i o p n r doors is told opens h same none =
@@ -115,8 +115,8 @@ module _ (host address : List ℕ) (workers : ℕ) (s t : MirrorState) (old new 
   followed i o n r after doors is h so = record {
     later = record {
       console = record {
-        growth = growth_trans (following host s old) (following host t new) after.console.growth (later_sync host s t old new (Ok tt) h)
-            so.later.console.growth;
+        feed = feed_trans (following host s old) (following host t new) after.console.feed (later_sync host s t old new (Ok tt) h)
+            so.later.console.feed;
         input = so.later.console.input;
         output = so.later.console.output;
       };
@@ -129,7 +129,7 @@ module _ (host address : List ℕ) (workers : ℕ) (s t : MirrorState) (old new 
   left_later : (e : SyncFault) (i : SourceView) (o p : SinkView) (n : NetworkView) (r : ℕ) → SyncsAs host s t old new (Err e) → LaterSink o p
       → LaterSite (site (console (following host s old) i o) n r) (site (console (following host t new) i p) n r)
   left_later e i o p n r h sink = record {
-    console = record { growth = later_sync host s t old new (Err e) h; input = source_refl i; output = sink };
+    console = record { feed = later_sync host s t old new (Err e) h; input = source_refl i; output = sink };
     network = omega arith;
     spawner = omega arith;
   }
@@ -182,13 +182,13 @@ module _ (address : List ℕ) (workers : ℕ) (upstream : List ℕ) (store : Sto
     opened_run u ready release history doors is h states (served past given ds ended worn fits operator opens started over) =
         opened reached first ready last u t release past ds (status_for ended worn) reaches h states (served past given ds ended worn fits operator opens started over)
         (follows_primary laws upstream first ready last u t release past operator.asked operator.told operator.last h states operator.talks operator.published
-        operator.growth)
+        operator.feed)
     opened_run u ready release history doors is h states (no_network left told rose) =
         opened reached first ready last u t release (release ∷ []) [] status.NoNetwork reaches h states (no_network left told rose)
-        (follows_first laws upstream first ready last u t release h states (ap (λ a. a.growth) left))
+        (follows_first laws upstream first ready last u t release h states (ap (λ a. a.feed) left))
     opened_run u ready release history doors is h states (not_started given left opens rose) =
         opened reached first ready last u t release (release ∷ []) [] status.NotStarted reaches h states (not_started given left opens rose)
-        (follows_first laws upstream first ready last u t release h states (ap (λ a. a.growth) left))
+        (follows_first laws upstream first ready last u t release h states (ap (λ a. a.feed) left))
     opened_run u ready release history doors is h states out_of_memory_opened = out_of_memory (Some last)
 
     stated_run : (u : MirrorState) (ready : UpstreamView) (doors : List DoorView) (is : Status) → SyncsAs upstream empty_mirror u first ready (Ok tt)
@@ -224,7 +224,7 @@ module _ (address : List ℕ) (workers : ℕ) (upstream : List ℕ) (store : Sto
       (site (console (following host t last) j p) m q) doors is → up ≡ Some last
       → RunEndsLater (Some (mirror address workers upstream)) (world (outside store i o) n r) (world (outside store j p) m q) doors up is
   ran_mirror laws reached first host j p m q t last doors up is reaches later h same =
-      let asked : host ≡ upstream = h.later.console.growth.0 in
+      let asked : host ≡ upstream = h.later.console.feed.0 in
       let ends = subst
       (λ x. FollowEnds upstream address workers empty_mirror first (site (console (following upstream empty_mirror first) i o) reached r)
       (site (console (following x t last) j p) m q) doors is)

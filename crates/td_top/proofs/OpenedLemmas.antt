@@ -7,12 +7,12 @@ use Rattle.catalogue.specs.Releases.{ReleaseData}
 use Rattle.run_ends.specs.Running.Server.{OpenedEnds}
 use Rattle.run_ends.specs.Site.{ConsoleView, LaterConsole, LaterSite, SiteView, site}
 use Rattle.run_ends.specs.declared.status.Status.{Status}
-use Rattle.td_top.proofs.lemmas.GrowthLemmas.{growth_refl}
+use Rattle.td_top.proofs.lemmas.FeedLemmas.{feed_refl}
 use Rattle.td_top.specs.ServerSteps.{ServesOpened}
 
 -- nothing was done
 pub console_refl : (a : ConsoleView) → LaterConsole a a
-console_refl a = record { growth = growth_refl a.growth; input = source_refl a.input; output = sink_refl a.output }
+console_refl a = record { feed = feed_refl a.feed; input = source_refl a.input; output = sink_refl a.output }
 
 -- no door was served to its end
 pub given_up : {D : Type 0} (seen : D → DoorView) (server : Role) (address : List ℕ) (workers : ℕ) (opening : List ReleaseData) (before after : SiteView)

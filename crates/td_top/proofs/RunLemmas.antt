@@ -9,7 +9,7 @@ use Rattle.td_base.proofs.lemmas.LaterLemmas.{store_trans}
 use Rattle.catalogue.specs.declared.holding.Catalogue.{Catalogue}
 use Rattle.catalogue.specs.Holdings.{history_of}
 use Rattle.run_ends.specs.Commands.{serve}
-use Rattle.run_ends.specs.Growth.{folders}
+use Rattle.run_ends.specs.Feeds.{folders}
 use Rattle.run_ends.specs.Opening.{InstallsAll}
 use Rattle.run_ends.specs.Outside.{outside, world}
 use Rattle.run_ends.specs.Running.{RunEndsLater}
@@ -26,7 +26,7 @@ pub ran_doors : (address : List ℕ) (workers : ℕ) (rules rules' : List Chosen
     doors is
     → RunEndsLater (Some (serve address workers rules dirs)) (world (outside s i o) n r) (world (outside u j p) m q) doors up is
 ran_doors address workers rules rules' dirs list s t u i j o p n m r q doors up is none all h =
-    let grew = h.later.console.growth in
+    let grew = h.later.console.feed in
     let ends = subst
     (λ x. OpenedEnds role.Primary address workers (history_of list) (site (console (folders rules t) i o) n r) (site (console (folders x u) j p) m q)
     h.history doors is) grew.0 h.ends in

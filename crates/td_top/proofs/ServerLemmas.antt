@@ -50,8 +50,8 @@ operated before now ended nobody seen t =
       seen = history_longer now.session.desk.seen now.session.installer.list seen;
     }) in
     let opening : List ReleaseData = history_of before.session.installer.list in
-    let talks : Talks whole (talk_begun opening before.console.growth) t.asked t.told talk.0 =
-    subst (λ s. Talks whole (record (talk_begun opening before.console.growth) { subscribers = s }) t.asked t.told talk.0) nobody talk.2 in
+    let talks : Talks whole (talk_begun opening before.console.feed) t.asked t.told talk.0 =
+    subst (λ s. Talks whole (record (talk_begun opening before.console.feed) { subscribers = s }) t.asked t.told talk.0) nobody talk.2 in
     record {
       read = t.read;
       asked = t.asked;
@@ -61,9 +61,9 @@ operated before now ended nobody seen t =
       reads = t.reads;
       needed = t.needed;
       talks = talks;
-      hears = tells_each_change whole opening before.console.growth t.asked t.told talk.0 talks;
+      hears = tells_each_change whole opening before.console.feed t.asked t.told talk.0 talks;
       published = talk.1.published;
-      growth = talk.1.growth;
+      feed = talk.1.feed;
       written = t.written;
       ends = t.ends;
       fails = t.fails;

@@ -22,7 +22,7 @@ use Rattle.console.specs.declared.line.Line.{Line}
 use Rattle.console.specs.declared.line.Line.TheVariants as line
 use Rattle.console.specs.declared.said.Said.TheVariants as said
 use Rattle.td_base.proofs.lemmas.Beginnings.{prefix_trans}
-use Rattle.run_ends.specs.Growth.{GrowthView}
+use Rattle.run_ends.specs.Feeds.{FeedView}
 use Rattle.run_ends.specs.Replies.{last_token}
 use Rattle.run_ends.specs.Sessions.{AnswersLine, BeginsWhole, LaterSession}
 use Rattle.run_ends.specs.Site.{console}
@@ -37,7 +37,7 @@ use Rattle.run_ends.specs.declared.session.Session.{Session}
 use Rattle.run_ends.specs.declared.talk_end.TalkEnd.{TalkEnd}
 use Rattle.run_ends.specs.declared.talk_end.TalkEnd.TheVariants as end
 use Rattle.run_ends.proofs.lemmas.WrittenTexts.{written_more}
-use Rattle.td_top.proofs.lemmas.GrowthLemmas.{growth_refl, growth_trans}
+use Rattle.td_top.proofs.lemmas.FeedLemmas.{feed_refl, feed_trans}
 use Rattle.run_ends.proofs.lemmas.SessionLemmas.{session_refl, session_trans}
 
 -- ---- histories
@@ -98,23 +98,23 @@ as_text a b one two how e h = subst (λ (t : List ℕ). WritesAll a b t how) e h
 
 -- ---- the beginning
 
-nothing_asked : (s : GrowthView) (i : SourceView) (o p : SinkView) (x : Session) → length x.installer.list ≤ length x.desk.seen → LaterSink o p
+nothing_asked : (s : FeedView) (i : SourceView) (o p : SinkView) (x : Session) → length x.installer.list ≤ length x.desk.seen → LaterSink o p
     → TalksOver (scene (console s i o) x) (scene (console s i p) x) [] []
 nothing_asked s i o p x knows sink = record {
-  later = record { console = record { growth = growth_refl s; input = source_refl i; output = sink }; session = session_refl x };
+  later = record { console = record { feed = feed_refl s; input = source_refl i; output = sink }; session = session_refl x };
   talks = λ whole begins. (
     talk_begun_at (scene (console s i o) x),
     record {
       published = refl;
       least = omega (arith, history_length x.installer.list, knows);
-      growth = refl;
+      feed = refl;
       subscribers = refl;
     },
     none (talk_begun_at (scene (console s i o) x)),
   );
 }
 
-pub starts : (s : GrowthView) (i : SourceView) (o p : SinkView) (x : Session) (text : List ℕ) → length x.installer.list ≤ length x.desk.seen
+pub starts : (s : FeedView) (i : SourceView) (o p : SinkView) (x : Session) (text : List ℕ) → length x.installer.list ≤ length x.desk.seen
     → text ≡ reply_text (said.Ready (last_token (history_of x.installer.list))) → WritesAll o p text written.Whole
     → GivesLines [] [] [] → IsAt (scene (console s i o) x) (scene (console s i p) x) []
 starts s i o p x text knows is h gives = record {
@@ -130,7 +130,7 @@ starts s i o p x text knows is h gives = record {
   written = as_text o p text (talk_text (history_of x.installer.list) []) written.Whole (is ∙ first_text (history_of x.installer.list)) h;
 }
 
-pub cut_at_once : (s : GrowthView) (i : SourceView) (o p : SinkView) (x : Session) (text : List ℕ) → length x.installer.list ≤ length x.desk.seen
+pub cut_at_once : (s : FeedView) (i : SourceView) (o p : SinkView) (x : Session) (text : List ℕ) → length x.installer.list ≤ length x.desk.seen
     → text ≡ reply_text (said.Ready (last_token (history_of x.installer.list))) → WritesAll o p text written.Cut
     → GivesLines [] [] [] → ComesTo (scene (console s i o) x) (scene (console s i p) x) (Some end.NotWritten)
 cut_at_once s i o p x text knows is h gives = record {
@@ -148,22 +148,22 @@ cut_at_once s i o p x text knows is h gives = record {
 
 -- ---- a piece of the input
 
-later_input : (start : Scene) (s : GrowthView) (i j : SourceView) (o : SinkView) (x : Session) → LaterScene start (scene (console s i o) x) → LaterSource i j
+later_input : (start : Scene) (s : FeedView) (i j : SourceView) (o : SinkView) (x : Session) → LaterScene start (scene (console s i o) x) → LaterSource i j
     → LaterScene start (scene (console s j o) x)
 later_input start s i j o x later input = record {
   console = record {
-    growth = later.console.growth;
+    feed = later.console.feed;
     input = source_trans start.console.input i j later.console.input input;
     output = later.console.output;
   };
   session = later.session;
 }
 
-over_input : (start : Scene) (s : GrowthView) (i j : SourceView) (o : SinkView) (x : Session) (asked : List Line) (told : List (List ℕ)) → LaterSource i j
+over_input : (start : Scene) (s : FeedView) (i j : SourceView) (o : SinkView) (x : Session) (asked : List Line) (told : List (List ℕ)) → LaterSource i j
     → TalksOver start (scene (console s i o) x) asked told → TalksOver start (scene (console s j o) x) asked told
 over_input start s i j o x asked told input over = record { later = later_input start s i j o x over.later input; talks = over.talks }
 
-fed : (start : Scene) (s : GrowthView) (i j : SourceView) (o : SinkView) (x : Session) (held held' new : List ℕ)
+fed : (start : Scene) (s : FeedView) (i j : SourceView) (o : SinkView) (x : Session) (held held' new : List ℕ)
     → IsAt start (scene (console s i o) x) held → HasNone held held' → LaterSource i j → FeedsHeld i j held' new
     → IsAt start (scene (console s j o) x) new
 fed start s i j o x held held' new at whole input f = record {
@@ -183,7 +183,7 @@ fed start s i j o x held held' new at whole input f = record {
 consumed_on : (a b c : Option (List ℕ)) (bs : List ℕ) → Consumes a b bs → Consumes b c [] → Consumes a c bs
 consumed_on a b c bs h k = subst (λ (l : List ℕ). Consumes a c l) (append-nil bs) (Consumes-trans a b c bs [] h k)
 
-input_done : (start : Scene) (s : GrowthView) (i j : SourceView) (o : SinkView) (x : Session) (held held' : List ℕ)
+input_done : (start : Scene) (s : FeedView) (i j : SourceView) (o : SinkView) (x : Session) (held held' : List ℕ)
     → IsAt start (scene (console s i o) x) held → HasNone held held' → LaterSource i j → Consumes i.left j.left [] → IsAtEnd j.left
     → j.faults ≡ i.faults → ComesTo start (scene (console s j o) x) (Some end.InputEnded)
 input_done start s i j o x held held' at whole input consumed ended steady = record {
@@ -199,7 +199,7 @@ input_done start s i j o x held held' at whole input consumed ended steady = rec
   fails = steady ∙ at.steady;
 }
 
-input_failed : (start : Scene) (s : GrowthView) (i j : SourceView) (o : SinkView) (x : Session) (held held' : List ℕ)
+input_failed : (start : Scene) (s : FeedView) (i j : SourceView) (o : SinkView) (x : Session) (held held' : List ℕ)
     → IsAt start (scene (console s i o) x) held → HasNone held held' → LaterSource i j → Consumes i.left j.left [] → SourceFailed i j
     → j.faults ≤ i.faults + 1 → ComesTo start (scene (console s j o) x) (Some end.NotRead)
 input_failed start s i j o x held held' at whole input consumed failed once = record {
@@ -216,7 +216,7 @@ input_failed start s i j o x held held' at whole input consumed failed once = re
 }
 
 -- a turn that reads
-pub read_turn : (start : Scene) (s : GrowthView) (i j : SourceView) (o : SinkView) (x : Session) (held held' new : List ℕ) (r : TalkTurn)
+pub read_turn : (start : Scene) (s : FeedView) (i j : SourceView) (o : SinkView) (x : Session) (held held' new : List ℕ) (r : TalkTurn)
     → IsAt start (scene (console s i o) x) held → HasNone held held' → LaterSource i j → FeedsTalk i j held' new r
     → Reaches start (scene (console s j o) x) new r
 read_turn start s i j o x held held' new turn.On at whole input f = fed start s i j o x held held' new at whole input f
@@ -228,7 +228,7 @@ read_turn start s i j o x held held' new turn.NoMemory at whole input f = later_
 
 -- ---- a line
 
-over_more : (start : Scene) (s t : GrowthView) (i : SourceView) (o p : SinkView) (x y : Session) (asked : List Line) (told : List (List ℕ)) (next : Line)
+over_more : (start : Scene) (s t : FeedView) (i : SourceView) (o p : SinkView) (x y : Session) (asked : List Line) (told : List (List ℕ)) (next : Line)
     (a : List ℕ)
     → AllByRecursion KeepsTalking asked → LaterSink o p → TalksOver start (scene (console s i o) x) asked told → AnswersLine s t x y next a
     → TalksOver start (scene (console t i p) y) (asked ++ next ∷ []) (told ++ a ∷ [])
@@ -236,7 +236,7 @@ unfolding AnswersLine
 over_more start s t i o p x y asked told next a goes sink over answers = record {
   later = record {
     console = record {
-      growth = growth_trans start.console.growth s t over.later.console.growth answers.growth;
+      feed = feed_trans start.console.feed s t over.later.console.feed answers.feed;
       input = over.later.console.input;
       output = sink_trans start.console.output o p over.later.console.output sink;
     };
@@ -251,7 +251,7 @@ over_more start s t i o p x y asked told next a goes sink over answers = record 
       );
 }
 
-cut_by : (start : Scene) (s t : GrowthView) (i : SourceView) (o p : SinkView) (x y : Session) (held new : List ℕ) (next : Line) (a : List ℕ)
+cut_by : (start : Scene) (s t : FeedView) (i : SourceView) (o p : SinkView) (x y : Session) (held new : List ℕ) (next : Line) (a : List ℕ)
     → IsAt start (scene (console s i o) x) held → IsNextLine held new next → AnswersLine s t x y next a → WritesAll o p a written.Cut
     → ComesTo start (scene (console t i p) y) (Some end.NotWritten)
 cut_by start s t i o p x y held new next a at is answers h = record {
@@ -275,7 +275,7 @@ said_whole start o p told a g h =
     (talk_text (history_of start.session.installer.list) (told ++ a ∷ [])) written.Whole (text_more (history_of start.session.installer.list) told a)
     (written_more start.console.output o p (talk_text (history_of start.session.installer.list) told) a g h)
 
-answered : (start : Scene) (s t : GrowthView) (i : SourceView) (o p : SinkView) (x y : Session) (held new : List ℕ) (next : Line) (a : List ℕ)
+answered : (start : Scene) (s t : FeedView) (i : SourceView) (o p : SinkView) (x y : Session) (held new : List ℕ) (next : Line) (a : List ℕ)
     → KeepsTalking next → IsAt start (scene (console s i o) x) held → IsNextLine held new next → AnswersLine s t x y next a
     → WritesAll o p a written.Whole → IsAt start (scene (console t i p) y) new
 answered start s t i o p x y held new next a goes at is answers h = record {
@@ -291,7 +291,7 @@ answered start s t i o p x y held new next a goes at is answers h = record {
   written = said_whole start o p at.told a at.written h;
 }
 
-pub line_turn : (start : Scene) (s t : GrowthView) (i : SourceView) (o p : SinkView) (x y : Session) (held new : List ℕ) (next : Line) (a : List ℕ) (r : TalkTurn)
+pub line_turn : (start : Scene) (s t : FeedView) (i : SourceView) (o p : SinkView) (x y : Session) (held new : List ℕ) (next : Line) (a : List ℕ) (r : TalkTurn)
     → KeepsTalking next → IsAt start (scene (console s i o) x) held → IsNextLine held new next → AnswersLine s t x y next a → SaysText o p a r
     → Reaches start (scene (console t i p) y) new r
 line_turn start s t i o p x y held new next a turn.On goes at is answers h = answered start s t i o p x y held new next a goes at is answers h
@@ -302,7 +302,7 @@ line_turn start s t i o p x y held new next a (turn.End end.NotRead) goes at is 
 line_turn start s t i o p x y held new next a turn.NoMemory goes at is answers h = absurd h
 
 -- the last line
-quit_by : (start : Scene) (s : GrowthView) (i : SourceView) (o p : SinkView) (x : Session) (held new : List ℕ)
+quit_by : (start : Scene) (s : FeedView) (i : SourceView) (o p : SinkView) (x : Session) (held new : List ℕ)
     → IsAt start (scene (console s i o) x) held → IsNextLine held new line.Quit → AnswersLine s s x x line.Quit (reply_text said.Bye)
     → WritesAll o p (reply_text said.Bye) written.Whole → ComesTo start (scene (console s i p) x) (Some end.Quit)
 quit_by start s i o p x held new at is answers h = record {
@@ -320,7 +320,7 @@ quit_by start s i o p x held new at is answers h = record {
   fails = at.steady;
 }
 
-pub quit_turn : (start : Scene) (s : GrowthView) (i : SourceView) (o p : SinkView) (x : Session) (held new : List ℕ) (ended : TalkEnd)
+pub quit_turn : (start : Scene) (s : FeedView) (i : SourceView) (o p : SinkView) (x : Session) (held new : List ℕ) (ended : TalkEnd)
     → IsAt start (scene (console s i o) x) held → IsNextLine held new line.Quit → AnswersLine s s x x line.Quit (reply_text said.Bye)
     → SaysBye o p ended → Reaches start (scene (console s i p) x) new (turn.End ended)
 quit_turn start s i o p x held new end.Quit at is answers h = quit_by start s i o p x held new at is answers h

@@ -1,2 +1,2 @@
 -- Lemmas that proofs of other crates may cite.
-pub mod GrowthLemmas
+pub mod FeedLemmas

@@ -2,7 +2,7 @@
 use Rattle.std.specs.Prelude.{◌≡◌, ℕ, List, Option}
 use Rattle.admission.specs.declared.rules.Chosen.{Chosen}
 use Rattle.td_base.specs.Views.{SinkView, SourceView}
-use Rattle.run_ends.specs.Growth.{GrowthView}
+use Rattle.run_ends.specs.Feeds.{FeedView}
 use Rattle.run_ends.specs.Site.{console}
 use Rattle.run_ends.specs.Talking.{ComesTo, Scene, scene}
 use Rattle.td_top.specs.declared.console_beside.Console.{Console}
@@ -10,10 +10,10 @@ use Rattle.td_top.specs.declared.console_beside.TalkOver.{TalkOver}
 use Rattle.run_ends.specs.declared.talk_end.TalkEnd.{TalkEnd}
 
 -- what a console talks over
-abbrev pub scene_of : {Q G C K : Type 0} → (Q → List Chosen) → (G → List Chosen → GrowthView)
+abbrev pub scene_of : {Q G C K : Type 0} → (Q → List Chosen) → (G → List Chosen → FeedView)
     → (C → SourceView) → (K → SinkView) → Console Q G C K → Scene
-scene_of chosen growth input output c =
-    scene (console (growth c.growth.now (chosen c.asked.now)) (input c.input.now)
+scene_of chosen feed input output c =
+    scene (console (feed c.feed.now (chosen c.asked.now)) (input c.input.now)
     (output c.output.now)) c.session.now
 
 -- which objects it was lent: a session, what the history grows by, an input, an output, and what
@@ -21,7 +21,7 @@ scene_of chosen growth input output c =
 abbrev pub lent_to : {Q G C K : Type 0} → Console Q G C K → ℕ × ℕ × ℕ × ℕ × ℕ
 lent_to c = (
   c.session.ghost_name,
-  c.growth.ghost_name,
+  c.feed.ghost_name,
   c.input.ghost_name,
   c.output.ghost_name,
   c.over.ghost_name,
@@ -40,10 +40,10 @@ pub record BesideView : Type 0 where
   pub end : Option TalkEnd
   pub lent : ℕ × ℕ × ℕ × ℕ × ℕ
 
-abbrev pub beside_of : {Q G C K : Type 0} → (Q → List Chosen) → (G → List Chosen → GrowthView)
+abbrev pub beside_of : {Q G C K : Type 0} → (Q → List Chosen) → (G → List Chosen → FeedView)
     → (C → SourceView) → (K → SinkView) → Console Q G C K → BesideView
-beside_of chosen growth input output c = record {
-  scene = scene_of chosen growth input output c;
+beside_of chosen feed input output c = record {
+  scene = scene_of chosen feed input output c;
   rules = chosen c.asked.now;
   end = c.over.now.end;
   lent = lent_to c;

@@ -10,14 +10,14 @@ use Rattle.release_check.specs.declared.check_fault.CheckFault.TheVariants as fa
 use Rattle.sync_core.specs.Mirrors.{MirrorState}
 use Rattle.run_ends.specs.Folders.{IsRefusal}
 use Rattle.run_ends.specs.Following.{SaysStated, StatesAfter}
-use Rattle.run_ends.specs.Growth.{GrowthView, following}
+use Rattle.run_ends.specs.Feeds.{FeedView, following}
 use Rattle.run_ends.specs.Sessions.{LaterSession}
 use Rattle.run_ends.specs.Operator.{heard_by, with_joined}
 use Rattle.td_top.specs.declared.mirror_feed.Follow.{Follow}
 use Rattle.run_ends.specs.declared.session.Session.{Session}
 
 -- what is seen of a mirror, and of the server that it follows
-abbrev pub follow_of : {U : Type 0} → (U → UpstreamView) → Follow U → GrowthView
+abbrev pub follow_of : {U : Type 0} → (U → UpstreamView) → Follow U → FeedView
 follow_of upstream f = following f.host.now f.mirror (upstream f.upstream)
 
 -- what the mirror states was published as a first release, or it was not

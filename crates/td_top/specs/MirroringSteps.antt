@@ -12,7 +12,7 @@ use Rattle.mirror.specs.declared.sync_fault.SyncFault.TheVariants as sync
 use Rattle.sync_core.specs.Mirrors.{MirrorState}
 use Rattle.run_ends.specs.Folders.{IsRefusal}
 use Rattle.run_ends.specs.Following.{StatesAfter, SyncsAs}
-use Rattle.run_ends.specs.Growth.{following}
+use Rattle.run_ends.specs.Feeds.{following}
 use Rattle.run_ends.specs.Printing.{Printed, refused_line}
 use Rattle.run_ends.specs.Running.Server.{OpenedEnds}
 use Rattle.run_ends.specs.Site.{LaterSite, SiteView}
@@ -23,7 +23,7 @@ use Rattle.run_ends.specs.declared.status.Status.TheVariants as status
 pub record TellsWhy (called : Status) (why : List ℕ) (before after : SiteView) (end : Status)
     : Type 0 where
   pub printed : Printed called (refused_line why) before.console.output after.console.output end
-  pub growth : after.console.growth ≡ before.console.growth
+  pub feed : after.console.feed ≡ before.console.feed
   pub input : after.console.input ≡ before.console.input
   pub network : after.network ≡ before.network
   pub spawner : after.spawner ≡ before.spawner
@@ -51,13 +51,13 @@ pub data FollowEnds (host address : List ℕ) (workers : ℕ) (s : MirrorState) 
   settled : (t : MirrorState) (ready : UpstreamView) (doors : List DoorView) (end : Status)
       → SyncsAs host s t first ready (Ok tt)
       → StatedEnds host address workers t
-      (record before { console = record before.console { growth = following host t ready } }) after
+      (record before { console = record before.console { feed = following host t ready } }) after
       doors end
       → FollowEnds host address workers s first before after doors end
   not_synced : (t : MirrorState) (last : UpstreamView) (e : SyncFault) (end : Status)
       → SyncsAs host s t first last (Err e) → e ≢ sync.NoMemory
       → TellsWhy status.NotSynced (sync_text e)
-      (record before { console = record before.console { growth = following host t last } }) after
+      (record before { console = record before.console { feed = following host t last } }) after
       end
       → FollowEnds host address workers s first before after [] end
   out_of_memory : FollowEnds host address workers s first before after [] status.NoMemory

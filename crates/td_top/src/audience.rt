@@ -3,7 +3,7 @@ ghost use Rattle.std.specs.Prelude.{◌≡◌, IfOk};
 ghost use Rattle.std.specs.Option.{option_map};
 ghost use Rattle.console.specs.Replies.{news_text};
 ghost use Rattle.subscribers.specs.News.{numbered_from};
-ghost use Rattle.run_ends.specs.Growth.{GrowthView};
+ghost use Rattle.run_ends.specs.Feeds.{FeedView};
 ghost use Rattle.td_top.specs.Replies.{reply_bytes};
 ghost use Rattle.run_ends.specs.Sessions.{AnswersLine};
 
@@ -18,8 +18,8 @@ use td_base::{Bytes, NoMemory};
 /// Adds a subscriber with its own copy of a wish, and returns the reply. When the subscriber was
 /// added, the reply allocates no memory.
 pub fn watch(session: &mut Session, wish: &Wish) -> ConsoleReply
-    ensures { (growth : GrowthView) (asked : Line) → asked ≡ Line.Watch wish.now
-        → AnswersLine growth growth session.old session.new asked (reply_bytes result) }
+    ensures { (feed : FeedView) (asked : Line) → asked ≡ Line.Watch wish.now
+        → AnswersLine feed feed session.old session.new asked (reply_bytes result) }
 {
     let Ok(own) = copy_of(session.alloc, wish) else {
         return ConsoleReply::brief(&Said::NoMemory);
@@ -47,8 +47,8 @@ fn copy_of(alloc: Global, wish: &Wish) -> Result<Wish, NoMemory>
 /// Returns the reply with the notices that the subscriber of a number holds, and clears them. When
 /// there is no memory for the reply, it keeps all of them.
 pub fn tell_news(session: &mut Session, number: u32) -> ConsoleReply
-    ensures { (growth : GrowthView) (asked : Line) → asked ≡ Line.News number
-        → AnswersLine growth growth session.old session.new asked (reply_bytes result) }
+    ensures { (feed : FeedView) (asked : Line) → asked ≡ Line.News number
+        → AnswersLine feed feed session.old session.new asked (reply_bytes result) }
 {
     match held_text(session.alloc, &session.installer, number) {
         Ok(Some(text)) => {

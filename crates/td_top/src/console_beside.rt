@@ -1,7 +1,7 @@
 ghost use Rattle.std.specs.Prelude.{◌≡◌};
 ghost use Rattle.td_top.specs.ConsoleBeside.{Halted, Ran, beside_of};
 
-use crate::growth::ReleaseFeed;
+use crate::release_feed::ReleaseFeed;
 use crate::talking::talk;
 use desk_pool::{Beside, StopFlag};
 use installer::InstallPolicy;
@@ -23,7 +23,7 @@ pub struct TalkOver {
 pub struct Console<'a, Q, G, C, K> {
     pub session: &'a mut Session,
     pub asked: &'a Q,
-    pub growth: &'a mut G,
+    pub feed: &'a mut G,
     pub input: &'a mut C,
     pub output: &'a mut K,
     pub over: &'a mut TalkOver,
@@ -34,19 +34,19 @@ impl<'a, Q, G, C, K> Console<'a, Q, G, C, K> {
     pub fn new(
         session: &'a mut Session,
         asked: &'a Q,
-        growth: &'a mut G,
+        feed: &'a mut G,
         input: &'a mut C,
         output: &'a mut K,
         over: &'a mut TalkOver,
     ) -> Console<'a, Q, G, C, K>
         ensures session { result.session.ghost_name ≡ session.entry.ghost_name }
-        ensures growth { result.growth.ghost_name ≡ growth.entry.ghost_name }
+        ensures feed { result.feed.ghost_name ≡ feed.entry.ghost_name }
         ensures input { result.input.ghost_name ≡ input.entry.ghost_name }
         ensures output { result.output.ghost_name ≡ output.entry.ghost_name }
         ensures over { result.over.ghost_name ≡ over.entry.ghost_name }
         ensures session_now { result.session.now ≡ session.old }
         ensures asked_now { result.asked.now ≡ asked.now }
-        ensures growth_now { result.growth.now ≡ growth.old }
+        ensures feed_now { result.feed.now ≡ feed.old }
         ensures input_now { result.input.now ≡ input.old }
         ensures output_now { result.output.now ≡ output.old }
         ensures over_now { result.over.now ≡ over.old }
@@ -54,7 +54,7 @@ impl<'a, Q, G, C, K> Console<'a, Q, G, C, K> {
         Console {
             session,
             asked,
-            growth,
+            feed,
             input,
             output,
             over,

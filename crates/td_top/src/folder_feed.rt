@@ -1,9 +1,9 @@
-ghost use Rattle.run_ends.specs.Growth.{AsksFolder, folders};
+ghost use Rattle.run_ends.specs.Feeds.{AsksFolder, folders};
 ghost use Rattle.td_top.specs.Replies.{reply_bytes};
 ghost use Rattle.run_ends.specs.Sessions.{AnswersLine};
 
-use crate::growth::ReleaseFeed;
 use crate::operator::newest;
+use crate::release_feed::ReleaseFeed;
 use crate::replies::ConsoleReply;
 use console::{Line, Said};
 use installer::InstallPolicy;

@@ -25,8 +25,8 @@ mod talking;
 
 // Sources of new releases: folders, or a mirror of another server.
 mod folder_feed;
-mod growth;
 mod mirror_feed;
+mod release_feed;
 
 pub use run_ends::Outcome;
 pub use running::{run, runs_complete};

@@ -4,13 +4,13 @@ ghost use Rattle.sync_core.specs.Mirrors.{MirrorState};
 ghost use Rattle.sync_core.specs.Published.{HasFiles, manifest_of};
 ghost use Rattle.run_ends.specs.Following.{StatesLast};
 ghost use Rattle.td_top.specs.FollowingSteps.{OpensStated, PublishesStated, follow_of};
-ghost use Rattle.run_ends.specs.Growth.{Grows};
+ghost use Rattle.run_ends.specs.Feeds.{Grows};
 ghost use Rattle.run_ends.specs.Opening.{HasDesks, published_in};
 ghost use Rattle.td_top.specs.Replies.{reply_bytes};
 ghost use Rattle.run_ends.specs.Sessions.{AnswersLine};
 
-use crate::growth::ReleaseFeed;
 use crate::operator::newest;
+use crate::release_feed::ReleaseFeed;
 use crate::replies::ConsoleReply;
 use console::{Line, Said};
 use installer::{InstallFault, InstallPolicy, Installer};

@@ -4,14 +4,14 @@ ghost use Rattle.console.specs.Replies.{IsBoundedReply, reply_text};
 ghost use Rattle.console.specs.declared.said.Said.TheVariants as said;
 ghost use Rattle.catalogue.specs.Holdings.{history_of};
 ghost use Rattle.zone_meaning.specs.ZoneHistories.{ForEachZoneHistory, HasZoneHistory};
-ghost use Rattle.run_ends.specs.Growth.{GrowthView};
+ghost use Rattle.run_ends.specs.Feeds.{FeedView};
 ghost use Rattle.run_ends.specs.Replies.{last_token};
 ghost use Rattle.td_top.specs.Replies.{reply_bytes};
 ghost use Rattle.run_ends.specs.Sessions.{AnswersLine};
 ghost use Rattle.run_ends.specs.declared.session.Session.{Session as SessionView};
 
 use crate::audience::{tell_news, watch};
-use crate::growth::ReleaseFeed;
+use crate::release_feed::ReleaseFeed;
 use crate::replies::ConsoleReply;
 use catalogue::Catalogue;
 use console::{Line, Said};
@@ -26,11 +26,11 @@ pub fn answer_line<R: Wait, G: ReleaseFeed>(
     rt: &R,
     session: &mut Session,
     asked: &InstallPolicy<'_>,
-    growth: &mut G,
+    feed: &mut G,
     line: &Line,
 ) -> ConsoleReply
-    ensures answers { AnswersLine (G.seen growth.old asked.now.rules.chosen)
-        (G.seen growth.new asked.now.rules.chosen)
+    ensures answers { AnswersLine (G.seen feed.old asked.now.rules.chosen)
+        (G.seen feed.new asked.now.rules.chosen)
         session.old session.new line.now (reply_bytes result) }
     // A status is what an enter for this line found.
     ensures enters { line.now ≡ Line.Status
@@ -42,7 +42,7 @@ pub fn answer_line<R: Wait, G: ReleaseFeed>(
         Line::News(number) => tell_news(session, *number),
         Line::Status => show(session),
         Line::Quit => bye(),
-        _ => match growth.grow(rt, session, asked, line) {
+        _ => match feed.grow(rt, session, asked, line) {
             Some(reply) => reply,
             None => ConsoleReply::brief(&Said::Unknown),
         },
@@ -59,16 +59,16 @@ pub fn newest(installer: &Installer) -> Token
 
 /// The reply to a line that ends the session.
 fn bye() -> ConsoleReply
-    ensures { (growth : GrowthView) (session : SessionView) (asked : Line) → asked ≡ Line.Quit
-        → AnswersLine growth growth session session asked (reply_bytes result) }
+    ensures { (feed : FeedView) (session : SessionView) (asked : Line) → asked ≡ Line.Quit
+        → AnswersLine feed feed session session asked (reply_bytes result) }
 {
     ConsoleReply::brief(&Said::Bye)
 }
 
 /// Shows the release that the desk holds after one enter.
 fn show(session: &mut Session) -> ConsoleReply
-    ensures answers { (growth : GrowthView) (asked : Line) → asked ≡ Line.Status
-        → AnswersLine growth growth session.old session.new asked (reply_bytes result) }
+    ensures answers { (feed : FeedView) (asked : Line) → asked ≡ Line.Status
+        → AnswersLine feed feed session.old session.new asked (reply_bytes result) }
     // What is shown is what was found by an enter of this call.
     ensures enters { (session.new.desk.enters ≡ session.old.desk.enters + 1)
         ⊎ (reply_bytes result ≡ reply_text said.NoMemory) }

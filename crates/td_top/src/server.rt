@@ -9,7 +9,7 @@ ghost use Rattle.td_top.specs.ServerSteps.{Concludes, ServesBeside, ServesOpened
 ghost use Rattle.td_top.specs.Works.{HasWorks, Learnt};
 
 use crate::console_beside::{Console, TalkOver};
-use crate::growth::ReleaseFeed;
+use crate::release_feed::ReleaseFeed;
 use crate::works::{learn_all, works_for};
 use catalogue::Catalogue;
 use connection::{DoorDone, DoorWork};
@@ -38,7 +38,7 @@ pub fn serve_opened<R, G, C, K, N, W>(
     serving: &Serving<'_>,
     opened: OpenedServer,
     asked: &InstallPolicy<'_>,
-    growth: &mut G,
+    feed: &mut G,
     site: &mut RunIo<'_, C, K, N, W>,
 ) -> Served<N::Door>
 where
@@ -55,8 +55,8 @@ where
     ensures kept { site_names site.new ≡ site_names site.old }
     ensures ends { ServesOpened serving.now.role.now serving.now.address.now serving.now.workers
         (history_of opened.session.installer.list)
-        (site_of (G.seen growth.old asked.now.rules.chosen) C.seen K.seen N.seen W.faults site.old)
-        (site_of (G.seen growth.new asked.now.rules.chosen) C.seen K.seen N.seen W.faults site.new)
+        (site_of (G.seen feed.old asked.now.rules.chosen) C.seen K.seen N.seen W.faults site.old)
+        (site_of (G.seen feed.new asked.now.rules.chosen) C.seen K.seen N.seen W.faults site.new)
         (map N.Door.seen result.doors.items) result.status }
 {
     let OpenedServer { session, desks } = opened;
@@ -70,7 +70,7 @@ where
                     works,
                     flag,
                 };
-                serve_beside(rt, staff, growth, site.input, site.output, site.spawner)
+                serve_beside(rt, staff, feed, site.input, site.output, site.spawner)
             }
             Err(NoMemory) => give_up(rt, session, Status::NoMemory),
         },
@@ -92,7 +92,7 @@ struct Staff<'s, 'k, D: Door> {
 fn serve_beside<R, G, C, K, D, W>(
     rt: &R,
     staff: Staff<'_, '_, D>,
-    growth: &mut G,
+    feed: &mut G,
     input: &mut C,
     output: &mut K,
     spawner: &mut W,
@@ -110,9 +110,9 @@ where
     requires nobody { staff.session.installer.subscribers ≡ [] }
     requires works { HasWorks staff.session.installer.pair staff.works.items }
     ensures { ServesBeside staff.entry.session staff.entry.works.items
-        (console (G.seen growth.old staff.entry.asked.now.rules.chosen) (C.seen input.old)
+        (console (G.seen feed.old staff.entry.asked.now.rules.chosen) (C.seen input.old)
         (K.seen output.old))
-        (console (G.seen growth.new staff.entry.asked.now.rules.chosen) (C.seen input.new)
+        (console (G.seen feed.new staff.entry.asked.now.rules.chosen) (C.seen input.new)
         (K.seen output.new))
         (W.faults spawner.old) (W.faults spawner.new)
         (map D.seen result.doors.items) result.status }
@@ -125,7 +125,7 @@ where
     } = staff;
     let alloc = session.alloc;
     let mut over = TalkOver { end: None, flag };
-    let mut console = Console::new(&mut session, asked, growth, input, output, &mut over);
+    let mut console = Console::new(&mut session, asked, feed, input, output, &mut over);
     let pool = run_beside(rt, alloc, spawner, works, &mut console);
     match pool {
         PoolEnd::All(dones) => match over.end {

@@ -8,8 +8,8 @@ ghost use Rattle.td_top.specs.TalkingSteps.{FeedsTalk, SaysBye, SaysText, TakesL
 ghost use Rattle.td_top.specs.TalkingSteps.{TalksOn, Turns, most_waiting};
 
 use crate::console_beside::Console;
-use crate::growth::ReleaseFeed;
 use crate::operator::{answer_line, newest};
+use crate::release_feed::ReleaseFeed;
 use console::{Line, Lines, Said, short};
 use installer::InstallPolicy;
 use run_ends::{PIECE, TalkEnd};
@@ -95,7 +95,7 @@ fn take_turn<R: Wait, G: ReleaseFeed, C: Source, K: Sink>(
             if is_quit(&line) {
                 return TalkTurn::End(quit(console.output));
             }
-            let reply = answer_line(rt, console.session, console.asked, console.growth, &line);
+            let reply = answer_line(rt, console.session, console.asked, console.feed, &line);
             say(console.output, reply.as_slice())
         }
     }

@@ -3,7 +3,7 @@ ghost use Rattle.std.specs.Prelude.{◌≡◌, pos};
 ghost use Rattle.devices.specs.declared.listening.TheConstants as listening;
 ghost use Rattle.devices.specs.declared.outgoing.TheConstants as outgoing;
 ghost use Rattle.devices.specs.declared.patience.TheConstants as patience;
-ghost use Rattle.devices.specs.declared.resting.TheConstants as resting;
+ghost use Rattle.devices.specs.declared.idle_connections.TheConstants as idle;
 ghost use Rattle.devices.specs.declared.shares.TheConstants as shares;
 ghost use Rattle.devices.specs.declared.wire.TheConstants as wire;
 
@@ -14,7 +14,7 @@ pub fn socket_limits_are_these()
     ensures unsent_bytes { outgoing.MOST_UNSENT ≡ 8388608 }
     ensures batch_bytes { outgoing.STRETCH_BYTES ≡ 1048576 }
     ensures lingering_bytes { wire.LINGER_BYTES ≡ 1048576 }
-    ensures held_bytes_of_all { resting.MOST_HELD_OF_ALL ≡ 67108864 }
+    ensures held_bytes_of_all { idle.MOST_HELD_OF_ALL ≡ 67108864 }
     ensures waiting_connections { listening.MOST_WAITING ≡ pos 4096 }
     ensures reserved_descriptors { shares.RESERVED_DESCRIPTORS ≡ 64 }
     ensures seconds_without_progress { patience.PROGRESS_WAIT_SECONDS ≡ 10 }

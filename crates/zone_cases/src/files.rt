@@ -8,7 +8,7 @@ use tzif_reader::{LeapLine, TzifFault, ZoneFile, read};
 /// `file BYTES`: its content, or its fault.
 pub fn file(alloc: Global, row: &Row) -> Answer {
     match read(alloc, row.word(0)?) {
-        Ok(file) => told(alloc, &file),
+        Ok(file) => as_line(alloc, &file),
         Err(fault) => printed(alloc, &fault),
     }
 }
@@ -58,7 +58,7 @@ fn fault_of(alloc: Global, bytes: &[u8]) -> Answer {
 }
 
 /// The content of a file: its moments, numbers, types, leap lines and footer.
-fn told(alloc: Global, file: &ZoneFile) -> Answer {
+fn as_line(alloc: Global, file: &ZoneFile) -> Answer {
     let mut told = Told::new(alloc);
     tell_moments(&mut told, file.moments.as_slice());
     told.bytes(b", numbers ");

@@ -11,12 +11,12 @@ use td_civil::{HI, LO, Local, Moment};
 /// `rule TEXT`: the states and dates that a TZ string encodes, or its fault.
 pub fn rule(alloc: Global, row: &Row) -> Answer {
     match read(row.word(0)?) {
-        Ok(footer) => told(alloc, &footer),
+        Ok(footer) => as_line(alloc, &footer),
         Err(fault) => printed(alloc, &fault),
     }
 }
 
-fn told(alloc: Global, footer: &Footer) -> Answer {
+fn as_line(alloc: Global, footer: &Footer) -> Answer {
     let mut told = Told::new(alloc);
     tell_local(&mut told, &footer.std);
     if let Some(rule) = &footer.dst {

@@ -19,7 +19,7 @@ fn steps_of(alloc: Global, file: &ZoneFile) -> Answer {
         return Err(CaseFault::Strange);
     }
     match from_file(alloc, file, b"the file", b"2025-12-28") {
-        Ok(table) => told(alloc, &table),
+        Ok(table) => as_line(alloc, &table),
         Err(fault) => printed(alloc, &fault),
     }
 }
@@ -47,7 +47,7 @@ fn add_lines(alloc: Global, leaps: &mut Items<LeapLine>, word: &[u8]) -> Result<
     Ok(())
 }
 
-fn told(alloc: Global, table: &Leaps) -> Answer {
+fn as_line(alloc: Global, table: &Leaps) -> Answer {
     let mut told = Told::new(alloc);
     for step in table.steps.as_slice() {
         told.value(&step.day);

@@ -42,7 +42,7 @@ pub fn moment_at(row: &Row, at: usize) -> Result<Moment, CaseFault>
 /// `zone HEX`: the facts of a zone, or why the bytes are not one.
 pub fn zone(alloc: Global, row: &Row) -> Answer {
     match zone_of(alloc, bytes_at(alloc, row, 0)?) {
-        Ok(zone) => told(alloc, row, &zone),
+        Ok(zone) => as_line(alloc, row, &zone),
         Err(ZoneFault::NoMemory) => Err(CaseFault::NoMemory),
         Err(fault) => Ok(format!(in alloc; "{fault:?}: {fault}")?.into_bytes()),
     }
@@ -50,7 +50,7 @@ pub fn zone(alloc: Global, row: &Row) -> Answer {
 
 /// How many leap lines a zone has, and whether it keeps its file, its footer agrees and its names
 /// can be printed.
-fn told(alloc: Global, row: &Row, zone: &Zone) -> Answer {
+fn as_line(alloc: Global, row: &Row, zone: &Zone) -> Answer {
     let bytes = bytes_at(alloc, row, 0)?;
     let is_kept = file(zone) == bytes.as_slice() && zone.file_bytes() == bytes.as_slice();
     let is_same = is_same_again(alloc, zone, bytes)?;

@@ -4,7 +4,7 @@ ghost use Rattle.std.specs.Prelude.{◌<◌, length};
 use crate::incoming::Incoming;
 use crate::now::Now;
 use crate::socket::{Received, receive};
-use crate::wire::{LINGER_BYTES, MOST_PIECES, Rest, Stage, Wire};
+use crate::wire::{LINGER_BYTES, MOST_PIECES, Readiness, Stage, Wire};
 use std::net::{Shutdown, TcpStream};
 use std::os::fd::{AsRawFd, RawFd};
 use stretches::Fate;
@@ -17,11 +17,11 @@ impl Wire<TcpStream> {
     }
 
     /// Ends a stretch that ended so, and does all that can be done for it without waiting.
-    pub fn rest_after(&mut self, room: &mut [u8], end: End, now: Now) -> Rest
+    pub fn readiness_after(&mut self, room: &mut [u8], end: End, now: Now) -> Readiness
         requires { 0 < length room.old }
     {
         if self.finish(end, now) == Fate::Breaks {
-            Rest::Gone
+            Readiness::Gone
         } else {
             self.advance(room, now)
         }
@@ -29,15 +29,15 @@ impl Wire<TcpStream> {
 
     /// Does all that can be done for it without waiting. What was written is sent first, and then
     /// bytes are received, into this room, until it can be served.
-    pub fn advance(&mut self, room: &mut [u8], now: Now) -> Rest
+    pub fn advance(&mut self, room: &mut [u8], now: Now) -> Readiness
         requires { 0 < length room.old }
     {
         if self.unsent() > 0 {
             if !self.flush(now) {
-                return Rest::Gone;
+                return Readiness::Gone;
             }
             if self.unsent() > 0 {
-                return Rest::Waits;
+                return Readiness::Waits;
             }
         }
         match self.stage {
@@ -48,28 +48,28 @@ impl Wire<TcpStream> {
     }
 
     /// Receives until it can be served.
-    fn listen(&mut self, room: &mut [u8], now: Now) -> Rest
+    fn listen(&mut self, room: &mut [u8], now: Now) -> Readiness
         requires { 0 < length room.old }
     {
         self.hear(room, now.millis);
         if self.incoming.is_ready() {
             self.classify();
-            Rest::Ready
+            Readiness::Ready
         } else if self.incoming.is_over() {
-            Rest::Gone
+            Readiness::Gone
         } else {
             self.settle(now);
-            Rest::Waits
+            Readiness::Waits
         }
     }
 
     /// Ends the sending side, and waits for the peer to end its own. Closing a socket with unread
     /// bytes resets its connection, and the peer may lose the end of its last reply.
-    fn shut(&mut self, room: &mut [u8], millis: u64) -> Rest
+    fn shut(&mut self, room: &mut [u8], millis: u64) -> Readiness
         requires { 0 < length room.old }
     {
         if self.stream.shutdown(Shutdown::Write).is_err() || self.incoming.is_over() {
-            return Rest::Gone;
+            return Readiness::Gone;
         }
         self.moved = millis;
         self.stage = Stage::Shut(0);
@@ -78,7 +78,7 @@ impl Wire<TcpStream> {
     }
 
     /// Throws away what still comes.
-    fn linger(&mut self, room: &mut [u8], thrown: usize) -> Rest
+    fn linger(&mut self, room: &mut [u8], thrown: usize) -> Readiness
         requires { 0 < length room.old }
     {
         let mut thrown = thrown;
@@ -86,13 +86,13 @@ impl Wire<TcpStream> {
             match receive(&mut self.stream, room) {
                 Received::Bytes(count) => thrown = thrown.saturating_add(count),
                 Received::Nothing => break,
-                Received::End | Received::Broken => return Rest::Gone,
+                Received::End | Received::Broken => return Readiness::Gone,
             }
             if thrown > LINGER_BYTES {
-                return Rest::Gone;
+                return Readiness::Gone;
             }
         }
         self.stage = Stage::Shut(thrown);
-        Rest::Waits
+        Readiness::Waits
     }
 }

@@ -14,7 +14,7 @@ use Rattle.mirror.specs.declared.sync_fault.SyncFault.TheVariants as sync
 use Rattle.sync_core.specs.Mirrors.{MirrorState, empty_mirror}
 use Rattle.run_ends.specs.Folders.{IsRefusal}
 use Rattle.run_ends.specs.Following.{StatesAfter, SyncsAs}
-use Rattle.run_ends.specs.Growth.{following}
+use Rattle.run_ends.specs.Feeds.{following}
 use Rattle.run_ends.specs.MirrorHistory.{FollowsPrimary}
 use Rattle.run_ends.specs.Outside.{LeavesStreams, World}
 use Rattle.run_ends.specs.Printing.{Printed, refused_line}

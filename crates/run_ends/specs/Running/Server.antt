@@ -16,7 +16,7 @@ use Rattle.connection.specs.FaultCounts.{RoseTimes}
 use Rattle.connection.specs.Served.{NeverFall}
 use Rattle.connection.specs.declared.door_work.TheConstants.{MOST_FAILURES}
 use Rattle.run_ends.specs.Folders.{FoldersGive, ServesNothing}
-use Rattle.run_ends.specs.Growth.{folders}
+use Rattle.run_ends.specs.Feeds.{folders}
 use Rattle.run_ends.specs.Outside.{World}
 use Rattle.run_ends.specs.Site.{SiteView, site_in}
 use Rattle.run_ends.specs.Talking.{AnswersOperator}

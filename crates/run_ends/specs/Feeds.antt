@@ -12,19 +12,19 @@ use Rattle.run_ends.specs.Following.{LaterUpstream, SyncsMirror}
 
 -- folders of a store, whose releases are asked some rules, or a mirror that follows another server,
 -- which it asks as this host
-pub data GrowthView : Type 0 where
-  folders : List Chosen → StoreView → GrowthView
-  following : List ℕ → MirrorState → UpstreamView → GrowthView
+pub data FeedView : Type 0 where
+  folders : List Chosen → StoreView → FeedView
+  following : List ℕ → MirrorState → UpstreamView → FeedView
 
 -- any calls were made
-abbrev pub LaterGrowth : GrowthView → GrowthView → Type 0
-LaterGrowth (folders rules old) (folders rules' new) = (rules' ≡ rules) × LaterStore old new
-LaterGrowth (following host s old) (following host' t new) =
+abbrev pub LaterFeed : FeedView → FeedView → Type 0
+LaterFeed (folders rules old) (folders rules' new) = (rules' ≡ rules) × LaterStore old new
+LaterFeed (following host s old) (following host' t new) =
     (host' ≡ host) × LaterUpstream old new
-LaterGrowth old new = ⊥
+LaterFeed old new = ⊥
 
 -- the lines that make it grow
-abbrev pub Grows : GrowthView → Line → Type 0
+abbrev pub Grows : FeedView → Line → Type 0
 Grows (folders rules store) (line.Install dir) = ⊤
 Grows (folders rules store) asked = ⊥
 Grows (following host s upstream) asked = asked ≡ line.Sync
@@ -36,7 +36,7 @@ AsksFolder asked folder = ⊥
 
 -- What such a line gets said after these releases, the release that joined them, if one did, and
 -- what has become of that by which they grow.
-abbrev pub Handles : List ReleaseData → GrowthView → Line → List ℕ → Option ReleaseData → GrowthView
+abbrev pub Handles : List ReleaseData → FeedView → Line → List ℕ → Option ReleaseData → FeedView
     → Type 0
 Handles H (folders rules old) asked answer joined (folders rules' new) =
     (dir : List ℕ) × AsksFolder asked dir × (rules' ≡ rules) × LaterStore old new

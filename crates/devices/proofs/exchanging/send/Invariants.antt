@@ -1,5 +1,5 @@
 use Rattle.std.proofs.Common.{◌≤◌, ◌-◌, length}
-use Rattle.devices.proofs.asking.send.Given as goal
+use Rattle.devices.proofs.exchanging.send.Given as goal
 
 abbrev pub invariant-pieces : goal.invariant-pieces
 invariant-pieces g l = l.at ≤ length l.bytes

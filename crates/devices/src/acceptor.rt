@@ -1,10 +1,10 @@
 //! The event loop of a listener over its own connections.
+use crate::idle_connections::{IdleConnections, LISTENS};
 use crate::incoming::PIECE;
 use crate::listening::{Listening, end_listening};
 use crate::now::{Now, micros, thread_micros};
-use crate::resting::{LISTENS, Resting};
 use crate::shares::{Counter, Shares};
-use crate::wire::{Rest, Wire};
+use crate::wire::{Readiness, Wire};
 use mio::unix::SourceFd;
 use mio::{Events, Interest, Poll};
 use std::alloc::Global;
@@ -37,13 +37,13 @@ const DRAIN_MILLIS: u64 = 2;
 
 /// The state of a listener: its socket, the connections that no worker serves, and their events.
 #[derive(Drop)]
-pub struct Hall<R> {
+pub struct Acceptor<R> {
     clock: R,
     alloc: Global,
     listening: Listening,
     poll: Poll,
     events: Events<Global>,
-    resting: Resting,
+    idle: IdleConnections,
     /// Room for a received piece, shared by all connections: clearing it for each would cost each
     /// request.
     room: [u8; PIECE],
@@ -84,7 +84,7 @@ fn poll_of<N: Net>(net: &N, listening: &Listening) -> io::Result<Poll> {
     Ok(poll)
 }
 
-impl<R: Clock + Eprint + Copy> Hall<R> {
+impl<R: Clock + Eprint + Copy> Acceptor<R> {
     /// The state of one of so many listeners at a socket, each with at most so many connections.
     pub fn new<N: Net>(
         net: &N,
@@ -94,7 +94,7 @@ impl<R: Clock + Eprint + Copy> Hall<R> {
         all: &Counter,
         doors: u32,
         most: usize,
-    ) -> io::Result<Hall<R>>
+    ) -> io::Result<Acceptor<R>>
     where
         R: Drop,
     {
@@ -102,13 +102,13 @@ impl<R: Clock + Eprint + Copy> Hall<R> {
         let shares = Shares::new(Arc::try_clone(all)?, doors);
         let events = Events::with_capacity(alloc, MOST_EVENTS)?;
         let poll = poll_of(net, &listening)?;
-        Ok(Hall {
+        Ok(Acceptor {
             clock,
             alloc,
             listening,
             poll,
             events,
-            resting: Resting::new(alloc),
+            idle: IdleConnections::new(alloc),
             room: [0; PIECE],
             most,
             shares,
@@ -135,9 +135,9 @@ impl<R: Clock + Eprint + Copy> Hall<R> {
         self.listening.local_addr()
     }
 
-    /// How many connections rest.
-    pub fn resting(&self) -> usize {
-        self.resting.count()
+    /// How many connections no worker serves.
+    pub fn idle(&self) -> usize {
+        self.idle.count()
     }
 
     /// The time by the clock, in milliseconds.
@@ -157,7 +157,7 @@ impl<R: Clock + Eprint + Copy> Hall<R> {
             Ok(Some(mut wire)) => {
                 let limit = self.limit(wire.queue());
                 let turn = WorkerTurn::new(self.micros, limit);
-                wire.begin(self.resting.allowance(), turn);
+                wire.begin(self.idle.allowance(), turn);
                 Ok(Some(wire))
             }
             Ok(None) => {
@@ -177,21 +177,21 @@ impl<R: Clock + Eprint + Copy> Hall<R> {
         self.shared.charge(self.queue, cost);
         let unfinished = wire.is_unfinished();
         wire.weigh(is_long_turn(cost, unfinished));
-        let rest = wire.rest_after(&mut self.room, end, now);
-        self.keep(wire, rest, now);
+        let readiness = wire.readiness_after(&mut self.room, end, now);
+        self.keep(wire, readiness, now);
     }
 
     /// Keeps a connection that is not served. If there are too many, another is evicted for it, or
     /// it is closed itself.
-    fn keep(&mut self, wire: Wire<TcpStream>, rest: Rest, now: Now) {
-        self.resting
-            .keep(self.poll.registry(), wire, rest, self.most, now);
+    fn keep(&mut self, wire: Wire<TcpStream>, readiness: Readiness, now: Now) {
+        self.idle
+            .keep(self.poll.registry(), wire, readiness, self.most, now);
     }
 
     /// For how many microseconds a connection is served that would wait in this queue. A new one
     /// with quick requests has a first turn.
     fn limit(&self, queue: Queue) -> u64 {
-        let others = self.resting.waiting_in(queue);
+        let others = self.idle.waiting_in(queue);
         match queue {
             Queue::Heavy => turn_limit(queue, others),
             Queue::Fresh | Queue::Light => turn_limit(self.queue, others),
@@ -231,7 +231,7 @@ impl<R: Clock + Eprint + Copy> Hall<R> {
     fn give_up(&mut self, kind: ErrorKind) {
         self.broken = Some(kind);
         let now = self.now();
-        self.resting.leave(&mut self.room, now);
+        self.idle.leave(&mut self.room, now);
         if self.shares.breaks() {
             end_listening(&self.listening);
             let clock = self.clock;
@@ -267,17 +267,17 @@ impl<R: Clock + Eprint + Copy> Hall<R> {
     pub fn leave(&mut self) {
         self.tick();
         let now = self.now();
-        self.resting.leave(&mut self.room, now);
+        self.idle.leave(&mut self.room, now);
     }
 
     /// Sends what was written and not yet taken, for a moment, before this time of its clock. It
     /// returns whether more is left.
     pub fn drain(&mut self, end: u64) -> bool {
         self.tick();
-        if self.time >= end || !self.resting.owes() {
+        if self.time >= end || !self.idle.owes() {
             return false;
         }
         let left = end.saturating_sub(self.time);
-        self.wait(left.min(DRAIN_MILLIS)).is_ok() && self.resting.owes()
+        self.wait(left.min(DRAIN_MILLIS)).is_ok() && self.idle.owes()
     }
 }

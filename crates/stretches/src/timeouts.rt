@@ -1,7 +1,7 @@
 ghost use Rattle.std.specs.Prelude.{◌≡◌, ◌<◌, ◌+◌, ◌↔◌, ℕ, [], length, Some, None, OnOk, OnErr};
 ghost use Rattle.std.specs.Prelude.{IsTrue};
-ghost use Rattle.stretches.specs.Rolls.{FirstAmong, IsFirstToYield, IsHeaviest, IsNextOver, Puts};
-ghost use Rattle.stretches.specs.Rolls.{is_heavier, is_sooner, life_at};
+ghost use Rattle.stretches.specs.Timeouts.{FirstAmong, IsFirstToYield, IsHeaviest, IsNextOver, Puts};
+ghost use Rattle.stretches.specs.Timeouts.{is_heavier, is_sooner, life_at};
 
 use crate::life::Life;
 use std::alloc::Global;
@@ -10,11 +10,11 @@ use td_base::NoMemory;
 
 /// The states of the connections that no worker serves, by their keys.
 #[derive(Drop)]
-pub struct Roll {
+pub struct Timeouts {
     lives: Vec<Option<Life>>,
 }
 
-impl Model for Roll {
+impl Model for Timeouts {
     ghost use Rattle.std.specs.Prelude.{List, Option};
     ghost use Rattle.stretches.specs.declared.life.Life.{Life};
 
@@ -23,12 +23,12 @@ impl Model for Roll {
     ghost view = { λ r. r.lives.items };
 }
 
-impl Roll {
+impl Timeouts {
     /// No connection rests.
-    pub fn new(alloc: Global) -> Roll
+    pub fn new(alloc: Global) -> Timeouts
         ensures { result ≡ [] }
     {
-        Roll {
+        Timeouts {
             lives: Vec::new(alloc),
         }
     }
@@ -83,7 +83,7 @@ impl Roll {
     }
 
     /// The connection that was found, or the one at this key, if that is closed before it.
-    #[tactic(auto, using(crate::proofs::RollLemmas::step_found, crate::proofs::RollLemmas::step_kept, crate::proofs::RollLemmas::step_none))]
+    #[tactic(auto, using(crate::proofs::TimeoutLemmas::step_found, crate::proofs::TimeoutLemmas::step_kept, crate::proofs::TimeoutLemmas::step_none))]
     fn sooner_of(&self, found: Option<(usize, Life)>, key: usize, now: u64) -> Option<(usize, Life)>
         requires key { key < length self.now }
         requires found { FirstAmong self.now key now found }

@@ -1,5 +1,5 @@
 use Rattle.std.proofs.Common.{◌≤◌, ◌-◌, length}
-use Rattle.devices.proofs.asking.receive.Given as goal
+use Rattle.devices.proofs.exchanging.receive.Given as goal
 
 abbrev pub invariant-pieces : goal.invariant-pieces
 invariant-pieces g l = length l.held ≤ l.most

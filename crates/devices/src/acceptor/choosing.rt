@@ -1,6 +1,6 @@
 //! Which connection a worker serves next, and the events for which a listener waits.
-use crate::hall::Hall;
-use crate::hall::admitting::Admitted;
+use crate::acceptor::Acceptor;
+use crate::acceptor::admitting::Admitted;
 use crate::now::thread_micros;
 use crate::wire::Wire;
 use std::io;
@@ -18,7 +18,7 @@ const SWEEP_MILLIS: u64 = 250;
 /// The most passes of the loop before a listener returns that no connection waits.
 const MOST_LOOKS: u32 = 65_536;
 
-impl<R: Clock + Eprint + Copy> Hall<R> {
+impl<R: Clock + Eprint + Copy> Acceptor<R> {
     /// The next connection that can be served, if one comes before this time in milliseconds. The
     /// loop polls between two turns once in 250 microseconds, even while others can be served.
     pub(super) fn coming(&mut self, end: u64) -> io::Result<Option<Wire<TcpStream>>> {
@@ -49,7 +49,7 @@ impl<R: Clock + Eprint + Copy> Hall<R> {
         if queue == Queue::Fresh {
             return self.admit_new();
         }
-        match self.resting.take_ready(queue) {
+        match self.idle.take_ready(queue) {
             Some(wire) => Ok(Admitted::Ready(wire)),
             None => Ok(Admitted::None),
         }
@@ -57,17 +57,17 @@ impl<R: Clock + Eprint + Copy> Hall<R> {
 
     /// In which queues a connection may wait.
     fn waiting(&mut self) -> Waiting {
-        let own = self.resting.count();
+        let own = self.idle.count();
         self.shares.report(own);
         let fresh = self.takes();
-        self.resting.waiting(fresh)
+        self.idle.waiting(fresh)
     }
 
     /// Polls, and waits for events if nothing else can be done. After a failed accept it does not
     /// retry before an event.
     fn look(&mut self, end: u64, in_vain: bool) -> io::Result<()> {
         let left = end.saturating_sub(self.time);
-        let waiting = self.resting.waiting(false);
+        let waiting = self.idle.waiting(false);
         let patience = if waiting.light || waiting.heavy {
             0
         } else if !self.comes || in_vain {
@@ -87,14 +87,14 @@ impl<R: Clock + Eprint + Copy> Hall<R> {
         self.polled = self.micros;
         self.read_ran();
         let now = self.now();
-        let listens = self.resting.stir_all(&self.events, &mut self.room, now);
+        let listens = self.idle.stir_all(&self.events, &mut self.room, now);
         if listens && !self.comes {
             self.comes = true;
             self.came = self.time;
         }
         if self.time.saturating_sub(self.swept) >= SWEEP_MILLIS {
             self.swept = self.time;
-            self.resting.sweep(&mut self.room, now);
+            self.idle.sweep(&mut self.room, now);
         }
         Ok(())
     }

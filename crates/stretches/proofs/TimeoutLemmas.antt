@@ -6,7 +6,7 @@ use Rattle.std.proofs.lemmas.Bool.{and_cases, and_left, and_parts, and_right, ca
 use Rattle.std.proofs.lemmas.Bool.{or_from, or_parts, true≢false}
 use Rattle.stretches.specs.declared.life.Life.{Life}
 use Rattle.stretches.specs.Lives.{comes_before, is_before, rank, yields}
-use Rattle.stretches.specs.Rolls.{FirstAmong, HasLife, NoneBefore, NoneYields, is_before_found, is_sooner, life_at}
+use Rattle.stretches.specs.Timeouts.{FirstAmong, HasLife, NoneBefore, NoneYields, is_before_found, is_sooner, life_at}
 
 -- what comes before is less by the first number, or equal by it and less by the second
 before_is : (r t s u : ℕ) → is_before r t s u ≡ true → (r < s) ⊎ ((r ≡ s) × (t < u))

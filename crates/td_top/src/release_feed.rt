@@ -1,6 +1,6 @@
 ghost use Rattle.std.specs.Prelude.{◌≡◌, List, IfSome, None};
 ghost use Rattle.admission.specs.declared.rules.Chosen.{Chosen};
-ghost use Rattle.run_ends.specs.Growth.{GrowthView, Grows};
+ghost use Rattle.run_ends.specs.Feeds.{FeedView, Grows};
 ghost use Rattle.td_top.specs.Replies.{reply_bytes};
 ghost use Rattle.run_ends.specs.Sessions.{AnswersLine};
 
@@ -13,9 +13,9 @@ use std::sync::Wait;
 /// The source of new releases while a history is served: the folders of a store, or a mirror.
 pub trait ReleaseFeed {
     /// The view of the source, given the rules that apply to releases.
-    ghost seen: { Self → List Chosen → GrowthView };
+    ghost seen: { Self → List Chosen → FeedView };
 
-    /// Performs a line that requests growth, and returns the reply to it. `None` for any other
+    /// Performs a line that requests feed, and returns the reply to it. `None` for any other
     /// line, which changes nothing.
     fn grow<R: Wait>(
         &mut self,

@@ -1,9 +1,9 @@
 //! New connections: accepted at the socket, and served at once or put into a queue.
-use crate::hall::Hall;
+use crate::acceptor::Acceptor;
+use crate::idle_connections::LISTENS;
 use crate::listening::next_stream;
 use crate::passing::{is_passing, is_short};
-use crate::resting::LISTENS;
-use crate::wire::{Rest, Wire};
+use crate::wire::{Readiness, Wire};
 use mio::Interest;
 use mio::unix::SourceFd;
 use std::io;
@@ -26,7 +26,7 @@ pub(super) enum Admitted {
     InVain,
 }
 
-impl<R: Clock + Eprint + Copy> Hall<R> {
+impl<R: Clock + Eprint + Copy> Acceptor<R> {
     /// Accepts connections. What it costs is charged to new connections in every case.
     pub(super) fn admit_new(&mut self) -> io::Result<Admitted> {
         let turn = WorkerTurn::new(self.micros, 0);
@@ -40,7 +40,7 @@ impl<R: Clock + Eprint + Copy> Hall<R> {
     /// Accepts connections until one can be served, or none is to be accepted.
     fn admit_some(&mut self) -> io::Result<Admitted> {
         for _ in 0..MOST_ACCEPTED {
-            self.shares.report(self.resting.count());
+            self.shares.report(self.idle.count());
             if !self.takes() {
                 break;
             }
@@ -84,12 +84,12 @@ impl<R: Clock + Eprint + Copy> Hall<R> {
     fn receive(&mut self, stream: TcpStream) -> Option<Wire<TcpStream>> {
         let now = self.now();
         let mut wire = Wire::new(self.alloc, stream, now);
-        let rest = wire.advance(&mut self.room, now);
+        let readiness = wire.advance(&mut self.room, now);
         let is_quick = wire.queue() != Queue::Heavy;
-        if rest == Rest::Ready && (is_quick || self.resting.heavy() >= self.most / 2) {
+        if readiness == Readiness::Ready && (is_quick || self.idle.heavy() >= self.most / 2) {
             return Some(wire);
         }
-        self.keep(wire, rest, now);
+        self.keep(wire, readiness, now);
         None
     }
 
@@ -100,7 +100,7 @@ impl<R: Clock + Eprint + Copy> Hall<R> {
         if self.short {
             self.short = false;
             let now = self.now();
-            return self.resting.make_room(now);
+            return self.idle.make_room(now);
         }
         self.short = true;
         let descriptor = self.listening.as_raw_fd();

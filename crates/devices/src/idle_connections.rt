@@ -3,7 +3,7 @@ ghost use Rattle.std.specs.Prelude.{◌<◌, length};
 
 use crate::now::Now;
 use crate::outgoing::MOST_UNSENT;
-use crate::wire::{Rest, Wire};
+use crate::wire::{Readiness, Wire};
 use mio::event::Event;
 use mio::unix::SourceFd;
 use mio::{Events, Interest, Registry, Token};
@@ -11,7 +11,7 @@ use slab::Slab;
 use std::alloc::Global;
 use std::collections::VecDeque;
 use std::net::TcpStream;
-use stretches::{Queue, Roll, Waiting};
+use stretches::{Queue, Timeouts, Waiting};
 
 /// The most bytes of memory that the connections of a listener hold, the one that is served
 /// included.
@@ -27,12 +27,12 @@ const MOST_STALE: u32 = 1_024;
 pub const LISTENS: Token = Token(0);
 
 /// The connections that no worker serves. Those that can be served wait in two queues, first come
-/// first served. The roll says what each waits for, and since when. A key in a queue counts only
+/// first served. The timeouts say what each waits for, and since when. A key in a queue counts only
 /// while its connection says that it waits there.
 #[derive(Drop)]
-pub struct Resting {
+pub struct IdleConnections {
     wires: Slab<Wire<TcpStream>>,
-    roll: Roll,
+    timeouts: Timeouts,
     light: VecDeque<usize>,
     heavy: VecDeque<usize>,
     /// How many bytes of replies they have not sent, and how much memory they hold.
@@ -40,12 +40,12 @@ pub struct Resting {
     held: usize,
 }
 
-impl Resting {
+impl IdleConnections {
     /// No connections. It takes no memory, and grows by the allocator.
-    pub fn new(alloc: Global) -> Resting {
-        Resting {
+    pub fn new(alloc: Global) -> IdleConnections {
+        IdleConnections {
             wires: Slab::new(alloc),
-            roll: Roll::new(alloc),
+            timeouts: Timeouts::new(alloc),
             light: VecDeque::new(alloc),
             heavy: VecDeque::new(alloc),
             unsent: 0,
@@ -53,7 +53,7 @@ impl Resting {
         }
     }
 
-    /// How many rest.
+    /// How many there are.
     pub fn count(&self) -> usize {
         self.wires.len()
     }
@@ -91,27 +91,27 @@ impl Resting {
         self.unsent > 0
     }
 
-    /// Keeps a connection that is not served, and registers for its events. Where so many rest
+    /// Keeps a connection that is not served, and registers for its events. Where there are so many
     /// already, another is evicted for it. If memory or room runs out, it is closed.
     pub fn keep(
         &mut self,
         registry: &Registry,
         wire: Wire<TcpStream>,
-        rest: Rest,
+        readiness: Readiness,
         most: usize,
         now: Now,
     ) {
-        if rest == Rest::Gone || !self.has_room(most, now) {
+        if readiness == Readiness::Gone || !self.has_room(most, now) {
             return;
         }
         let known = wire.key;
         if let Some(key) = self.hold(wire) {
-            self.settle(registry, key, known, rest);
+            self.settle(registry, key, known, readiness);
             self.make_memory(now);
         }
     }
 
-    /// Makes sure that fewer than so many rest, and returns whether that is so.
+    /// Makes sure that there are fewer than so many, and returns whether that is so.
     fn has_room(&mut self, most: usize, now: Now) -> bool {
         self.count() < most || self.make_room(now)
     }
@@ -127,9 +127,15 @@ impl Resting {
 
     /// Registers for the events of the connection at a key, unless its events come under that key
     /// already, and puts it where it belongs.
-    fn settle(&mut self, registry: &Registry, key: usize, known: Option<usize>, rest: Rest) {
+    fn settle(
+        &mut self,
+        registry: &Registry,
+        key: usize,
+        known: Option<usize>,
+        readiness: Readiness,
+    ) {
         if known == Some(key) || self.ask_for(registry, key, known.is_some()) {
-            self.place(key, rest);
+            self.place(key, readiness);
         } else {
             self.discard(key);
         }
@@ -153,21 +159,21 @@ impl Resting {
     }
 
     /// Puts the connection at a key where it belongs.
-    fn place(&mut self, key: usize, rest: Rest) {
-        match rest {
-            Rest::Ready => self.line_up(key),
-            Rest::Waits => self.enroll(key),
-            Rest::Gone => self.discard(key),
+    fn place(&mut self, key: usize, readiness: Readiness) {
+        match readiness {
+            Readiness::Ready => self.line_up(key),
+            Readiness::Waits => self.set_timeout(key),
+            Readiness::Gone => self.discard(key),
         }
     }
 
-    /// Enters into the roll what the connection at a key waits for.
-    fn enroll(&mut self, key: usize) {
+    /// Enters into the timeouts what the connection at a key waits for.
+    fn set_timeout(&mut self, key: usize) {
         let Some(wire) = self.wires.get(key) else {
             return;
         };
         let life = wire.life();
-        if self.roll.set(key, life).is_err() {
+        if self.timeouts.set(key, life).is_err() {
             self.discard(key);
         }
     }
@@ -183,7 +189,7 @@ impl Resting {
             Queue::Fresh | Queue::Light => self.light.push_back(key).is_ok(),
         };
         if lined_up {
-            self.enroll(key);
+            self.set_timeout(key);
         } else {
             self.discard(key);
         }
@@ -228,14 +234,14 @@ impl Resting {
             return;
         }
         let (unsent, held) = (wire.unsent(), wire.room());
-        let rest = wire.advance(room, now);
+        let readiness = wire.advance(room, now);
         let (unsent_after, held_after) = (wire.unsent(), wire.room());
         self.unsent = self
             .unsent
             .saturating_sub(unsent)
             .saturating_add(unsent_after);
         self.held = self.held.saturating_sub(held).saturating_add(held_after);
-        self.place(key, rest);
+        self.place(key, readiness);
         self.make_memory(now);
     }
 
@@ -263,7 +269,7 @@ impl Resting {
 
     /// Takes the connection at a key out.
     fn remove(&mut self, key: usize) -> Option<Wire<TcpStream>> {
-        self.roll.clear(key);
+        self.timeouts.clear(key);
         let wire = self.wires.try_remove(key)?;
         self.unsent = self.unsent.saturating_sub(wire.unsent());
         self.held = self.held.saturating_sub(wire.room());
@@ -277,7 +283,7 @@ impl Resting {
 
     /// Closes the connection that is the first to yield to a new one, and returns whether one did.
     pub fn make_room(&mut self, now: Now) -> bool {
-        match self.roll.first_to_yield(now.millis) {
+        match self.timeouts.first_to_yield(now.millis) {
             Some(key) => {
                 self.discard(key);
                 true
@@ -292,7 +298,7 @@ impl Resting {
             if self.held <= MOST_HELD_AT_REST {
                 return;
             }
-            match self.roll.heaviest(now.millis) {
+            match self.timeouts.heaviest(now.millis) {
                 Some(key) => self.discard(key),
                 None => return,
             }
@@ -316,8 +322,8 @@ impl Resting {
         requires { 0 < length room.old }
     {
         let mut from = 0;
-        for _ in 0..self.roll.len() {
-            match self.roll.next_over(from, now.millis) {
+        for _ in 0..self.timeouts.len() {
+            match self.timeouts.next_over(from, now.millis) {
                 Some(key) => {
                     self.give_up(key, room, now);
                     from = key.saturating_add(1);
