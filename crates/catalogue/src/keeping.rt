@@ -28,9 +28,9 @@ fn is_same<Z: ZoneData>(a: &Content<Z>, b: &Content<Z>) -> bool
 }
 
 impl<Z: ZoneData + Drop> Catalogue<Z> {
-    /// The position of the zone of the last release with the same content. Mostly it is the one at
-    /// which the zone stands now, so that one is looked at before all are searched.
-    fn find_same(&self, content: &Content<Z>, now: usize) -> Option<usize>
+    /// The position of the zone of the last release with the same content. Mostly it is the one that
+    /// the content has in the next release, so that one is looked at before all are searched.
+    fn find_same(&self, content: &Content<Z>, position: usize) -> Option<usize>
         ensures within { IfSome result (λ i. i < zone_count self.now) }
         ensures same { IfSome result (λ i. HoldsAt
             (λ h. same_content (content_as_is Z.bytes content.now) (held_content Z.bytes h) ≡ true)
@@ -39,8 +39,8 @@ impl<Z: ZoneData + Drop> Catalogue<Z> {
             has_content (content_as_is Z.bytes content.now) (release_held Z.bytes self.now)
             ≡ false) }
     {
-        if self.is_same_at(content, now) {
-            return Some(now);
+        if self.is_same_at(content, position) {
+            return Some(position);
         }
         self.search_same(content)
     }
@@ -79,7 +79,7 @@ impl<Z: ZoneData + Drop> Catalogue<Z> {
         &self,
         alloc: Global,
         content: Content<Z>,
-        now: usize,
+        position: usize,
         place: u32,
         head: &Head,
     ) -> Result<Arc<Held<Z>>, NoMemory>
@@ -91,7 +91,7 @@ impl<Z: ZoneData + Drop> Catalogue<Z> {
         ensures digest { IfOk result (λ h. ForEachHistory Z.bytes Z.sound self.now (λ H.
             held_digest h ≡ content_digest (content_as_is Z.bytes content))) }
     {
-        match self.find_same(&content, now) {
+        match self.find_same(&content, position) {
             Some(at) => {
                 let held = Arc::try_clone(&self.held.as_slice()[at])?;
                 Ok(held)
@@ -119,8 +119,8 @@ impl<Z: ZoneData + Drop> Catalogue<Z> {
     {
         let mut held = Vec::with_capacity(alloc, contents.len())?;
         for content in contents.into_vec() {
-            let now = held.len();
-            held.push(self.held_next(alloc, content, now, place, head)?)?;
+            let position = held.len();
+            held.push(self.held_next(alloc, content, position, place, head)?)?;
         }
         Ok(Items::from(held))
     }
