@@ -2,7 +2,7 @@
 ghost use Rattle.td_base.specs.Views.{LaterConn, LaterSink, LaterSource};
 
 use crate::given;
-use case_lines::{Answer, CaseFault, Row, Told, shown};
+use case_lines::{Answer, AnswerBuilder, CaseFault, Row, debug_text};
 use std::alloc::Global;
 use td_base::{Conn, FaultyConn, Joined, MemoryConn, ReadStep, Sink, Source, send_whole, texts};
 
@@ -11,12 +11,12 @@ use td_base::{Conn, FaultyConn, Joined, MemoryConn, ReadStep, Sink, Source, send
 /// four bytes, `write:TEXT` or `send:TEXT`.
 pub fn conn(alloc: Global, row: &Row) -> Answer {
     let mut conn = faulty(alloc, row)?;
-    let mut told = Told::new(alloc);
+    let mut builder = AnswerBuilder::new(alloc);
     for call in given::words(row, 5) {
-        told.call(act(alloc, &mut conn, call.as_slice()));
+        builder.add_answer(act(alloc, &mut conn, call.as_slice()));
     }
-    tell(&mut told, conn.inner());
-    told.answer()
+    add_conn(&mut builder, conn.inner());
+    builder.finish()
 }
 
 fn faulty(alloc: Global, row: &Row) -> Result<FaultyConn<MemoryConn>, CaseFault> {
@@ -36,7 +36,7 @@ fn act<C: Conn>(alloc: Global, conn: &mut C, call: &[u8]) -> Answer {
     let text = text.unwrap_or(&[]);
     match verb {
         b"read" => read(alloc, conn),
-        b"send" => shown(alloc, &send_whole(conn, text)),
+        b"send" => debug_text(alloc, &send_whole(conn, text)),
         _ => write(alloc, conn, text),
     }
 }
@@ -56,33 +56,33 @@ fn write<C: Conn>(alloc: Global, conn: &mut C, piece: &[u8]) -> Answer {
     if piece.is_empty() {
         return Err(CaseFault::Strange);
     }
-    shown(alloc, &conn.write(piece))
+    debug_text(alloc, &conn.write(piece))
 }
 
 /// Appends what a connection gave and took.
-pub fn tell(told: &mut Told, conn: &MemoryConn) {
-    tell_both(told, conn.source.given(), conn.sink.taken());
+pub fn add_conn(builder: &mut AnswerBuilder, conn: &MemoryConn) {
+    add_both(builder, conn.source.given(), conn.sink.taken());
 }
 
-fn tell_both(told: &mut Told, given: &[u8], taken: &[u8]) {
-    told.bytes(b" given ");
-    told.bytes(given);
-    told.bytes(b" taken ");
-    told.bytes(taken);
+fn add_both(builder: &mut AnswerBuilder, given: &[u8], taken: &[u8]) {
+    builder.add_bytes(b" given ");
+    builder.add_bytes(given);
+    builder.add_bytes(b" taken ");
+    builder.add_bytes(taken);
 }
 
 /// `joined INPUT ROOM TIMES`: what a source gave and a sink took after TIMES echoes, each of which
 /// reads at most three bytes and writes them back.
-pub fn joined(alloc: Global, row: &Row) -> Answer {
+pub fn echoes(alloc: Global, row: &Row) -> Answer {
     let times = row.number(2)?;
     let mut sink = given::whole_sink(alloc, row, 1)?;
     let mut source = given::whole_source(alloc, row, 0)?;
     for _ in 0..times {
         echo_between(&mut source, &mut sink);
     }
-    let mut told = Told::new(alloc);
-    tell_both(&mut told, source.given(), sink.taken());
-    told.answer()
+    let mut builder = AnswerBuilder::new(alloc);
+    add_both(&mut builder, source.given(), sink.taken());
+    builder.finish()
 }
 
 /// Writes back the bytes of one read.

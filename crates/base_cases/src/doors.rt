@@ -5,7 +5,7 @@ ghost use Rattle.td_base.specs.MemoryDoors.{faulty_door, memory_door};
 
 use crate::conns::{self, echo};
 use crate::given;
-use case_lines::{Answer, CaseFault, Row, Told, shown};
+use case_lines::{Answer, AnswerBuilder, CaseFault, Row, debug_text};
 use std::alloc::Global;
 use td_base::{Accepted, Door, DoorAnswer, End, FaultyDoor, MemoryDoor, Places, Report};
 
@@ -15,24 +15,24 @@ use td_base::{Accepted, Door, DoorAnswer, End, FaultyDoor, MemoryDoor, Places, R
 pub fn door(alloc: Global, row: &Row) -> Answer {
     let calls = row.number(3)?;
     let mut door = faulty(alloc, row)?;
-    let mut told = Told::new(alloc);
+    let mut builder = AnswerBuilder::new(alloc);
     'calls: for _ in 0..calls {
-        told.call(shown(alloc, &serve(alloc, &mut door)));
+        builder.add_answer(debug_text(alloc, &serve(alloc, &mut door)));
     }
-    tell(&mut told, door.inner());
-    told.answer()
+    add_door(&mut builder, door.inner());
+    builder.finish()
 }
 
 fn faulty(alloc: Global, row: &Row) -> Result<FaultyDoor<MemoryDoor>, CaseFault>
     ensures { IfOk result (λ door. IsDoorSettled (faulty_door memory_door door)) }
 {
     let failing = given::calls(alloc, row, 2)?;
-    let door = scripted(alloc, row.number(0)?, row.word(1)?)?;
+    let door = script_door(alloc, row.number(0)?, row.word(1)?)?;
     Ok(FaultyDoor::new(door, failing))
 }
 
 /// A door of this script.
-fn scripted(alloc: Global, room: u64, script: &[u8]) -> Result<MemoryDoor, CaseFault>
+fn script_door(alloc: Global, room: u64, script: &[u8]) -> Result<MemoryDoor, CaseFault>
     ensures { IfOk result IsUnasked }
 {
     let mut door = MemoryDoor::new(alloc, room as usize)?;
@@ -85,12 +85,12 @@ fn report(alloc: Global) -> Report {
 }
 
 /// Appends the state of a door.
-fn tell(told: &mut Told, door: &MemoryDoor) {
-    told.bytes(b" coming ");
-    told.value(&door.coming());
-    told.bytes(b" room ");
-    told.value(&door.room());
+fn add_door(builder: &mut AnswerBuilder, door: &MemoryDoor) {
+    builder.add_bytes(b" coming ");
+    builder.add_debug(&door.coming());
+    builder.add_bytes(b" room ");
+    builder.add_debug(&door.room());
     for served in door.finished() {
-        conns::tell(told, served.conn.inner());
+        conns::add_conn(builder, served.conn.inner());
     }
 }

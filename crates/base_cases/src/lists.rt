@@ -1,6 +1,6 @@
 //! Owned bytes, lists and short texts.
 use crate::given;
-use case_lines::{Answer, CaseFault, Row, Told, shown};
+use case_lines::{Answer, AnswerBuilder, CaseFault, Row, debug_text};
 use std::alloc::Global;
 use td_base::{Bytes, Places, ShortText};
 
@@ -9,12 +9,12 @@ use td_base::{Bytes, Places, ShortText};
 pub fn bytes(alloc: Global, row: &Row) -> Answer {
     let mut list = given::bytes(alloc, row, 0)?;
     grow_and_cut(&mut list, row)?;
-    let mut told = Told::new(alloc);
+    let mut builder = AnswerBuilder::new(alloc);
     let len = list.len();
-    told.bytes(list.into_vec().as_slice());
-    told.bytes(b", ");
-    told.value(&len);
-    told.answer()
+    builder.add_bytes(list.into_vec().as_slice());
+    builder.add_bytes(b", ");
+    builder.add_debug(&len);
+    builder.finish()
 }
 
 /// Appends a byte and more bytes, and cuts at a length.
@@ -33,10 +33,10 @@ pub fn compare(alloc: Global, row: &Row) -> Answer {
     let first = given::bytes(alloc, row, 0)?;
     let second = given::bytes(alloc, row, 1)?;
     let copy = first.clone_in(alloc)?;
-    compared(alloc, &first, &second, copy)
+    comparison(alloc, &first, &second, copy)
 }
 
-fn compared(alloc: Global, first: &Bytes, second: &Bytes, copy: Bytes) -> Answer {
+fn comparison(alloc: Global, first: &Bytes, second: &Bytes, copy: Bytes) -> Answer {
     let (order, is_equal) = (first.cmp(second), first == second);
     let (is_empty, is_copied) = (first.is_empty(), copy == *first);
     let is_back = Bytes::from(copy.into_vec()) == *first;
@@ -49,13 +49,13 @@ pub fn items(alloc: Global, row: &Row) -> Answer {
     let more = row.number(1)?;
     let mut items = given::calls(alloc, row, 0)?;
     items.push(more)?;
-    let mut told = Told::new(alloc);
-    told.value(&items.as_slice());
-    told.bytes(b", ");
-    told.value(&items.len());
-    told.bytes(b", ");
-    told.value(&items.into_vec().len());
-    told.answer()
+    let mut builder = AnswerBuilder::new(alloc);
+    builder.add_debug(&items.as_slice());
+    builder.add_bytes(b", ");
+    builder.add_debug(&items.len());
+    builder.add_bytes(b", ");
+    builder.add_debug(&items.into_vec().len());
+    builder.finish()
 }
 
 /// `short TEXT TEXT`: the copy of a short text of the two, and whether it equals the original.
@@ -68,11 +68,11 @@ pub fn short(alloc: Global, row: &Row) -> Answer {
     text.append(first);
     text.append(second);
     let copy = text.copy();
-    let mut told = Told::new(alloc);
-    told.bytes(copy.as_slice());
-    told.bytes(b", ");
-    told.value(&(copy == text));
-    told.answer()
+    let mut builder = AnswerBuilder::new(alloc);
+    builder.add_bytes(copy.as_slice());
+    builder.add_bytes(b", ");
+    builder.add_debug(&(copy == text));
+    builder.finish()
 }
 
 /// `places NUMBER NUMBER`: the places of a report.
@@ -81,5 +81,5 @@ pub fn places(alloc: Global, row: &Row) -> Answer {
     let mut places = Places::new(alloc);
     places.push(first)?;
     places.push(second)?;
-    shown(alloc, &places.as_slice())
+    debug_text(alloc, &places.as_slice())
 }

@@ -51,8 +51,8 @@ fn try_line<R: Threads + Wait + Print + Copy + Send + 'static>(
         return Ok(());
     };
     let answer = answer(rt, alloc, &row);
-    if let Some(told) = table.judge(&row, answer)? {
-        println!(rt; "{told}")?;
+    if let Some(report) = table.judge(&row, answer)? {
+        println!(rt; "{report}")?;
     }
     Ok(())
 }
@@ -60,9 +60,9 @@ fn try_line<R: Threads + Wait + Print + Copy + Send + 'static>(
 /// The answer to a row.
 fn answer<R: Threads + Wait + Copy + Send + 'static>(rt: &R, alloc: Global, row: &Row) -> Answer {
     match row.kind() {
-        "joined-work" => works::joined(rt, alloc, row),
-        "threaded-work" => works::threaded(rt, alloc, row),
-        "refused-work" => works::refused(rt, alloc, row),
+        "joined-work" => works::join_works(rt, alloc, row),
+        "threaded-work" => works::work_in_thread(rt, alloc, row),
+        "refused-work" => works::work_without_memory(rt, alloc, row),
         _ => of_objects(alloc, row),
     }
 }
@@ -75,7 +75,7 @@ fn of_objects(alloc: Global, row: &Row) -> Answer {
         "write-whole" => streams::whole(alloc, row),
         "store" => stores::store(alloc, row),
         "conn" => conns::conn(alloc, row),
-        "joined" => conns::joined(alloc, row),
+        "joined" => conns::echoes(alloc, row),
         "door" => doors::door(alloc, row),
         "network" => networks::network(alloc, row),
         "upstream" => networks::upstream(alloc, row),
@@ -103,7 +103,7 @@ fn of_texts(alloc: Global, row: &Row) -> Answer {
     match row.kind() {
         "decimal" => numbers::decimal(alloc, row),
         "hex" => numbers::hex(alloc, row),
-        "sized" => numbers::sized(alloc, row),
+        "sized" => numbers::with_length(alloc, row),
         "read-decimal" => numbers::read(alloc, row),
         "bytes" => lists::bytes(alloc, row),
         "compare" => lists::compare(alloc, row),

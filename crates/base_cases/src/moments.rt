@@ -2,7 +2,7 @@
 ghost use Rattle.std.specs.Prelude.{IfOk};
 ghost use Rattle.td_civil.specs.Bounds.{IsWithinBounds};
 
-use case_lines::{Answer, CaseFault, Row, shown};
+use case_lines::{Answer, CaseFault, Row, debug_text};
 use std::alloc::Global;
 use td_civil::{
     BadMoment, HI, LO, Moment, date_of_day, day_of, is_date, local_stamp, moment_of, utc_text,
@@ -12,7 +12,7 @@ use td_civil::{
 /// `moment TEXT`: the moment that it encodes, in seconds since 1970-01-01 UTC.
 pub fn read(alloc: Global, row: &Row) -> Answer {
     match moment_of(row.word(0)?) {
-        Ok(Moment { seconds }) => shown(alloc, &seconds),
+        Ok(Moment { seconds }) => debug_text(alloc, &seconds),
         Err(BadMoment) => Ok(BadMoment.to_string(alloc)?.into_bytes()),
     }
 }
@@ -24,7 +24,7 @@ pub fn utc(alloc: Global, row: &Row) -> Answer {
 
 /// `local SECONDS OFFSET`: the local time of a moment.
 pub fn local(alloc: Global, row: &Row) -> Answer {
-    let (moment, offset) = (moment(row)?, row.signed(1)?);
+    let (moment, offset) = (moment(row)?, row.signed_number(1)?);
     if offset < -86_399 || 86_399 < offset {
         return Err(CaseFault::Strange);
     }
@@ -33,14 +33,14 @@ pub fn local(alloc: Global, row: &Row) -> Answer {
 
 /// `year SECONDS`: the year of a moment.
 pub fn year(alloc: Global, row: &Row) -> Answer {
-    shown(alloc, &year_of(moment(row)?))
+    debug_text(alloc, &year_of(moment(row)?))
 }
 
 /// The moment of the first word, which must be within the supported range.
 fn moment(row: &Row) -> Result<Moment, CaseFault>
     ensures { IfOk result (λ m. IsWithinBounds m.seconds) }
 {
-    let seconds = row.signed(0)?;
+    let seconds = row.signed_number(0)?;
     if seconds < LO || HI < seconds {
         return Err(CaseFault::Strange);
     }
@@ -50,17 +50,17 @@ fn moment(row: &Row) -> Result<Moment, CaseFault>
 /// `before SECONDS SECONDS`: whether the first moment is before the second.
 pub fn before(alloc: Global, row: &Row) -> Answer {
     let other = Moment {
-        seconds: row.signed(1)?,
+        seconds: row.signed_number(1)?,
     };
-    shown(alloc, &(moment(row)? < other))
+    debug_text(alloc, &(moment(row)? < other))
 }
 
 /// `day YEAR MONTH DAY`: the number of a day.
 pub fn day(alloc: Global, row: &Row) -> Answer {
-    let year = i32::try_from(row.signed(0)?)
+    let year = i32::try_from(row.signed_number(0)?)
         .ok()
         .ok_or(CaseFault::Strange)?;
-    shown(alloc, &day_of(year, byte(row, 1)?, byte(row, 2)?))
+    debug_text(alloc, &day_of(year, byte(row, 1)?, byte(row, 2)?))
 }
 
 fn byte(row: &Row, at: usize) -> Result<u8, CaseFault> {
@@ -69,7 +69,7 @@ fn byte(row: &Row, at: usize) -> Result<u8, CaseFault> {
 
 /// `date NUMBER`: the year, the month and the day of a day's number.
 pub fn date(alloc: Global, row: &Row) -> Answer {
-    let number = row.signed(0)?;
+    let number = row.signed_number(0)?;
     if number < -719_528 || 2_932_896 < number {
         return Err(CaseFault::Strange);
     }
@@ -80,5 +80,5 @@ pub fn date(alloc: Global, row: &Row) -> Answer {
 
 /// `is-date TEXT`: whether the text is a date.
 pub fn judge(alloc: Global, row: &Row) -> Answer {
-    shown(alloc, &is_date(row.word(0)?))
+    debug_text(alloc, &is_date(row.word(0)?))
 }

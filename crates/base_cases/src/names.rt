@@ -1,5 +1,5 @@
 //! Which texts are names.
-use case_lines::{Answer, CaseFault, Row, shown};
+use case_lines::{Answer, CaseFault, Row, debug_text};
 use std::alloc::Global;
 use td_base::{is_file_name, is_identifier, is_label, is_path_word};
 
@@ -7,10 +7,10 @@ use td_base::{is_file_name, is_identifier, is_label, is_path_word};
 pub fn judge(alloc: Global, row: &Row) -> Answer {
     let text = row.word(0)?;
     match row.kind() {
-        "identifier" => shown(alloc, &is_identifier(text)),
-        "file-name" => shown(alloc, &is_file_name(text)),
-        "label" => shown(alloc, &is_label(text)),
-        "path-word" => shown(alloc, &is_path_word(text)),
+        "identifier" => debug_text(alloc, &is_identifier(text)),
+        "file-name" => debug_text(alloc, &is_file_name(text)),
+        "label" => debug_text(alloc, &is_label(text)),
+        "path-word" => debug_text(alloc, &is_path_word(text)),
         _ => Err(CaseFault::Strange),
     }
 }

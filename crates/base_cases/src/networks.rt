@@ -1,6 +1,6 @@
 //! A network and another server in memory, some of whose calls fail.
 use crate::given;
-use case_lines::{Answer, CaseFault, Row, Told, shown};
+use case_lines::{Answer, AnswerBuilder, CaseFault, Row, debug_text};
 use std::alloc::Global;
 use td_base::{
     Bytes, Exchanged, Faulty, Made, MemoryDoor, MemoryNetwork, MemoryUpstream, Network, Upstream,
@@ -13,12 +13,12 @@ type Tried = MemoryNetwork<MemoryDoor, MemoryUpstream>;
 /// which addresses doors were opened and upstreams reached.
 pub fn network(alloc: Global, row: &Row) -> Answer {
     let mut network = faulty(alloc, row)?;
-    let mut told = Told::new(alloc);
+    let mut builder = AnswerBuilder::new(alloc);
     for at in 1..row.words().len().saturating_sub(1) / 2 {
-        told.call(call(alloc, &mut network, row, at * 2 + 1));
+        builder.add_answer(call(alloc, &mut network, row, at * 2 + 1));
     }
-    tell(&mut told, network.inner());
-    told.answer()
+    add_network(&mut builder, network.inner());
+    builder.finish()
 }
 
 fn faulty(alloc: Global, row: &Row) -> Result<Faulty<Tried>, CaseFault> {
@@ -57,7 +57,7 @@ where
     N::Door: Drop,
 {
     match network.doors(alloc, address, number) {
-        Made::Given(doors) => shown(alloc, &doors.len()),
+        Made::Given(doors) => debug_text(alloc, &doors.len()),
         Made::Failed => case_lines::bytes(alloc, b"failed"),
         Made::NoMemory => Err(CaseFault::NoMemory),
     }
@@ -75,18 +75,18 @@ where
 }
 
 /// Appends the state of a network.
-fn tell(told: &mut Told, network: &Tried) {
-    told.bytes(b" left ");
-    told.value(&network.len());
+fn add_network(builder: &mut AnswerBuilder, network: &Tried) {
+    builder.add_bytes(b" left ");
+    builder.add_debug(&network.len());
     for opened in network.opened() {
-        told.bytes(b" opened ");
-        told.bytes(opened.address.as_slice());
-        told.bytes(b" ");
-        told.value(&opened.doors);
+        builder.add_bytes(b" opened ");
+        builder.add_bytes(opened.address.as_slice());
+        builder.add_bytes(b" ");
+        builder.add_debug(&opened.doors);
     }
     for address in network.reached() {
-        told.bytes(b" reached ");
-        told.bytes(address.as_slice());
+        builder.add_bytes(b" reached ");
+        builder.add_bytes(address.as_slice());
     }
 }
 
@@ -95,12 +95,12 @@ fn tell(told: &mut Told, network: &Tried) {
 pub fn upstream(alloc: Global, row: &Row) -> Answer {
     let most = row.number(2)?;
     let mut server = faulty_server(alloc, row)?;
-    let mut told = Told::new(alloc);
+    let mut builder = AnswerBuilder::new(alloc);
     for request in given::words(row, 3) {
-        told.call(ask(alloc, &mut server, request.as_slice(), most));
+        builder.add_answer(ask(alloc, &mut server, request.as_slice(), most));
     }
-    tell_exchanges(&mut told, server.inner());
-    told.answer()
+    add_exchanges(&mut builder, server.inner());
+    builder.finish()
 }
 
 fn faulty_server(alloc: Global, row: &Row) -> Result<Faulty<MemoryUpstream>, CaseFault> {
@@ -127,11 +127,11 @@ fn ask<U: Upstream>(alloc: Global, server: &mut U, request: &[u8], most: u64) ->
 }
 
 /// Appends which requests were answered, and with what.
-fn tell_exchanges(told: &mut Told, server: &MemoryUpstream) {
+fn add_exchanges(builder: &mut AnswerBuilder, server: &MemoryUpstream) {
     for exchange in server.told() {
-        told.bytes(b" ");
-        told.bytes(exchange.request.as_slice());
-        told.bytes(b">");
-        told.bytes(exchange.answer.as_slice());
+        builder.add_bytes(b" ");
+        builder.add_bytes(exchange.request.as_slice());
+        builder.add_bytes(b">");
+        builder.add_bytes(exchange.answer.as_slice());
     }
 }

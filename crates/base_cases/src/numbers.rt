@@ -1,5 +1,5 @@
 //! Digits and lengths, written and read.
-use case_lines::{Answer, CaseFault, Row, shown};
+use case_lines::{Answer, CaseFault, Row, debug_text};
 use std::alloc::Global;
 use td_base::{Bytes, put_decimal, put_hex, put_sized, read_decimal};
 
@@ -20,7 +20,7 @@ pub fn hex(alloc: Global, row: &Row) -> Answer {
 }
 
 /// `sized BYTES`: their length and the bytes, after an `x`.
-pub fn sized(alloc: Global, row: &Row) -> Answer {
+pub fn with_length(alloc: Global, row: &Row) -> Answer {
     let bytes = row.word(0)?;
     if bytes.len() > u32::MAX as usize {
         return Err(CaseFault::Strange);
@@ -32,5 +32,5 @@ pub fn sized(alloc: Global, row: &Row) -> Answer {
 
 /// `read-decimal TEXT`: the number that it encodes.
 pub fn read(alloc: Global, row: &Row) -> Answer {
-    shown(alloc, &read_decimal(row.word(0)?))
+    debug_text(alloc, &read_decimal(row.word(0)?))
 }

@@ -18,7 +18,7 @@ pub fn state(alloc: Global, row: &Row) -> Answer {
 }
 
 fn local(row: &Row, dst: bool) -> Result<Local, CaseFault> {
-    let (offset, text) = (row.signed(0)?, row.word(1)?);
+    let (offset, text) = (row.signed_number(0)?, row.word(1)?);
     let offset = i32::try_from(offset).ok().ok_or(CaseFault::Strange)?;
     if text.len() > 32 {
         return Err(CaseFault::Strange);

@@ -1,6 +1,6 @@
 //! A store in memory, some of whose calls fail.
 use crate::given;
-use case_lines::{Answer, CaseFault, Row, Told};
+use case_lines::{Answer, AnswerBuilder, CaseFault, Row};
 use std::alloc::Global;
 use td_base::{Bytes, Faulty, FileRead, MemoryStore, Store, texts};
 
@@ -8,11 +8,11 @@ use td_base::{Bytes, Faulty, FileRead, MemoryStore, Store, texts};
 /// The files are `PATH:TEXT`, separated by commas.
 pub fn store(alloc: Global, row: &Row) -> Answer {
     let mut store = faulty(alloc, row)?;
-    let mut told = Told::new(alloc);
+    let mut builder = AnswerBuilder::new(alloc);
     for at in 1..row.words().len() / 2 {
-        told.call(look(alloc, &mut store, row, at * 2));
+        builder.add_answer(look(alloc, &mut store, row, at * 2));
     }
-    told.answer()
+    builder.finish()
 }
 
 fn faulty(alloc: Global, row: &Row) -> Result<Faulty<MemoryStore>, CaseFault> {

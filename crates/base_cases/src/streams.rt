@@ -1,6 +1,6 @@
 //! Sources and sinks in memory, some of whose calls fail, and whole transfers.
 use crate::given;
-use case_lines::{Answer, CaseFault, Row, Told, shown};
+use case_lines::{Answer, AnswerBuilder, CaseFault, Row, debug_text};
 use std::alloc::Global;
 use td_base::{
     Faulty, MemorySink, MemorySource, ReadStep, Sink, Source, SourceFault, read_to_end, write_whole,
@@ -11,13 +11,13 @@ use td_base::{
 pub fn source(alloc: Global, row: &Row) -> Answer {
     let reads = row.number(3)?;
     let mut source = faulty_source(alloc, row)?;
-    let mut told = Told::new(alloc);
+    let mut builder = AnswerBuilder::new(alloc);
     for _ in 0..reads {
-        told.call(read(alloc, &mut source));
+        builder.add_answer(read(alloc, &mut source));
     }
-    told.bytes(b" given ");
-    told.bytes(source.inner().given());
-    told.answer()
+    builder.add_bytes(b" given ");
+    builder.add_bytes(source.inner().given());
+    builder.finish()
 }
 
 fn faulty_source(alloc: Global, row: &Row) -> Result<Faulty<MemorySource>, CaseFault> {
@@ -39,20 +39,20 @@ fn read<C: Source>(alloc: Global, source: &mut C) -> Answer {
 /// and has room for afterwards.
 pub fn sink(alloc: Global, row: &Row) -> Answer {
     let mut sink = faulty_sink(alloc, row)?;
-    let mut told = Told::new(alloc);
+    let mut builder = AnswerBuilder::new(alloc);
     for piece in given::words(row, 3) {
-        told.call(write(alloc, &mut sink, piece.as_slice()));
+        builder.add_answer(write(alloc, &mut sink, piece.as_slice()));
     }
-    tell(&mut told, sink.inner());
-    told.answer()
+    add_sink(&mut builder, sink.inner());
+    builder.finish()
 }
 
 /// Appends what a sink took and has room for.
-fn tell(told: &mut Told, sink: &MemorySink) {
-    told.bytes(b" taken ");
-    told.bytes(sink.taken());
-    told.bytes(b" room ");
-    told.value(&sink.room());
+fn add_sink(builder: &mut AnswerBuilder, sink: &MemorySink) {
+    builder.add_bytes(b" taken ");
+    builder.add_bytes(sink.taken());
+    builder.add_bytes(b" room ");
+    builder.add_debug(&sink.room());
 }
 
 fn faulty_sink(alloc: Global, row: &Row) -> Result<Faulty<MemorySink>, CaseFault> {
@@ -65,7 +65,7 @@ fn write<K: Sink>(alloc: Global, sink: &mut K, piece: &[u8]) -> Answer {
     if piece.is_empty() {
         return Err(CaseFault::Strange);
     }
-    shown(alloc, &sink.write(piece))
+    debug_text(alloc, &sink.write(piece))
 }
 
 /// `read-to-end BYTES SIZES FAILING MOST`: what is read of a source, up to MOST bytes.
@@ -87,11 +87,11 @@ fn read_whole<C: Source>(alloc: Global, source: &mut C, most: usize) -> Answer {
 pub fn whole(alloc: Global, row: &Row) -> Answer {
     let (first, second) = (row.word(2)?, row.word(3)?);
     let mut sink = given::sink(alloc, row, 0)?;
-    let mut told = Told::new(alloc);
-    told.value(&write_whole(&mut sink, first));
-    told.bytes(b", ");
-    told.value(&write_whole(&mut sink, second));
-    told.bytes(b", ");
-    told.bytes(sink.taken());
-    told.answer()
+    let mut builder = AnswerBuilder::new(alloc);
+    builder.add_debug(&write_whole(&mut sink, first));
+    builder.add_bytes(b", ");
+    builder.add_debug(&write_whole(&mut sink, second));
+    builder.add_bytes(b", ");
+    builder.add_bytes(sink.taken());
+    builder.finish()
 }

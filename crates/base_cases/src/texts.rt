@@ -1,5 +1,5 @@
 //! Texts of header fields.
-use case_lines::{Answer, CaseFault, Row, Told, shown};
+use case_lines::{Answer, AnswerBuilder, CaseFault, Row, debug_text};
 use std::alloc::Global;
 use td_base::texts;
 
@@ -9,47 +9,47 @@ pub fn cut(alloc: Global, row: &Row) -> Answer {
         return Err(CaseFault::Strange);
     };
     let (front, rest) = texts::cut(row.word(0)?, *separator);
-    let mut told = Told::new(alloc);
-    told.bytes(front);
-    tell_rest(&mut told, rest);
-    told.answer()
+    let mut builder = AnswerBuilder::new(alloc);
+    builder.add_bytes(front);
+    add_rest(&mut builder, rest);
+    builder.finish()
 }
 
-fn tell_rest(told: &mut Told, rest: Option<&[u8]>) {
+fn add_rest(builder: &mut AnswerBuilder, rest: Option<&[u8]>) {
     match rest {
         Some(rest) => {
-            told.bytes(b" and ");
-            told.bytes(rest);
+            builder.add_bytes(b" and ");
+            builder.add_bytes(rest);
         }
-        None => told.bytes(b" alone"),
+        None => builder.add_bytes(b" alone"),
     }
 }
 
 /// `trim TEXT`: the text without blanks at its ends, in brackets.
 pub fn trim(alloc: Global, row: &Row) -> Answer {
     let text = texts::trim(row.word(0)?);
-    let mut told = Told::new(alloc);
-    told.bytes(b"[");
-    told.bytes(text);
-    told.bytes(b"]");
-    told.answer()
+    let mut builder = AnswerBuilder::new(alloc);
+    builder.add_bytes(b"[");
+    builder.add_bytes(text);
+    builder.add_bytes(b"]");
+    builder.finish()
 }
 
 /// `part TEXT COUNT`: its first COUNT bytes, and those after them.
 pub fn part(alloc: Global, row: &Row) -> Answer {
     let (text, count) = (row.word(0)?, row.number(1)? as usize);
-    let mut told = Told::new(alloc);
-    told.bytes(texts::start(text, count));
-    told.bytes(b"|");
-    told.bytes(texts::skip(text, count));
-    told.answer()
+    let mut builder = AnswerBuilder::new(alloc);
+    builder.add_bytes(texts::start(text, count));
+    builder.add_bytes(b"|");
+    builder.add_bytes(texts::skip(text, count));
+    builder.finish()
 }
 
 /// `any-case TEXT TEXT`: whether the two are equal without case, and whether the first begins with
 /// the second.
 pub fn any_case(alloc: Global, row: &Row) -> Answer {
     let (text, other) = (row.word(0)?, row.word(1)?);
-    shown(
+    debug_text(
         alloc,
         &(texts::is_same(text, other), texts::begins(text, other)),
     )

@@ -2,7 +2,7 @@
 ghost use Rattle.std.specs.Prelude.{◌≡◌, ◌*◌, IfOk, IfErr};
 
 use crate::given;
-use case_lines::{Answer, Row, Told, shown};
+use case_lines::{Answer, AnswerBuilder, Row, debug_text};
 use std::alloc::Global;
 use std::sync::Wait;
 use std::thread::{Builder, Threads};
@@ -26,18 +26,18 @@ impl Work for Doubling {
 
 /// `joined-work FAILING NUMBER ..`: the results of doubling each number when works run as they are
 /// joined. The works whose starts are in FAILING are handed back.
-pub fn joined<R: Threads + Wait + Copy + Send + 'static>(
+pub fn join_works<R: Threads + Wait + Copy + Send + 'static>(
     rt: &R,
     alloc: Global,
     row: &Row,
 ) -> Answer {
     let failing = given::calls(alloc, row, 0)?;
     let mut spawner = Faulty::new(MemorySpawner::new(), failing);
-    let mut told = Told::new(alloc);
+    let mut builder = AnswerBuilder::new(alloc);
     for at in 1..row.words().len() {
-        told.call(double_at(rt, alloc, &mut spawner, row, at));
+        builder.add_answer(double_at(rt, alloc, &mut spawner, row, at));
     }
-    told.answer()
+    builder.finish()
 }
 
 /// The result of doubling the number at a position.
@@ -49,27 +49,27 @@ fn double_at<S: Spawner, R: Threads + Wait + Copy + Send + 'static>(
     at: usize,
 ) -> Answer {
     let number = given::small(row, at)?;
-    shown(alloc, &double(rt, alloc, spawner, number))
+    debug_text(alloc, &double(rt, alloc, spawner, number))
 }
 
 /// `threaded-work NUMBER`: the result of doubling it in a thread.
-pub fn threaded<R: Threads + Wait + Copy + Send + 'static>(
+pub fn work_in_thread<R: Threads + Wait + Copy + Send + 'static>(
     rt: &R,
     alloc: Global,
     row: &Row,
 ) -> Answer {
     let number = given::small(row, 0)?;
     let mut spawner = ThreadSpawner::new();
-    let mut told = Told::new(alloc);
-    told.value(&double(rt, alloc, &mut spawner, number));
-    told.bytes(b", ");
-    told.value(&spawner.refused);
-    told.bytes(b" refused");
-    told.answer()
+    let mut builder = AnswerBuilder::new(alloc);
+    builder.add_debug(&double(rt, alloc, &mut spawner, number));
+    builder.add_bytes(b", ");
+    builder.add_debug(&spawner.refused);
+    builder.add_bytes(b" refused");
+    builder.finish()
 }
 
 /// `refused-work NUMBER`: the result of doubling it in a thread whose stack would need all memory.
-pub fn refused<R: Threads + Wait + Copy + Send + 'static>(
+pub fn work_without_memory<R: Threads + Wait + Copy + Send + 'static>(
     rt: &R,
     alloc: Global,
     row: &Row,
@@ -80,7 +80,7 @@ pub fn refused<R: Threads + Wait + Copy + Send + 'static>(
         Ok(running) => Ok(ThreadSpawner::new().join(rt, running)),
         Err(work) => Err(work.number),
     };
-    shown(alloc, &back)
+    debug_text(alloc, &back)
 }
 
 /// A spawner that starts each work in a thread, and counts those for which none could be made.

@@ -6,12 +6,12 @@ use std::fmt;
 pub type Answer = Result<Vec<u8>, CaseFault>;
 
 /// An answer of the value as `{:?}` prints it.
-pub fn shown<T: fmt::Debug>(alloc: Global, value: &T) -> Answer {
+pub fn debug_text<T: fmt::Debug>(alloc: Global, value: &T) -> Answer {
     Ok(format!(in alloc; "{value:?}")?.into_bytes())
 }
 
 /// An answer of the value as `{}` prints it.
-pub fn printed<T: fmt::Display>(alloc: Global, value: &T) -> Answer {
+pub fn display_text<T: fmt::Display>(alloc: Global, value: &T) -> Answer {
     Ok(value.to_string(alloc)?.into_bytes())
 }
 

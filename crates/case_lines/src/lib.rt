@@ -24,15 +24,15 @@ mod texts;
 
 // Answers, and their errors.
 mod answer;
+mod answer_builder;
 mod case_fault;
-mod told;
 
-pub use answer::{Answer, bytes, printed, shown};
+pub use answer::{Answer, bytes, debug_text, display_text};
+pub use answer_builder::AnswerBuilder;
 pub use case_fault::CaseFault;
-pub use numerals::{hex_bytes, number, numbers, signed};
-pub use quoting::written;
+pub use numerals::{hex_bytes, number, numbers, signed_number};
+pub use quoting::escape;
 pub use row::Row;
 pub use table::Table;
 pub use tally::Tally;
 pub use texts::{Texts, cut};
-pub use told::Told;

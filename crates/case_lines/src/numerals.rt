@@ -21,7 +21,7 @@ pub fn numbers(alloc: Global, word: &[u8]) -> Result<Vec<u64>, CaseFault> {
 }
 
 /// Reads a word as a decimal number, with a `-` if it is below zero.
-pub fn signed(word: &[u8]) -> Result<i64, CaseFault> {
+pub fn signed_number(word: &[u8]) -> Result<i64, CaseFault> {
     let Ok(text) = str::from_utf8(word) else {
         return Err(CaseFault::Strange);
     };

@@ -1,7 +1,7 @@
 use std::alloc::{AllocError, Global};
 
 /// The bytes, escaped as in a table.
-pub fn written(alloc: Global, bytes: &[u8]) -> Result<String, AllocError> {
+pub fn escape(alloc: Global, bytes: &[u8]) -> Result<String, AllocError> {
     let mut text = String::new(alloc);
     for byte in bytes {
         match *byte {

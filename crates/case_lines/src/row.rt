@@ -1,5 +1,5 @@
 use crate::texts::cut;
-use crate::{CaseFault, Texts, hex_bytes, number, signed};
+use crate::{CaseFault, Texts, hex_bytes, number, signed_number};
 use std::alloc::{AllocError, Global};
 use std::marker::Model;
 use std::str;
@@ -87,8 +87,8 @@ impl Row {
     }
 
     /// The word at this index as a decimal number that may be below zero.
-    pub fn signed(&self, at: usize) -> Result<i64, CaseFault> {
-        signed(self.word(at)?)
+    pub fn signed_number(&self, at: usize) -> Result<i64, CaseFault> {
+        signed_number(self.word(at)?)
     }
 
     /// The word at this index as bytes, written in hex digits.

@@ -2,7 +2,7 @@ ghost use Rattle.std.specs.Prelude.{◌≡◌, ◌↔◌, IfOk, IsNone, IsOkAnd,
 ghost use Rattle.case_lines.specs.Judging.{IsExpected, after_row};
 
 use crate::texts::cut;
-use crate::{Answer, CaseFault, Row, Tally, Texts, written};
+use crate::{Answer, CaseFault, Row, Tally, Texts, escape};
 use std::alloc::{AllocError, Global};
 use std::marker::Model;
 
@@ -59,20 +59,20 @@ impl Table {
     /// Counts a row that has an expected answer. It returns the message to print if the answer is
     /// another one.
     pub fn judge(&mut self, row: &Row, answer: Answer) -> Result<Option<String>, AllocError>
-        ensures told { IfOk result (λ told.
-            IsNone told ↔ IsOkAnd answer (λ given. IsExpected row.now given.items)) }
-        ensures counted { IfOk result (λ told.
-            self.new ≡ after_row self.old row.now (is_none told)) }
+        ensures report { IfOk result (λ report.
+            IsNone report ↔ IsOkAnd answer (λ given. IsExpected row.now given.items)) }
+        ensures counted { IfOk result (λ report.
+            self.new ≡ after_row self.old row.now (is_none report)) }
     {
-        let told = match answer {
+        let report = match answer {
             Ok(answer) => difference(self.alloc, row, answer.as_slice())?,
             Err(CaseFault::NoMemory) => return Err(AllocError),
             Err(CaseFault::Strange) => Some(strange(self.alloc, row)?),
         };
         if row.expected.is_some() {
-            self.tally.count(told.is_none());
+            self.tally.count(report.is_none());
         }
-        Ok(told)
+        Ok(report)
     }
 
     /// The number of cases and of right answers so far.
@@ -85,7 +85,7 @@ impl Table {
 
 /// The message for an answer that is not the expected one; `None` for the expected one.
 fn difference(alloc: Global, row: &Row, answer: &[u8]) -> Result<Option<String>, AllocError>
-    ensures { IfOk result (λ told. IsNone told ↔ IsExpected row.now answer.now) }
+    ensures { IfOk result (λ report. IsNone report ↔ IsExpected row.now answer.now) }
 {
     let expected = match &row.expected {
         Some(expected) => expected.as_slice(),
@@ -94,8 +94,8 @@ fn difference(alloc: Global, row: &Row, answer: &[u8]) -> Result<Option<String>,
     if answer == expected {
         return Ok(None);
     }
-    let (title, given) = (row.title.as_str(), written(alloc, answer)?);
-    let expected = written(alloc, expected)?;
+    let (title, given) = (row.title.as_str(), escape(alloc, answer)?);
+    let expected = escape(alloc, expected)?;
     Ok(Some(format!(in alloc; "{title}: {expected} is expected, and {given} is given")?))
 }
 

@@ -1,5 +1,5 @@
 //! What a door decides about the connections that it keeps.
-use case_lines::{Answer, CaseFault, Row, Told, shown};
+use case_lines::{Answer, AnswerBuilder, CaseFault, Row, debug_text};
 use std::alloc::Global;
 use stretches::{
     FailureWindow, Life, Phase, Queue, Shared, Timeouts, Waiting, WorkerTurn, is_costly,
@@ -24,7 +24,7 @@ pub fn timeouts(alloc: Global, row: &Row) -> Answer {
         }
         timeouts.set(key, life(row, key * LIFE_WORDS + 1)?)?;
     }
-    shown(
+    debug_text(
         alloc,
         &(
             timeouts.first_to_yield(now),
@@ -76,7 +76,7 @@ pub fn queues(alloc: Global, row: &Row) -> Answer {
         shared.charge(queue, micros);
         count(&mut counts, queue);
     }
-    shown(alloc, &counts)
+    debug_text(alloc, &counts)
 }
 
 /// A connection waits in each queue.
@@ -121,7 +121,7 @@ pub fn turn(alloc: Global, row: &Row) -> Answer {
     let (seen, ran) = (row.number(2)?, row.number(3)?);
     let mut turn = WorkerTurn::new(began, limit);
     turn.see(seen);
-    shown(alloc, &(turn.is_spent(), turn.cost(seen, ran)))
+    debug_text(alloc, &(turn.is_spent(), turn.cost(seen, ran)))
 }
 
 /// `limit OTHERS`: for how long a connection of each queue is served in which so many others wait:
@@ -133,30 +133,30 @@ pub fn limit(alloc: Global, row: &Row) -> Answer {
         turn_limit(Queue::Light, others),
         turn_limit(Queue::Heavy, others),
     );
-    shown(alloc, &limits)
+    debug_text(alloc, &limits)
 }
 
 /// `long MICROS LEFT`: whether a turn was a long one that took so long, and left so many requests
 /// unserved.
 pub fn long(alloc: Global, row: &Row) -> Answer {
-    shown(alloc, &is_long_turn(row.number(0)?, row.number(1)? > 0))
+    debug_text(alloc, &is_long_turn(row.number(0)?, row.number(1)? > 0))
 }
 
 /// `costly BYTES`: whether received bytes request something costly.
 pub fn costly(alloc: Global, row: &Row) -> Answer {
-    shown(alloc, &is_costly(row.word(0)?))
+    debug_text(alloc, &is_costly(row.word(0)?))
 }
 
 /// `failures MILLIS..`: how many of the failures at these times are counted after each, and whether
 /// the door is broken then.
 pub fn failures(alloc: Global, row: &Row) -> Answer {
     let mut window = FailureWindow::NONE;
-    let mut told = Told::new(alloc);
+    let mut builder = AnswerBuilder::new(alloc);
     for at in 0..row.words().len() {
         window.fail(row.number(at)?);
-        told.text(&window.count);
-        told.bytes(b" ");
+        builder.add_display(&window.count);
+        builder.add_bytes(b" ");
     }
-    told.value(&window.is_broken());
-    told.answer()
+    builder.add_debug(&window.is_broken());
+    builder.finish()
 }

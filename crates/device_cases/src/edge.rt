@@ -1,7 +1,7 @@
 //! The arguments of a command line, and the message on standard error for a run that failed.
 ghost use Rattle.std.specs.Prelude.{◌≤◌, IfOk, length};
 
-use case_lines::{Answer, CaseFault, Row, Told, printed};
+use case_lines::{Answer, AnswerBuilder, CaseFault, Row, display_text};
 use devices::{ListenFailure, LookFailure};
 use process_edge::{Complaint, Failures, collect};
 use std::alloc::Global;
@@ -51,13 +51,13 @@ fn fill(word: &[u8], buf: &mut [u8]) -> Result<usize, FillError>
 pub fn words(alloc: Global, row: &Row) -> Answer {
     let line = CommandLine { words: row.words() };
     let words = collect(alloc, &line)?;
-    let mut told = Told::new(alloc);
+    let mut builder = AnswerBuilder::new(alloc);
     for word in &words {
-        told.bytes(b"<");
-        told.bytes(word.as_slice());
-        told.bytes(b">");
+        builder.add_bytes(b"<");
+        builder.add_bytes(word.as_slice());
+        builder.add_bytes(b">");
     }
-    told.answer()
+    builder.finish()
 }
 
 /// `complaint STATUS OBJECT..`: the message for a status when these objects failed, or `nothing`.
@@ -65,7 +65,7 @@ pub fn complaint(alloc: Global, row: &Row) -> Answer {
     let status = u8::try_from(row.number(0)?).ok().ok_or(CaseFault::Strange)?;
     let listener = listener(alloc, row)?;
     let file = file(alloc)?;
-    said(alloc, status, failures(row, &file, &listener))
+    message(alloc, status, failures(row, &file, &listener))
 }
 
 /// The failure of a file that cannot be read.
@@ -95,12 +95,12 @@ fn listener(alloc: Global, row: &Row) -> Result<ListenFailure, CaseFault> {
 /// The failures of the objects that the row names.
 fn failures<'a>(row: &Row, file: &'a LookFailure, listener: &'a ListenFailure) -> Failures<'a> {
     Failures {
-        store: named(row, b"store", file),
+        store: failure_of(row, b"store", file),
         input: input(row),
-        output: named(row, b"output", ErrorKind::BrokenPipe),
-        network: named(row, b"network", listener),
-        door: named(row, b"door", ErrorKind::ConnectionAborted),
-        upstream: named(row, b"upstream", ErrorKind::ConnectionRefused),
+        output: failure_of(row, b"output", ErrorKind::BrokenPipe),
+        network: failure_of(row, b"network", listener),
+        door: failure_of(row, b"door", ErrorKind::ConnectionAborted),
+        upstream: failure_of(row, b"upstream", ErrorKind::ConnectionRefused),
     }
 }
 
@@ -109,12 +109,12 @@ fn input(row: &Row) -> Option<ErrorKind> {
     if fails(row, b"closed") {
         Some(ErrorKind::Uncategorized)
     } else {
-        named(row, b"input", ErrorKind::TimedOut)
+        failure_of(row, b"input", ErrorKind::TimedOut)
     }
 }
 
 /// The failure of an object, if the row names it.
-fn named<T: Copy>(row: &Row, object: &[u8], failure: T) -> Option<T> {
+fn failure_of<T: Copy>(row: &Row, object: &[u8], failure: T) -> Option<T> {
     if fails(row, object) {
         Some(failure)
     } else {
@@ -133,9 +133,9 @@ fn fails(row: &Row, object: &[u8]) -> bool {
 }
 
 /// The message for a status.
-fn said(alloc: Global, status: u8, failures: Failures<'_>) -> Answer {
+fn message(alloc: Global, status: u8, failures: Failures<'_>) -> Answer {
     match Complaint::of(status, failures) {
-        Some(complaint) => printed(alloc, &complaint),
+        Some(complaint) => display_text(alloc, &complaint),
         None => case_lines::bytes(alloc, b"nothing"),
     }
 }

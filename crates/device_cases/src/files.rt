@@ -1,5 +1,5 @@
 //! Files of the system.
-use case_lines::{Answer, CaseFault, Row, Told};
+use case_lines::{Answer, AnswerBuilder, CaseFault, Row};
 use devices::RealStore;
 use std::alloc::Global;
 use std::rt::Files;
@@ -10,23 +10,23 @@ use td_base::{FileRead, Store};
 pub fn file<R: Files>(rt: &R, alloc: Global, row: &Row) -> Answer {
     let (most, path) = (row.number(0)?, row.word(1)?);
     let mut store = RealStore::new(rt);
-    let mut told = Told::new(alloc);
-    tell_found(&mut told, store.read_file(alloc, path, most));
-    told.bytes(b" ");
-    told.value(&store.failure().map(|failure| failure.kind));
-    told.answer()
+    let mut builder = AnswerBuilder::new(alloc);
+    add_found(&mut builder, store.read_file(alloc, path, most));
+    builder.add_bytes(b" ");
+    builder.add_debug(&store.failure().map(|failure| failure.kind));
+    builder.finish()
 }
 
 /// Appends how many bytes were found, or how the store refused.
-fn tell_found(told: &mut Told, found: FileRead) {
+fn add_found(builder: &mut AnswerBuilder, found: FileRead) {
     match found {
         FileRead::Found(bytes) => {
-            told.bytes(b"Ok(");
-            told.value(&bytes.len());
-            told.bytes(b")");
+            builder.add_bytes(b"Ok(");
+            builder.add_debug(&bytes.len());
+            builder.add_bytes(b")");
         }
-        FileRead::Absent => told.bytes(b"Err(\"absent\")"),
-        FileRead::Failed => told.bytes(b"Err(\"failed\")"),
-        FileRead::NoMemory => told.fail(CaseFault::NoMemory),
+        FileRead::Absent => builder.add_bytes(b"Err(\"absent\")"),
+        FileRead::Failed => builder.add_bytes(b"Err(\"failed\")"),
+        FileRead::NoMemory => builder.fail(CaseFault::NoMemory),
     }
 }

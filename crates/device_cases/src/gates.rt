@@ -1,6 +1,6 @@
 //! Two doors, each of which waits for the other.
 use crate::small::small;
-use case_lines::{Answer, CaseFault, Row, Told};
+use case_lines::{Answer, AnswerBuilder, CaseFault, Row};
 use devices::{GateDoor, gate_pair};
 use std::alloc::Global;
 use std::thread::{Threads, join};
@@ -23,7 +23,7 @@ pub fn alone(alloc: Global, row: &Row) -> Answer {
 }
 
 /// `gates-turned TURNS`: the same when the second is served first.
-pub fn turned(alloc: Global, row: &Row) -> Answer {
+pub fn second_first(alloc: Global, row: &Row) -> Answer {
     let (left, right) = gate_pair(alloc, small(row, 0)?)?;
     let right = serve(alloc, right);
     let left = serve(alloc, left);
@@ -63,21 +63,21 @@ fn answer_each<C: Conn>(conn: &mut C) -> End {
 }
 
 fn as_line(alloc: Global, left: &GateDoor, right: &GateDoor) -> Answer {
-    let mut told = Told::new(alloc);
-    tell_served(&mut told, left);
-    told.bytes(b"|");
-    tell_served(&mut told, right);
-    told.answer()
+    let mut builder = AnswerBuilder::new(alloc);
+    add_served(&mut builder, left);
+    builder.add_bytes(b"|");
+    add_served(&mut builder, right);
+    builder.finish()
 }
 
 /// Appends how the connection of a door ended, and what it took.
-fn tell_served(told: &mut Told, door: &GateDoor) {
+fn add_served(builder: &mut AnswerBuilder, door: &GateDoor) {
     match door.served() {
         Some((conn, report)) => {
-            told.value(&report.end);
-            told.bytes(b" ");
-            told.bytes(conn.taken());
+            builder.add_debug(&report.end);
+            builder.add_bytes(b" ");
+            builder.add_bytes(conn.taken());
         }
-        None => told.fail(CaseFault::Strange),
+        None => builder.fail(CaseFault::Strange),
     }
 }

@@ -1,6 +1,6 @@
 //! Addresses at which a network cannot listen.
-use crate::fault::refused;
-use case_lines::{Answer, CaseFault, Row, Told, printed};
+use crate::fault::fault_of_call;
+use case_lines::{Answer, AnswerBuilder, CaseFault, Row, display_text};
 use devices::{RealDoor, RealNetwork};
 use std::alloc::Global;
 use std::io::{Eprint, ErrorKind};
@@ -25,7 +25,7 @@ where
 
 /// The address of a door.
 fn address_of<R: Clock + Eprint + Copy>(alloc: Global, door: &RealDoor<R>) -> Answer {
-    printed(alloc, &door.local_addr().map_err(refused)?)
+    display_text(alloc, &door.local_addr().map_err(fault_of_call)?)
 }
 
 fn outcome_of<R>(rt: &R, alloc: Global, address: &[u8]) -> Answer
@@ -42,11 +42,11 @@ where
 }
 
 fn both(alloc: Global, before: Option<ErrorKind>, after: Option<ErrorKind>) -> Answer {
-    let mut told = Told::new(alloc);
-    told.value(&before);
-    told.bytes(b" ");
-    told.value(&after);
-    told.answer()
+    let mut builder = AnswerBuilder::new(alloc);
+    builder.add_debug(&before);
+    builder.add_bytes(b" ");
+    builder.add_debug(&after);
+    builder.finish()
 }
 
 fn failure<R>(network: &RealNetwork<R>) -> Option<ErrorKind> {

@@ -62,8 +62,8 @@ where
         return Ok(());
     };
     let answer = answer(rt, alloc, &row);
-    if let Some(told) = table.judge(&row, answer)? {
-        println!(rt; "{told}")?;
+    if let Some(report) = table.judge(&row, answer)? {
+        println!(rt; "{report}")?;
     }
     Ok(())
 }
@@ -95,10 +95,10 @@ where
 fn alone(alloc: Global, row: &Row) -> Answer {
     match row.kind() {
         "reads" => streams::reads(alloc, row),
-        "broken" => streams::broken(alloc),
+        "broken" => streams::read_broken(alloc),
         "writes" => streams::writes(alloc, row),
         "gates-alone" => gates::alone(alloc, row),
-        "gates-turned" => gates::turned(alloc, row),
+        "gates-turned" => gates::second_first(alloc, row),
         "timeouts" => decisions::timeouts(alloc, row),
         "queues" => decisions::queues(alloc, row),
         "turn" => decisions::turn(alloc, row),

@@ -2,7 +2,7 @@
 ghost use Rattle.std.specs.Prelude.{◌≡◌, ◌*◌};
 
 use crate::small::small;
-use case_lines::{Answer, CaseFault, Row, shown};
+use case_lines::{Answer, CaseFault, Row, debug_text};
 use devices::RealSpawner;
 use std::alloc::Global;
 use std::sync::Wait;
@@ -30,7 +30,7 @@ where
 {
     let (first, second) = (small(row, 0)?, small(row, 1)?);
     match both(rt, alloc, first, second) {
-        Some(squares) => shown(alloc, &squares),
+        Some(squares) => debug_text(alloc, &squares),
         None => Err(CaseFault::NoMemory),
     }
 }

@@ -1,5 +1,5 @@
 //! Streams that are read and written.
-use case_lines::{Answer, CaseFault, Row, Told};
+use case_lines::{Answer, AnswerBuilder, CaseFault, Row};
 use devices::{RealSink, RealSource};
 use std::alloc::Global;
 use std::io;
@@ -25,7 +25,7 @@ pub fn reads(alloc: Global, row: &Row) -> Answer {
 }
 
 /// `broken`: the same for one read of a stream in which each read fails.
-pub fn broken(alloc: Global) -> Answer {
+pub fn read_broken(alloc: Global) -> Answer {
     let mut source = RealSource::new(BrokenStream);
     each_read(alloc, &mut source, 2, 1)
 }
@@ -36,51 +36,51 @@ fn each_read<R: Read>(
     room: usize,
     calls: u64,
 ) -> Answer {
-    let mut told = Told::new(alloc);
+    let mut builder = AnswerBuilder::new(alloc);
     for _ in 0..calls {
-        told.call(one_read(alloc, source, room));
+        builder.add_answer(one_read(alloc, source, room));
     }
-    told.value(&source.failure());
-    told.answer()
+    builder.add_debug(&source.failure());
+    builder.finish()
 }
 
 /// The result of one read, and its bytes.
 fn one_read<S: Source>(alloc: Global, source: &mut S, room: usize) -> Answer {
     let mut bytes = vec![in alloc; 0; room.max(1)]?;
     let step = source.read(&mut bytes);
-    let mut told = Told::new(alloc);
-    told.value(&step);
-    told.bytes(b" ");
+    let mut builder = AnswerBuilder::new(alloc);
+    builder.add_debug(&step);
+    builder.add_bytes(b" ");
     if let ReadStep::Got(count) = step {
-        told.bytes(bytes.get(..count).unwrap_or(&[]));
+        builder.add_bytes(bytes.get(..count).unwrap_or(&[]));
     }
-    told.answer()
+    builder.finish()
 }
 
 /// `writes ROOM PIECE ..`: the results of writing the pieces to a stream with ROOM bytes, each with
 /// the failure of the stream so far; and the buffer.
 pub fn writes(alloc: Global, row: &Row) -> Answer {
     let mut room = vec![in alloc; b'-'; row.number(0)? as usize]?;
-    let mut told = Told::new(alloc);
-    each_write(row, room.as_mut_slice(), &mut told);
-    told.bytes(room.as_slice());
-    told.answer()
+    let mut builder = AnswerBuilder::new(alloc);
+    each_write(row, room.as_mut_slice(), &mut builder);
+    builder.add_bytes(room.as_slice());
+    builder.finish()
 }
 
-fn each_write(row: &Row, room: &mut [u8], told: &mut Told) {
+fn each_write(row: &Row, room: &mut [u8], builder: &mut AnswerBuilder) {
     let mut sink = RealSink::new(room);
     for piece in row.words().get(1..).unwrap_or(&[]) {
-        one_write(&mut sink, piece.as_slice(), told);
-        told.bytes(b" ");
-        told.value(&sink.failure());
-        told.bytes(b"|");
+        one_write(&mut sink, piece.as_slice(), builder);
+        builder.add_bytes(b" ");
+        builder.add_debug(&sink.failure());
+        builder.add_bytes(b"|");
     }
 }
 
-fn one_write<S: Sink>(sink: &mut S, piece: &[u8], told: &mut Told) {
+fn one_write<S: Sink>(sink: &mut S, piece: &[u8], builder: &mut AnswerBuilder) {
     if piece.is_empty() {
-        told.fail(CaseFault::Strange);
+        builder.fail(CaseFault::Strange);
     } else {
-        told.value(&sink.write(piece));
+        builder.add_debug(&sink.write(piece));
     }
 }

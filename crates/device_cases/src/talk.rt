@@ -1,5 +1,5 @@
 //! A door at a socket of this machine, its clients, and the connection that it handed out.
-use crate::fault::refused;
+use crate::fault::fault_of_call;
 use case_lines::CaseFault;
 use devices::{RealConn, RealDoor};
 use std::alloc::Global;
@@ -111,7 +111,7 @@ impl<R: Clock + Eprint + Copy> Talk<R> {
     /// Sends bytes from the last client.
     pub fn send(&mut self, bytes: &[u8]) -> Result<(), CaseFault> {
         match self.clients.last_mut() {
-            Some(client) => client.write_all(bytes).map_err(refused),
+            Some(client) => client.write_all(bytes).map_err(fault_of_call),
             None => Err(CaseFault::Strange),
         }
     }
@@ -119,7 +119,7 @@ impl<R: Clock + Eprint + Copy> Talk<R> {
     /// Closes the sending side of the last client.
     pub fn shut(&mut self) -> Result<(), CaseFault> {
         match self.clients.last() {
-            Some(client) => client.shutdown(Shutdown::Write).map_err(refused),
+            Some(client) => client.shutdown(Shutdown::Write).map_err(fault_of_call),
             None => Err(CaseFault::Strange),
         }
     }
@@ -127,7 +127,7 @@ impl<R: Clock + Eprint + Copy> Talk<R> {
     /// What the last client receives until the end.
     pub fn text(&mut self, alloc: Global) -> Result<String, CaseFault> {
         match self.clients.pop() {
-            Some(client) => io::read_to_string(alloc, client).map_err(refused),
+            Some(client) => io::read_to_string(alloc, client).map_err(fault_of_call),
             None => Err(CaseFault::Strange),
         }
     }
@@ -152,7 +152,7 @@ impl<R: Clock + Eprint + Copy> Talk<R> {
     /// Reads what arrives at the last client.
     fn get(&mut self, room: &mut [u8]) -> Result<usize, CaseFault> {
         match self.clients.last_mut() {
-            Some(client) => client.read(room).map_err(refused),
+            Some(client) => client.read(room).map_err(fault_of_call),
             None => Err(CaseFault::Strange),
         }
     }
@@ -163,7 +163,7 @@ pub fn client<R: Net<Stream = TcpStream> + Clock + Eprint + Copy>(
     rt: &R,
     talk: &mut Talk<R>,
 ) -> Result<(), CaseFault> {
-    let address = talk.door.local_addr().map_err(refused)?;
-    let client = TcpStream::connect(rt, address).map_err(refused)?;
+    let address = talk.door.local_addr().map_err(fault_of_call)?;
+    let client = TcpStream::connect(rt, address).map_err(fault_of_call)?;
     Ok(talk.clients.push(client)?)
 }

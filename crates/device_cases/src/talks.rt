@@ -1,8 +1,8 @@
 //! Conversations at a door, step by step.
-use crate::fault::refused;
+use crate::fault::fault_of_call;
 use crate::listens::open;
 use crate::talk::{Talk, client};
-use case_lines::{Answer, CaseFault, Row, Told, number, shown};
+use case_lines::{Answer, AnswerBuilder, CaseFault, Row, debug_text, number};
 use std::alloc::Global;
 use std::io::Eprint;
 use std::net::{Net, TcpListener, TcpStream};
@@ -19,14 +19,14 @@ where
     R: Net<Listener = TcpListener, Stream = TcpStream> + Clock + Eprint + Copy,
 {
     let mut talk = Talk::new(alloc, open(rt, alloc)?);
-    let mut told = Told::new(alloc);
+    let mut builder = AnswerBuilder::new(alloc);
     for word in row.words() {
-        if let Err(fault) = step(rt, alloc, &mut talk, word.as_slice(), &mut told) {
-            told.fail(fault);
+        if let Err(fault) = step(rt, alloc, &mut talk, word.as_slice(), &mut builder) {
+            builder.fail(fault);
             break;
         }
     }
-    told.answer()
+    builder.finish()
 }
 
 /// Performs a step.
@@ -35,7 +35,7 @@ fn step<R>(
     alloc: Global,
     talk: &mut Talk<R>,
     word: &[u8],
-    told: &mut Told,
+    builder: &mut AnswerBuilder,
 ) -> Result<(), CaseFault>
 where
     R: Net<Stream = TcpStream> + Clock + Eprint + Copy,
@@ -54,7 +54,7 @@ where
         }
         _ => {
             let given = telling(alloc, talk, name, text)?;
-            told.call(Ok(given));
+            builder.add_answer(Ok(given));
             Ok(())
         }
     }
@@ -73,7 +73,7 @@ fn pause<R: Clock>(rt: &R, millis: u64) -> Result<(), CaseFault> {
 
 /// The reading of the clock in milliseconds.
 fn millis_of<R: Clock>(rt: &R) -> Result<u64, CaseFault> {
-    let time = rt.monotonic().map_err(refused)?;
+    let time = rt.monotonic().map_err(fault_of_call)?;
     Ok(u64::try_from(time.as_millis()).unwrap_or(u64::MAX))
 }
 
@@ -86,7 +86,7 @@ fn telling<R: Clock + Eprint + Copy>(
 ) -> Answer {
     match name {
         b"read" => read(alloc, talk, number(text)?),
-        b"write" => shown(alloc, &talk.write(text)?),
+        b"write" => debug_text(alloc, &talk.write(text)?),
         b"write-all" => write_all(alloc, talk, number(text)?),
         b"pump" => pump(alloc, talk, number(text)?),
         b"text" => Ok(talk.text(alloc)?.into_bytes()),
@@ -97,10 +97,10 @@ fn telling<R: Clock + Eprint + Copy>(
 /// The output of a step that shows the state of the door.
 fn looking<R: Clock + Eprint + Copy>(alloc: Global, talk: &mut Talk<R>, name: &[u8]) -> Answer {
     match name {
-        b"twice" => shown(alloc, &talk.twice()),
-        b"next" => shown(alloc, &talk.next()),
-        b"resting" => shown(alloc, &talk.door.idle()),
-        b"failure" => shown(alloc, &talk.door.failure()),
+        b"twice" => debug_text(alloc, &talk.twice()),
+        b"next" => debug_text(alloc, &talk.next()),
+        b"resting" => debug_text(alloc, &talk.door.idle()),
+        b"failure" => debug_text(alloc, &talk.door.failure()),
         _ => Err(CaseFault::Strange),
     }
 }
@@ -109,25 +109,25 @@ fn looking<R: Clock + Eprint + Copy>(alloc: Global, talk: &mut Talk<R>, name: &[
 fn read<R: Clock + Eprint + Copy>(alloc: Global, talk: &mut Talk<R>, size: u64) -> Answer {
     let mut room = vec![in alloc; 0; size as usize]?;
     let step = talk.read(room.as_mut_slice())?;
-    let mut told = Told::new(alloc);
-    told.value(&step);
+    let mut builder = AnswerBuilder::new(alloc);
+    builder.add_debug(&step);
     if let ReadStep::Got(count) = step {
-        told.bytes(b" ");
-        told.bytes(room.get(..count).unwrap_or(&[]));
+        builder.add_bytes(b" ");
+        builder.add_bytes(room.get(..count).unwrap_or(&[]));
     }
-    told.answer()
+    builder.finish()
 }
 
 /// How many of this many bytes the connection took.
 fn write_all<R: Clock + Eprint + Copy>(alloc: Global, talk: &mut Talk<R>, size: u64) -> Answer {
     let bytes = vec![in alloc; b'y'; size as usize]?;
     let took = talk.write_all(bytes.as_slice())?;
-    shown(alloc, &took)
+    debug_text(alloc, &took)
 }
 
 /// How many bytes the last client read, of at most this many.
 fn pump<R: Clock + Eprint + Copy>(alloc: Global, talk: &mut Talk<R>, most: u64) -> Answer {
     let mut room = vec![in alloc; 0; 2_000_000]?;
     let got = talk.pump(room.as_mut_slice(), most as usize)?;
-    shown(alloc, &got)
+    debug_text(alloc, &got)
 }

@@ -33,21 +33,21 @@ fn way_of(word: &str) -> Result<Way, CaseFault> {
 /// `list NAME WAY`: the list, appended to other bytes.
 pub fn list(alloc: Global, row: &Row) -> Answer {
     let way = way_of(row.text(1)?)?;
-    named(alloc, row.text(0)?, way)
+    list_of(alloc, row.text(0)?, way)
 }
 
-fn named(alloc: Global, name: &str, way: Way) -> Answer {
+fn list_of(alloc: Global, name: &str, way: Way) -> Answer {
     match name {
-        "empty" => written(alloc, way, b"t", &[]),
+        "empty" => list_answer(alloc, way, b"t", &[]),
         "one" => one_zone(alloc, way),
         "two" => two_zones(alloc, way),
-        "escaped" => escaped(alloc, way),
+        "escaped" => list_with_escapes(alloc, way),
         _ => Err(CaseFault::Strange),
     }
 }
 
 /// A list, appended to other bytes.
-fn written(alloc: Global, way: Way, token: &[u8], zones: &[ListZone]) -> Answer
+fn list_answer(alloc: Global, way: Way, token: &[u8], zones: &[ListZone]) -> Answer
     requires token { IsPlain token.now }
     requires zones { AllByRecursion IsPlainZone zones.now }
 {
@@ -110,13 +110,13 @@ fn add_alias(alloc: Global, zone: &mut ListZone, alias: &[u8]) -> Result<(), NoM
 
 fn one_zone(alloc: Global, way: Way) -> Answer {
     let utc = zone(alloc, b"Etc/UTC", 1_737_331_200, b"2025a")?;
-    written(alloc, way, b"1-89abcdef01234567", &[utc])
+    list_answer(alloc, way, b"1-89abcdef01234567", &[utc])
 }
 
 fn two_zones(alloc: Global, way: Way) -> Answer {
     let york = york(alloc)?;
     let utc = zone(alloc, b"Etc/UTC", 1_742_601_600, b"2025b")?;
-    written(alloc, way, b"1-89abcdef01234567", &[york, utc])
+    list_answer(alloc, way, b"1-89abcdef01234567", &[york, utc])
 }
 
 fn york(alloc: Global) -> Result<ListZone, NoMemory>
@@ -128,12 +128,12 @@ fn york(alloc: Global) -> Result<ListZone, NoMemory>
 }
 
 /// A list with quotation marks and backslashes, which are escaped (RFC 8259, section 7).
-fn escaped(alloc: Global, way: Way) -> Answer {
-    let quoted = quoted(alloc)?;
-    written(alloc, way, br#"\ ""#, &[quoted])
+fn list_with_escapes(alloc: Global, way: Way) -> Answer {
+    let quoted = zone_with_quotes(alloc)?;
+    list_answer(alloc, way, br#"\ ""#, &[quoted])
 }
 
-fn quoted(alloc: Global) -> Result<ListZone, NoMemory>
+fn zone_with_quotes(alloc: Global) -> Result<ListZone, NoMemory>
     ensures { IfOk result IsPlainZone }
 {
     let mut quoted = zone(alloc, br#""\"#, 1_742_601_600, b"")?;
@@ -146,13 +146,13 @@ fn quoted(alloc: Global) -> Result<ListZone, NoMemory>
 pub fn expansion(alloc: Global, row: &Row) -> Answer {
     match row.text(0)? {
         "year" => year(alloc),
-        "none" => expanded(alloc, b"", &[]),
+        "none" => expansion_answer(alloc, b"", &[]),
         "east" => east(alloc),
         _ => Err(CaseFault::Strange),
     }
 }
 
-fn expanded(alloc: Global, tzid: &[u8], observances: &[Observance]) -> Answer
+fn expansion_answer(alloc: Global, tzid: &[u8], observances: &[Observance]) -> Answer
     requires tzid { IsPlain tzid.now }
     requires observances { AllByRecursion IsPlainObservance observances.now }
 {
@@ -191,7 +191,7 @@ fn year(alloc: Global) -> Answer {
         observance(1_741_503_600, -18_000, -14_400, b"EDT"),
         observance(1_762_063_200, -14_400, -18_000, b"EST"),
     ];
-    expanded(alloc, b"America/New_York", &year)
+    expansion_answer(alloc, b"America/New_York", &year)
 }
 
 /// A zone east of UTC, item by item.
@@ -235,9 +235,9 @@ pub fn leap_table(alloc: Global) -> Answer {
 }
 
 /// `printed TEXT`: the JSON value of the text, as `serde_json` prints it.
-pub fn printed(alloc: Global, row: &Row) -> Answer {
+pub fn value_text(alloc: Global, row: &Row) -> Answer {
     match Value::from_slice(alloc, row.word(0)?) {
-        Ok(value) => case_lines::printed(alloc, &value),
+        Ok(value) => case_lines::display_text(alloc, &value),
         Err(_) => Err(CaseFault::Strange),
     }
 }

@@ -3,7 +3,7 @@ ghost use Rattle.std.specs.Prelude.{IfOk};
 ghost use Rattle.sync_core.specs.Mirrors.{ask_of};
 ghost use Rattle.sync_core.specs.Steps.{IsAnswerTo};
 
-use case_lines::{Answer, CaseFault, Row, Told};
+use case_lines::{Answer, AnswerBuilder, CaseFault, Row};
 use json_forms::{BadList, ListDoc, read_list};
 use std::alloc::Global;
 use sync_core::{Heard, Mirror, Settled};
@@ -20,29 +20,29 @@ pub fn begin(alloc: Global, mirror: &mut Mirror) -> Answer {
 /// `restart` the mirror starts again.
 pub fn take_reply(alloc: Global, mirror: &mut Mirror, row: &Row) -> Answer {
     let what = row.word(0)?;
-    let mut told = Told::new(alloc);
-    tell_ask(alloc, &mut told, mirror);
+    let mut builder = AnswerBuilder::new(alloc);
+    add_ask(alloc, &mut builder, mirror);
     match hear(alloc, mirror, what) {
-        Ok(Settled::Holds) => told.bytes(b": holds"),
-        Ok(Settled::More) => told.bytes(b": more"),
-        Err(fault) => told.fail(fault),
+        Ok(Settled::Holds) => builder.add_bytes(b": holds"),
+        Ok(Settled::More) => builder.add_bytes(b": more"),
+        Err(fault) => builder.fail(fault),
     }
-    told.answer()
+    builder.finish()
 }
 
 /// Appends what a mirror requests.
-fn tell_ask(alloc: Global, told: &mut Told, mirror: &Mirror) {
+fn add_ask(alloc: Global, builder: &mut AnswerBuilder, mirror: &Mirror) {
     match mirror.ask(alloc) {
-        Ok(Ask::List(None)) => told.bytes(b"list"),
+        Ok(Ask::List(None)) => builder.add_bytes(b"list"),
         Ok(Ask::List(Some(token))) => {
-            told.bytes(b"list since ");
-            told.bytes(token.as_slice());
+            builder.add_bytes(b"list since ");
+            builder.add_bytes(token.as_slice());
         }
         Ok(Ask::Get(tzid)) => {
-            told.bytes(b"get ");
-            told.bytes(tzid.as_slice());
+            builder.add_bytes(b"get ");
+            builder.add_bytes(tzid.as_slice());
         }
-        Err(_) => told.fail(CaseFault::NoMemory),
+        Err(_) => builder.fail(CaseFault::NoMemory),
     }
 }
 
@@ -59,13 +59,13 @@ fn hear(alloc: Global, mirror: &mut Mirror, what: &[u8]) -> Result<Settled, Case
 }
 
 /// Lets the mirror apply an answer of the kind that it waits for.
-fn take(alloc: Global, mirror: &mut Mirror, told: &[u8]) -> Result<Settled, CaseFault> {
-    let heard = heard(alloc, mirror, told)?;
+fn take(alloc: Global, mirror: &mut Mirror, text: &[u8]) -> Result<Settled, CaseFault> {
+    let heard = reply_in(alloc, mirror, text)?;
     Ok(mirror.take(heard)?)
 }
 
 /// A text as the answer that a mirror waits for.
-fn heard(alloc: Global, mirror: &Mirror, text: &[u8]) -> Result<Heard, CaseFault>
+fn reply_in(alloc: Global, mirror: &Mirror, text: &[u8]) -> Result<Heard, CaseFault>
     ensures { IfOk result (λ heard. IsAnswerTo (ask_of mirror.now) heard) }
 {
     let asked = mirror.ask(alloc)?;

@@ -1,7 +1,7 @@
 //! What a mirror holds.
 ghost use Rattle.std.specs.Prelude.{◌≡◌, []};
 
-use case_lines::{Answer, Told};
+use case_lines::{Answer, AnswerBuilder};
 use release_manifest::{Manifest, ManifestZone};
 use std::alloc::Global;
 use sync_core::{Mirror, MirrorFiles};
@@ -10,7 +10,7 @@ use td_civil::{HI, LO, Moment, utc_text};
 
 /// `mirror-held`: the release that is held, as lines, or that files are pending. The lines are
 /// stamp, publisher and version, and for each zone its identifier, aliases, file name and bytes.
-pub fn held(alloc: Global, mirror: &Mirror) -> Answer {
+pub fn release_lines(alloc: Global, mirror: &Mirror) -> Answer {
     match mirror.ask(alloc)? {
         Ask::Get(_) => case_lines::bytes(alloc, b"pending"),
         Ask::List(_) => release(alloc, mirror),
@@ -21,42 +21,52 @@ fn release(alloc: Global, mirror: &Mirror) -> Answer
     requires { mirror.now.pending ≡ [] }
 {
     let (manifest, mut store) = mirror.manifest(alloc)?;
-    let mut told = Told::new(alloc);
-    tell_manifest(alloc, &mut told, &manifest, &mut store);
-    told.answer()
+    let mut builder = AnswerBuilder::new(alloc);
+    add_manifest(alloc, &mut builder, &manifest, &mut store);
+    builder.finish()
 }
 
-fn tell_manifest(alloc: Global, told: &mut Told, manifest: &Manifest, store: &mut MirrorFiles<'_>) {
-    tell_stamp(told, manifest.stamp);
-    tell_word(told, &manifest.publisher);
-    tell_word(told, &manifest.version);
+fn add_manifest(
+    alloc: Global,
+    builder: &mut AnswerBuilder,
+    manifest: &Manifest,
+    store: &mut MirrorFiles<'_>,
+) {
+    add_stamp(builder, manifest.stamp);
+    add_word(builder, &manifest.publisher);
+    add_word(builder, &manifest.version);
     for zone in manifest.zones.as_slice() {
-        tell_zone(alloc, told, zone, store);
+        add_zone(alloc, builder, zone, store);
     }
 }
 
-fn tell_stamp(told: &mut Told, stamp: Moment) {
+fn add_stamp(builder: &mut AnswerBuilder, stamp: Moment) {
     if stamp.seconds < LO || HI < stamp.seconds {
-        told.bytes(b"no stamp");
+        builder.add_bytes(b"no stamp");
     } else {
-        told.bytes(&utc_text(stamp));
+        builder.add_bytes(&utc_text(stamp));
     }
 }
 
-fn tell_word(told: &mut Told, word: &Bytes) {
-    told.bytes(b" ");
-    told.bytes(word.as_slice());
+fn add_word(builder: &mut AnswerBuilder, word: &Bytes) {
+    builder.add_bytes(b" ");
+    builder.add_bytes(word.as_slice());
 }
 
-fn tell_zone(alloc: Global, told: &mut Told, zone: &ManifestZone, store: &mut MirrorFiles<'_>) {
-    told.bytes(b"\n");
-    told.bytes(zone.tzid.as_slice());
+fn add_zone(
+    alloc: Global,
+    builder: &mut AnswerBuilder,
+    zone: &ManifestZone,
+    store: &mut MirrorFiles<'_>,
+) {
+    builder.add_bytes(b"\n");
+    builder.add_bytes(zone.tzid.as_slice());
     for alias in zone.aliases.as_slice() {
-        tell_word(told, alias);
+        add_word(builder, alias);
     }
-    tell_word(told, &zone.file);
+    add_word(builder, &zone.file);
     match store.read_file(alloc, zone.file.as_slice(), 100) {
-        FileRead::Found(bytes) => tell_word(told, &bytes),
-        _ => told.bytes(b" is absent"),
+        FileRead::Found(bytes) => add_word(builder, &bytes),
+        _ => builder.add_bytes(b" is absent"),
     }
 }

@@ -1,6 +1,6 @@
 //! Lines of a console.
-use crate::pieces::{Same, joined};
-use case_lines::{Answer, CaseFault, Row, Told};
+use crate::pieces::{Same, join_words};
+use case_lines::{Answer, AnswerBuilder, CaseFault, Row};
 use console::{Line, Lines};
 use std::alloc::Global;
 use std::fmt::Debug;
@@ -11,7 +11,7 @@ use td_base::Bytes;
 /// end. The text comes in pieces of each size from 1 to 59, and cut once at each place up to the
 /// 59th.
 pub fn lines(alloc: Global, row: &Row) -> Answer {
-    let text = joined(alloc, row.words())?;
+    let text = join_words(alloc, row.words())?;
     in_all_pieces(alloc, text.as_slice())
 }
 
@@ -35,47 +35,47 @@ pub fn long_line(alloc: Global, row: &Row) -> Answer {
 
 fn fed_long(alloc: Global, first: &[u8], times: u64, end: &[u8]) -> Answer {
     let mut lines = Lines::new(alloc);
-    let mut told = Told::new(alloc);
-    told.done(lines.feed(first));
-    let most = feed_long(&mut lines, times, &mut told);
-    told.done(lines.feed(end));
-    tell_end(&mut lines, &mut told, most);
-    told.answer()
+    let mut builder = AnswerBuilder::new(alloc);
+    builder.add_outcome(lines.feed(first));
+    let most = feed_long(&mut lines, times, &mut builder);
+    builder.add_outcome(lines.feed(end));
+    add_end(&mut lines, &mut builder, most);
+    builder.finish()
 }
 
 /// Feeds `x` so many times, and returns the most bytes that were held after a piece.
-fn feed_long(lines: &mut Lines, times: u64, told: &mut Told) -> usize {
+fn feed_long(lines: &mut Lines, times: u64, builder: &mut AnswerBuilder) -> usize {
     let piece = [b'x'; 4_096];
     let mut most = 0;
     for _ in 0..times / 4_096 {
-        most = feed_piece(lines, &piece, told).max(most);
+        most = feed_piece(lines, &piece, builder).max(most);
     }
-    feed_piece(lines, &piece[..(times % 4_096) as usize], told).max(most)
+    feed_piece(lines, &piece[..(times % 4_096) as usize], builder).max(most)
 }
 
 /// Feeds a piece, appends the whole lines, and returns how many bytes are held.
-fn feed_piece(lines: &mut Lines, piece: &[u8], told: &mut Told) -> usize {
-    told.done(lines.feed(piece));
-    tell_all(lines, told);
+fn feed_piece(lines: &mut Lines, piece: &[u8], builder: &mut AnswerBuilder) -> usize {
+    builder.add_outcome(lines.feed(piece));
+    add_all(lines, builder);
     lines.held()
 }
 
 /// Appends the length of the first line's folder, and the lines after it.
-fn tell_end(lines: &mut Lines, told: &mut Told, most: usize) {
-    tell_folder(lines, told);
-    told.bytes(b" ");
-    tell_all(lines, told);
-    told.value(&most);
-    told.bytes(b" ");
-    told.value(&lines.held());
+fn add_end(lines: &mut Lines, builder: &mut AnswerBuilder, most: usize) {
+    add_folder(lines, builder);
+    builder.add_bytes(b" ");
+    add_all(lines, builder);
+    builder.add_debug(&most);
+    builder.add_bytes(b" ");
+    builder.add_debug(&lines.held());
 }
 
 /// Appends the length of the folder in the next line, which is an `install`.
-fn tell_folder(lines: &mut Lines, told: &mut Told) {
+fn add_folder(lines: &mut Lines, builder: &mut AnswerBuilder) {
     match lines.next() {
-        Ok(Some(line)) => told.value(&folder_length(&line)),
-        Ok(None) => told.bytes(b"0"),
-        Err(_) => told.fail(CaseFault::NoMemory),
+        Ok(Some(line)) => builder.add_debug(&folder_length(&line)),
+        Ok(None) => builder.add_bytes(b"0"),
+        Err(_) => builder.fail(CaseFault::NoMemory),
     }
 }
 
@@ -90,15 +90,15 @@ fn folder_length(line: &Line) -> usize {
 /// The text in pieces of this size, with the lines of each piece read before the next is fed.
 fn in_pieces(alloc: Global, text: &[u8], size: usize) -> Answer {
     let mut lines = Lines::new(alloc);
-    let mut told = Told::new(alloc);
-    feed_pieces(&mut lines, text, size, &mut told);
-    told.value(&lines.held());
-    told.answer()
+    let mut builder = AnswerBuilder::new(alloc);
+    feed_pieces(&mut lines, text, size, &mut builder);
+    builder.add_debug(&lines.held());
+    builder.finish()
 }
 
-fn feed_pieces(lines: &mut Lines, text: &[u8], size: usize, told: &mut Told) {
+fn feed_pieces(lines: &mut Lines, text: &[u8], size: usize, builder: &mut AnswerBuilder) {
     for piece in text.chunks(size.max(1)) {
-        let _ = feed_piece(lines, piece, told);
+        let _ = feed_piece(lines, piece, builder);
     }
 }
 
@@ -106,53 +106,53 @@ fn feed_pieces(lines: &mut Lines, text: &[u8], size: usize, told: &mut Told) {
 fn cut_once(alloc: Global, text: &[u8], at: usize) -> Answer {
     let (first, rest) = text.split_at(at.min(text.len()));
     let mut lines = Lines::new(alloc);
-    let mut told = Told::new(alloc);
-    told.done(lines.feed(first));
-    let held = feed_piece(&mut lines, rest, &mut told);
-    told.value(&held);
-    told.answer()
+    let mut builder = AnswerBuilder::new(alloc);
+    builder.add_outcome(lines.feed(first));
+    let held = feed_piece(&mut lines, rest, &mut builder);
+    builder.add_debug(&held);
+    builder.finish()
 }
 
 /// Appends the texts of all lines that are held.
-fn tell_all(lines: &mut Lines, told: &mut Told) {
+fn add_all(lines: &mut Lines, builder: &mut AnswerBuilder) {
     for _ in 0..20 {
         match lines.next() {
-            Ok(Some(line)) => tell(told, &line),
+            Ok(Some(line)) => add_line(builder, &line),
             Ok(None) => return,
-            Err(_) => told.fail(CaseFault::NoMemory),
+            Err(_) => builder.fail(CaseFault::NoMemory),
         }
     }
 }
 
 /// Appends the text of a line.
-fn tell(told: &mut Told, line: &Line) {
+fn add_line(builder: &mut AnswerBuilder, line: &Line) {
     match line {
-        Line::Install(folder) => tell_named(told, b"install ", folder),
-        Line::Watch(wish) => tell_wish(told, wish),
-        Line::News(number) => tell_number(told, b"news ", number),
-        Line::Sync => told.bytes(b"sync"),
-        Line::Status => told.bytes(b"status"),
-        Line::Quit => told.bytes(b"quit"),
-        Line::Strange => told.bytes(b"strange"),
+        Line::Install(folder) => add_named(builder, b"install ", folder),
+        Line::Watch(wish) => add_wish(builder, wish),
+        Line::News(number) => add_number(builder, b"news ", number),
+        Line::Sync => builder.add_bytes(b"sync"),
+        Line::Status => builder.add_bytes(b"status"),
+        Line::Quit => builder.add_bytes(b"quit"),
+        Line::Strange => builder.add_bytes(b"strange"),
     }
-    told.bytes(b"\n");
+    builder.add_bytes(b"\n");
 }
 
-fn tell_named(told: &mut Told, kind: &[u8], name: &Bytes) {
-    told.bytes(kind);
-    told.bytes(name.as_slice());
+fn add_named(builder: &mut AnswerBuilder, kind: &[u8], name: &Bytes) {
+    builder.add_bytes(kind);
+    builder.add_bytes(name.as_slice());
 }
 
-fn tell_number<T: Debug>(told: &mut Told, kind: &[u8], number: &T) {
-    told.bytes(kind);
-    told.value(number);
+fn add_number<T: Debug>(builder: &mut AnswerBuilder, kind: &[u8], number: &T) {
+    builder.add_bytes(kind);
+    builder.add_debug(number);
 }
 
 /// Appends the text of a wish, with the seconds of its moment.
-fn tell_wish(told: &mut Told, wish: &Wish) {
+fn add_wish(builder: &mut AnswerBuilder, wish: &Wish) {
     match wish.kind {
-        WishKind::Any => told.bytes(b"watch any"),
-        WishKind::Under => tell_named(told, b"watch under ", &wish.under),
-        WishKind::Past => tell_number(told, b"watch past ", &wish.before.seconds),
+        WishKind::Any => builder.add_bytes(b"watch any"),
+        WishKind::Under => add_named(builder, b"watch under ", &wish.under),
+        WishKind::Past => add_number(builder, b"watch past ", &wish.before.seconds),
     }
 }

@@ -25,8 +25,8 @@ mod heads;
 mod replies;
 
 // A console.
+mod console_replies;
 mod lines;
-mod said;
 
 // Laws, and what rows of heads, replies and a console share.
 mod laws;
@@ -55,9 +55,9 @@ fn read_table<R: Input + Print>(
     let mut table = Table::new(alloc);
     for line in rt.lines(alloc) {
         let line = line?;
-        let told = report_on(alloc, &mut table, mirror, store, line.as_str())?;
-        if let Some(told) = told {
-            println!(rt; "{told}")?;
+        let report = report_on(alloc, &mut table, mirror, store, line.as_str())?;
+        if let Some(report) = report {
+            println!(rt; "{report}")?;
         }
     }
     let tally = table.tally();
@@ -87,7 +87,7 @@ fn answer(alloc: Global, mirror: &mut Mirror, store: &mut MemoryStore, row: &Row
         "begin" => following::begin(alloc, mirror),
         "told" => following::take_reply(alloc, mirror, row),
         "sync" => syncs::sync(alloc, mirror, row),
-        "mirror-held" => holding::held(alloc, mirror),
+        "mirror-held" => holding::release_lines(alloc, mirror),
         _ => of_releases(alloc, store, row),
     }
 }
@@ -105,7 +105,7 @@ fn of_documents(alloc: Global, row: &Row) -> Answer {
         "list" => documents::list(alloc, row),
         "expansion" => documents::expansion(alloc, row),
         "leap-table" => documents::leap_table(alloc),
-        "printed" => documents::printed(alloc, row),
+        "printed" => documents::value_text(alloc, row),
         "problem" => problems::problem(alloc, row),
         "capabilities" => problems::capabilities(alloc, row),
         "list-fault" => readings::list_fault(alloc, row),
@@ -132,9 +132,9 @@ fn of_messages(alloc: Global, row: &Row) -> Answer {
         "mirror-reply" => wire::reply(alloc, row),
         "heads" => heads::heads(alloc, row),
         "long" => heads::long(alloc, row),
-        "held" => heads::held(alloc, row),
+        "held" => heads::sizes_after(alloc, row),
         "reply" => replies::reply(alloc, row),
-        "fixed" => replies::fixed(alloc, row),
+        "fixed" => replies::closing_reply(alloc, row),
         _ => of_consoles(alloc, row),
     }
 }
@@ -143,8 +143,8 @@ fn of_consoles(alloc: Global, row: &Row) -> Answer {
     match row.kind() {
         "lines" => lines::lines(alloc, row),
         "long-line" => lines::long_line(alloc, row),
-        "said" => said::said(alloc, row),
-        "news" => said::news(alloc, row),
+        "said" => console_replies::console_reply(alloc, row),
+        "news" => console_replies::news(alloc, row),
         _ => of_laws(alloc, row),
     }
 }

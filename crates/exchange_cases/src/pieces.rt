@@ -1,17 +1,17 @@
 //! Texts of several words, and answers that show whether a cut matters.
-use case_lines::{Answer, Told};
+use case_lines::{Answer, AnswerBuilder};
 use std::alloc::Global;
 
 /// The words joined by blanks: the text that they were cut from.
-pub fn joined(alloc: Global, words: &[Vec<u8>]) -> Answer {
-    let mut text = Told::new(alloc);
+pub fn join_words(alloc: Global, words: &[Vec<u8>]) -> Answer {
+    let mut text = AnswerBuilder::new(alloc);
     for (at, word) in words.iter().enumerate() {
         if at > 0 {
-            text.bytes(b" ");
+            text.add_bytes(b" ");
         }
-        text.bytes(word.as_slice());
+        text.add_bytes(word.as_slice());
     }
-    text.answer()
+    text.finish()
 }
 
 /// The answer for a text, if it does not depend on the size of its pieces.
@@ -56,8 +56,8 @@ fn is_same(first: &Answer, other: &Answer) -> bool {
 
 /// The answer when pieces of this size give another result than those before.
 fn differs(alloc: Global, size: usize) -> Answer {
-    let mut told = Told::new(alloc);
-    told.bytes(b"another answer in pieces of ");
-    told.value(&size);
-    told.answer()
+    let mut builder = AnswerBuilder::new(alloc);
+    builder.add_bytes(b"another answer in pieces of ");
+    builder.add_debug(&size);
+    builder.finish()
 }

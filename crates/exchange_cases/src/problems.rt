@@ -2,12 +2,12 @@
 ghost use Rattle.std.specs.Prelude.{IfOk};
 ghost use Rattle.json_forms.specs.PlainTexts.{IsPlainRole};
 
-use case_lines::{Answer, CaseFault, Row, Told};
+use case_lines::{Answer, AnswerBuilder, CaseFault, Row};
 use json_forms::{Problem, capabilities_text, problem_text};
 use std::alloc::Global;
 use td_base::{Bytes, Role};
 
-fn named(name: &str) -> Result<Problem, CaseFault> {
+fn problem_of(name: &str) -> Result<Problem, CaseFault> {
     match name {
         "invalid-action" => Ok(Problem::InvalidAction),
         "invalid-changedsince" => Ok(Problem::InvalidChangedsince),
@@ -22,7 +22,7 @@ fn named(name: &str) -> Result<Problem, CaseFault> {
 
 /// `problem NAME`: the status of the reply, and the document.
 pub fn problem(alloc: Global, row: &Row) -> Answer {
-    let problem = named(row.text(0)?)?;
+    let problem = problem_of(row.text(0)?)?;
     document(alloc, problem)
 }
 
@@ -34,10 +34,10 @@ fn document(alloc: Global, problem: Problem) -> Answer {
 
 /// The status of the reply to a problem, and a blank.
 fn before(alloc: Global, problem: Problem) -> Result<Bytes, CaseFault> {
-    let mut told = Told::new(alloc);
-    told.value(&problem.status());
-    told.bytes(b" ");
-    Ok(Bytes::from(told.answer()?))
+    let mut builder = AnswerBuilder::new(alloc);
+    builder.add_debug(&problem.status());
+    builder.add_bytes(b" ");
+    Ok(Bytes::from(builder.finish()?))
 }
 
 fn role(alloc: Global, word: &str) -> Result<Role, CaseFault>
@@ -62,10 +62,10 @@ fn has_leaps(word: &str) -> Result<bool, CaseFault> {
 pub fn capabilities(alloc: Global, row: &Row) -> Answer {
     let with_leaps = has_leaps(row.text(1)?)?;
     let role = role(alloc, row.text(0)?)?;
-    written(alloc, &role, with_leaps)
+    capabilities_of(alloc, &role, with_leaps)
 }
 
-fn written(alloc: Global, role: &Role, with_leaps: bool) -> Answer
+fn capabilities_of(alloc: Global, role: &Role, with_leaps: bool) -> Answer
     requires { IsPlainRole role.now }
 {
     let mut out = Bytes::new(alloc);

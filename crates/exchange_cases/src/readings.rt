@@ -1,5 +1,5 @@
 //! Parsing lists and problem documents.
-use case_lines::{Answer, CaseFault, Row, Told, printed, shown};
+use case_lines::{Answer, AnswerBuilder, CaseFault, Row, debug_text, display_text};
 use json_forms::{BadList, ListDoc, ListZone, read_list, read_problem};
 use std::alloc::Global;
 use td_base::Bytes;
@@ -9,7 +9,7 @@ pub fn list_fault(alloc: Global, row: &Row) -> Answer {
     match read_list(alloc, row.word(0)?) {
         Ok(_) => case_lines::bytes(alloc, b"none"),
         Err(BadList::NoMemory) => Err(CaseFault::NoMemory),
-        Err(fault) => printed(alloc, &fault),
+        Err(fault) => display_text(alloc, &fault),
     }
 }
 
@@ -23,35 +23,35 @@ pub fn list(alloc: Global, row: &Row) -> Answer {
 }
 
 fn as_line(alloc: Global, list: &ListDoc) -> Answer {
-    let mut told = Told::new(alloc);
-    told.bytes(list.token.as_slice());
+    let mut builder = AnswerBuilder::new(alloc);
+    builder.add_bytes(list.token.as_slice());
     for zone in list.zones.as_slice() {
-        tell_zone(&mut told, zone);
+        add_zone(&mut builder, zone);
     }
-    told.answer()
+    builder.finish()
 }
 
 /// Appends identifier, tag, stamp in seconds, publisher, version and aliases of a zone.
-fn tell_zone(told: &mut Told, zone: &ListZone) {
-    told.bytes(b" |");
-    tell_word(told, &zone.tzid);
-    tell_word(told, &zone.etag);
-    told.bytes(b" ");
-    told.value(&zone.stamp.seconds);
-    tell_word(told, &zone.publisher);
-    tell_word(told, &zone.version);
+fn add_zone(builder: &mut AnswerBuilder, zone: &ListZone) {
+    builder.add_bytes(b" |");
+    add_word(builder, &zone.tzid);
+    add_word(builder, &zone.etag);
+    builder.add_bytes(b" ");
+    builder.add_debug(&zone.stamp.seconds);
+    add_word(builder, &zone.publisher);
+    add_word(builder, &zone.version);
     for alias in zone.aliases.as_slice() {
-        tell_word(told, alias);
+        add_word(builder, alias);
     }
 }
 
-fn tell_word(told: &mut Told, word: &Bytes) {
-    told.bytes(b" ");
-    told.bytes(word.as_slice());
+fn add_word(builder: &mut AnswerBuilder, word: &Bytes) {
+    builder.add_bytes(b" ");
+    builder.add_bytes(word.as_slice());
 }
 
 /// `read-problem TEXT`: the problem in the text, if it has one.
 pub fn problem(alloc: Global, row: &Row) -> Answer {
     let found = read_problem(alloc, row.word(0)?)?;
-    shown(alloc, &found)
+    debug_text(alloc, &found)
 }

@@ -2,7 +2,7 @@
 ghost use Rattle.std.specs.Prelude.{IfOk};
 ghost use Rattle.http_answer.specs.Replies.{IsAnswerStatus};
 
-use crate::pieces::joined;
+use crate::pieces::join_words;
 use case_lines::{Answer, CaseFault, Row};
 use http_answer::{Answer as Reply, Kind, make_reply, write};
 use std::alloc::Global;
@@ -43,13 +43,13 @@ fn says(row: &Row, at: usize, word: &str) -> Result<bool, CaseFault> {
 fn both(alloc: Global, answer: &Reply, form: Form) -> Answer
     requires { IsAnswerStatus answer.now.status }
 {
-    let appended = appended(alloc, answer, form)?;
+    let appended = append(alloc, answer, form)?;
     let made = make_reply(alloc, answer, form.head_only, form.close)?;
     same(alloc, made, &appended)
 }
 
 /// The reply, appended to the text `before`.
-fn appended(alloc: Global, answer: &Reply, form: Form) -> Result<Bytes, CaseFault>
+fn append(alloc: Global, answer: &Reply, form: Form) -> Result<Bytes, CaseFault>
     requires { IsAnswerStatus answer.now.status }
 {
     let mut out = Bytes::from_slice(alloc, b"before")?;
@@ -72,7 +72,7 @@ fn answer_of(alloc: Global, row: &Row) -> Result<Reply, CaseFault>
 {
     let shape = shape_of(row)?;
     let tag = tag_of(alloc, row)?;
-    let body = joined(alloc, row.words().get(6..).unwrap_or(&[]))?;
+    let body = join_words(alloc, row.words().get(6..).unwrap_or(&[]))?;
     Ok(Reply {
         status: shape.status,
         kind: shape.kind,
@@ -141,7 +141,7 @@ fn tag_in(alloc: Global, word: &[u8]) -> Result<Option<Bytes>, CaseFault> {
 }
 
 /// `fixed STATUS`: the closing reply.
-pub fn fixed(alloc: Global, row: &Row) -> Answer {
+pub fn closing_reply(alloc: Global, row: &Row) -> Answer {
     match row.number(0)? {
         400 => case_lines::bytes(alloc, http_answer::fixed(400)),
         405 => case_lines::bytes(alloc, http_answer::fixed(405)),

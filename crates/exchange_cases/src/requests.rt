@@ -4,7 +4,7 @@ ghost use Rattle.td_base.specs.TargetForm.{has_form};
 ghost use Rattle.zone_meaning.specs.ZoneHistories.{HasZoneHistory};
 
 use actions::answer;
-use case_lines::{CaseFault, Row, Told};
+use case_lines::{AnswerBuilder, CaseFault, Row};
 use catalogue::Catalogue;
 use http_request::{Head, Heads, Next};
 use release_check::check;
@@ -80,14 +80,14 @@ fn head_in(alloc: Global, text: &[u8]) -> Result<Head, CaseFault>
 
 fn request_text(alloc: Global, row: &Row) -> case_lines::Answer {
     let (method, target, fields) = (row.word(1)?, row.word(2)?, row.word(3)?);
-    let mut text = Told::new(alloc);
-    text.bytes(method);
-    text.bytes(b" ");
-    text.bytes(target);
-    text.bytes(b" HTTP/1.1\r\nHost: x\r\n");
-    text.bytes(fields);
-    text.bytes(b"\r\n");
-    text.answer()
+    let mut text = AnswerBuilder::new(alloc);
+    text.add_bytes(method);
+    text.add_bytes(b" ");
+    text.add_bytes(target);
+    text.add_bytes(b" HTTP/1.1\r\nHost: x\r\n");
+    text.add_bytes(fields);
+    text.add_bytes(b"\r\n");
+    text.finish()
 }
 
 fn answer_to(alloc: Global, catalogue: &Catalogue<Zone>, head: &Head) -> case_lines::Answer
@@ -100,18 +100,18 @@ fn answer_to(alloc: Global, catalogue: &Catalogue<Zone>, head: &Head) -> case_li
 
 /// Status, kind, tag and body. A dash means no tag, and nothing means an empty body.
 fn as_line(alloc: Global, answer: &http_answer::Answer) -> case_lines::Answer {
-    let mut told = Told::new(alloc);
-    told.value(&answer.status);
-    told.bytes(b" ");
-    told.value(&answer.kind);
-    told.bytes(b" ");
+    let mut builder = AnswerBuilder::new(alloc);
+    builder.add_debug(&answer.status);
+    builder.add_bytes(b" ");
+    builder.add_debug(&answer.kind);
+    builder.add_bytes(b" ");
     match &answer.tag {
-        Some(tag) => told.bytes(tag.as_slice()),
-        None => told.bytes(b"-"),
+        Some(tag) => builder.add_bytes(tag.as_slice()),
+        None => builder.add_bytes(b"-"),
     }
     if !answer.body.as_slice().is_empty() {
-        told.bytes(b" ");
-        told.bytes(answer.body.as_slice());
+        builder.add_bytes(b" ");
+        builder.add_bytes(answer.body.as_slice());
     }
-    told.answer()
+    builder.finish()
 }

@@ -1,5 +1,5 @@
 //! A mirror that follows a server whose answers are in rows.
-use case_lines::{Answer, CaseFault, Row, Told};
+use case_lines::{Answer, AnswerBuilder, CaseFault, Row};
 use mirror::SyncFault;
 use std::alloc::Global;
 use sync_core::Mirror;
@@ -19,12 +19,12 @@ pub fn sync(alloc: Global, mirror: &mut Mirror, row: &Row) -> Answer {
 
 /// The requested targets, and the outcome.
 fn as_line(alloc: Global, exchanges: &[Exchange], outcome: Result<(), SyncFault>) -> Answer {
-    let mut told = Told::new(alloc);
+    let mut builder = AnswerBuilder::new(alloc);
     for exchange in exchanges {
-        tell_target(&mut told, exchange);
+        add_target(&mut builder, exchange);
     }
-    tell_outcome(&mut told, outcome);
-    told.answer()
+    add_outcome(&mut builder, outcome);
+    builder.finish()
 }
 
 /// The server that gives the answers of a row.
@@ -95,23 +95,23 @@ fn add_answer(alloc: Global, script: &mut MemoryUpstream, answer: &[u8]) -> Resu
 }
 
 /// Appends the text between the first two blanks of a request.
-fn tell_target(told: &mut Told, exchange: &Exchange) {
-    told.bytes(b"|");
+fn add_target(builder: &mut AnswerBuilder, exchange: &Exchange) {
+    builder.add_bytes(b"|");
     if let Some(target) = exchange
         .request
         .as_slice()
         .split(|byte| *byte == b' ')
         .nth(1)
     {
-        told.bytes(target);
+        builder.add_bytes(target);
     }
-    told.bytes(b" ");
+    builder.add_bytes(b" ");
 }
 
-fn tell_outcome(told: &mut Told, outcome: Result<(), SyncFault>) {
+fn add_outcome(builder: &mut AnswerBuilder, outcome: Result<(), SyncFault>) {
     match outcome {
-        Ok(()) => told.bytes(b"settled"),
-        Err(SyncFault::NoMemory) => told.fail(CaseFault::NoMemory),
-        Err(fault) => told.text(&fault),
+        Ok(()) => builder.add_bytes(b"settled"),
+        Err(SyncFault::NoMemory) => builder.fail(CaseFault::NoMemory),
+        Err(fault) => builder.add_display(&fault),
     }
 }

@@ -1,5 +1,5 @@
 //! What request targets mean.
-use case_lines::{Answer, Row, Told};
+use case_lines::{Answer, AnswerBuilder, Row};
 use std::alloc::Global;
 use target::{Asked, Param, read};
 use td_base::Bytes;
@@ -17,45 +17,45 @@ fn asked_by(alloc: Global, text: &[u8]) -> Answer {
 }
 
 fn as_line(alloc: Global, asked: &Asked) -> Answer {
-    let mut told = Told::new(alloc);
-    tell_action(&mut told, asked);
-    told.answer()
+    let mut builder = AnswerBuilder::new(alloc);
+    add_action(&mut builder, asked);
+    builder.finish()
 }
 
-fn tell_action(told: &mut Told, asked: &Asked) {
+fn add_action(builder: &mut AnswerBuilder, asked: &Asked) {
     match asked {
-        Asked::Capabilities => told.bytes(b"capabilities"),
-        Asked::LeapSeconds => told.bytes(b"leapseconds"),
-        Asked::WellKnown => told.bytes(b"well-known"),
-        Asked::Unknown => told.bytes(b"unknown"),
-        Asked::List(since) => tell_search(told, b"list", since),
-        Asked::Find(pattern) => tell_search(told, b"find", pattern),
-        Asked::Get { tzid, start, end } => tell_zone(told, b"get ", tzid, start, end),
-        Asked::Expand { tzid, start, end } => tell_zone(told, b"expand ", tzid, start, end),
+        Asked::Capabilities => builder.add_bytes(b"capabilities"),
+        Asked::LeapSeconds => builder.add_bytes(b"leapseconds"),
+        Asked::WellKnown => builder.add_bytes(b"well-known"),
+        Asked::Unknown => builder.add_bytes(b"unknown"),
+        Asked::List(since) => add_search(builder, b"list", since),
+        Asked::Find(pattern) => add_search(builder, b"find", pattern),
+        Asked::Get { tzid, start, end } => add_zone(builder, b"get ", tzid, start, end),
+        Asked::Expand { tzid, start, end } => add_zone(builder, b"expand ", tzid, start, end),
     }
 }
 
-fn tell_search(told: &mut Told, action: &[u8], param: &Param) {
-    told.bytes(action);
-    tell_param(told, param);
+fn add_search(builder: &mut AnswerBuilder, action: &[u8], param: &Param) {
+    builder.add_bytes(action);
+    add_param(builder, param);
 }
 
-fn tell_zone(told: &mut Told, action: &[u8], tzid: &Bytes, start: &Param, end: &Param) {
-    told.bytes(action);
-    told.bytes(tzid.as_slice());
-    tell_param(told, start);
-    tell_param(told, end);
+fn add_zone(builder: &mut AnswerBuilder, action: &[u8], tzid: &Bytes, start: &Param, end: &Param) {
+    builder.add_bytes(action);
+    builder.add_bytes(tzid.as_slice());
+    add_param(builder, start);
+    add_param(builder, end);
 }
 
-fn tell_param(told: &mut Told, param: &Param) {
+fn add_param(builder: &mut AnswerBuilder, param: &Param) {
     match param {
-        Param::Absent => told.bytes(b" -"),
-        Param::Once(text) => tell_value(told, text),
-        Param::Repeated => told.bytes(b" *"),
+        Param::Absent => builder.add_bytes(b" -"),
+        Param::Once(text) => add_value(builder, text),
+        Param::Repeated => builder.add_bytes(b" *"),
     }
 }
 
-fn tell_value(told: &mut Told, value: &Bytes) {
-    told.bytes(b" =");
-    told.bytes(value.as_slice());
+fn add_value(builder: &mut AnswerBuilder, value: &Bytes) {
+    builder.add_bytes(b" =");
+    builder.add_bytes(value.as_slice());
 }

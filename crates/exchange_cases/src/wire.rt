@@ -1,5 +1,5 @@
 //! Requests that a mirror writes, and replies that it parses.
-use case_lines::{Answer, CaseFault, Row, Told, printed};
+use case_lines::{Answer, AnswerBuilder, CaseFault, Row, display_text};
 use http_client::{BadReply, Reply};
 use std::alloc::Global;
 use td_base::{Ask, Bytes};
@@ -21,14 +21,14 @@ fn request_of(alloc: Global, ask: &Ask, host: &[u8]) -> Answer {
 fn ask_of(alloc: Global, row: &Row) -> Result<Ask, CaseFault> {
     match row.text(1)? {
         "list" => Ok(Ask::List(None)),
-        "since" => Ok(Ask::List(Some(named(alloc, row)?))),
-        "get" => Ok(Ask::Get(named(alloc, row)?)),
+        "since" => Ok(Ask::List(Some(text_of(alloc, row)?))),
+        "get" => Ok(Ask::Get(text_of(alloc, row)?)),
         _ => Err(CaseFault::Strange),
     }
 }
 
 /// The token or the name of a zone in a row.
-fn named(alloc: Global, row: &Row) -> Result<Bytes, CaseFault> {
+fn text_of(alloc: Global, row: &Row) -> Result<Bytes, CaseFault> {
     Ok(Bytes::from_slice(alloc, row.word(2)?)?)
 }
 
@@ -37,14 +37,14 @@ pub fn reply(alloc: Global, row: &Row) -> Answer {
     match http_client::read(alloc, row.word(0)?) {
         Ok(reply) => as_line(alloc, &reply),
         Err(BadReply::NoMemory) => Err(CaseFault::NoMemory),
-        Err(fault) => printed(alloc, &fault),
+        Err(fault) => display_text(alloc, &fault),
     }
 }
 
 fn as_line(alloc: Global, reply: &Reply) -> Answer {
-    let mut told = Told::new(alloc);
-    told.value(&reply.status);
-    told.bytes(b" ");
-    told.bytes(reply.body.as_slice());
-    told.answer()
+    let mut builder = AnswerBuilder::new(alloc);
+    builder.add_debug(&reply.status);
+    builder.add_bytes(b" ");
+    builder.add_bytes(reply.body.as_slice());
+    builder.finish()
 }

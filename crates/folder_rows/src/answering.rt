@@ -1,5 +1,5 @@
 //! The answer to a row, by its kind.
-use crate::{catalogues, histories, indexes, leap_tables, manifests, printed, values};
+use crate::{catalogues, fault_texts, histories, indexes, leap_tables, manifests, values};
 use case_lines::{Answer, CaseFault, Row};
 use std::alloc::Global;
 use td_base::{Bytes, MemoryStore};
@@ -8,15 +8,15 @@ use td_base::{Bytes, MemoryStore};
 pub fn answer(alloc: Global, row: &Row, store: &mut MemoryStore) -> Answer {
     match row.kind() {
         "file" => put(alloc, row, store),
-        "examine" => values::examined(alloc, row, store),
+        "examine" => values::examine_values(alloc, row, store),
         "history" => histories::as_line(alloc, row, store),
         "again" => histories::again(alloc, row, store),
         "manifest" => manifests::read_back(alloc, row),
-        "printed" => printed::printed(alloc, row),
+        "printed" => fault_texts::fault_text(alloc, row),
         "leap-table" => leap_tables::table(alloc, row),
         "after" => indexes::after(alloc, row),
         "positions-after" => indexes::positions(alloc, row),
-        _ => catalogues::asked(alloc, row, store),
+        _ => catalogues::answer(alloc, row, store),
     }
 }
 

@@ -3,7 +3,7 @@ use crate::answering::strange;
 use crate::histories::catalogue_of;
 use crate::leap_tables::steps;
 use crate::{changes, indexes};
-use case_lines::{Answer, CaseFault, Row, Told, shown};
+use case_lines::{Answer, AnswerBuilder, CaseFault, Row, debug_text};
 use catalogue::{
     Catalogue, Entry, KEPT_TOKENS, entries_are_plain, fits_what_is_held, histories_grow,
     order_is_free, tokens_are_apart, tokens_are_plain, tokens_find_places,
@@ -13,7 +13,7 @@ use td_base::MemoryStore;
 use zone_meaning::{Zone, file};
 
 /// The answer of a catalogue.
-pub fn asked(alloc: Global, row: &Row, store: &mut MemoryStore) -> Answer {
+pub fn answer(alloc: Global, row: &Row, store: &mut MemoryStore) -> Answer {
     let catalogue = catalogue_of(alloc, row.word(0)?, store)?;
     as_line(alloc, row, store, &catalogue)
 }
@@ -25,12 +25,12 @@ fn as_line(
     catalogue: &Catalogue<Zone>,
 ) -> Answer {
     match row.kind() {
-        "changed" => changes::changed(alloc, row, store, catalogue),
+        "changed" => changes::changes_in(alloc, row, store, catalogue),
         "stands" => stands(alloc, catalogue),
         "leaps" => leaps(alloc, catalogue),
-        "find-name" => shown(alloc, &catalogue.find_name(row.word(1)?)),
-        "place-of" => shown(alloc, &catalogue.place_of(row.word(1)?)),
-        "changed-since" => changed(alloc, row, catalogue),
+        "find-name" => debug_text(alloc, &catalogue.find_name(row.word(1)?)),
+        "place-of" => debug_text(alloc, &catalogue.place_of(row.word(1)?)),
+        "changed-since" => changes_since(alloc, row, catalogue),
         "token" => token(alloc, row, catalogue),
         "entry" => entry(alloc, row, catalogue),
         "name" => name(alloc, row, catalogue),
@@ -41,23 +41,23 @@ fn as_line(
 /// `stands DIRS`: how many releases, zones and names it has, and the stamp, publisher and version
 /// of the last release.
 fn stands(alloc: Global, catalogue: &Catalogue<Zone>) -> Answer {
-    let mut told = Told::new(alloc);
-    tell_counts(&mut told, catalogue);
-    told.text(&catalogue.last_stamp().seconds);
-    told.bytes(b" ");
-    told.bytes(catalogue.publisher());
-    told.bytes(b" ");
-    told.bytes(catalogue.version());
-    told.answer()
+    let mut builder = AnswerBuilder::new(alloc);
+    add_counts(&mut builder, catalogue);
+    builder.add_display(&catalogue.last_stamp().seconds);
+    builder.add_bytes(b" ");
+    builder.add_bytes(catalogue.publisher());
+    builder.add_bytes(b" ");
+    builder.add_bytes(catalogue.version());
+    builder.finish()
 }
 
-fn tell_counts(told: &mut Told, catalogue: &Catalogue<Zone>) {
-    told.text(&catalogue.count());
-    told.bytes(b" ");
-    told.text(&catalogue.len());
-    told.bytes(b" ");
-    told.text(&catalogue.name_count());
-    told.bytes(b" ");
+fn add_counts(builder: &mut AnswerBuilder, catalogue: &Catalogue<Zone>) {
+    builder.add_display(&catalogue.count());
+    builder.add_bytes(b" ");
+    builder.add_display(&catalogue.len());
+    builder.add_bytes(b" ");
+    builder.add_display(&catalogue.name_count());
+    builder.add_bytes(b" ");
 }
 
 /// `leaps DIRS`: expiry, length of the file and steps of its table, if it has one.
@@ -74,9 +74,9 @@ fn place(row: &Row) -> Result<u32, CaseFault> {
 }
 
 /// `changed-since DIRS PLACE`: the positions of the zones that changed after a place.
-fn changed(alloc: Global, row: &Row, catalogue: &Catalogue<Zone>) -> Answer {
+fn changes_since(alloc: Global, row: &Row, catalogue: &Catalogue<Zone>) -> Answer {
     let changed = catalogue.changed_since(alloc, place(row)?)?;
-    shown(alloc, &changed.as_slice())
+    debug_text(alloc, &changed.as_slice())
 }
 
 /// `token DIRS PLACE`.
@@ -108,37 +108,37 @@ fn entry(alloc: Global, row: &Row, catalogue: &Catalogue<Zone>) -> Answer {
 }
 
 fn entry_text(alloc: Global, entry: &Entry<Zone>) -> Answer {
-    let mut told = Told::new(alloc);
-    tell_names(&mut told, entry);
-    tell_file(&mut told, entry);
-    tell_change(&mut told, entry);
-    told.answer()
+    let mut builder = AnswerBuilder::new(alloc);
+    add_names(&mut builder, entry);
+    add_file(&mut builder, entry);
+    add_change(&mut builder, entry);
+    builder.finish()
 }
 
-fn tell_names(told: &mut Told, entry: &Entry<Zone>) {
-    told.bytes(entry.content.tzid.as_slice());
+fn add_names(builder: &mut AnswerBuilder, entry: &Entry<Zone>) {
+    builder.add_bytes(entry.content.tzid.as_slice());
     for alias in entry.content.aliases.as_slice() {
-        told.bytes(b",");
-        told.bytes(alias.as_slice());
+        builder.add_bytes(b",");
+        builder.add_bytes(alias.as_slice());
     }
 }
 
-fn tell_file(told: &mut Told, entry: &Entry<Zone>) {
-    told.bytes(b" ");
-    told.text(&file(&entry.content.zone).len());
-    told.bytes(b" ");
-    told.bytes(entry.tag.as_slice());
+fn add_file(builder: &mut AnswerBuilder, entry: &Entry<Zone>) {
+    builder.add_bytes(b" ");
+    builder.add_display(&file(&entry.content.zone).len());
+    builder.add_bytes(b" ");
+    builder.add_bytes(entry.tag.as_slice());
 }
 
-fn tell_change(told: &mut Told, entry: &Entry<Zone>) {
-    told.bytes(b" ");
-    told.text(&entry.changed);
-    told.bytes(b" ");
-    told.text(&entry.stamp.seconds);
-    told.bytes(b" ");
-    told.bytes(entry.publisher.as_slice());
-    told.bytes(b" ");
-    told.bytes(entry.version.as_slice());
+fn add_change(builder: &mut AnswerBuilder, entry: &Entry<Zone>) {
+    builder.add_bytes(b" ");
+    builder.add_display(&entry.changed);
+    builder.add_bytes(b" ");
+    builder.add_display(&entry.stamp.seconds);
+    builder.add_bytes(b" ");
+    builder.add_bytes(entry.publisher.as_slice());
+    builder.add_bytes(b" ");
+    builder.add_bytes(entry.version.as_slice());
 }
 
 /// Laws, each of which does nothing.

@@ -4,7 +4,7 @@ ghost use Rattle.zone_meaning.specs.Sound.{IsSound};
 ghost use Rattle.zone_meaning.specs.ZoneHistories.{zone_bytes};
 ghost use Rattle.release_check.specs.Before.{Follows, before_held};
 
-use case_lines::{Answer, CaseFault, Row, Told};
+use case_lines::{Answer, AnswerBuilder, CaseFault, Row};
 use catalogue::{Catalogue, Release};
 use release_check::{CheckFault, check};
 use std::alloc::Global;
@@ -13,39 +13,39 @@ use zone_meaning::Zone;
 
 /// `history DIR ..`: for each folder in turn, how many zones it has, or its fault.
 pub fn as_line(alloc: Global, row: &Row, store: &mut MemoryStore) -> Answer {
-    let mut told = Told::new(alloc);
+    let mut builder = AnswerBuilder::new(alloc);
     let mut last = None;
     for dir in row.words() {
-        last = step(alloc, dir.as_slice(), store, last, &mut told);
+        last = step(alloc, dir.as_slice(), store, last, &mut builder);
     }
-    told.answer()
+    builder.finish()
 }
 
 /// `again DIR COUNT`: the answer for a folder that has been the next release COUNT times.
 pub fn again(alloc: Global, row: &Row, store: &mut MemoryStore) -> Answer {
     let (dir, count) = (row.word(0)?, row.number(1)?);
-    let mut told = Told::new(alloc);
-    let last = repeated(alloc, dir, count, store, &mut told);
-    let _ = step(alloc, dir, store, last, &mut told);
-    told.answer()
+    let mut builder = AnswerBuilder::new(alloc);
+    let last = repeat(alloc, dir, count, store, &mut builder);
+    let _ = step(alloc, dir, store, last, &mut builder);
+    builder.finish()
 }
 
-/// The catalogue after a folder has been the next release so many times. A fault of memory alone is
-/// told.
-fn repeated(
+/// The catalogue after a folder has been the next release so many times. It reports only that memory
+/// ran out.
+fn repeat(
     alloc: Global,
     dir: &[u8],
     count: u64,
     store: &mut MemoryStore,
-    told: &mut Told,
+    builder: &mut AnswerBuilder,
 ) -> Option<Catalogue<Zone>> {
-    let mut ignored = Told::new(alloc);
+    let mut ignored = AnswerBuilder::new(alloc);
     let mut last = None;
     for _ in 0..count {
         last = step(alloc, dir, store, last, &mut ignored);
     }
-    if let Err(fault) = ignored.answer() {
-        told.fail(fault);
+    if let Err(fault) = ignored.finish() {
+        builder.fail(fault);
     }
     last
 }
@@ -56,12 +56,12 @@ pub fn catalogue_of(
     dirs: &[u8],
     store: &mut MemoryStore,
 ) -> Result<Catalogue<Zone>, CaseFault> {
-    let mut told = Told::new(alloc);
+    let mut builder = AnswerBuilder::new(alloc);
     let mut last = None;
     for dir in dirs.split(|byte| *byte == b',') {
-        last = step(alloc, dir, store, last, &mut told);
+        last = step(alloc, dir, store, last, &mut builder);
     }
-    told.answer()?;
+    builder.finish()?;
     last.ok_or(CaseFault::Strange)
 }
 
@@ -73,60 +73,63 @@ fn step(
     dir: &[u8],
     store: &mut MemoryStore,
     last: Option<Catalogue<Zone>>,
-    told: &mut Told,
+    builder: &mut AnswerBuilder,
 ) -> Option<Catalogue<Zone>> {
     match check(alloc, dir, store, last.as_ref()) {
         Ok(release) => {
-            tell_count(told, release.zones.len());
-            made(grown(alloc, last, release), told)
+            add_count(builder, release.zones.len());
+            catalogue_in(extend(alloc, last, release), builder)
         }
         Err(fault) => {
-            tell_fault(alloc, told, &fault);
+            add_fault(alloc, builder, &fault);
             last
         }
     }
 }
 
 /// A catalogue, if memory sufficed for it.
-fn made(grown: Result<Catalogue<Zone>, NoMemory>, told: &mut Told) -> Option<Catalogue<Zone>> {
+fn catalogue_in(
+    grown: Result<Catalogue<Zone>, NoMemory>,
+    builder: &mut AnswerBuilder,
+) -> Option<Catalogue<Zone>> {
     match grown {
         Ok(catalogue) => Some(catalogue),
         Err(NoMemory) => {
-            told.fail(CaseFault::NoMemory);
+            builder.fail(CaseFault::NoMemory);
             None
         }
     }
 }
 
-fn tell_count(told: &mut Told, zones: usize) {
-    told.bytes(b"ok ");
-    told.text(&zones);
-    told.bytes(b";");
+fn add_count(builder: &mut AnswerBuilder, zones: usize) {
+    builder.add_bytes(b"ok ");
+    builder.add_display(&zones);
+    builder.add_bytes(b";");
 }
 
-fn tell_fault(alloc: Global, told: &mut Told, fault: &CheckFault) {
+fn add_fault(alloc: Global, builder: &mut AnswerBuilder, fault: &CheckFault) {
     let mut printed = Bytes::new(alloc);
-    told.done(fault.put(alloc, &mut printed));
-    told.bytes(printed.as_slice());
-    tell_shown(alloc, told, fault, printed.as_slice());
-    told.bytes(b";");
+    builder.add_outcome(fault.put(alloc, &mut printed));
+    builder.add_bytes(printed.as_slice());
+    add_shown(alloc, builder, fault, printed.as_slice());
+    builder.add_bytes(b";");
 }
 
 /// Appends the `Display` text of a fault, if it differs from the printed one.
-fn tell_shown(alloc: Global, told: &mut Told, fault: &CheckFault, printed: &[u8]) {
+fn add_shown(alloc: Global, builder: &mut AnswerBuilder, fault: &CheckFault, printed: &[u8]) {
     match fault.to_string(alloc) {
         Ok(shown) => {
             if shown.as_bytes() != printed {
-                told.bytes(b", ");
-                told.bytes(shown.as_bytes());
+                builder.add_bytes(b", ");
+                builder.add_bytes(shown.as_bytes());
             }
         }
-        Err(_) => told.fail(CaseFault::NoMemory),
+        Err(_) => builder.fail(CaseFault::NoMemory),
     }
 }
 
 /// The catalogue extended by one release.
-fn grown(
+fn extend(
     alloc: Global,
     last: Option<Catalogue<Zone>>,
     release: Release<Zone>,

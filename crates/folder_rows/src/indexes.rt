@@ -1,19 +1,19 @@
 //! Indexes of numbers.
-use case_lines::{Answer, CaseFault, Row, numbers, shown};
+use case_lines::{Answer, CaseFault, Row, debug_text, numbers};
 use change_index::{ChangeIndex, index};
 use std::alloc::Global;
 
 /// `after NUMBERS NUMBER`: the entries of an index of NUMBERS that are above NUMBER.
 pub fn after(alloc: Global, row: &Row) -> Answer {
     let index = index_of(alloc, row)?;
-    shown(alloc, &index.after(place(row.number(1)?)?))
+    debug_text(alloc, &index.after(place(row.number(1)?)?))
 }
 
 /// `positions-after NUMBERS NUMBER`: the positions of these.
 pub fn positions(alloc: Global, row: &Row) -> Answer {
     let index = index_of(alloc, row)?;
     match index.positions_after(alloc, place(row.number(1)?)?) {
-        Ok(positions) => shown(alloc, &positions.as_slice()),
+        Ok(positions) => debug_text(alloc, &positions.as_slice()),
         Err(_) => Err(CaseFault::NoMemory),
     }
 }

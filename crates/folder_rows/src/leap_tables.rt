@@ -1,6 +1,6 @@
 //! Tables of leap seconds.
 use crate::answering::strange;
-use case_lines::{Answer, CaseFault, Row, Told, printed, signed};
+use case_lines::{Answer, AnswerBuilder, CaseFault, Row, display_text, signed_number};
 use catalogue::{LeapStep, Leaps};
 use leap_table::from_file;
 use std::alloc::Global;
@@ -20,7 +20,7 @@ fn as_line(alloc: Global, file: &ZoneFile) -> Answer {
     }
     match from_file(alloc, file, b"the file", b"2025-12-28") {
         Ok(table) => steps(alloc, &table),
-        Err(fault) => printed(alloc, &fault),
+        Err(fault) => display_text(alloc, &fault),
     }
 }
 
@@ -53,31 +53,33 @@ fn add_lines(lines: &[u8], leaps: &mut Items<LeapLine>) -> Result<(), CaseFault>
 fn leap_line(line: &[u8]) -> Result<LeapLine, CaseFault> {
     let (at, correction) = texts::cut(line, b':');
     Ok(LeapLine {
-        at: signed(at)?,
+        at: signed_number(at)?,
         correction: short(correction.unwrap_or(&[]))?,
     })
 }
 
 /// Parses a signed number of 32 bits.
 fn short(word: &[u8]) -> Result<i32, CaseFault> {
-    i32::try_from(signed(word)?).ok().ok_or(CaseFault::Strange)
+    i32::try_from(signed_number(word)?)
+        .ok()
+        .ok_or(CaseFault::Strange)
 }
 
 /// The file and its expiry, and the steps after them.
 pub fn steps(alloc: Global, table: &Leaps) -> Answer {
-    let mut told = Told::new(alloc);
-    told.bytes(table.expires.as_slice());
-    told.bytes(b" ");
-    told.text(&table.file.len());
+    let mut builder = AnswerBuilder::new(alloc);
+    builder.add_bytes(table.expires.as_slice());
+    builder.add_bytes(b" ");
+    builder.add_display(&table.file.len());
     for step in table.steps.as_slice() {
-        tell_step(&mut told, step);
+        add_step(&mut builder, step);
     }
-    told.answer()
+    builder.finish()
 }
 
-fn tell_step(told: &mut Told, step: &LeapStep) {
-    told.bytes(b";");
-    told.text(&step.day);
-    told.bytes(b" ");
-    told.text(&step.offset);
+fn add_step(builder: &mut AnswerBuilder, step: &LeapStep) {
+    builder.add_bytes(b";");
+    builder.add_display(&step.day);
+    builder.add_bytes(b" ");
+    builder.add_display(&step.offset);
 }

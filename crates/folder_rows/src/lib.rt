@@ -6,9 +6,9 @@
 #![tactic(auto)]
 
 // Manifests and tables of leap seconds.
+mod fault_texts;
 mod leap_tables;
 mod manifests;
-mod printed;
 
 // Folders, histories of them, the catalogue of a history, and indexes of numbers.
 mod catalogues;
@@ -21,4 +21,4 @@ mod values;
 mod answering;
 
 pub use answering::{answer, laws, strange};
-pub use manifests::said;
+pub use manifests::manifest_line;

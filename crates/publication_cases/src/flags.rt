@@ -1,5 +1,5 @@
 //! The flag that stops workers.
-use case_lines::{Answer, shown};
+use case_lines::{Answer, debug_text};
 use desk_pool::{StopFlag, StopSign};
 use std::alloc::Global;
 use std::thread::{Threads, join};
@@ -9,7 +9,7 @@ use td_base::NoMemory;
 /// what a second sign then shows.
 pub fn signs(alloc: Global) -> Answer {
     let looks = looks(alloc)?;
-    shown(alloc, &looks)
+    debug_text(alloc, &looks)
 }
 
 fn looks(alloc: Global) -> Result<(bool, bool, bool, bool), NoMemory> {
@@ -29,7 +29,7 @@ pub fn beside<R: Threads>(rt: &R, alloc: Global) -> Answer {
     let mut sign = flag.share()?;
     let ((), steady) = join(rt, || flag.raise(), || is_steady(&mut sign));
     let raised = sign.is_raised();
-    shown(alloc, &(steady, raised))
+    debug_text(alloc, &(steady, raised))
 }
 
 /// Whether, over many looks, the sign never shows the flag down after it showed it raised.

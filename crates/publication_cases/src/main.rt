@@ -29,8 +29,8 @@ fn main(rt: HostRuntime) -> io::Result<()> {
     for line in rt.lines(alloc) {
         let line = line?;
         if let Some(row) = table.row(line.as_str())? {
-            if let Some(told) = table.judge(&row, answer(&rt, alloc, &row))? {
-                println!(rt; "{told}")?;
+            if let Some(report) = table.judge(&row, answer(&rt, alloc, &row))? {
+                println!(rt; "{report}")?;
             }
         }
     }
@@ -45,7 +45,7 @@ where
 {
     match row.kind() {
         "works" => pools::works(rt, alloc, row),
-        "race" => races::raced(rt, alloc),
+        "race" => races::race(rt, alloc),
         "flag-beside" => flags::beside(rt, alloc),
         "flag" => flags::signs(alloc),
         "publishes" => refusals::publish(rt, alloc, row),

@@ -2,7 +2,7 @@
 ghost use Rattle.std.specs.Prelude.{◌≡◌};
 
 use crate::tallies::{SharedTally, make_tally, publishes};
-use case_lines::{Answer, CaseFault, shown};
+use case_lines::{Answer, CaseFault, debug_text};
 use publication::{Desk, Publisher, make};
 use std::alloc::Global;
 use std::sync::Wait;
@@ -45,7 +45,7 @@ fn both_enter<R: Threads>(
 }
 
 /// Two desks enter while values are published. Then the publisher ends, and both learn its end.
-fn race<R: Threads + Wait + Sync>(
+fn race_for<R: Threads + Wait + Sync>(
     rt: &R,
     publisher: Publisher<SharedTally>,
     one: Desk<SharedTally>,
@@ -80,15 +80,15 @@ fn race<R: Threads + Wait + Sync>(
 
 /// `race`: how many of 2,000 values were published while two desks entered 20,000 times each. Then
 /// how many of their enters were refused or went back, and what both hold at the end.
-pub fn raced<R: Threads + Wait + Sync>(rt: &R, alloc: Global) -> Answer {
+pub fn race<R: Threads + Wait + Sync>(rt: &R, alloc: Global) -> Answer {
     let Ok((publisher, desks)) = make(rt, alloc, make_tally(1), 2) else {
         return Err(CaseFault::NoMemory);
     };
     let mut desks = desks;
     let two = desks.pop().unwrap();
     let one = desks.pop().unwrap();
-    match race(rt, publisher, one, two) {
-        Some((done, (mine, theirs), one, two)) => shown(
+    match race_for(rt, publisher, one, two) {
+        Some((done, (mine, theirs), one, two)) => debug_text(
             alloc,
             &[
                 done,
@@ -151,7 +151,7 @@ pub fn learns<R: Wait>(rt: &R, alloc: Global) -> Answer {
     let found = values_held(rt, &mut publisher, &mut one, &mut two);
     publisher.close(rt);
     match found {
-        Some(numbers) => shown(alloc, &numbers),
+        Some(numbers) => debug_text(alloc, &numbers),
         None => Err(CaseFault::NoMemory),
     }
 }

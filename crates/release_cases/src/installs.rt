@@ -1,7 +1,7 @@
 //! Folders that are installed, for desks.
 ghost use Rattle.std.specs.Prelude.{◌≡◌};
 
-use case_lines::{Answer, CaseFault, Row, Told, printed};
+use case_lines::{Answer, AnswerBuilder, CaseFault, Row, display_text};
 use catalogue::Catalogue;
 use folder_rows::strange;
 use installer::{InstallFault, InstallPolicy, Installer};
@@ -13,17 +13,17 @@ use zone_meaning::Zone;
 
 /// `open DIR`: the `Display` text of a first folder's fault, or nothing.
 pub fn open<R: Wait>(rt: &R, alloc: Global, row: &Row, store: &mut MemoryStore) -> Answer {
-    match opened(rt, alloc, row.word(0)?, store) {
+    match first_installer(rt, alloc, row.word(0)?, store) {
         Ok(installer) => {
             installer.close(rt);
             Ok(Vec::new(alloc))
         }
-        Err(fault) => printed(alloc, &fault),
+        Err(fault) => display_text(alloc, &fault),
     }
 }
 
 /// An installer that begins with the first folder, and has no desk.
-pub fn opened<R: Wait>(
+pub fn first_installer<R: Wait>(
     rt: &R,
     alloc: Global,
     dir: &[u8],
@@ -39,7 +39,7 @@ pub fn opened<R: Wait>(
 struct Steps {
     opened: (u32, u32),
     // Before any enter.
-    told: (u32, u32),
+    learned: (u32, u32),
     grown: (u32, u32),
     refused: (u32, u32),
 }
@@ -64,13 +64,19 @@ pub fn install<R: Wait>(
 
 /// The places after each step, and the fault of the third folder.
 fn as_line(alloc: Global, steps: &Steps, ended: (u32, u32), fault: &[u8]) -> Answer {
-    let mut told = Told::new(alloc);
-    for places in [steps.opened, steps.told, steps.grown, steps.refused, ended] {
-        told.value(&places);
-        told.bytes(b" ");
+    let mut builder = AnswerBuilder::new(alloc);
+    for places in [
+        steps.opened,
+        steps.learned,
+        steps.grown,
+        steps.refused,
+        ended,
+    ] {
+        builder.add_debug(&places);
+        builder.add_bytes(b" ");
     }
-    told.bytes(fault);
-    told.answer()
+    builder.add_bytes(fault);
+    builder.finish()
 }
 
 /// The steps, and the places at the end. The fault of the third folder is appended.
@@ -118,7 +124,7 @@ fn run_for<R: Wait>(
         one,
         two,
     ) {
-        Ok(steps) => Ok((steps, ended(rt, installer, one, two)?)),
+        Ok(steps) => Ok((steps, end_places(rt, installer, one, two)?)),
         Err(fault) => {
             installer.close(rt);
             Err(fault)
@@ -148,20 +154,20 @@ fn grow<R: Wait>(
     ensures one { one.new.pair ≡ one.old.pair }
     ensures two { two.new.pair ≡ two.old.pair }
 {
-    let opened = (entered(one), entered(two));
+    let opened = (entry_place(one), entry_place(two));
     let receipt = installer.install(rt, alloc, dirs.0, store, asked)?;
     one.learn(receipt);
-    let told = (one.value().count(), two.value().count());
-    let grown = (entered(one), entered(two));
+    let learned = (one.value().count(), two.value().count());
+    let grown = (entry_place(one), entry_place(two));
     put_fault(
         alloc,
         fault,
         installer.install(rt, alloc, dirs.1, store, asked),
     )?;
-    let refused = (entered(one), entered(two));
+    let refused = (entry_place(one), entry_place(two));
     Ok(Steps {
         opened,
-        told,
+        learned,
         grown,
         refused,
     })
@@ -180,7 +186,7 @@ fn put_fault<T: Drop>(
 }
 
 /// The place at which a desk answers after an enter, or 0 if the enter was refused.
-pub fn entered(desk: &mut Desk<Catalogue<Zone>>) -> u32
+pub fn entry_place(desk: &mut Desk<Catalogue<Zone>>) -> u32
     ensures { desk.new.pair ≡ desk.old.pair }
 {
     if desk.enter().is_err() {
@@ -190,7 +196,7 @@ pub fn entered(desk: &mut Desk<Catalogue<Zone>>) -> u32
 }
 
 /// The places of two desks that learn the end.
-fn ended<R: Wait>(
+fn end_places<R: Wait>(
     rt: &R,
     installer: Installer,
     one: &mut Desk<Catalogue<Zone>>,

@@ -1,6 +1,6 @@
 //! Whether a folder joins a history as a whole or not at all.
-use crate::installs::entered;
-use case_lines::{Answer, CaseFault, Row, Told};
+use crate::installs::entry_place;
+use case_lines::{Answer, AnswerBuilder, CaseFault, Row};
 use catalogue::Catalogue;
 use folder_rows::strange;
 use installer::{InstallFault, InstallPolicy, Installer};
@@ -48,40 +48,40 @@ pub fn joins<R: Wait>(
         return strange();
     };
     let dirs = (first.as_slice(), second.as_slice());
-    match installed(rt, alloc, dirs, store, asked) {
-        Ok((first, second)) => told_of(alloc, first, second, between.as_slice()),
+    match install_both(rt, alloc, dirs, store, asked) {
+        Ok((first, second)) => as_line(alloc, first, second, between.as_slice()),
         Err(InstallFault::NoMemory) => Err(CaseFault::NoMemory),
         Err(_fault) => strange(),
     }
 }
 
 /// The state after a failed try, if it is not this one, and the state at the end.
-fn told_of(alloc: Global, first: Joining, second: Joining, between: &[u8]) -> Answer {
-    let mut told = Told::new(alloc);
+fn as_line(alloc: Global, first: Joining, second: Joining, between: &[u8]) -> Answer {
+    let mut builder = AnswerBuilder::new(alloc);
     if let Some((false, stand)) = first {
-        tell_other(alloc, &mut told, &stand, between);
+        add_other(alloc, &mut builder, &stand, between);
     }
     if let Some((true, stand)) = second {
-        told.text(&stand);
+        builder.add_display(&stand);
     }
-    told.answer()
+    builder.finish()
 }
 
 /// Appends a state and a blank, if the state is not this one.
-fn tell_other(alloc: Global, told: &mut Told, stand: &Stand, other: &[u8]) {
+fn add_other(alloc: Global, builder: &mut AnswerBuilder, stand: &Stand, other: &[u8]) {
     match stand.to_string(alloc) {
         Ok(text) => {
             if text.as_bytes() != other {
-                told.bytes(text.as_bytes());
-                told.bytes(b" ");
+                builder.add_bytes(text.as_bytes());
+                builder.add_bytes(b" ");
             }
         }
-        Err(_) => told.fail(CaseFault::NoMemory),
+        Err(_) => builder.fail(CaseFault::NoMemory),
     }
 }
 
 /// Installs the second folder after the first, and once more if it was out of memory.
-fn installed<R: Wait>(
+fn install_both<R: Wait>(
     rt: &R,
     alloc: Global,
     dirs: (&[u8], &[u8]),
@@ -91,13 +91,13 @@ fn installed<R: Wait>(
     let (installer, desks) = Installer::open(rt, alloc, dirs.0, store, 1)?;
     let (mut installer, mut desks) = (installer, desks);
     let mut desk = desks.pop().unwrap();
-    let both = tried(rt, alloc, dirs.1, store, asked, &mut installer, &mut desk);
+    let both = install_twice(rt, alloc, dirs.1, store, asked, &mut installer, &mut desk);
     installer.close(rt);
     Ok(both)
 }
 
 /// Installs a folder, and once more if it was out of memory.
-fn tried<R: Wait>(
+fn install_twice<R: Wait>(
     rt: &R,
     alloc: Global,
     dir: &[u8],
@@ -106,16 +106,16 @@ fn tried<R: Wait>(
     installer: &mut Installer,
     desk: &mut Desk<Catalogue<Zone>>,
 ) -> (Joining, Joining) {
-    let first = joined(rt, alloc, dir, store, asked, installer, desk);
+    let first = install(rt, alloc, dir, store, asked, installer, desk);
     let second = match first {
-        Some((false, _)) => joined(rt, alloc, dir, store, asked, installer, desk),
+        Some((false, _)) => install(rt, alloc, dir, store, asked, installer, desk),
         _ => first,
     };
     (first, second)
 }
 
 /// Installs a folder.
-fn joined<R: Wait>(
+fn install<R: Wait>(
     rt: &R,
     alloc: Global,
     dir: &[u8],
@@ -141,6 +141,6 @@ fn stand_of(installer: &Installer, desk: &mut Desk<Catalogue<Zone>>) -> Stand {
         releases: last.count(),
         zones: last.len(),
         names: last.name_count(),
-        entered: entered(desk),
+        entered: entry_place(desk),
     }
 }

@@ -1,7 +1,7 @@
 //! The made load: its releases, its requests and the line of its counts.
-use case_lines::{Answer, CaseFault, Row, shown};
+use case_lines::{Answer, CaseFault, Row, debug_text};
 use catalogue::Catalogue;
-use folder_rows::{said, strange};
+use folder_rows::{manifest_line, strange};
 use installer::{InstallFault, first_stated, next_stated};
 use made_load::{LoadCounts, release, requests, summary};
 use release_manifest::Manifest;
@@ -17,7 +17,7 @@ pub fn as_line(alloc: Global, row: &Row) -> Answer {
     match row.kind() {
         "load-manifest" => manifest(alloc, row),
         "load-file" => file(alloc, row),
-        "load-requests" => asked(alloc, row),
+        "load-requests" => requests_after(alloc, row),
         "load-place-of" => places(alloc, row),
         "load-summary" => line(alloc, row),
         _ => strange(),
@@ -26,14 +26,14 @@ pub fn as_line(alloc: Global, row: &Row) -> Answer {
 
 /// `load-manifest NUMBER RELEASE`: the content of a release's manifest.
 fn manifest(alloc: Global, row: &Row) -> Answer {
-    let (manifest, _store) = made(alloc, small(row, 0)?, small(row, 1)?)?;
-    said(alloc, &manifest)
+    let (manifest, _store) = release_of(alloc, small(row, 0)?, small(row, 1)?)?;
+    manifest_line(alloc, &manifest)
 }
 
 /// `load-file NUMBER RELEASE PATH`: a file of a release, in hex digits, or `absent`.
 fn file(alloc: Global, row: &Row) -> Answer {
     let (number, r, path) = (small(row, 0)?, small(row, 1)?, row.word(2)?);
-    let (_manifest, mut store) = made(alloc, number, r)?;
+    let (_manifest, mut store) = release_of(alloc, number, r)?;
     file_in(alloc, path, &mut store)
 }
 
@@ -53,7 +53,7 @@ fn hex_of(alloc: Global, bytes: &[u8]) -> Answer {
 }
 
 /// `load-requests RELEASE`: the requests after a release.
-fn asked(alloc: Global, row: &Row) -> Answer {
+fn requests_after(alloc: Global, row: &Row) -> Answer {
     let catalogue = last_made(alloc, small(row, 0)?)?;
     let asked = requests(alloc, &catalogue, catalogue.count())?;
     Ok(asked.into_vec())
@@ -70,7 +70,7 @@ fn places_in(alloc: Global, row: &Row, catalogue: &Catalogue<Zone>) -> Answer {
     for token in row.words().get(1..).unwrap_or(&[]) {
         places.push(catalogue.place_of(token.as_slice()))?;
     }
-    shown(alloc, &places.as_slice())
+    debug_text(alloc, &places.as_slice())
 }
 
 /// `load-summary RELEASES REQUESTS FINE UNCHANGED ENTRIES`: the line of these counts.
@@ -97,8 +97,8 @@ fn last_made(alloc: Global, number: u32) -> Result<Catalogue<Zone>, CaseFault> {
 }
 
 fn first_made(alloc: Global, number: u32) -> Result<Catalogue<Zone>, CaseFault> {
-    let (manifest, mut store) = made(alloc, number, 1)?;
-    stated(first_stated(alloc, &manifest, &mut store))
+    let (manifest, mut store) = release_of(alloc, number, 1)?;
+    catalogue_in(first_stated(alloc, &manifest, &mut store))
 }
 
 fn next_made(
@@ -107,12 +107,12 @@ fn next_made(
     r: u32,
     last: &Catalogue<Zone>,
 ) -> Result<Catalogue<Zone>, CaseFault> {
-    let (manifest, mut store) = made(alloc, number, r)?;
-    stated(next_stated(alloc, &manifest, &mut store, last))
+    let (manifest, mut store) = release_of(alloc, number, r)?;
+    catalogue_in(next_stated(alloc, &manifest, &mut store, last))
 }
 
 /// The catalogue, if it could be made.
-fn stated(made: Result<Catalogue<Zone>, InstallFault>) -> Result<Catalogue<Zone>, CaseFault> {
+fn catalogue_in(made: Result<Catalogue<Zone>, InstallFault>) -> Result<Catalogue<Zone>, CaseFault> {
     match made {
         Ok(catalogue) => Ok(catalogue),
         Err(InstallFault::NoMemory) => Err(CaseFault::NoMemory),
@@ -121,7 +121,7 @@ fn stated(made: Result<Catalogue<Zone>, InstallFault>) -> Result<Catalogue<Zone>
 }
 
 /// A release of a load, if the load has one of this number.
-fn made(alloc: Global, n: u32, r: u32) -> Result<(Manifest, MemoryStore), CaseFault> {
+fn release_of(alloc: Global, n: u32, r: u32) -> Result<(Manifest, MemoryStore), CaseFault> {
     if r < 1 || n < r || 1_000 < n {
         return strange();
     }

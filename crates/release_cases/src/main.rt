@@ -8,11 +8,11 @@ ghost use Rattle.admission.specs.Rules.{KeepsAll, allows};
 ghost use Rattle.subscribers.specs.Wishes.{takes_by};
 
 // Installs, and rules for them.
+mod folder_installs;
 mod installs;
 mod joins;
-mod ruled;
+mod manifest_installs;
 mod rules;
-mod stated;
 
 // The made load.
 mod loads;
@@ -110,8 +110,8 @@ fn try_line<R: Wait + Print>(
 
 /// Reports a row whose answer is not the expected one.
 fn judge<R: Print>(rt: &R, table: &mut Table, row: &Row, answer: Answer) -> io::Result<()> {
-    if let Some(told) = table.judge(row, answer)? {
-        println!(rt; "{told}")?;
+    if let Some(report) = table.judge(row, answer)? {
+        println!(rt; "{report}")?;
     }
     Ok(())
 }
@@ -129,9 +129,9 @@ fn answer<R: Wait>(
     requires { KeepsAll (map (λ k. k.kind) kept.now) }
 {
     match row.kind() {
-        "stated" => stated::stated(rt, alloc, row, store, kept, asked),
-        "asked" => rules::asked(alloc, row, kept),
-        "ruled" => ruled::ruled(rt, alloc, row, store, kept, asked),
+        "stated" => manifest_installs::counts(rt, alloc, row, store, kept, asked),
+        "asked" => rules::decision(alloc, row, kept),
+        "ruled" => folder_installs::counts(rt, alloc, row, store, kept, asked),
         _ => answer_without_rules(rt, alloc, row, store, asked),
     }
 }
@@ -148,7 +148,7 @@ fn answer_without_rules<R: Wait>(
         "install" => installs::install(rt, alloc, row, store, asked),
         "joins" => joins::joins(rt, alloc, row, store, asked),
         "open" => installs::open(rt, alloc, row, store),
-        "serves" => stated::served(rt, alloc, row, store),
+        "serves" => manifest_installs::serves(rt, alloc, row, store),
         _ => answer_without_installs(alloc, row, store),
     }
 }

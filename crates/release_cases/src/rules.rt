@@ -3,7 +3,7 @@ ghost use Rattle.std.specs.Prelude.{map};
 ghost use Rattle.admission.specs.Rules.{KeepsAll};
 
 use admission::{Changed, Chosen, Delta, Kept, RuleKind, Rules};
-use case_lines::{Answer, CaseFault, Row, shown, signed};
+use case_lines::{Answer, CaseFault, Row, debug_text, signed_number};
 use folder_rows::strange;
 use std::alloc::Global;
 use td_base::{Bytes, Items};
@@ -15,7 +15,7 @@ const MOST_RULES: usize = 8;
 /// Parses a rule: `most=N` or `from=SECONDS`.
 fn rule(word: &[u8]) -> Result<Chosen, CaseFault> {
     if let Some(number) = word.strip_prefix(b"most=") {
-        let number = signed(number)?;
+        let number = signed_number(number)?;
         return Ok(Chosen {
             kind: RuleKind::MaxChanged,
             number,
@@ -24,7 +24,7 @@ fn rule(word: &[u8]) -> Result<Chosen, CaseFault> {
     let Some(number) = word.strip_prefix(b"from=") else {
         return strange();
     };
-    let number = signed(number)?;
+    let number = signed_number(number)?;
     Ok(Chosen {
         kind: RuleKind::NoPastChange,
         number,
@@ -56,13 +56,13 @@ fn add_rules(word: &[u8], chosen: &mut Vec<Chosen>) -> Result<(), CaseFault> {
 
 /// `asked RULES MOMENTS`: what rules decide about a release whose changes begin at these moments,
 /// in seconds, or never.
-pub fn asked(alloc: Global, row: &Row, kept: &[Kept]) -> Answer
+pub fn decision(alloc: Global, row: &Row, kept: &[Kept]) -> Answer
     requires { KeepsAll (map (λ k. k.kind) kept.now) }
 {
     let (rules, moments) = (row.word(0)?, row.word(1)?);
     let delta = delta(alloc, moments)?;
     let rules = self::rules(alloc, kept, rules)?;
-    shown(alloc, &rules.ask(&delta))
+    debug_text(alloc, &rules.ask(&delta))
 }
 
 /// A release with changes that begin at the moments of a word.
@@ -78,13 +78,13 @@ fn add_changes(alloc: Global, word: &[u8], changed: &mut Items<Changed>) -> Resu
     }
     for text in word.split(|byte| *byte == b',') {
         let first = moment(text)?;
-        changed.push(unnamed(alloc, first))?;
+        changed.push(change_at(alloc, first))?;
     }
     Ok(())
 }
 
 /// A zone without an identifier that changes at a moment.
-fn unnamed(alloc: Global, first: Option<Moment>) -> Changed {
+fn change_at(alloc: Global, first: Option<Moment>) -> Changed {
     let tzid = Bytes::new(alloc);
     Changed { tzid, first }
 }
@@ -94,6 +94,6 @@ fn moment(word: &[u8]) -> Result<Option<Moment>, CaseFault> {
     if word == b"never".as_slice() {
         return Ok(None);
     }
-    let seconds = signed(word)?;
+    let seconds = signed_number(word)?;
     Ok(Some(Moment { seconds }))
 }

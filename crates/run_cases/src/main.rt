@@ -75,10 +75,10 @@ where
     let mut script = Script::new(alloc);
     for line in rt.lines(alloc) {
         let line = line?;
-        if let Some(told) = script.read_line(rt, kept, wants, line.as_str())? {
-            println!(rt; "{told}")?;
+        if let Some(report) = script.read_line(rt, kept, wants, line.as_str())? {
+            println!(rt; "{report}")?;
         }
     }
-    let told = script.last_told()?;
-    println!(rt; "{told}")
+    let summary = script.summary()?;
+    println!(rt; "{summary}")
 }

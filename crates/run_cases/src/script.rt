@@ -36,7 +36,7 @@ impl Script {
 
     /// The report after the last line. It has how many runs ended otherwise than the table says, if
     /// the table had as many runs as its line `runs` says.
-    pub fn last_told(&self) -> Result<String, AllocError> {
+    pub fn summary(&self) -> Result<String, AllocError> {
         let (cases, right, stated) = (self.tally.cases, self.tally.right, self.stated);
         if cases != stated {
             return format!(in self.alloc; "{cases} runs, where the table says {stated}");
@@ -59,7 +59,7 @@ impl Script {
         requires wants { WantsAll (map (λ w. w.kind) wants.now) }
     {
         match self.take(rt, kept, wants, line) {
-            Ok(told) => Ok(told),
+            Ok(report) => Ok(report),
             Err(CaseFault::NoMemory) => Err(AllocError),
             Err(CaseFault::Strange) => Ok(Some(format!(in self.alloc; "strange line: {line}")?)),
         }
@@ -128,7 +128,7 @@ impl Script {
         let mut report = None;
         for number in 1..case.count_runs(how).saturating_add(1) {
             let trial = Trial::of(how, number);
-            let told = told_by(
+            let other = report_on(
                 rt,
                 self.alloc,
                 kept,
@@ -137,9 +137,9 @@ impl Script {
                 case,
                 trial,
             )?;
-            self.tally.count(told.is_none());
-            if told.is_some() {
-                report = told;
+            self.tally.count(other.is_none());
+            if other.is_some() {
+                report = other;
             }
         }
         Ok(report)
@@ -190,7 +190,7 @@ fn push_file(
 }
 
 /// Runs a case, and reports on it if it ended otherwise than the table says.
-fn told_by<R: Threads + Wait + Copy + Send + 'static>(
+fn report_on<R: Threads + Wait + Copy + Send + 'static>(
     rt: &R,
     alloc: Global,
     kept: &[Kept],
@@ -211,6 +211,6 @@ fn told_by<R: Threads + Wait + Copy + Send + 'static>(
 
 /// The report on a run that ended otherwise.
 fn as_line(alloc: Global, case: &Case, ending: &RunResult) -> Result<String, AllocError> {
-    let (title, ending) = (case.title.as_str(), ending.told(alloc)?);
+    let (title, ending) = (case.title.as_str(), ending.as_text(alloc)?);
     format!(in alloc; "{title}: ended with {ending}")
 }

@@ -131,7 +131,7 @@ impl RunStage {
         Ok(RunResult {
             status: outcome.status,
             output,
-            begun: self.peers.spawner.begun(),
+            begun: self.peers.spawner.starts(),
             asked: calls.asked,
             reached: calls.reached,
             doors,
@@ -207,26 +207,26 @@ fn exchanges_of(
     up: &Option<CaseUpstream>,
 ) -> Result<Option<Vec<PastExchange>>, NoMemory> {
     match up {
-        Some(upstream) => Ok(Some(told_by(alloc, upstream)?)),
+        Some(upstream) => Ok(Some(past_exchanges(alloc, upstream)?)),
         None => Ok(None),
     }
 }
 
-fn told_by(alloc: Global, upstream: &CaseUpstream) -> Result<Vec<PastExchange>, NoMemory> {
-    let mut told = Vec::new(alloc);
+fn past_exchanges(alloc: Global, upstream: &CaseUpstream) -> Result<Vec<PastExchange>, NoMemory> {
+    let mut exchanges = Vec::new(alloc);
     for exchange in upstream.inner().told() {
-        push_exchange(alloc, &mut told, exchange)?;
+        push_exchange(alloc, &mut exchanges, exchange)?;
     }
-    Ok(told)
+    Ok(exchanges)
 }
 
 fn push_exchange(
     alloc: Global,
-    told: &mut Vec<PastExchange>,
+    exchanges: &mut Vec<PastExchange>,
     exchange: &Exchange,
 ) -> Result<(), NoMemory> {
     let request = Vec::from_slice(alloc, exchange.request.as_slice())?;
-    told.push(PastExchange {
+    exchanges.push(PastExchange {
         request,
         most: exchange.most,
         after: 0,

@@ -110,8 +110,8 @@ impl Case {
     /// Whether the exchanges of a run are those that it must make.
     fn meets_exchanges(&self, trial: Trial, ending: &RunResult) -> bool {
         match (&self.ending.exchanges, &ending.exchanges) {
-            (Some(wanted), Some(told)) => {
-                are_met(wanted.as_slice(), told.as_slice(), self.wanted_end(trial))
+            (Some(wanted), Some(seen)) => {
+                are_met(wanted.as_slice(), seen.as_slice(), self.wanted_end(trial))
             }
             (None, None) => true,
             _ => false,

@@ -1,6 +1,6 @@
 //! How a run ends, as the table says it and as it is compared.
 use crate::exchanges::PastExchange;
-use case_lines::{CaseFault, Texts, Told, cut, number, numbers, written};
+use case_lines::{AnswerBuilder, CaseFault, Texts, cut, escape, number, numbers};
 use std::alloc::{AllocError, Global};
 use td_base::End;
 
@@ -110,41 +110,41 @@ impl RunResult {
     }
 
     /// The end as the table would write it.
-    pub fn told(&self, alloc: Global) -> Result<String, AllocError> {
-        let mut told = Told::new(alloc);
-        self.tell(&mut told);
-        match told.answer() {
-            Ok(text) => written(alloc, text.as_slice()),
+    pub fn as_text(&self, alloc: Global) -> Result<String, AllocError> {
+        let mut builder = AnswerBuilder::new(alloc);
+        self.add_to(&mut builder);
+        match builder.finish() {
+            Ok(text) => escape(alloc, text.as_slice()),
             Err(_) => Err(AllocError),
         }
     }
 
-    fn tell(&self, told: &mut Told) {
-        told.value(&self.status);
-        told.bytes(b" ");
-        told.bytes(self.output.as_slice());
+    fn add_to(&self, builder: &mut AnswerBuilder) {
+        builder.add_debug(&self.status);
+        builder.add_bytes(b" ");
+        builder.add_bytes(self.output.as_slice());
         for asked in &self.asked {
-            asked.tell(told);
+            asked.add_to(builder);
         }
         if self.begun > 0 {
-            told.bytes(b", starts ");
-            told.value(&self.begun);
+            builder.add_bytes(b", starts ");
+            builder.add_debug(&self.begun);
         }
         for door in &self.doors {
-            door.tell(told);
+            door.add_to(builder);
         }
-        self.tell_upstream(told);
+        self.add_upstream(builder);
     }
 
-    fn tell_upstream(&self, told: &mut Told) {
+    fn add_upstream(&self, builder: &mut AnswerBuilder) {
         for address in &self.reached {
-            told.bytes(b", reaches ");
-            told.bytes(address.as_slice());
+            builder.add_bytes(b", reaches ");
+            builder.add_bytes(address.as_slice());
         }
         if let Some(exchanges) = &self.exchanges {
-            told.bytes(b", up");
+            builder.add_bytes(b", up");
             for exchange in exchanges {
-                exchange.tell(told);
+                exchange.add_to(builder);
             }
         }
     }
@@ -161,20 +161,20 @@ impl NetworkAsked {
         })
     }
 
-    fn tell(&self, told: &mut Told) {
-        told.bytes(b", asks ");
-        told.bytes(self.address.as_slice());
-        told.bytes(b" ");
-        told.value(&self.doors);
+    fn add_to(&self, builder: &mut AnswerBuilder) {
+        builder.add_bytes(b", asks ");
+        builder.add_bytes(self.address.as_slice());
+        builder.add_bytes(b" ");
+        builder.add_debug(&self.doors);
     }
 }
 
 impl DoorEnd {
-    fn tell(&self, told: &mut Told) {
-        told.bytes(b", back ");
-        told.value(&self.coming);
+    fn add_to(&self, builder: &mut AnswerBuilder) {
+        builder.add_bytes(b", back ");
+        builder.add_debug(&self.coming);
         for served in &self.served {
-            served.tell(told);
+            served.add_to(builder);
         }
     }
 }
@@ -193,26 +193,26 @@ impl ConnEnd {
         })
     }
 
-    fn tell(&self, told: &mut Told) {
-        told.bytes(b", served ");
-        told.bytes(name_of(self.end));
-        told.bytes(b" ");
-        tell_places(told, self.places.as_slice());
-        told.bytes(b" ");
-        told.bytes(self.output.as_slice());
+    fn add_to(&self, builder: &mut AnswerBuilder) {
+        builder.add_bytes(b", served ");
+        builder.add_bytes(name_of(self.end));
+        builder.add_bytes(b" ");
+        add_places(builder, self.places.as_slice());
+        builder.add_bytes(b" ");
+        builder.add_bytes(self.output.as_slice());
     }
 }
 
 /// The places, separated by commas. A dash means none.
-fn tell_places(told: &mut Told, places: &[u32]) {
+fn add_places(builder: &mut AnswerBuilder, places: &[u32]) {
     if places.is_empty() {
-        told.bytes(b"-");
+        builder.add_bytes(b"-");
     }
     for (at, place) in places.iter().enumerate() {
         if at > 0 {
-            told.bytes(b",");
+            builder.add_bytes(b",");
         }
-        told.value(place);
+        builder.add_debug(place);
     }
 }
 

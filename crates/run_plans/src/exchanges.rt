@@ -1,5 +1,5 @@
 //! The exchanges of a run with its upstream.
-use case_lines::{CaseFault, Texts, Told};
+use case_lines::{AnswerBuilder, CaseFault, Texts};
 
 /// The limit that each exchange of the table sets for its answer, in bytes.
 const MOST: u64 = 8_388_608;
@@ -25,12 +25,12 @@ impl PastExchange {
     }
 
     /// Appends it as the table would write it.
-    pub fn tell(&self, told: &mut Told) {
-        told.bytes(b", exchange ");
-        told.bytes(self.request.as_slice());
+    pub fn add_to(&self, builder: &mut AnswerBuilder) {
+        builder.add_bytes(b", exchange ");
+        builder.add_bytes(self.request.as_slice());
         if self.most != MOST {
-            told.bytes(b" of ");
-            told.value(&self.most);
+            builder.add_bytes(b" of ");
+            builder.add_debug(&self.most);
         }
     }
 
@@ -42,8 +42,8 @@ impl PastExchange {
 
 /// Whether the exchanges of a run are exactly those of the table that come before its output ends,
 /// at this position.
-pub fn are_met(table: &[PastExchange], told: &[PastExchange], end: usize) -> bool {
-    let mut left = told.iter();
+pub fn are_met(table: &[PastExchange], seen: &[PastExchange], end: usize) -> bool {
+    let mut left = seen.iter();
     for wanted in table {
         if wanted.after > end {
             continue;

@@ -92,7 +92,7 @@ impl<S> WatchedSpawner<S> {
     }
 
     /// How often it was to start a work.
-    pub fn begun(&self) -> u64 {
+    pub fn starts(&self) -> u64 {
         self.begun
     }
 }

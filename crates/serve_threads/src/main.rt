@@ -69,7 +69,7 @@ fn main(rt: HostRuntime) -> io::Result<()> {
         &mut spawner,
     );
     for door in &outcome.doors {
-        let (end, places, answers) = served(door);
+        let (end, places, answers) = end_of(door);
         println!(rt; "{end}, {places} places, {answers} answers")?;
     }
     println!(rt; "status {}", outcome.status)?;
@@ -100,7 +100,7 @@ fn words(alloc: Global) -> Result<Vec<Bytes>, NoMemory> {
 
 /// How the connection of a door ended, how many of its requests have a place, and how many answers
 /// were written to it.
-fn served(door: &GateDoor) -> (&'static str, usize, usize) {
+fn end_of(door: &GateDoor) -> (&'static str, usize, usize) {
     match door.served() {
         Some((conn, report)) => (
             name_of(report.end),

@@ -45,7 +45,7 @@ fn as_line(alloc: Global, done: &DoorDone<ListedDoor>) -> Result<Vec<u8>, AllocE
     for (conn, report) in &done.door.finished {
         out.push(letter(conn, report))?;
     }
-    let (left, worn) = (done.door.left(), done.worn);
+    let (left, worn) = (done.door.steps_left(), done.worn);
     out.extend_from_slice(format!(in alloc; " {left} {worn}")?.as_bytes())?;
     Ok(out)
 }

@@ -73,7 +73,7 @@ impl ListedDoor {
     }
 
     /// How many steps are left.
-    pub fn left(&self) -> usize {
+    pub fn steps_left(&self) -> usize {
         self.steps.len()
     }
 }

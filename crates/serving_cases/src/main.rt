@@ -23,8 +23,8 @@ fn main(rt: HostRuntime) -> io::Result<()> {
     for line in rt.lines(alloc) {
         let line = line?;
         if let Some(row) = table.row(line.as_str())? {
-            if let Some(told) = table.judge(&row, answer(&rt, alloc, &row))? {
-                println!(rt; "{told}")?;
+            if let Some(report) = table.judge(&row, answer(&rt, alloc, &row))? {
+                println!(rt; "{report}")?;
             }
         }
     }
@@ -38,9 +38,9 @@ fn answer<R: Wait>(rt: &R, alloc: Global, row: &Row) -> Answer {
         "stream" => streams::stream(rt, alloc, row),
         "once" => streams::once(rt, alloc, row),
         "failing" => streams::failing(rt, alloc, row),
-        "refused" => streams::refused(rt, alloc, row),
+        "refused" => streams::without_publisher(rt, alloc, row),
         "door" => doors::door(rt, alloc, row),
-        "computed" => streams::computed(rt, alloc, row),
+        "computed" => streams::computations(rt, alloc, row),
         "worker" => workers::worker(rt, alloc, row),
         "laws" => laws(alloc),
         _ => Err(CaseFault::Strange),

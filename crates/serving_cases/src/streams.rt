@@ -1,6 +1,6 @@
 //! One connection that is served over a desk.
 use crate::desks::one_desk;
-use case_lines::{Answer, Row, shown};
+use case_lines::{Answer, Row, debug_text};
 use catalogue::Catalogue;
 use connection::serve;
 use publication::Desk;
@@ -17,9 +17,9 @@ pub fn stream<R: Wait>(rt: &R, alloc: Global, row: &Row) -> Answer {
     let input = row.word(0)?;
     let (publisher, desk) = one_desk(rt, alloc)?;
     let mut desk = desk;
-    let told = in_each_cut(alloc, &mut desk, input);
+    let answer = in_each_cut(alloc, &mut desk, input);
     publisher.close(rt);
-    told
+    answer
 }
 
 /// `once CUT TEXT`: the same when the first read gives CUT bytes.
@@ -27,34 +27,38 @@ pub fn once<R: Wait>(rt: &R, alloc: Global, row: &Row) -> Answer {
     let (cut, input) = (row.number(0)?, row.word(1)?);
     let (publisher, desk) = one_desk(rt, alloc)?;
     let mut desk = desk;
-    let told = served(alloc, &mut desk, input, cut as usize);
+    let answer = serve_stream(alloc, &mut desk, input, cut as usize);
     publisher.close(rt);
-    told
+    answer
 }
 
 /// `computed TEXT`: how many answers were computed for a connection with this input.
-pub fn computed<R: Wait>(rt: &R, alloc: Global, row: &Row) -> Answer {
+pub fn computations<R: Wait>(rt: &R, alloc: Global, row: &Row) -> Answer {
     let input = row.word(0)?;
     let (publisher, desk) = one_desk(rt, alloc)?;
     let mut desk = desk;
-    let counted = counted(alloc, &mut desk, input);
+    let counted = count_computed(alloc, &mut desk, input);
     publisher.close(rt);
-    shown(alloc, &counted?)
+    debug_text(alloc, &counted?)
 }
 
-fn counted(alloc: Global, desk: &mut Desk<Catalogue<Zone>>, input: &[u8]) -> Result<u64, NoMemory> {
+fn count_computed(
+    alloc: Global,
+    desk: &mut Desk<Catalogue<Zone>>,
+    input: &[u8],
+) -> Result<u64, NoMemory> {
     let mut conn = conn_of(alloc, input, 1)?;
     let report = serve(alloc, &Role::Primary, desk, &mut conn);
     Ok(report.computed)
 }
 
 /// `refused TEXT`: the same after the publisher is gone, when each enter is refused.
-pub fn refused<R: Wait>(rt: &R, alloc: Global, row: &Row) -> Answer {
+pub fn without_publisher<R: Wait>(rt: &R, alloc: Global, row: &Row) -> Answer {
     let input = row.word(0)?;
     let (publisher, desk) = one_desk(rt, alloc)?;
     let mut desk = desk;
     publisher.close(rt);
-    served(alloc, &mut desk, input, 1)
+    serve_stream(alloc, &mut desk, input, 1)
 }
 
 /// `failing READ WRITE CUT TEXT`: the same over a connection in which this read and this write
@@ -64,33 +68,38 @@ pub fn failing<R: Wait>(rt: &R, alloc: Global, row: &Row) -> Answer {
     let (cut, input) = (row.number(2)?, row.word(3)?);
     let (publisher, desk) = one_desk(rt, alloc)?;
     let mut desk = desk;
-    let told = served_failing(alloc, &mut desk, input, cut as usize, calls);
+    let answer = serve_failing(alloc, &mut desk, input, cut as usize, calls);
     publisher.close(rt);
-    told
+    answer
 }
 
 fn in_each_cut(alloc: Global, desk: &mut Desk<Catalogue<Zone>>, input: &[u8]) -> Answer {
-    let told = served(alloc, desk, input, 1)?;
+    let answer = serve_stream(alloc, desk, input, 1)?;
     for cut in 2..200 {
-        let other = served(alloc, desk, input, cut)?;
-        if other.as_slice() != told.as_slice() {
+        let other = serve_stream(alloc, desk, input, cut)?;
+        if other.as_slice() != answer.as_slice() {
             return differs(alloc, cut);
         }
     }
-    Ok(told)
+    Ok(answer)
 }
 
 fn differs(alloc: Global, cut: usize) -> Answer {
     Ok(format!(in alloc; "another answer where the first read gives {cut}")?.into_bytes())
 }
 
-fn served(alloc: Global, desk: &mut Desk<Catalogue<Zone>>, input: &[u8], cut: usize) -> Answer {
+fn serve_stream(
+    alloc: Global,
+    desk: &mut Desk<Catalogue<Zone>>,
+    input: &[u8],
+    cut: usize,
+) -> Answer {
     let mut conn = conn_of(alloc, input, cut)?;
     let report = serve(alloc, &Role::Primary, desk, &mut conn);
     Ok(as_line(alloc, conn.sink.taken(), &report)?)
 }
 
-fn served_failing(
+fn serve_failing(
     alloc: Global,
     desk: &mut Desk<Catalogue<Zone>>,
     input: &[u8],

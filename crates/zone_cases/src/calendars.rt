@@ -91,7 +91,7 @@ fn end_after(row: &Row, from: Moment) -> Result<Option<Moment>, CaseFault>
     if row.word(2)? == b"-".as_slice() {
         return Ok(None);
     }
-    let seconds = row.signed(2)?;
+    let seconds = row.signed_number(2)?;
     if seconds <= from.seconds || seconds > HI {
         return Err(CaseFault::Strange);
     }

@@ -1,5 +1,5 @@
 //! Parsing zone files.
-use case_lines::{Answer, CaseFault, Row, Told, printed};
+use case_lines::{Answer, AnswerBuilder, CaseFault, Row, display_text};
 use std::alloc::Global;
 use td_base::texts;
 use td_civil::{Local, Moment};
@@ -9,7 +9,7 @@ use tzif_reader::{LeapLine, TzifFault, ZoneFile, read};
 pub fn file(alloc: Global, row: &Row) -> Answer {
     match read(alloc, row.word(0)?) {
         Ok(file) => as_line(alloc, &file),
-        Err(fault) => printed(alloc, &fault),
+        Err(fault) => display_text(alloc, &fault),
     }
 }
 
@@ -21,13 +21,13 @@ pub fn start(alloc: Global, row: &Row) -> Answer {
 
 /// `edited BYTES PLACE BYTES`, with more places: the fault of a file in which these bytes replace
 /// those at these places.
-pub fn edited(alloc: Global, row: &Row) -> Answer {
+pub fn edit(alloc: Global, row: &Row) -> Answer {
     let mut bytes = Vec::from_slice(alloc, row.word(0)?)?;
-    edit(bytes.as_mut_slice(), row)?;
+    replace_all(bytes.as_mut_slice(), row)?;
     fault_of(alloc, bytes.as_slice())
 }
 
-fn edit(bytes: &mut [u8], row: &Row) -> Result<(), CaseFault> {
+fn replace_all(bytes: &mut [u8], row: &Row) -> Result<(), CaseFault> {
     for at in 0..row.words().len().saturating_sub(1) / 2 {
         let (place, with) = (row.number(at * 2 + 1)?, row.word(at * 2 + 2)?);
         replace(bytes, place as usize, with)?;
@@ -47,55 +47,55 @@ fn replace(bytes: &mut [u8], place: usize, with: &[u8]) -> Result<(), CaseFault>
 
 /// `no-memory`: what is printed when memory runs out.
 pub fn no_memory(alloc: Global) -> Answer {
-    printed(alloc, &TzifFault::NoMemory)
+    display_text(alloc, &TzifFault::NoMemory)
 }
 
 fn fault_of(alloc: Global, bytes: &[u8]) -> Answer {
     match read(alloc, bytes) {
         Ok(_) => case_lines::bytes(alloc, b"no fault"),
-        Err(fault) => printed(alloc, &fault),
+        Err(fault) => display_text(alloc, &fault),
     }
 }
 
 /// The content of a file: its moments, numbers, types, leap lines and footer.
 fn as_line(alloc: Global, file: &ZoneFile) -> Answer {
-    let mut told = Told::new(alloc);
-    tell_moments(&mut told, file.moments.as_slice());
-    told.bytes(b", numbers ");
-    told.value(&file.numbers.as_slice());
-    tell_kinds(&mut told, file.kinds.as_slice());
-    tell_leaps(&mut told, file.leaps.as_slice());
-    told.bytes(b", footer ");
-    told.bytes(file.footer.as_slice());
-    told.answer()
+    let mut builder = AnswerBuilder::new(alloc);
+    add_moments(&mut builder, file.moments.as_slice());
+    builder.add_bytes(b", numbers ");
+    builder.add_debug(&file.numbers.as_slice());
+    add_kinds(&mut builder, file.kinds.as_slice());
+    add_leaps(&mut builder, file.leaps.as_slice());
+    builder.add_bytes(b", footer ");
+    builder.add_bytes(file.footer.as_slice());
+    builder.finish()
 }
 
-fn tell_moments(told: &mut Told, moments: &[Moment]) {
-    told.bytes(b"moments");
+fn add_moments(builder: &mut AnswerBuilder, moments: &[Moment]) {
+    builder.add_bytes(b"moments");
     for moment in moments {
-        told.bytes(b" ");
-        told.value(&moment.seconds);
+        builder.add_bytes(b" ");
+        builder.add_debug(&moment.seconds);
     }
 }
 
-fn tell_kinds(told: &mut Told, kinds: &[Local]) {
-    told.bytes(b", types");
+fn add_kinds(builder: &mut AnswerBuilder, kinds: &[Local]) {
+    builder.add_bytes(b", types");
     for kind in kinds {
-        told.bytes(b" ");
-        told.value(&kind.offset);
-        told.bytes(b" ");
-        told.value(&kind.dst);
-        told.bytes(b" ");
-        told.bytes(kind.name.as_slice());
+        builder.add_bytes(b" ");
+        builder.add_debug(&kind.offset);
+        builder.add_bytes(b" ");
+        builder.add_debug(&kind.dst);
+        builder.add_bytes(b" ");
+        builder.add_bytes(kind.name.as_slice());
     }
 }
 
-fn tell_leaps(told: &mut Told, leaps: &[LeapLine]) {
-    told.bytes(b", leaps");
+fn add_leaps(builder: &mut AnswerBuilder, leaps: &[LeapLine]) {
+    builder.add_bytes(b", leaps");
     for line in leaps {
-        told.bytes(b" ");
-        told.value(&line.at);
-        told.bytes(b" ");
-        told.value(&line.correction);
+        builder.add_bytes(b" ");
+        builder.add_debug(&line.at);
+        builder.add_bytes(b" ");
+        builder.add_debug(&line.correction);
     }
 }

@@ -1,6 +1,6 @@
 //! Tables of leap seconds.
 use crate::plans::leap_lines;
-use case_lines::{Answer, CaseFault, Row, Told, printed};
+use case_lines::{Answer, AnswerBuilder, CaseFault, Row, display_text};
 use catalogue::Leaps;
 use leap_table::from_file;
 use std::alloc::Global;
@@ -20,7 +20,7 @@ fn steps_of(alloc: Global, file: &ZoneFile) -> Answer {
     }
     match from_file(alloc, file, b"the file", b"2025-12-28") {
         Ok(table) => as_line(alloc, &table),
-        Err(fault) => printed(alloc, &fault),
+        Err(fault) => display_text(alloc, &fault),
     }
 }
 
@@ -48,16 +48,16 @@ fn add_lines(alloc: Global, leaps: &mut Items<LeapLine>, word: &[u8]) -> Result<
 }
 
 fn as_line(alloc: Global, table: &Leaps) -> Answer {
-    let mut told = Told::new(alloc);
+    let mut builder = AnswerBuilder::new(alloc);
     for step in table.steps.as_slice() {
-        told.value(&step.day);
-        told.bytes(b" ");
-        told.value(&step.offset);
-        told.bytes(b";");
+        builder.add_debug(&step.day);
+        builder.add_bytes(b" ");
+        builder.add_debug(&step.offset);
+        builder.add_bytes(b";");
     }
-    told.bytes(b" ");
-    told.bytes(table.file.as_slice());
-    told.bytes(b" ");
-    told.bytes(table.expires.as_slice());
-    told.answer()
+    builder.add_bytes(b" ");
+    builder.add_bytes(table.file.as_slice());
+    builder.add_bytes(b" ");
+    builder.add_bytes(table.expires.as_slice());
+    builder.finish()
 }

@@ -15,13 +15,13 @@ pub fn line(alloc: Global, row: &Row) -> Answer {
 /// `unfold TEXT`: its lines, each followed by a bar, or its fault.
 pub fn unfold(alloc: Global, row: &Row) -> Answer {
     match ical_lines::unfold(alloc, row.word(0)?) {
-        Ok(lines) => barred(alloc, lines.as_slice()),
+        Ok(lines) => with_bars(alloc, lines.as_slice()),
         Err(BadLine::NoMemory) => Err(CaseFault::NoMemory),
         Err(fault) => Ok(format!(in alloc; "{fault}")?.into_bytes()),
     }
 }
 
-fn barred(alloc: Global, lines: &[Bytes]) -> Answer {
+fn with_bars(alloc: Global, lines: &[Bytes]) -> Answer {
     let mut out = Bytes::new(alloc);
     for line in lines {
         out.append(line.as_slice())?;

@@ -45,8 +45,8 @@ fn try_line(rt: &impl Print, alloc: Global, table: &mut Table, line: &str) -> io
         return Ok(());
     };
     let answer = answer(alloc, &row);
-    if let Some(told) = table.judge(&row, answer)? {
-        println!(rt; "{told}")?;
+    if let Some(report) = table.judge(&row, answer)? {
+        println!(rt; "{report}")?;
     }
     Ok(())
 }
@@ -57,7 +57,7 @@ fn answer(alloc: Global, row: &Row) -> Answer {
         "slim" => plans::slim_file(alloc, row),
         "file" => files::file(alloc, row),
         "start" => files::start(alloc, row),
-        "edited" => files::edited(alloc, row),
+        "edited" => files::edit(alloc, row),
         "no-memory" => files::no_memory(alloc),
         "leaps" => leaps::steps(alloc, row),
         "laws" => laws::laws(alloc),
@@ -81,7 +81,7 @@ fn of_rules(alloc: Global, row: &Row) -> Answer {
 fn of_zones(alloc: Global, row: &Row) -> Answer {
     match row.kind() {
         "zone" => zones::zone(alloc, row),
-        "printed" => zones::printed(alloc, row),
+        "printed" => zones::fault_text(alloc, row),
         "state" => zones::state(alloc, row),
         "differ" => zones::differ(alloc, row),
         "observances" => observances::observances(alloc, row),

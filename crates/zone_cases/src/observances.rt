@@ -3,7 +3,7 @@ ghost use Rattle.std.specs.Prelude.{◌≡◌, IfOk};
 ghost use Rattle.zone_meaning.specs.Observed.{IsRange};
 
 use crate::zones::zone_at;
-use case_lines::{Answer, CaseFault, Row, shown};
+use case_lines::{Answer, CaseFault, Row, debug_text};
 use std::alloc::Global;
 use td_base::{Bytes, Items};
 use td_civil::{HI, LO, Moment, Observance};
@@ -13,8 +13,8 @@ use zone_meaning::{Changes, Zone};
 fn range_at(row: &Row, at: usize) -> Result<(Moment, Moment), CaseFault>
     ensures { IfOk result (λ range. IsRange range.0.seconds range.1.seconds) }
 {
-    let from = row.signed(at)?;
-    let end = row.signed(at.saturating_add(1))?;
+    let from = row.signed_number(at)?;
+    let end = row.signed_number(at.saturating_add(1))?;
     if from < LO || end <= from || end > HI {
         return Err(CaseFault::Strange);
     }
@@ -26,11 +26,11 @@ fn range_at(row: &Row, at: usize) -> Result<(Moment, Moment), CaseFault>
 pub fn observances(alloc: Global, row: &Row) -> Answer {
     let range = range_at(row, 1)?;
     let zone = zone_at(alloc, row, 0)?;
-    listed(alloc, &zone, range)
+    observances_of(alloc, &zone, range)
 }
 
 /// The observances of a zone in a range, if the iteration gives the same as the list.
-fn listed(alloc: Global, zone: &Zone, range: (Moment, Moment)) -> Answer
+fn observances_of(alloc: Global, zone: &Zone, range: (Moment, Moment)) -> Answer
     requires { IsRange range.0.seconds range.1.seconds }
 {
     let list = list(alloc, zone, range)?;
@@ -98,7 +98,7 @@ pub fn same(alloc: Global, row: &Row) -> Answer {
 
 fn same_number(alloc: Global, one: &[Observance], two: &[Observance]) -> Answer {
     if one == two {
-        shown(alloc, &one.len())
+        debug_text(alloc, &one.len())
     } else {
         other(alloc)
     }

@@ -1,5 +1,5 @@
 //! Slim zone files made from plans.
-use case_lines::{Answer, CaseFault, Row, signed};
+use case_lines::{Answer, CaseFault, Row, signed_number};
 use std::alloc::Global;
 use td_base::texts;
 use tzif_reader::{Plan, slim};
@@ -46,7 +46,7 @@ fn times(alloc: Global, word: &[u8]) -> Result<Vec<i64>, CaseFault> {
     let mut times = Vec::new(alloc);
     if word != b"-".as_slice() {
         for piece in word.split(|byte| *byte == b',') {
-            times.push(signed(piece)?)?;
+            times.push(signed_number(piece)?)?;
         }
     }
     Ok(times)
@@ -79,13 +79,17 @@ pub fn leap_lines(alloc: Global, word: &[u8]) -> Result<Vec<(i64, i32)>, CaseFau
 
 fn leap_line(text: &[u8]) -> Result<(i64, i32), CaseFault> {
     let (time, correction) = texts::cut(text, b':');
-    Ok((signed(time)?, short(correction.unwrap_or(&[]))?))
+    Ok((signed_number(time)?, short(correction.unwrap_or(&[]))?))
 }
 
 fn short(text: &[u8]) -> Result<i32, CaseFault> {
-    i32::try_from(signed(text)?).ok().ok_or(CaseFault::Strange)
+    i32::try_from(signed_number(text)?)
+        .ok()
+        .ok_or(CaseFault::Strange)
 }
 
 fn byte(text: &[u8]) -> Result<u8, CaseFault> {
-    u8::try_from(signed(text)?).ok().ok_or(CaseFault::Strange)
+    u8::try_from(signed_number(text)?)
+        .ok()
+        .ok_or(CaseFault::Strange)
 }

@@ -12,7 +12,7 @@ use vtimezone_reader::CalendarFault;
 pub fn read(alloc: Global, row: &Row) -> Answer {
     match vtimezone_reader::read(alloc, row.word(0)?) {
         Ok(calendar) => calendar_text(alloc, &calendar),
-        Err(fault) => refused(alloc, fault),
+        Err(fault) => refusal(alloc, fault),
     }
 }
 
@@ -24,11 +24,11 @@ pub fn expand(alloc: Global, row: &Row) -> Answer {
             let list = vtimezone_reader::expand(alloc, &calendar, from, end)?;
             observances_text(alloc, list.as_slice())
         }
-        Err(fault) => refused(alloc, fault),
+        Err(fault) => refusal(alloc, fault),
     }
 }
 
-fn refused(alloc: Global, fault: CalendarFault) -> Answer {
+fn refusal(alloc: Global, fault: CalendarFault) -> Answer {
     match fault {
         CalendarFault::NoMemory => Err(CaseFault::NoMemory),
         _ => Ok(format!(in alloc; "{fault}")?.into_bytes()),
@@ -39,8 +39,8 @@ fn refused(alloc: Global, fault: CalendarFault) -> Answer {
 fn range(row: &Row) -> Result<(Moment, Moment), CaseFault>
     ensures { IfOk result (λ range. IsRange range.0.seconds range.1.seconds) }
 {
-    let from = row.signed(1)?;
-    let end = row.signed(2)?;
+    let from = row.signed_number(1)?;
+    let end = row.signed_number(2)?;
     if from < LO || end <= from || end > HI {
         return Err(CaseFault::Strange);
     }

@@ -3,7 +3,7 @@ ghost use Rattle.std.specs.Prelude.{◌≡◌, pos, IfOk};
 ghost use Rattle.jiff_core.specs.Calendar.{IsBetween};
 
 use crate::zones::state_text;
-use case_lines::{Answer, CaseFault, Row, shown};
+use case_lines::{Answer, CaseFault, Row, debug_text};
 use recurrence::{Carried, Form, Rule, occurrence};
 use std::alloc::Global;
 use td_base::Bytes;
@@ -25,7 +25,7 @@ pub fn carry(alloc: Global, row: &Row) -> Answer {
 /// `valid SECOND FORM NUMBER ..`: whether the rule is valid.
 pub fn valid(alloc: Global, row: &Row) -> Answer {
     let rule = rule_at(row, 0)?;
-    shown(alloc, &recurrence::valid(&rule))
+    debug_text(alloc, &recurrence::valid(&rule))
 }
 
 /// `day YEAR SECOND FORM NUMBER ..`: the day number and the second of the rule in the year.
@@ -35,7 +35,7 @@ pub fn day(alloc: Global, row: &Row) -> Answer {
     if !recurrence::valid(&rule) {
         return Err(CaseFault::Strange);
     }
-    shown(alloc, &occurrence(&rule, year))
+    debug_text(alloc, &occurrence(&rule, year))
 }
 
 fn year_in(row: &Row) -> Result<i32, CaseFault>
@@ -112,7 +112,7 @@ fn byte(row: &Row, at: usize) -> Result<u8, CaseFault> {
 
 /// A number of one digit, which may be below zero.
 fn ordinal(row: &Row, at: usize) -> Result<i8, CaseFault> {
-    match row.signed(at)? {
+    match row.signed_number(at)? {
         number @ -9..=9 => Ok(number as i8),
         _ => Err(CaseFault::Strange),
     }
@@ -120,7 +120,7 @@ fn ordinal(row: &Row, at: usize) -> Result<i8, CaseFault> {
 
 /// A number of three digits at most.
 fn small(row: &Row, at: usize) -> Result<i16, CaseFault> {
-    match row.signed(at)? {
+    match row.signed_number(at)? {
         number @ -999..=999 => Ok(number as i16),
         _ => Err(CaseFault::Strange),
     }

@@ -2,7 +2,7 @@
 ghost use Rattle.std.specs.Prelude.{◌≡◌, IfOk};
 ghost use Rattle.td_civil.specs.Bounds.{HasMeaning};
 
-use case_lines::{Answer, CaseFault, Row, shown};
+use case_lines::{Answer, CaseFault, Row, debug_text};
 use catalogue::ZoneData;
 use posix_footer::FooterFault;
 use std::alloc::Global;
@@ -32,7 +32,7 @@ pub fn zone_at(alloc: Global, row: &Row, at: usize) -> Result<Zone, CaseFault> {
 pub fn moment_at(row: &Row, at: usize) -> Result<Moment, CaseFault>
     ensures { IfOk result (λ m. HasMeaning m.seconds) }
 {
-    let seconds = row.signed(at)?;
+    let seconds = row.signed_number(at)?;
     if seconds < LO || seconds >= HI {
         return Err(CaseFault::Strange);
     }
@@ -75,7 +75,7 @@ fn is_same_again(alloc: Global, zone: &Zone, bytes: Bytes) -> Result<bool, CaseF
 }
 
 /// `printed FAULT`: the text of the fault.
-pub fn printed(alloc: Global, row: &Row) -> Answer {
+pub fn fault_text(alloc: Global, row: &Row) -> Answer {
     let fault = match row.word(0)? {
         b"NoMemory" => ZoneFault::NoMemory,
         b"TooLate" => ZoneFault::Tzif(TzifFault::TooLate),
@@ -116,6 +116,6 @@ fn difference(alloc: Global, row: &Row, one: &Zone) -> Answer {
 fn moment_text(alloc: Global, moment: Option<Moment>) -> Answer {
     match moment {
         None => Ok(Vec::from_slice(alloc, b"none")?),
-        Some(moment) => shown(alloc, &moment.seconds),
+        Some(moment) => debug_text(alloc, &moment.seconds),
     }
 }

@@ -5,7 +5,7 @@ ghost use Rattle.admission.specs.Rules.{KeepsAll};
 
 use crate::rules::rules;
 use admission::Kept;
-use case_lines::{Answer, CaseFault, Row, Told, printed};
+use case_lines::{Answer, AnswerBuilder, CaseFault, Row, display_text};
 use folder_rows::strange;
 use installer::{InstallFault, InstallPolicy, Installer};
 use release_manifest::{MOST_BYTES, Manifest, ManifestLeaps, ManifestZone, read};
@@ -17,7 +17,7 @@ use td_base::{Bytes, FileRead, Items, MemoryStore, NoMemory, Store};
 /// `stated RULES DIR DIR DIR`: how many releases the history has after the first manifest, and
 /// after the second and the third were installed under the rules. The fault of each, if any, is
 /// printed first.
-pub fn stated<R: Wait>(
+pub fn counts<R: Wait>(
     rt: &R,
     alloc: Global,
     row: &Row,
@@ -28,11 +28,11 @@ pub fn stated<R: Wait>(
     requires { KeepsAll (map (λ k. k.kind) kept.now) }
 {
     let asked = InstallPolicy::new(rules(alloc, kept, row.word(0)?)?, asked.wants);
-    begun(rt, alloc, row, store, &asked)
+    begin(rt, alloc, row, store, &asked)
 }
 
 /// Begins a history with the first manifest.
-fn begun<R: Wait>(
+fn begin<R: Wait>(
     rt: &R,
     alloc: Global,
     row: &Row,
@@ -40,19 +40,19 @@ fn begun<R: Wait>(
     asked: &InstallPolicy<'_>,
 ) -> Answer {
     let first = manifest_of(alloc, row.word(1)?, store)?;
-    match opened(rt, alloc, &first, store) {
+    match first_installer(rt, alloc, &first, store) {
         Ok(installer) => {
             let mut installer = installer;
-            let told = grown(rt, alloc, row, store, &mut installer, asked);
+            let answer = install_rest(rt, alloc, row, store, &mut installer, asked);
             installer.close(rt);
-            told
+            answer
         }
-        Err(fault) => printed(alloc, &fault),
+        Err(fault) => display_text(alloc, &fault),
     }
 }
 
 /// An installer that begins with a manifest, and has no desk.
-fn opened<R: Wait>(
+fn first_installer<R: Wait>(
     rt: &R,
     alloc: Global,
     manifest: &Manifest,
@@ -64,7 +64,7 @@ fn opened<R: Wait>(
 }
 
 /// Installs the second and the third manifest.
-fn grown<R: Wait>(
+fn install_rest<R: Wait>(
     rt: &R,
     alloc: Global,
     row: &Row,
@@ -72,19 +72,19 @@ fn grown<R: Wait>(
     installer: &mut Installer,
     asked: &InstallPolicy<'_>,
 ) -> Answer {
-    let mut told = Told::new(alloc);
-    tell_count(&mut told, installer);
+    let mut builder = AnswerBuilder::new(alloc);
+    add_count(&mut builder, installer);
     for at in 2..4 {
-        match refused(rt, alloc, row, at, store, installer, asked) {
-            Ok(fault) => tell_after(&mut told, fault, installer),
-            Err(fault) => told.fail(fault),
+        match fault_of(rt, alloc, row, at, store, installer, asked) {
+            Ok(fault) => add_after(&mut builder, fault, installer),
+            Err(fault) => builder.fail(fault),
         }
     }
-    told.answer()
+    builder.finish()
 }
 
 /// The fault of installing a manifest, if it has one.
-fn refused<R: Wait>(
+fn fault_of<R: Wait>(
     rt: &R,
     alloc: Global,
     row: &Row,
@@ -99,28 +99,28 @@ fn refused<R: Wait>(
 }
 
 /// Appends how many releases the history has after a step, which may have had a fault.
-pub fn tell_after(told: &mut Told, fault: Option<InstallFault>, installer: &Installer) {
+pub fn add_after(builder: &mut AnswerBuilder, fault: Option<InstallFault>, installer: &Installer) {
     if let Some(fault) = fault {
-        told.text(&fault);
-        told.bytes(b" ");
+        builder.add_display(&fault);
+        builder.add_bytes(b" ");
     }
-    tell_count(told, installer);
+    add_count(builder, installer);
 }
 
 /// Appends how many releases the history has.
-pub fn tell_count(told: &mut Told, installer: &Installer) {
-    told.text(&installer.last().count());
-    told.bytes(b";");
+pub fn add_count(builder: &mut AnswerBuilder, installer: &Installer) {
+    builder.add_display(&installer.last().count());
+    builder.add_bytes(b";");
 }
 
 /// `serves DIR TEXT`: whether a history that begins with the manifest of a folder serves the
 /// manifest in a text, over the files of the folder.
-pub fn served<R: Wait>(rt: &R, alloc: Global, row: &Row, store: &mut MemoryStore) -> Answer {
+pub fn serves<R: Wait>(rt: &R, alloc: Global, row: &Row, store: &mut MemoryStore) -> Answer {
     let asked = manifest_in(alloc, row.word(0)?, row.word(1)?)?;
-    serves(rt, alloc, row.word(0)?, &asked, store)
+    serves_manifest(rt, alloc, row.word(0)?, &asked, store)
 }
 
-fn serves<R: Wait>(
+fn serves_manifest<R: Wait>(
     rt: &R,
     alloc: Global,
     dir: &[u8],
@@ -128,20 +128,20 @@ fn serves<R: Wait>(
     store: &mut MemoryStore,
 ) -> Answer {
     let first = manifest_of(alloc, dir, store)?;
-    match opened(rt, alloc, &first, store) {
+    match first_installer(rt, alloc, &first, store) {
         Ok(installer) => {
             let answer = installer.last_matches(alloc, asked, store);
             installer.close(rt);
             as_line(alloc, answer)
         }
-        Err(fault) => printed(alloc, &fault),
+        Err(fault) => display_text(alloc, &fault),
     }
 }
 
 fn as_line(alloc: Global, answer: Result<bool, InstallFault>) -> Answer {
     match answer {
-        Ok(served) => printed(alloc, &served),
-        Err(fault) => printed(alloc, &fault),
+        Ok(served) => display_text(alloc, &served),
+        Err(fault) => display_text(alloc, &fault),
     }
 }
 
@@ -157,12 +157,12 @@ fn manifest_of(alloc: Global, dir: &[u8], store: &mut MemoryStore) -> Result<Man
 /// The manifest in a text, with the paths of its files in a folder.
 fn manifest_in(alloc: Global, dir: &[u8], text: &[u8]) -> Result<Manifest, CaseFault> {
     match read(alloc, text) {
-        Ok(manifest) => Ok(placed(alloc, dir, manifest)?),
+        Ok(manifest) => Ok(in_folder(alloc, dir, manifest)?),
         Err(_fault) => strange(),
     }
 }
 
-fn placed(alloc: Global, dir: &[u8], manifest: Manifest) -> Result<Manifest, NoMemory> {
+fn in_folder(alloc: Global, dir: &[u8], manifest: Manifest) -> Result<Manifest, NoMemory> {
     let mut manifest = manifest;
     place_files(alloc, dir, &mut manifest)?;
     Ok(manifest)

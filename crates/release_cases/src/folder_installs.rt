@@ -2,11 +2,11 @@
 ghost use Rattle.std.specs.Prelude.{map};
 ghost use Rattle.admission.specs.Rules.{KeepsAll};
 
-use crate::installs::opened;
+use crate::installs::first_installer;
+use crate::manifest_installs::{add_after, add_count};
 use crate::rules::rules;
-use crate::stated::{tell_after, tell_count};
 use admission::Kept;
-use case_lines::{Answer, Row, Told, printed};
+use case_lines::{Answer, AnswerBuilder, Row, display_text};
 use installer::{InstallFault, InstallPolicy, Installer};
 use std::alloc::Global;
 use std::sync::Wait;
@@ -14,7 +14,7 @@ use td_base::MemoryStore;
 
 /// `ruled RULES DIR ..`: how many releases the history has after the first folder, and after each
 /// further one that is installed under the rules. The fault of a folder, if any, is printed first.
-pub fn ruled<R: Wait>(
+pub fn counts<R: Wait>(
     rt: &R,
     alloc: Global,
     row: &Row,
@@ -25,30 +25,30 @@ pub fn ruled<R: Wait>(
     requires { KeepsAll (map (λ k. k.kind) kept.now) }
 {
     let asked = InstallPolicy::new(rules(alloc, kept, row.word(0)?)?, asked.wants);
-    begun(rt, alloc, row, store, &asked)
+    begin(rt, alloc, row, store, &asked)
 }
 
 /// Begins a history with the first folder.
-fn begun<R: Wait>(
+fn begin<R: Wait>(
     rt: &R,
     alloc: Global,
     row: &Row,
     store: &mut MemoryStore,
     asked: &InstallPolicy<'_>,
 ) -> Answer {
-    match opened(rt, alloc, row.word(1)?, store) {
+    match first_installer(rt, alloc, row.word(1)?, store) {
         Ok(installer) => {
             let mut installer = installer;
-            let told = grown(rt, alloc, row, store, &mut installer, asked);
+            let answer = install_rest(rt, alloc, row, store, &mut installer, asked);
             installer.close(rt);
-            told
+            answer
         }
-        Err(fault) => printed(alloc, &fault),
+        Err(fault) => display_text(alloc, &fault),
     }
 }
 
 /// Installs the folders after the first.
-fn grown<R: Wait>(
+fn install_rest<R: Wait>(
     rt: &R,
     alloc: Global,
     row: &Row,
@@ -56,17 +56,17 @@ fn grown<R: Wait>(
     installer: &mut Installer,
     asked: &InstallPolicy<'_>,
 ) -> Answer {
-    let mut told = Told::new(alloc);
-    tell_count(&mut told, installer);
+    let mut builder = AnswerBuilder::new(alloc);
+    add_count(&mut builder, installer);
     for dir in row.words().get(2..).unwrap_or(&[]) {
-        let fault = refused(rt, alloc, dir.as_slice(), store, installer, asked);
-        tell_after(&mut told, fault, installer);
+        let fault = fault_of(rt, alloc, dir.as_slice(), store, installer, asked);
+        add_after(&mut builder, fault, installer);
     }
-    told.answer()
+    builder.finish()
 }
 
 /// The fault of installing a folder, if it has one.
-fn refused<R: Wait>(
+fn fault_of<R: Wait>(
     rt: &R,
     alloc: Global,
     dir: &[u8],

@@ -6,16 +6,16 @@ use td_base::NoMemory;
 /// An answer that is built in pieces. A fault of a piece is reported at the end, so that no call
 /// before it can fail.
 #[derive(Drop)]
-pub struct Told {
+pub struct AnswerBuilder {
     alloc: Global,
     text: Vec<u8>,
     fault: Option<CaseFault>,
 }
 
-impl Told {
+impl AnswerBuilder {
     /// No pieces yet.
-    pub fn new(alloc: Global) -> Told {
-        Told {
+    pub fn new(alloc: Global) -> AnswerBuilder {
+        AnswerBuilder {
             alloc,
             text: Vec::new(alloc),
             fault: None,
@@ -23,41 +23,41 @@ impl Told {
     }
 
     /// Appends bytes.
-    pub fn bytes(&mut self, bytes: &[u8]) {
+    pub fn add_bytes(&mut self, bytes: &[u8]) {
         if self.text.extend_from_slice(bytes).is_err() {
             self.fail(CaseFault::NoMemory);
         }
     }
 
     /// Appends a value as `{:?}` writes it.
-    pub fn value<T: fmt::Debug>(&mut self, value: &T) {
+    pub fn add_debug<T: fmt::Debug>(&mut self, value: &T) {
         match format!(in self.alloc; "{value:?}") {
-            Ok(text) => self.bytes(text.as_bytes()),
+            Ok(text) => self.add_bytes(text.as_bytes()),
             Err(_) => self.fail(CaseFault::NoMemory),
         }
     }
 
     /// Appends a value as `{}` writes it.
-    pub fn text<T: fmt::Display>(&mut self, value: &T) {
+    pub fn add_display<T: fmt::Display>(&mut self, value: &T) {
         match format!(in self.alloc; "{value}") {
-            Ok(text) => self.bytes(text.as_bytes()),
+            Ok(text) => self.add_bytes(text.as_bytes()),
             Err(_) => self.fail(CaseFault::NoMemory),
         }
     }
 
     /// Appends the answer of a call, and a bar.
-    pub fn call(&mut self, given: Answer) {
+    pub fn add_answer(&mut self, given: Answer) {
         match given {
             Ok(given) => {
-                self.bytes(given.as_slice());
-                self.bytes(b"|");
+                self.add_bytes(given.as_slice());
+                self.add_bytes(b"|");
             }
             Err(fault) => self.fail(fault),
         }
     }
 
     /// Records the result of a call that adds nothing to the answer.
-    pub fn done(&mut self, outcome: Result<(), NoMemory>) {
+    pub fn add_outcome(&mut self, outcome: Result<(), NoMemory>) {
         if outcome.is_err() {
             self.fail(CaseFault::NoMemory);
         }
@@ -69,7 +69,7 @@ impl Told {
     }
 
     /// The whole answer, or the first fault.
-    pub fn answer(self) -> Answer {
+    pub fn finish(self) -> Answer {
         match self.fault {
             None => Ok(self.text),
             Some(fault) => Err(fault),

@@ -5,7 +5,7 @@ use release_manifest::{ManifestFault, Path};
 use std::alloc::Global;
 
 /// `printed FAULT`, with its path and numbers, if it has them.
-pub fn printed(alloc: Global, row: &Row) -> Answer {
+pub fn fault_text(alloc: Global, row: &Row) -> Answer {
     let fault = match row.text(0)? {
         "NoMemory" => ManifestFault::NoMemory,
         "Syntax" => ManifestFault::Syntax,
@@ -14,7 +14,7 @@ pub fn printed(alloc: Global, row: &Row) -> Answer {
         "Text" => ManifestFault::Text(path(row)?),
         _ => return strange(),
     };
-    case_lines::printed(alloc, &fault)
+    case_lines::display_text(alloc, &fault)
 }
 
 fn path(row: &Row) -> Result<Path, CaseFault> {

@@ -2,7 +2,7 @@
 ghost use Rattle.std.specs.Prelude.{IfOk};
 ghost use Rattle.console.specs.Replies.{IsBoundedReply};
 
-use crate::pieces::joined;
+use crate::pieces::join_words;
 use case_lines::{Answer, CaseFault, Row, number};
 use console::{Said, news_reply, reply, short};
 use std::alloc::Global;
@@ -15,20 +15,20 @@ const BEFORE: &[u8] = b"before\n";
 /// `said KIND ..`: the reply, appended and, unless it is a refusal, in a fixed buffer. After
 /// `ready`, `installed`, `unchanged` and `serving` comes a token; `serving` also has the number of
 /// zones. After `watching` comes a number, and after `refused` the fault.
-pub fn said(alloc: Global, row: &Row) -> Answer {
+pub fn console_reply(alloc: Global, row: &Row) -> Answer {
     match row.text(0)? {
-        "refused" => refused(alloc, row),
-        _ => unrefused(alloc, row),
+        "refused" => refusal(alloc, row),
+        _ => bounded_text(alloc, row),
     }
 }
 
-fn unrefused(alloc: Global, row: &Row) -> Answer {
-    let said = bounded(row)?;
+fn bounded_text(alloc: Global, row: &Row) -> Answer {
+    let said = bounded_reply(row)?;
     both(alloc, &said)
 }
 
 /// The reply that is described, unless it is a refusal.
-fn bounded(row: &Row) -> Result<Said, CaseFault>
+fn bounded_reply(row: &Row) -> Result<Said, CaseFault>
     ensures { IfOk result IsBoundedReply }
 {
     match row.text(0)? {
@@ -71,16 +71,16 @@ fn small(number: u64) -> Result<u32, CaseFault> {
     u32::try_from(number).ok().ok_or(CaseFault::Strange)
 }
 
-fn refused(alloc: Global, row: &Row) -> Answer {
-    let fault = joined(alloc, row.words().get(1..).unwrap_or(&[]))?;
-    appended(alloc, &Said::Refused(Bytes::from(fault)))
+fn refusal(alloc: Global, row: &Row) -> Answer {
+    let fault = join_words(alloc, row.words().get(1..).unwrap_or(&[]))?;
+    append(alloc, &Said::Refused(Bytes::from(fault)))
 }
 
 /// The reply in a fixed buffer, if the appended one is the same.
 fn both(alloc: Global, said: &Said) -> Answer
     requires { IsBoundedReply said.now }
 {
-    let text = appended(alloc, said)?;
+    let text = append(alloc, said)?;
     if short(said).as_slice() == text.as_slice() {
         Ok(text)
     } else {
@@ -89,7 +89,7 @@ fn both(alloc: Global, said: &Said) -> Answer
 }
 
 /// The appended reply.
-fn appended(alloc: Global, said: &Said) -> Answer {
+fn append(alloc: Global, said: &Said) -> Answer {
     let mut out = Bytes::from_slice(alloc, BEFORE)?;
     reply(&mut out, said)?;
     after(alloc, &out)
