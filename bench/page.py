@@ -17,7 +17,8 @@ REASONS = {
     "limit, 16 connections": "of a short reply the program's own code is a larger part, and single rows vary by a tenth between runs.",
     "limit, 64 connections": "single rows vary by a tenth between runs; most keep it.",
     **{
-        f"nginx, {count}": "nginx sends the 68 kB of a full list from the file, without a copy of its own."
+        f"nginx, {count}": "nginx sends the 68 kB of a full list from the file, without a copy of its own. The limit copies them "
+        "to the system, as this program does."
         for count in ("1 connection", "2 connections", "16 connections", "64 connections")
     },
     "sync of one zone": "most of it is the mirror's own install, of all zones. The section on changes has the earlier program's time.",
@@ -324,7 +325,9 @@ def request_marks(rows):
                 continue
             worst = (max if server == "limit" else min)(ratios, key=ratios.get)
             missed = [it for it in ratios.values() if (it > at_most if server == "limit" else it < 1)]
-            said = f"{ratios[worst]:.2f} ({worst}); {len(ratios) - len(missed)} of {len(ratios)} keep it"
+            limit = known.get((worst, count, "limit"))
+            beside = f"; the limit: {limit['rate'] / known[worst, count, server]['rate']:.2f}" if server == "nginx" and limit else ""
+            said = f"{ratios[worst]:.2f} ({worst}{beside}); {len(ratios) - len(missed)} of {len(ratios)} keep it"
             title = f"{server}, {count} {'connection' if count == 1 else 'connections'}"
             found.append((title, wanted, said, not missed))
     return found

@@ -242,6 +242,8 @@ def marks_are_judged():
     same("1.4 times the limit", missed, ["limit, 16 connections"])
     missed = [it[0] for it in page.marks(figures_of(1.6)) if not it[3]]
     same("1.6 times", len(missed), 8)
+    beside = {it[0]: it[2] for it in page.marks(figures_of(1.6))}["nginx, 16 connections"]
+    holds(f"the limit's rate does not stand beside nginx's: {beside}", beside.startswith("0.94 (") and "; the limit: 1.50);" in beside)
     waits = [{"request": name, "alone": 0.1, "installing": 0.1 * times, "yielding": 0.15} for name, times in (("full list", 3), ("expand", 9))]
     said = {it[0]: it[2:] for it in page.marks({"waits": waits})}
     same("the worst wait", said, {"waits while installing": ("9.0 times (expand)", False), "waits while the service installs": ("1.5 times (full list)", True)})
