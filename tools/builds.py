@@ -35,6 +35,8 @@ PROVED_LINE = re.compile(r"(?:rt: )?(\w+) (proved$|is kept: )")
 NOT_PROVED = "NOT PROVED"
 # The seconds that are reckoned for a crate that was not measured.
 UNKNOWN_TIME = 120
+# The part of its time that a proof takes with a second processor.
+SECOND_PROCESSOR = 0.7
 
 
 class BuildFailed(Exception):
@@ -131,6 +133,35 @@ class Estimate:
             now = running.pop(name)
             ends.append((now, name))
         return ends
+
+    def serial(self):
+        """The crates during whose proofs more than half of the processors are idle in the plan."""
+        runs = [(end - self.time_of(name), end, name) for end, name in self.plan()]
+        found = set()
+        for begin, end, name in runs:
+            busy = sum(max(0, min(end, until) - max(begin, since)) for since, until, _ in runs)
+            if busy < (end - begin) * self.width / 2:
+                found.add(name)
+        return found
+
+    def stages(self):
+        """The crates in groups, to be proved one group after the other, and whether a group is a
+        chain of serial crates. From now on the plan gives those a second processor."""
+        serial, groups, place = self.serial(), [], {}
+        for _, is_parallel, name in sorted((end - self.time_of(it), it not in serial, it)
+                                       for end, it in self.plan()):
+            lowest = max((place[it] for it in self.crates[name] if it in place), default=0)
+            parallel = [at for at, it in enumerate(groups) if at >= lowest and not it[1]]
+            if is_parallel and parallel:
+                place[name] = parallel[0]
+            elif not is_parallel and groups and groups[-1][0][-1] in self.crates[name] and groups[-1][1]:
+                place[name] = len(groups) - 1
+            else:
+                place[name] = len(groups)
+                groups.append(([], not is_parallel))
+            groups[place[name]][0].append(name)
+        self.times = {**self.times, **{it: self.time_of(it) * SECOND_PROCESSOR for it in serial}}
+        return groups
 
     def chains(self):
         """Of each crate, the seconds of the longest chain of crates that begins with it and in which
@@ -239,9 +270,10 @@ def proved_in(line):
     return (found[1], found[2] != "proved") if found else (None, False)
 
 
-def report_proofs(running, names, estimate):
-    """Prints a line for each crate that is proved, and one each minute, until `rt` ends."""
-    seen, left, last_report = 0, list(names), time.monotonic()
+def report_proofs(running, names, left, estimate):
+    """Prints a line for each crate that is proved, and one each minute, until `rt` ends. It takes
+    what is proved from those that are left."""
+    seen, last_report = 0, time.monotonic()
     while True:
         is_over = running.is_over()
         if is_over:
@@ -266,22 +298,31 @@ def report_proofs(running, names, estimate):
         time.sleep(0.5)
 
 
-def prove_in_copy(names, estimate, at_once):
+def environment_for(at_once, is_serial):
+    """What `rt ci` is started with. It proves so many crates at once, each with one processor. For
+    serial ones it chooses, and gives two processors to a crate while no other can be proved."""
+    others = {name: it for name, it in os.environ.items() if name != "RT_JOBS"}
+    return others if is_serial else {**others, "RT_JOBS": str(at_once)}
+
+
+def prove_in_copy(names, stages, estimate, at_once):
     """Proves the crates and builds the program in a copy, by `rt ci`: it proves several crates at
     once, first those that most others wait for, and keeps each for later runs of the gate."""
     with tempfile.TemporaryDirectory(prefix="tzdistd-proof-") as room:
-        room = Path(room)
+        room, left = Path(room), list(names)
         copy_for_proof(names, room)
-        environment = {**os.environ, "RT_JOBS": str(at_once)}
-        with Running(["ci"], environment, room) as running:
-            report_proofs(running, names, estimate)
-            built = room / "crates" / "tzdistd" / "out" / "tzdistd"
-            if running.child.returncode or not built.is_file():
-                raise BuildFailed(
-                    "the program was not proved and built: mend what rt reports, and start again\n"
-                    + running.last_lines()
-                )
-            put_program(built, PROVED)
+        built = room / "crates" / "tzdistd" / "out" / "tzdistd"
+        for number, (group, is_serial) in enumerate(stages, 1):
+            is_last = number == len(stages)
+            words = ["ci", *([] if is_last else group)]
+            with Running(words, environment_for(at_once, is_serial), room) as running:
+                report_proofs(running, names, left, estimate)
+                if running.child.returncode or is_last and not built.is_file():
+                    raise BuildFailed(
+                        "the program was not proved and built: mend what rt reports, and start "
+                        "again\n" + running.last_lines()
+                    )
+        put_program(built, PROVED)
 
 
 def put_program(built, place):
@@ -301,11 +342,13 @@ def proved_program(at_once=None):
     crates = crates_in((TOP / "crates.txt").read_text())
     names, at_once = used_by("tzdistd", crates), at_once or crates_at_once()
     estimate = Estimate(crates, names, measured_times(), at_once)
+    # who limits the crates at once may want to keep processors for other work
+    stages = estimate.stages() if at_once >= processors() else [(names, False)]
     say(
         f"Proving {len(names)} crates, then building the program: about {estimate.left()} minutes "
         f"from nothing on {processors()} processors. What an earlier run proved is kept."
     )
-    prove_in_copy(names, estimate, at_once)
+    prove_in_copy(names, stages, estimate, at_once)
     say(f"{len(names)} of {len(names)} crates are proved, and the program is built: {PROVED}")
     return PROVED
 

@@ -17,7 +17,7 @@ import tempfile
 import time
 from pathlib import Path
 
-from builds import Estimate
+from builds import Estimate, environment_for
 from checks import LONG, holds, run_checks, same
 from served import DATA, Client, Failure, address_of, free_port
 
@@ -203,12 +203,13 @@ def proves_where_there_is_no_program(top):
 def builds_again_where_a_source_is_newer(top):
     with top.start() as started:
         started.until("^ready 1-")
+    calls = len(top.called())
     later = time.time() + 60
     os.utime(top.room / "crates" / "catalogue" / "src" / "lib.rt", (later, later))
     with top.start() as started:
         started.until("^1 of 5 crates")
         started.until("^ready 1-")
-    same("all was proved again", len(top.called()), 2)
+    same("all was proved again", len(top.called()), 2 * calls)
 
 
 @in_top
@@ -282,6 +283,30 @@ def reckons_without_what_is_kept(_program):
     same("the minutes that are left", estimate.left(), 20)
     estimate.count("top", True)
     same("the minutes where all is kept", estimate.left(), 1)
+
+
+def parts_its_proofs_into_stages(_program):
+    """A crate that all wait for, four beside one another, and two that wait for all of them."""
+    sides = [f"side{number}" for number in range(4)]
+    crates = {"base": [], "leaf": [], **{it: ["base"] for it in sides}, "top": sides, "program": ["top"]}
+    times = {"base": 400, "leaf": 50, "top": 600, "program": 300, **{it: 600 for it in sides}}
+    for width, minutes, stages, later in (
+        (4, 32, [(["base"], True), (["leaf", *sides], False), (["top", "program"], True)], 25),
+        (2, 42, [(sorted(crates), False)], 42), (1, 62, [(sorted(crates), False)], 62),
+    ):
+        estimate = Estimate(crates, list(crates), times, width)
+        estimate.width = width  # also where this machine has fewer processors
+        same(f"the minutes on {width} before", estimate.left(), minutes)
+        found = [(it if is_serial else sorted(it), is_serial) for it, is_serial in estimate.stages()]
+        same(f"the stages on {width}", found, stages)
+        same(f"the minutes on {width} by stages", estimate.left(), later)
+
+
+def lets_rt_choose_for_serial_crates(_program):
+    os.environ["RT_JOBS"] = "7"
+    same("many", environment_for(3, False)["RT_JOBS"], "3")
+    same("one", environment_for(3, True).get("RT_JOBS"), None)
+    del os.environ["RT_JOBS"]
 
 
 def running_in(room):
@@ -360,7 +385,8 @@ CHECKS = (
     looks_with_what_is_compiled,
     finds_what_a_loader_runs,
     ends_a_build_by_signals,
-    reckons_by_a_plan, reckons_without_what_is_kept,
+    reckons_by_a_plan, reckons_without_what_is_kept, parts_its_proofs_into_stages,
+    lets_rt_choose_for_serial_crates,
     says_what_failed_in_a_compilation,
     packs_where_there_is_no_release,
     says_why_it_did_not_start,
