@@ -9,13 +9,14 @@ import fleet
 import growth
 import plots
 
+SINGLE_ROWS = "single rows vary by a tenth between runs; most keep it."
 # What is known of a mark that is missed, by its name. A new one is looked for with `perf` and `strace -c`.
 REASONS = {
     "limit, 1 connection": "a request takes as many system calls as the limit's, and three quarters of its processor time are the "
     "system's. The rest is its own code: some 8,800 instructions for a short request.",
-    "limit, 2 connections": "single rows vary by a tenth between runs; most keep it.",
+    "limit, 2 connections": SINGLE_ROWS,
     "limit, 16 connections": "of a short reply the program's own code is a larger part, and single rows vary by a tenth between runs.",
-    "limit, 64 connections": "single rows vary by a tenth between runs; most keep it.",
+    "limit, 64 connections": SINGLE_ROWS,
     **{
         f"nginx, {count}": "nginx sends the 68 kB of a full list from the file, without a copy of its own. The limit copies them "
         "to the system, as this program does."
@@ -333,11 +334,17 @@ def request_marks(rows):
     return found
 
 
-def reasons(names):
-    """The items that say why marks are missed: one for all marks with the same reason."""
+def reason_of(name, measured):
+    """Why a mark is missed. That of nginx's rate is known of the full list only."""
+    is_other_row = name.startswith("nginx") and not measured.partition("(")[2].startswith("full list")
+    return SINGLE_ROWS if is_other_row else REASONS.get(name, "the cause is not known yet.")
+
+
+def reasons(missed):
+    """The items that say why marks are missed, of their names and measures: one for each reason."""
     named = {}
-    for name in names:
-        named.setdefault(REASONS.get(name, "the cause is not known yet."), []).append(f"**{name}**")
+    for name, measured in missed:
+        named.setdefault(reason_of(name, measured), []).append(f"**{name}**")
     items = (f"- {'; '.join(them)}: {why}" for why, them in named.items())
     return [textwrap.fill(it, 100, subsequent_indent="  ") for it in items]
 
@@ -350,7 +357,7 @@ def judged(figures):
     cells = [[name, wanted, said, "kept" if kept else "**missed**"] for name, wanted, said, kept in found]
     sections = ["## Marks", table(["Mark", "Wanted", "Measured (the worst)", ""], cells, 4)]
     if missed:
-        sections += ["Why the missed ones are missed:", "\n".join(reasons([it[0] for it in missed]))]
+        sections += ["Why the missed ones are missed:", "\n".join(reasons([(it[0], it[2]) for it in missed]))]
     return sections
 
 

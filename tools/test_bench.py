@@ -250,8 +250,11 @@ def marks_are_judged():
     older = page.marks({"waits": [{"request": "full list", "alone": 0.1, "installing": 0.15}]})
     same("figures without the service's way", [it[0] for it in older], ["waits while installing"])
     holds("no reason stands for a missed mark", "**limit, 16 connections**:" in page.markdown(figures_of(1.4)))
-    said = [it.split(":")[0].split() for it in page.reasons(["nginx, 1 connection", "longest expansion", "nginx, 2 connections"])]
-    same("a reason is said once", said, ["- **nginx, 1 connection**; **nginx, 2 connections**".split(), "- **longest expansion**".split()])
+    missed = [("nginx, 1 connection", "0.9 (full list; 8 of 9)"), ("longest expansion", "3 ms"), ("nginx, 2 connections", "0.8 (full list)"),
+              ("nginx, 64 connections", "0.9 (change list)"), ("limit, 2 connections", "1.6 (change list)")]
+    said = [" ".join(it.split(":")[0].split()) for it in page.reasons(missed)]
+    same("a reason is said once", said, ["- **nginx, 1 connection**; **nginx, 2 connections**", "- **longest expansion**",
+                                         "- **nginx, 64 connections**; **limit, 2 connections**"])
 
 
 def costs_stand_beside_those_of_an_earlier_program():
