@@ -60,7 +60,7 @@ def say_what_to_do(address, look):
     say(f"The server is ready at http://{address}/tzdist/. In another terminal:")
     say(f"    curl 'http://{address}/tzdist/zones?pattern=*lisbon'   # look for a zone")
     say(f"    curl http://{address}/tzdist/zones/Europe%2FLisbon   # a zone as a calendar")
-    say(f"    python3 tools/fetch_zoneinfo.py http://{address} /tmp/zoneinfo   # a device's tree of zones")
+    say(f"    python3 tools/fetch_zoneinfo.py http://{address} ../zoneinfo   # a device's tree of zones")
     say("Here, `status` prints what is served, and `install DIR` adds a release. Ctrl-C ends the server.")
     if look:
         say(
