@@ -146,7 +146,7 @@ class Estimate:
 
     def stages(self):
         """The crates in groups, to be proved one group after the other, and whether a group is a
-        chain of serial crates. From now on the plan gives those a second processor."""
+        chain of serial crates."""
         serial, groups, place = self.serial(), [], {}
         for _, is_parallel, name in sorted((end - self.time_of(it), it not in serial, it)
                                        for end, it in self.plan()):
@@ -160,8 +160,12 @@ class Estimate:
                 place[name] = len(groups)
                 groups.append(([], not is_parallel))
             groups[place[name]][0].append(name)
-        self.times = {**self.times, **{it: self.time_of(it) * SECOND_PROCESSOR for it in serial}}
         return groups
+
+    def give_second_processor(self, stages):
+        """From now on the plan gives the serial crates of these stages a second processor."""
+        serial = [it for group, is_serial in stages if is_serial for it in group]
+        self.times = {**self.times, **{it: self.time_of(it) * SECOND_PROCESSOR for it in serial}}
 
     def chains(self):
         """Of each crate, the seconds of the longest chain of crates that begins with it and in which
@@ -344,6 +348,7 @@ def proved_program(at_once=None):
     estimate = Estimate(crates, names, measured_times(), at_once)
     # who limits the crates at once may want to keep processors for other work
     stages = estimate.stages() if at_once >= processors() else [(names, False)]
+    estimate.give_second_processor(stages)
     say(
         f"Proving {len(names)} crates, then building the program: about {estimate.left()} minutes "
         f"from nothing on {processors()} processors. What an earlier run proved is kept."

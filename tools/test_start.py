@@ -297,8 +297,10 @@ def parts_its_proofs_into_stages(_program):
         estimate = Estimate(crates, list(crates), times, width)
         estimate.width = width  # also where this machine has fewer processors
         same(f"the minutes on {width} before", estimate.left(), minutes)
-        found = [(it if is_serial else sorted(it), is_serial) for it, is_serial in estimate.stages()]
+        parted = estimate.stages()
+        found = [(it if is_serial else sorted(it), is_serial) for it, is_serial in parted]
         same(f"the stages on {width}", found, stages)
+        estimate.give_second_processor(parted)
         same(f"the minutes on {width} by stages", estimate.left(), later)
 
 
