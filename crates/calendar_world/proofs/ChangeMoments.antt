@@ -1,4 +1,5 @@
--- A zone changes only at its transitions, and after the last of them, in that year, at the onsets of its footer.
+-- A zone changes only at its transitions, and after the last of them, in that year, at the onsets
+-- of its footer.
 use Rattle.std.proofs.Common.{◌≡◌, ◌⊎◌, inl, inr, ℕ, zero, suc, ◌+◌, ◌-◌, ◌<◌, ◌≤◌, ◌==◌, Bool, true, false, cond, not, List, [], ◌∷◌, ◌++◌, length}
 use Rattle.std.proofs.Common.{get_or, refl, sym}
 use Rattle.std.proofs.Common.{true≢false, subst, ap, ap₂, ◌∙◌, ◌&&◌, arith, map, Option, None, Some, length-append}
@@ -230,7 +231,8 @@ among_back (x ∷ xs) ys v there = inr (among_back xs ys v there)
 abbrev moments_in : ZoneFile → Option Footer → ℤ → List ℤ
 moments_in z footer y = map seconds_of z.moments ++ footer_onsets footer y
 
--- a moment after the beginning of a range, up to the end of the year in which the last transition or that beginning lies
+-- a moment after the beginning of a range, up to the end of the year in which the last transition
+-- or that beginning lies
 module _ (z : ZoneFile) (footer : Option Footer) (a y v : ℤ) (lawful : IsLawfulAndCarried footer) (year : IsYear y) (from : year_begin y ≤ℤ latest a z.moments)
     (after_a : a <ℤ v) (before : v <ℤ year_begin (y +ℤ pos 1)) (meant : HasMeaning v) (meant_before : HasMeaning (v -ℤ pos 1)) where
   late_or : begun v z.moments ≡ begun (v -ℤ pos 1) z.moments → (b : Bool) → (begun v z.moments == length z.moments) ≡ b
@@ -262,7 +264,8 @@ few_moments file y h =
     let two = two_onsets (footer_meant z.footer) y in
     omega (arith, count, most, two, length-append (map seconds_of z.moments) (footer_onsets (footer_meant z.footer) y), length-map z.moments seconds_of)
 
--- the observances from a moment on to the end of that year are as many as transitions, and three more
+-- the observances from a moment on to the end of that year are as many as transitions, and three
+-- more
 pub few_told : (file : List ℕ) (a : ℤ) → zone_fault file ≡ None → IsCarriedIfAny (footer_meant (lists_of file).footer) → HasMeaning a
     → length (observed (zone_state file) a (year_begin (rule_year file a))) ≤ MOST_TRANSITIONS + 3
 unfolding rule_year zone_state

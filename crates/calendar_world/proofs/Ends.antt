@@ -1,4 +1,5 @@
--- A sync ends with no fault of an answer, where the last answer means what is heard of a primary of calendars.
+-- A sync ends with no fault of an answer, where the last answer means what is heard of a primary of
+-- calendars.
 use Rattle.std.proofs.Common.{◌≡◌, ◌≤◌, ℕ, List, [], ◌∷◌, length, Result, sym, subst}
 use Rattle.td_base.specs.declared.report.Ask.{Ask}
 use Rattle.td_base.specs.declared.upstream.Exchange.{Exchange}

@@ -1,4 +1,5 @@
--- How long lines are when they are written: a line of n octets is folded with three more for each 73.
+-- How long lines are when they are written: a line of n octets is folded with three more for each
+-- 73.
 use Rattle.std.proofs.Common.{◌≡◌, ℕ, zero, suc, ◌+◌, ◌-◌, ◌*◌, ◌≤◌, ◌==◌, false, List, [], ◌∷◌, ◌++◌, length, arith, length-append}
 use Rattle.std.proofs.Math.Dec.{eqb-suc-zero}
 use Rattle.ical_lines.specs.Lines.{content_line, folded, most_octets, lines_written}

@@ -28,8 +28,8 @@ fn is_same<Z: ZoneData>(a: &Content<Z>, b: &Content<Z>) -> bool
 }
 
 impl<Z: ZoneData + Drop> Catalogue<Z> {
-    /// The position of the zone of the last release with the same content. Mostly it is the one that
-    /// the content has in the next release, so that one is looked at before all are searched.
+    /// The position of the zone of the last release with the same content. Mostly it is the one
+    /// that the content has in the next release, so that one is looked at before all are searched.
     fn find_same(&self, content: &Content<Z>, position: usize) -> Option<usize>
         ensures within { IfSome result (λ i. i < zone_count self.now) }
         ensures same { IfSome result (λ i. HoldsAt

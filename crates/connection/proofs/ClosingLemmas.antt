@@ -13,7 +13,8 @@ use Rattle.connection.specs.FaultCounts.{FaultCounts}
 use Rattle.connection.specs.Replies.{is_last, replies}
 use Rattle.connection.specs.Served.{ByInput, ByRefusal, ByRequest, Finish, FinishesBy, IsClosed, Transcript, farewell}
 
--- the requests, each of which closes the connection or leaves it open, and what comes after them; so many came before
+-- the requests, each of which closes the connection or leaves it open, and what comes after them;
+-- so many came before
 abbrev pub Goes : ℕ → List ℕ → List Head → Finish → Type 0
 Goes n read [] ByRequest = ⊥
 Goes n read [] (ByRefusal status) = IsStep read (Refused status)

@@ -1,5 +1,5 @@
--- A connection that was served so far, and how each of its ends follows. `answer` is any way to answer a request at a
--- place of a history of `count` releases.
+-- A connection that was served so far, and how each of its ends follows. `answer` is any way to
+-- answer a request at a place of a history of `count` releases.
 use Rattle.std.proofs.Common.{◌≡◌, ◌≢◌, lit<, lit≤, ℕ, ◌+◌, ◌<◌, ◌≤◌, List, [], ◌∷◌, ◌++◌, length, length-append, take, Bool, true, false, ◌||◌, ◌==◌}
 use Rattle.std.proofs.Common.{Option, inl, inr, refl, sym, ap, ◌∙◌, arith, append_assoc, append-nil}
 use Rattle.std.specs.List.{AllByRecursion, list_any}

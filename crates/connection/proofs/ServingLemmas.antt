@@ -77,7 +77,8 @@ grown desk later role a b held places more s = record {
   replied = λ H st. s.replied H (prefix_trans (history_of desk.seen) (history_of later.seen) H (history_longer desk.seen later.seen more) st);
 }
 
--- the reply at the place of what the desk holds, where nothing but the number of requests before tells whether it closes the connection
+-- the reply at the place of what the desk holds, where nothing but the number of requests before
+-- tells whether it closes the connection
 pub told : (desk : DeskView (Catalogue (List ℕ))) (role : Role) (before : ℕ) (head : Head) (place : ℕ) (close : Bool) (bytes : List ℕ)
     → place ≡ length desk.seen → close ≡ is_last before head → IsReplyNow desk role head close bytes
     → IsReplyAt desk role before head place bytes
@@ -86,7 +87,8 @@ told desk role before head place close bytes e c r = λ H st.
     ∙ (ap (λ k. reply (answer_at H role (length desk.seen) head) head.head_only k) c
     ∙ ap (λ n. reply (answer_at H role n head) head.head_only (is_last before head)) (sym e))
 
--- ---- what became of one request, once the desk had entered for it, its place was told, and its reply was made
+-- ---- what became of one request, once the desk had entered for it, its place was told, and its
+-- reply was made
 
 module _ (desk later : DeskView (Catalogue (List ℕ))) (role : Role) (head : Head) (a b : ConnView) (old new : List ℕ) (place : ℕ) (close : Bool)
     (step : (later.enters ≡ desk.enters + 1) × (later.seen ≡ later.entered)) (pair : later.pair ≡ desk.pair)

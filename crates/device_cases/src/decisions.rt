@@ -12,9 +12,9 @@ const LIFE_WORDS: usize = 5;
 /// The most connections of a row.
 const MOST_LIVES: usize = 16;
 
-/// `timeouts NOW (PHASE MOVED TURNED HELD SINCE)..`: the connection that is the first to be evicted for
-/// a new one, and the one that has held most memory for the longest time. Then the first over its
-/// time limit. They are counted from 0.
+/// `timeouts NOW (PHASE MOVED TURNED HELD SINCE)..`: the connection that is the first to be evicted
+/// for a new one, and the one that has held most memory for the longest time. Then the first over
+/// its time limit. They are counted from 0.
 pub fn timeouts(alloc: Global, row: &Row) -> Answer {
     let now = row.number(0)?;
     let mut timeouts = Timeouts::new(alloc);

@@ -30,8 +30,8 @@ pub fn again(alloc: Global, row: &Row, store: &mut MemoryStore) -> Answer {
     builder.finish()
 }
 
-/// The catalogue after a folder has been the next release so many times. It reports only that memory
-/// ran out.
+/// The catalogue after a folder has been the next release so many times. It reports only that
+/// memory ran out.
 fn repeat(
     alloc: Global,
     dir: &[u8],

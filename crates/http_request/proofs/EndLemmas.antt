@@ -47,7 +47,8 @@ one_byte begun line at b = at_feed (cases_eq b 10) (cases_Bool (begun && is_blan
     at_feed (inl e) (inr h) = inr (record { begun_after = begun || not (is_blank_line line); line_after = []; same = λ bs. end_line begun line at b bs e h })
     at_feed (inr n) h = inr (record { begun_after = begun; line_after = line ++ b ∷ []; same = λ bs. end_within begun line at b bs n })
 
--- an end that is found stays, whatever follows; it lies after what stood before, within the list, at a line feed
+-- an end that is found stays, whatever follows; it lies after what stood before, within the list,
+-- at a line feed
 pub record Ended (begun : Bool) (line : List ℕ) (at : ℕ) (bytes : List ℕ) (n : ℕ) : Type 0 where
   pub more : ℕ
   pub place : n ≡ at + (more + 1)

@@ -12,8 +12,8 @@ use httparse::spans::{EMPTY_HEADER_SPAN, HeaderSpan, RequestSpans, parse_request
 use std::alloc::Global;
 use td_base::NoMemory;
 
-/// How many fields are parsed at first. Most heads have fewer, and the room for them is cleared each
-/// time.
+/// How many fields are parsed at first. Most heads have fewer, and the room for them is cleared
+/// each time.
 const USUAL_FIELDS: usize = 16;
 
 /// Reads a window, which ends with the end of a head. So the result is never to wait.

@@ -20,7 +20,8 @@ use Rattle.jcal.specs.Tree.{alias_properties, end_properties, zone_properties, c
 use Rattle.jcal.specs.TreeTokens.{tree_tokens, row_tokens, property_begin, component_begin, components_begin, component_end, form_tokens, last_tokens}
 use Rattle.jcal.specs.Values.{local_text, jcal_offset_text}
 
--- a document that stands alone, from what is ensured where the writer is made, where the tree is written, and at the end
+-- a document that stands alone, from what is ensured where the writer is made, where the tree is
+-- written, and at the end
 pub text_of_tree : (d : Data) (held before after text whole : List ℕ) (ts us : List Token)
     → held ≡ [] → before ≡ held → ts ≡ [] → after ≡ before → us ≡ ts ++ tree_tokens d → text ≡ after ++ print us → whole ≡ text → whole ≡ compact_text d
 text_of_tree d held before after text whole ts us nothing made none kept written printed same =

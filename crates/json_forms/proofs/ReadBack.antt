@@ -15,8 +15,8 @@ use Rattle.serde_json.specs.Written.{outline, items_outline, members_outline, co
 use Rattle.serde_json.proofs.Texts.{print-outline}
 use Rattle.json_forms.specs.TreeTokens.{tree_tokens}
 
--- the members of each object are in rising order, arrays and objects nest at most so deep, and the numbers are
--- integers of 64 bits
+-- the members of each object are in rising order, arrays and objects nest at most so deep, and the
+-- numbers are integers of 64 bits
 pub record IsReadable (most : ℕ) (d : Data) : Type 0 where
   pub same : of_json (outline d) ≡ Some d
   pub shallow : depth d ≤ most

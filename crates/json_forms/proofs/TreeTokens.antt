@@ -23,7 +23,8 @@ items_ended (d ∷ ds) more =
     append_assoc (tree_tokens d) (flat_map tree_tokens ds) _ ∙ ap (λ ts. tree_tokens d ++ ts) (items_ended ds more)
     ∙ rw (append_assoc (tree_tokens d) (rest_tokens ds) more) refl
 
--- a document that stands alone, from what is ensured where the writer is made, where the tree is written, and at the end
+-- a document that stands alone, from what is ensured where the writer is made, where the tree is
+-- written, and at the end
 pub text_of_tree : (d : Data) (held before after text whole : List ℕ) (ts us : List Token)
     → held ≡ [] → before ≡ held → ts ≡ [] → after ≡ before → us ≡ ts ++ tree_tokens d → text ≡ after ++ print us → whole ≡ text → whole ≡ compact_text d
 text_of_tree d held before after text whole ts us nothing made none kept written printed same =

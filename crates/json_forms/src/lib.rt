@@ -7,8 +7,8 @@
 //!
 //! Documents that grow with the data are not built first: `ListWriter` and `ExpansionWriter` take
 //! one item at a time. A zone is written token by token, an observance in three pieces, of which a
-//! period of the calendar changes only the year. The others are built as a `Value` and printed. The server writes these documents
-//! (`actions`), and its clients read them (`mirror`, `made_load`).
+//! period of the calendar changes only the year. The others are built as a `Value` and printed. The
+//! server writes these documents (`actions`), and its clients read them (`mirror`, `made_load`).
 #![tactic(auto)]
 
 // What a list and a problem hold, and why bytes are not a list.

@@ -1,4 +1,5 @@
--- What the actions answer to the requests of a mirror: a body, with a status and a tag that are written as they stand.
+-- What the actions answer to the requests of a mirror: a body, with a status and a tag that are
+-- written as they stand.
 use Rattle.std.proofs.Common.{◌≡◌, ℕ, zero, suc, inl, inr, List, [], ◌∷◌, ◌++◌, map, true, codes, Option, None, Some, refl, sym, ◌∙◌, subst}
 use Rattle.std.proofs.Common.{option_and_then, arith}
 use Rattle.std.specs.List.{list_all, slice_get}

@@ -1,4 +1,5 @@
--- A mirror of calendars keeps the calendar of each zone that it knows, but of those whose calendars are pending.
+-- A mirror of calendars keeps the calendar of each zone that it knows, but of those whose calendars
+-- are pending.
 use Rattle.std.proofs.Common.{◌≡◌, ℕ, ◌⊎◌, List, [], ◌∷◌, map, Bool, true, false, not, ◌||◌, cond, inl, inr, Option, None, Some, Result, Ok, Err}
 use Rattle.std.proofs.Common.{refl, sym, ap, subst, ◌∙◌, suc, ◌+◌, ◌<◌, length, drop, get_or, add-one, drop-cons}
 use Rattle.std.specs.Prelude.{⊤}

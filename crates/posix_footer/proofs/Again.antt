@@ -1,4 +1,5 @@
--- What is spelled as an item reads as that item, whatever stands after it that does not go on with it.
+-- What is spelled as an item reads as that item, whatever stands after it that does not go on with
+-- it.
 use Rattle.std.proofs.Common.{◌≡◌, ℕ, ◌+◌, ◌*◌, ◌≤◌, inl, inr, List, [], ◌∷◌, ◌++◌, length, Bool, true, false, ◌&&◌, Some, refl, ap, sym, ◌∙◌, subst, arith}
 use Rattle.std.proofs.Common.{nat_lt, append_assoc, ◌==◌, ℤ, pos, neg_ℤ, ◌+ℤ◌, ◌<ℤ◌, unsigned_abs, int_lt}
 use Rattle.std.specs.List.{list_all}

@@ -4,8 +4,8 @@ use Rattle.logbook.specs.Pages.{Book}
 
 -- A publisher, or what one leaves that has ended: the history that it writes, which all that is
 -- made with it has in common, the values published, the earliest first, whether a value stands
--- in that history which was not shown, so that nothing more is published, and how often that history
--- was asked to grow (0 after the end).
+-- in that history which was not shown, so that nothing more is published, and how often that
+-- history was asked to grow (0 after the end).
 pub record PublishedView (V : Type 0) : Type 0 where
   pub pair : Book
   pub list : List V

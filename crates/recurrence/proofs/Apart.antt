@@ -1,4 +1,5 @@
--- Two dates that are apart in a year without 29 February and in one with it are apart in every year.
+-- Two dates that are apart in a year without 29 February and in one with it are apart in every
+-- year.
 use Rattle.std.proofs.Common.{◌≡◌, ◌↔◌, ℕ, ◌+◌, ◌≤◌, true, inl, inr, arith, ℤ, pos, ◌+ℤ◌, ◌≤ℤ◌}
 use Rattle.std.proofs.lemmas.Bool.{and_from, or_left, or_right}
 use Rattle.jiff_core.specs.Calendar.{IsYear}

@@ -1,4 +1,5 @@
--- The rule of a carried date falls, in each year, on the day of the date, moved by the whole days of its time.
+-- The rule of a carried date falls, in each year, on the day of the date, moved by the whole days
+-- of its time.
 use Rattle.std.proofs.Common.{◌≡◌, ℕ, ◌+◌, ◌<◌, ◌≤◌, false, true≢false, inl, inr, refl, sym, subst, ap, ◌∙◌, arith, ℤ, pos, ◌+ℤ◌, ◌≤ℤ◌}
 use Rattle.std.specs.Ordering.{int_eq}
 use Rattle.std.proofs.lemmas.Bool.{cond_both}

@@ -11,7 +11,8 @@ use Rattle.release_check.specs.Folder.{manifest_path}
 use Rattle.release_check.specs.declared.check_fault.CheckFault.{CheckFault}
 use Rattle.release_check.specs.declared.check_fault.CheckFault.TheVariants as fault
 
--- what release_manifest says of texts: what has no fault has a manifest, and the other way round, and one alone
+-- what release_manifest says of texts: what has no fault has a manifest, and the other way round,
+-- and one alone
 pub record Readings : Type 0 where
   pub found : (text : List ℕ) → manifest_text_fault text ≡ None → (m : Manifest) × IsManifestText text m
   pub sound : (text : List ℕ) (m : Manifest) → IsManifestText text m → manifest_text_fault text ≡ None

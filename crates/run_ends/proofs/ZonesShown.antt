@@ -1,4 +1,5 @@
--- Of a zone file no more is read than one byte past the limit, which judges it as the whole file would be judged.
+-- Of a zone file no more is read than one byte past the limit, which judges it as the whole file
+-- would be judged.
 use Rattle.std.proofs.Common.{◌≡◌, ℕ, ◌<◌, ◌≤◌, List, length, take, Option, None, Some, IfSome}
 use Rattle.std.proofs.Common.{⊎_elim, ap, sym, ◌∙◌, refl, arith}
 use Rattle.std.specs.Option.{option_map, option_or}

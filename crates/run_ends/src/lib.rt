@@ -2,8 +2,8 @@
 //! receives, and the history that it opens. How each command may end is `RunEnds` of
 //! `specs/Running.antt`, with a page for each below `specs/Running/`.
 //!
-//! The code of the commands is in `plain_commands` and `td_top`, and that of an operator's console in
-//! `td_top`.
+//! The code of the commands is in `plain_commands` and `td_top`, and that of an operator's console
+//! in `td_top`.
 #![tactic(auto)]
 
 // A run: what it borrows, and how it ended.

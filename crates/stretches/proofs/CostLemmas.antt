@@ -1,4 +1,5 @@
--- How often a byte occurs, by the pieces between its places, and what lines with more pieces request.
+-- How often a byte occurs, by the pieces between its places, and what lines with more pieces
+-- request.
 use Rattle.std.proofs.Common.{◌≡◌, ℕ, ◌+◌, ◌==◌, List, [], ◌∷◌, length, Option, Some, None, false, refl, sym, ap, ◌∙◌, arith}
 use Rattle.std.proofs.lemmas.List.Splits.{length-slice_split}
 use Rattle.td_base.specs.Texts.{pieces}

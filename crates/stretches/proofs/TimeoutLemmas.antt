@@ -25,7 +25,8 @@ before_is r t s u h = by_first (cases_Bool (nat_lt r s))
     by_first (inl e) = inl (ltb-true r s e)
     by_first (inr e) = by_rest (cases_Bool ((r == s) && nat_lt t u)) e
 
--- what does not come before is not less by the first number, and where that is equal not by the second
+-- what does not come before is not less by the first number, and where that is equal not by the
+-- second
 not_before_is : (r t s u : ℕ) → is_before r t s u ≡ false → (s ≤ r) × (r ≡ s → u ≤ t)
 not_before_is r t s u h =
     let parts = or_parts (nat_lt r s) ((r == s) && nat_lt t u) h in

@@ -3,8 +3,9 @@
 //! be given in it, [`turn_limit`] and [`WorkerTurn`] when it ends by the clock, [`fate_after`] what
 //! becomes of the connection then. [`Shared`] says which queue is served next, [`is_costly`] and
 //! [`is_long_turn`] what waits in the queue of costly requests. [`Life`] says how long a connection
-//! may rest, [`Timeouts`] which one is closed when descriptors or memory run short. [`FailureWindow`]
-//! says when a listener is broken, [`accepts`] which of several takes a new connection.
+//! may rest, [`Timeouts`] which one is closed when descriptors or memory run short.
+//! [`FailureWindow`] says when a listener is broken, [`accepts`] which of several takes a new
+//! connection.
 //!
 //! It stands on `http_request`, which finds the end of a head; `devices` calls it. Nothing here
 //! waits or calls the system.

@@ -1,4 +1,5 @@
--- The entries of a release that is held have the labels of the releases in which their zones last changed.
+-- The entries of a release that is held have the labels of the releases in which their zones last
+-- changed.
 use Rattle.std.proofs.Common.{◌≡◌, suc, inl, inr, ◌-◌, ◌<◌, ◌≤◌, true, Option, None, Some, List}
 use Rattle.std.proofs.Common.{[], ◌∷◌, ◌++◌, length, map, get_or, refl, sym, ap, ◌∙◌, subst, arith, length-append}
 use Rattle.std.specs.Prelude.{◌≤ℤ◌}

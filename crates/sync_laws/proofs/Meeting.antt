@@ -1,4 +1,5 @@
--- What a primary's connection wrote of a mirror's request is an answer of the world, or is not taken.
+-- What a primary's connection wrote of a mirror's request is an answer of the world, or is not
+-- taken.
 use Rattle.std.proofs.Common.{◌≡◌, ◌⊎◌, inl, inr, ℕ, ◌≤◌, ◌||◌, List, [], ◌∷◌, ◌++◌, length, take, drop, Bool, true, false, None, Some}
 use Rattle.std.proofs.Common.{append-nil, arith, take-append-drop, length-append, length-take, refl, subst, sym, ap, ◌∙◌}
 use Rattle.std.proofs.lemmas.List.{take_all}

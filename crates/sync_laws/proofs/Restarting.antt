@@ -74,7 +74,8 @@ module _ (written : Ask → List ℕ) (over : List ReleaseData → Ask → Excha
 
   -- ---- the end of a sync, seen from within it
 
-  -- some exchanges lead from a state to a state; the last of them settles the mirror, or the sync did not end well
+  -- some exchanges lead from a state to a state; the last of them settles the mirror, or the sync
+  -- did not end well
   data EndsFrom (s t : MirrorState) (xs : List Exchange) (before : ℕ) (result : Result (Unit {0}) SyncFault) : Type 0 where
     well : (first : List Exchange) (last : Exchange) (u : MirrorState) (h : Heard) (lists : ℕ) → xs ≡ first ++ last ∷ []
         → WalksOn written means s first before lists u → means (ask_of u) last.answer (understood.Hears h) → SaysHolds u h → t ≡ sync_step u h

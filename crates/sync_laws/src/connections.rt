@@ -33,8 +33,8 @@ pub fn mirrors_answer_as_primaries()
 {}
 
 /// Takes a connection of a server, of any role, that has finished. Its reads gave the request of a
-/// mirror, or a beginning of it, and the mirror took what was written, up to its limit. Then that is
-/// the answer over some of the releases of the server, as a world has it, or the mirror does not
+/// mirror, or a beginning of it, and the mirror took what was written, up to its limit. Then that
+/// is the answer over some of the releases of the server, as a world has it, or the mirror does not
 /// take it. Fails if a connection can write what a mirror misunderstands.
 pub fn connections_answer_mirrors()
     ensures files { (H : List ReleaseData) (role : Role) (a : Ask) (x : Exchange) (head : Head)

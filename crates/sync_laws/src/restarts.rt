@@ -18,11 +18,12 @@ ghost use Rattle.sync_laws.specs.Restarts.{BeginsAgain};
 use mirror::one_meaning;
 use mirror_world::mirrors_follow;
 
-/// Takes a mirror in any state, and a sync in which it comes to ask for a list without a token. From
-/// there on, a world of its own brings the answers of this sync and of those after it: a primary
-/// with any history, whatever the mirror followed before. After each sync that ended well, the
-/// mirror holds exactly the release over which the primary answered the last exchange of the sync,
-/// and never an earlier one than before. Fails if a full list leaves something of what was held.
+/// Takes a mirror in any state, and a sync in which it comes to ask for a list without a token.
+/// From there on, a world of its own brings the answers of this sync and of those after it: a
+/// primary with any history, whatever the mirror followed before. After each sync that ended well,
+/// the mirror holds exactly the release over which the primary answered the last exchange of the
+/// sync, and never an earlier one than before. Fails if a full list leaves something of what was
+/// held.
 pub fn restarted_primaries_are_followed()
     ensures { (H : List ReleaseData) (steps : List WorldStep) (v : SyncWorld) (host : List ℕ)
         (s t : MirrorState) (share : Share) (shares : List Share) (first rest : List Exchange)

@@ -1,5 +1,5 @@
--- What an object does of which a call failed, with a count of faults of its own: the chosen calls leave the object
--- inside alone, and the others hand on its answer.
+-- What an object does of which a call failed, with a count of faults of its own: the chosen calls
+-- leave the object inside alone, and the others hand on its answer.
 use Rattle.std.proofs.Common.{◌≡◌, ◌≤◌, ◌+◌, ℕ, List, arith, refl, sym, ap, ◌∙◌, true≢false}
 use Rattle.std.proofs.KnownBytes.{Keeps-refl}
 use Rattle.td_base.specs.Views.{one_more}

@@ -1,5 +1,5 @@
-//! Laws of a connection of the event loop over any number of calls: what its reads give, and what its
-//! writes send. The crate holds theorems only: no program calls it.
+//! Laws of a connection of the event loop over any number of calls: what its reads give, and what
+//! its writes send. The crate holds theorems only: no program calls it.
 #![tactic(auto)]
 
 mod limits;

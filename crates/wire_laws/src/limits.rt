@@ -8,8 +8,8 @@ ghost use Rattle.devices.specs.declared.shares.TheConstants as shares;
 ghost use Rattle.devices.specs.declared.wire.TheConstants as wire;
 
 /// The limits of sockets, in bytes, counts and seconds: what is held for one peer and for all, what
-/// ends a batch, what is read after a close, and how long an exchange of a mirror may take. Fails if
-/// one of them gets another number.
+/// ends a batch, what is read after a close, and how long an exchange of a mirror may take. Fails
+/// if one of them gets another number.
 pub fn socket_limits_are_these()
     ensures unsent_bytes { outgoing.MOST_UNSENT ≡ 8388608 }
     ensures batch_bytes { outgoing.STRETCH_BYTES ≡ 1048576 }

@@ -3,8 +3,8 @@ ghost use Rattle.std.specs.Prelude.{◌≡◌, ◌++◌, ℕ, List, Option, Some
 ghost use Rattle.wire_laws.specs.Calls.{HasGiven, ReadCall, Reads, WriteCall, Writes, taken_bytes};
 
 /// Reads, one after another, give the bytes that the stream states, in order. None is lost and none
-/// is given twice, whatever batches they end. After a failed read nothing more is said. Fails if the
-/// end of a batch loses bytes, or if a byte is given again.
+/// is given twice, whatever batches they end. After a failed read nothing more is said. Fails if
+/// the end of a batch loses bytes, or if a byte is given again.
 pub fn reads_are_cuts()
     ensures { (bytes : List ℕ) (calls : List ReadCall) (now : Option (List ℕ))
         → Reads (Some bytes) calls now → HasGiven bytes calls now }

@@ -34,7 +34,8 @@ come ms t n inside last next = record {
   next = λ d lt. subst (λ (m : Moment). t <ℤ m.seconds) (get_or_default ms n nothing d lt) next;
 }
 
--- between the transitions before a place and the one of that place the state is that before it, of both files
+-- between the transitions before a place and the one of that place the state is that before it, of
+-- both files
 before_place : (one two : ZoneFile) (f g : Option Footer) (n : ℕ) (t : ℤ) → HasTypes one → HasTypes two → IsAlikeAt one two n
     → ((k : ℕ) → suc k ≡ n → (get_or one.moments k nothing).seconds ≤ℤ t) → ((k : ℕ) → suc k ≡ n → (get_or two.moments k nothing).seconds ≤ℤ t)
     → t <ℤ (get_or one.moments n nothing).seconds → state_at one f t ≡ state_at two g t

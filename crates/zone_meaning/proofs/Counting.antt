@@ -1,4 +1,5 @@
--- The transitions that are not after a moment are the first ones, so that a search by halves counts them.
+-- The transitions that are not after a moment are the first ones, so that a search by halves counts
+-- them.
 use Rattle.std.proofs.Common.{◌≡◌, ℕ, zero, suc, ◌+◌, ◌-◌, ◌<◌, ◌≤◌, Bool, true, false, cond, List, [], ◌∷◌, length, get_or, refl, ◌∙◌, subst, arith}
 use Rattle.std.specs.Prelude.{ℤ, pos, ◌≤ℤ◌, ◌<ℤ◌, int_le}
 use Rattle.std.specs.List.{count_by}

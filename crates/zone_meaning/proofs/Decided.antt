@@ -1,5 +1,5 @@
--- After the last transition of two files their footers decide: equal ones for ever alike, and others as they do within the years after which the calendar
--- repeats.
+-- After the last transition of two files their footers decide: equal ones for ever alike, and
+-- others as they do within the years after which the calendar repeats.
 use Rattle.std.proofs.Common.{◌≡◌, ℕ, zero, suc, ◌*◌, ◌<◌, ◌-◌, List, length, Option, None, Some, sym, subst, ap, ◌∙◌, arith, ℤ, pos, neg_ℤ}
 use Rattle.std.proofs.Common.{◌+ℤ◌, ◌-ℤ◌, ◌≤ℤ◌, ◌<ℤ◌, get_or, ◌⊎◌, inl, inr}
 use Rattle.std.specs.Option.{IfSome}

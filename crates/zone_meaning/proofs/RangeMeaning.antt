@@ -1,4 +1,5 @@
--- A list of a range's observances is determined by its members, and the last of them by a moment tells the state then.
+-- A list of a range's observances is determined by its members, and the last of them by a moment
+-- tells the state then.
 use Rattle.std.proofs.Common.{◌≡◌, ◌≢◌, ◌⊎◌, ℕ, zero, suc, List, [], ◌∷◌, true, false, inl, inr, refl, sym, subst, ap, ◌∙◌, arith, ℤ, pos, ◌+ℤ◌, ◌-ℤ◌, ◌≤ℤ◌}
 use Rattle.std.proofs.Common.{◌<ℤ◌, unsigned_abs}
 use Rattle.std.specs.List.{Contains}

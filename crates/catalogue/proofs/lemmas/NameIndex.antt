@@ -226,7 +226,8 @@ each_by_place : (P : Name → Type 0) (ns : List Name) → ((k : ℕ) (d : Name)
 each_by_place P [] h = tt
 each_by_place P (x ∷ xs) h = (h 0 x (omega arith), each_by_place P xs (λ k d lt. h (suc k) d (omega arith)))
 
--- no name of the list is the text, where each before a place is less and each from there on is greater
+-- no name of the list is the text, where each before a place is less and each from there on is
+-- greater
 pub none_same : (name : List ℕ) (ns : List Name) (i : ℕ) → IsPartitionPoint (λ n. compared name n ≡ Less) (λ n. compared name n ≡ Greater) ns i
     → AllByRecursion (λ n. bytes_eq name n.text ≡ false) ns
 none_same name ns i parts =

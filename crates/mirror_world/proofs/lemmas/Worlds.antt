@@ -13,7 +13,8 @@ use Rattle.sync_world.specs.Worlds as world
 use Rattle.sync_world.specs.Worlds.{IsAnswer, Leads, LeadsTo, Sent, SyncWorld, WorldStep, sent_then, world_begun}
 use Rattle.mirror_world.specs.Logs.{Brings, Logs, Reaches}
 
--- what is outstanding is what the mirror asks, and was first sent when the history had so many releases
+-- what is outstanding is what the mirror asks, and was first sent when the history had so many
+-- releases
 abbrev pub SentStands : ℕ → MirrorState → Option Sent → Type 0
 SentStands least mirror None = ⊤
 SentStands least mirror (Some sent) = (sent.ask ≡ ask_of mirror) × (least ≤ sent.since)

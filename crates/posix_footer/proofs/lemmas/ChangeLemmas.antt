@@ -1,4 +1,5 @@
--- What upper crates need of the state: the last change decides it, and between two changes it stays.
+-- What upper crates need of the state: the last change decides it, and between two changes it
+-- stays.
 use Rattle.std.proofs.Common.{◌≡◌, ℕ, zero, suc, ◌+◌, ◌<◌, Bool, true, false, ◌&&◌, refl, ap, arith, ℤ, pos, ◌≤ℤ◌, int_lt, int_le, Option, None, Some}
 use Rattle.std.proofs.Common.{if◌then◌else◌}
 use Rattle.std.specs.List.{list_any}

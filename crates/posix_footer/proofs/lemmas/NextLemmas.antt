@@ -1,4 +1,5 @@
--- The first onset after a moment is the earlier of those of the two edges, and until it the state stays.
+-- The first onset after a moment is the earlier of those of the two edges, and until it the state
+-- stays.
 use Rattle.std.proofs.Common.{◌≡◌, sym, subst, Option, None, Some, arith, ℤ, pos, ◌+ℤ◌, ◌≤ℤ◌, ◌<ℤ◌, int_le, to_z, of_z, to_z-of_z, w32, FitsSigned}
 use Rattle.std.proofs.lemmas.Bool.{cond_both}
 use Rattle.std.proofs.lemmas.Int.{by_lt_z, ints}

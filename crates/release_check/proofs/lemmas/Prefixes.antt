@@ -1,4 +1,5 @@
--- Of a file no more is read than one byte past its limit, which judges it as the whole file would be judged.
+-- Of a file no more is read than one byte past its limit, which judges it as the whole file would
+-- be judged.
 use Rattle.std.proofs.Common.{◌≡◌, ℕ, ◌<◌, ◌≤◌, nat_lt, nat_le, Bool, true, false, List, length}
 use Rattle.std.proofs.Common.{take, Option, None, Some, Ok, Err, inl, inr, ◌⊎◌, ⊎_elim, ap, sym}
 use Rattle.std.proofs.Common.{◌∙◌, refl, subst, arith}

@@ -1,5 +1,5 @@
--- What any number of calls may have done: nothing is one of these, two of them after each other are one, and each call
--- is one. An object that failed in a part of the calls failed in all of them.
+-- What any number of calls may have done: nothing is one of these, two of them after each other are
+-- one, and each call is one. An object that failed in a part of the calls failed in all of them.
 use Rattle.std.proofs.Common.{ℕ, List, [], ◌++◌, take, Option, None, Some, Result, Ok, Err, refl}
 use Rattle.std.proofs.Common.{ap, ◌∙◌, append-nil, sym, arith}
 use Rattle.std.proofs.KnownBytes.{Consumes-nil, Consumes-trans, Appends-nil, Appends-trans}

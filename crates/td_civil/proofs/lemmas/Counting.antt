@@ -1,4 +1,5 @@
--- Counting off years, months and days gives the date that has that many days before it, and no other date has.
+-- Counting off years, months and days gives the date that has that many days before it, and no
+-- other date has.
 use Rattle.std.proofs.Common.{◌≡◌, ℕ, zero, suc, ◌+◌, ◌-◌, ◌<◌, ◌≤◌, nat_lt, refl, arith, ℤ, pos, ◌+ℤ◌, ◌≤ℤ◌, unsigned_abs}
 use Rattle.std.proofs.lemmas.Bool.{cond_both, ltb-true, ltb-false}
 use Rattle.jiff_core.specs.declared.civil.date.Date.{Date}

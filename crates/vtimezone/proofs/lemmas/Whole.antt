@@ -40,7 +40,8 @@ pub record AreRuleParts (std : Local) (rule : DstRule) (y0 : ℤ) (b : Option �
   pub some : (at : Edge) → IsBeforeEnd b (onset_of rule std.offset y0 at) → (p : Part) × (In p × IsRulePart std rule y0 b at p)
   pub one : (p q : Part) (at : Edge) → In p → In q → IsRulePart std rule y0 b at p → IsRulePart std rule y0 b at q → p ≡ q
 
--- a part at each change of a state from a on and before e, with the state after it; the state at a counts as one
+-- a part at each change of a state from a on and before e, with the state after it; the state at a
+-- counts as one
 pub record AreSingles (state : ℤ → Local) (a e : ℤ) (In : Part → Type 0) : Type 0 where
   pub first : (p : Part) × (In p × (p.start.seconds ≡ a))
   pub each_is : (p : Part) → In p → (p.rule ≡ None) × (p.start.seconds <ℤ e) × (state_of_part p ≡ state p.start.seconds) × (p.dates ≡ [])

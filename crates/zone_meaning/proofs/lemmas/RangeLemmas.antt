@@ -1,4 +1,5 @@
--- The observances of a range are its first and its changes, no other list is, and the last by a moment tells the state.
+-- The observances of a range are its first and its changes, no other list is, and the last by a
+-- moment tells the state.
 use Rattle.std.proofs.Common.{◌≡◌, ◌≢◌, ℕ, zero, suc, ◌-◌, List, [], ◌∷◌, Bool, true, false, not, inl, inr, refl, sym, subst, ap, ◌∙◌, arith, ℤ, pos, ◌+ℤ◌}
 use Rattle.std.proofs.Common.{◌-ℤ◌, ◌≤ℤ◌, ◌<ℤ◌, unsigned_abs}
 use Rattle.std.specs.List.{Contains}
