@@ -14,6 +14,7 @@ import threading
 import time
 from pathlib import Path
 
+from build_plan import Estimate, Group, stages_of, used_by
 from gate_times import crates_in
 
 TOP = Path(__file__).resolve().parent.parent
@@ -33,10 +34,6 @@ HEARTBEAT = 60
 # What `rt ci` prints of a crate: that this run or an earlier one proved it, or that none did.
 PROVED_LINE = re.compile(r"(?:rt: )?(\w+) (proved$|is kept: )")
 NOT_PROVED = "NOT PROVED"
-# The seconds that are reckoned for a crate that was not measured.
-UNKNOWN_TIME = 120
-# The part of its time that a proof takes with a second processor.
-SECOND_PROCESSOR = 0.7
 
 
 class BuildFailed(Exception):
@@ -50,7 +47,7 @@ def say(text):
 def newest_source(parts):
     """When one of these folders of a crate changed last, of the crates that the program uses."""
     newest = 0
-    for name in used_by("tzdistd", crates_in((TOP / "crates.txt").read_text())):
+    for name in used_by(["tzdistd"], crates_in((TOP / "crates.txt").read_text())):
         for part in parts:
             for at, _, files in os.walk(TOP / "crates" / name / part):
                 newest = max([newest, *(os.stat(os.path.join(at, it)).st_mtime for it in files)])
@@ -60,17 +57,6 @@ def newest_source(parts):
 def is_current(program, parts):
     """Whether a program is there and no file that it was made of is newer."""
     return program.is_file() and program.stat().st_mtime >= newest_source(parts)
-
-
-def used_by(name, crates):
-    """A crate and all that it uses, lowest first as crates.txt lists them."""
-    wanted, waiting = set(), [name]
-    while waiting:
-        crate = waiting.pop()
-        if crate not in wanted:
-            wanted.add(crate)
-            waiting += crates[crate]
-    return [it for it in crates if it in wanted]
 
 
 def purpose_of(name):
@@ -104,100 +90,6 @@ def processors():
 def crates_at_once():
     """How many crates to prove at once: one a processor, as many as memory holds."""
     return max(1, min(processors(), int(memory_available() / CRATE_MEMORY)))
-
-
-class Estimate:
-    """How many minutes are left: by a plan from the measured times, at the pace of this machine."""
-
-    def __init__(self, crates, names, times, at_once):
-        self.crates, self.names, self.times = crates, list(names), times
-        self.width = max(1, min(at_once, processors()))
-        self.work_done, self.pace = 0, 1
-        self.begin = time.monotonic()
-
-    def time_of(self, name):
-        return self.times.get(name, UNKNOWN_TIME)
-
-    def plan(self):
-        """When each crate is proved, in seconds: it begins once those that it uses are proved and a
-        processor is free, first the one on which the longest chain waits."""
-        waiting, running, now, ends = set(self.names), {}, 0, []
-        chains = self.chains()
-        while waiting or running:
-            free = [it for it in waiting
-                    if not any(used in waiting or used in running for used in self.crates[it])]
-            for name in sorted(free, key=chains.get, reverse=True)[: self.width - len(running)]:
-                waiting.remove(name)
-                running[name] = now + self.time_of(name)
-            name = min(running, key=running.get)
-            now = running.pop(name)
-            ends.append((now, name))
-        return ends
-
-    def serial(self):
-        """The crates during whose proofs more than half of the processors are idle in the plan."""
-        runs = [(end - self.time_of(name), end, name) for end, name in self.plan()]
-        found = set()
-        for begin, end, name in runs:
-            busy = sum(max(0, min(end, until) - max(begin, since)) for since, until, _ in runs)
-            if busy < (end - begin) * self.width / 2:
-                found.add(name)
-        return found
-
-    def stages(self):
-        """The crates in groups, to be proved one group after the other, and whether a group is a
-        chain of serial crates."""
-        serial, groups, place = self.serial(), [], {}
-        for _, is_parallel, name in sorted((end - self.time_of(it), it not in serial, it)
-                                       for end, it in self.plan()):
-            lowest = max((place[it] for it in self.crates[name] if it in place), default=0)
-            parallel = [at for at, it in enumerate(groups) if at >= lowest and not it[1]]
-            if is_parallel and parallel:
-                place[name] = parallel[0]
-            elif not is_parallel and groups and groups[-1][0][-1] in self.crates[name] and groups[-1][1]:
-                place[name] = len(groups) - 1
-            else:
-                place[name] = len(groups)
-                groups.append(([], not is_parallel))
-            groups[place[name]][0].append(name)
-        return groups
-
-    def give_second_processor(self, stages):
-        """From now on the plan gives the serial crates of these stages a second processor."""
-        serial = [it for group, is_serial in stages if is_serial for it in group]
-        self.times = {**self.times, **{it: self.time_of(it) * SECOND_PROCESSOR for it in serial}}
-
-    def chains(self):
-        """Of each crate, the seconds of the longest chain of crates that begins with it and in which
-        each waits for the one before."""
-        chains = {}
-        for name in reversed(list(self.crates)):
-            if name in self.names:
-                waits = [chains[it] for it in chains if name in self.crates[it]]
-                chains[name] = self.time_of(name) + max(waits, default=0)
-        return chains
-
-    def count(self, name, is_kept):
-        """Counts a crate as proved: by an earlier run, or by this one, which shows its pace."""
-        if is_kept:
-            self.names.remove(name)
-            return
-        self.work_done += self.time_of(name)
-        elapsed, work, position = time.monotonic() - self.begin, 0, 0
-        for position, name in self.plan():
-            work += self.time_of(name)
-            if self.work_done <= work:
-                break
-        if position > 240:
-            self.pace = min(4, max(0.25, elapsed / position))
-
-    def so_far(self):
-        return round((time.monotonic() - self.begin) / 60)
-
-    def left(self):
-        """The minutes that are left."""
-        end = max((seconds for seconds, _ in self.plan()), default=0)
-        return max(1, round((end * self.pace + self.begin - time.monotonic()) / 60))
 
 
 class Running:
@@ -274,26 +166,29 @@ def proved_in(line):
     return (found[1], found[2] != "proved") if found else (None, False)
 
 
-def report_proofs(running, names, left, estimate):
-    """Prints a line for each crate that is proved, and one each minute, until `rt` ends. It takes
-    what is proved from those that are left."""
-    seen, last_report = 0, time.monotonic()
+def report_proofs(runs, names, left, estimate):
+    """Prints a line for each crate that is proved, and one each minute, until each `rt` has ended or
+    one has failed. It takes what is proved from those that are left. It returns one that failed."""
+    seen, last_report = [0] * len(runs), time.monotonic()
     while True:
-        is_over = running.is_over()
-        if is_over:
-            running.reader.join(5)
-        for line in running.printed[seen:]:
-            seen, (name, is_kept) = seen + 1, proved_in(line)
-            if name in left:
-                left.remove(name)
-                estimate.count(name, is_kept)
-                last_report = time.monotonic()
-                say(
-                    f"{len(names) - len(left)} of {len(names)} crates: {name} ({purpose_of(name)}); "
-                    f"{estimate.so_far()} minutes so far, about {estimate.left()} left"
-                )
-        if is_over:
-            return
+        ended = [it for it in runs if it.is_over()]
+        for at, running in enumerate(runs):
+            if running in ended:
+                running.reader.join(5)
+            for line in running.printed[seen[at] :]:
+                seen[at], (name, is_kept) = seen[at] + 1, proved_in(line)
+                if name in left:
+                    left.remove(name)
+                    estimate.count(name, is_kept)
+                    last_report = time.monotonic()
+                    say(
+                        f"{len(names) - len(left)} of {len(names)} crates: {name} "
+                        f"({purpose_of(name)}); {estimate.so_far()} minutes so far, "
+                        f"about {estimate.left()} left"
+                    )
+        failed = [it for it in ended if it.child.returncode]
+        if failed or len(ended) == len(runs):
+            return failed[0] if failed else None
         if time.monotonic() - last_report > HEARTBEAT:
             last_report = time.monotonic()
             say(
@@ -302,31 +197,44 @@ def report_proofs(running, names, left, estimate):
         time.sleep(0.5)
 
 
-def environment_for(at_once, is_serial):
+def environment_for(at_once, is_chain):
     """What `rt ci` is started with. It proves so many crates at once, each with one processor. For
-    serial ones it chooses, and gives two processors to a crate while no other can be proved."""
+    a chain it chooses, and gives more processors to a crate while no other can be proved."""
     others = {name: it for name, it in os.environ.items() if name != "RT_JOBS"}
-    return others if is_serial else {**others, "RT_JOBS": str(at_once)}
+    return others if is_chain else {**others, "RT_JOBS": str(at_once)}
 
 
-def prove_in_copy(names, stages, estimate, at_once):
-    """Proves the crates and builds the program in a copy, by `rt ci`: it proves several crates at
-    once, first those that most others wait for, and keeps each for later runs of the gate."""
-    with tempfile.TemporaryDirectory(prefix="tzdistd-proof-") as room:
-        room, left = Path(room), list(names)
-        copy_for_proof(names, room)
-        built = room / "crates" / "tzdistd" / "out" / "tzdistd"
-        for number, (group, is_serial) in enumerate(stages, 1):
-            is_last = number == len(stages)
-            words = ["ci", *([] if is_last else group)]
-            with Running(words, environment_for(at_once, is_serial), room) as running:
-                report_proofs(running, names, left, estimate)
-                if running.child.returncode or is_last and not built.is_file():
-                    raise BuildFailed(
-                        "the program was not proved and built: mend what rt reports, and start "
-                        "again\n" + running.last_lines()
-                    )
-        put_program(built, PROVED)
+def not_proved(running):
+    return BuildFailed(
+        "the program was not proved and built: mend what rt reports, and start again\n"
+        + running.last_lines()
+    )
+
+
+def prove_in_copies(crates, stages, estimate, at_once):
+    """Proves the crates of each stage and builds the program. The groups of a stage are proved side
+    by side, each in a copy, by `rt ci`, which keeps each crate for later runs of the gate."""
+    names = [it for stage in stages for group in stage for it in group.names]
+    left = list(names)
+    for stage in stages:
+        is_last = stage is stages[-1]
+        with contextlib.ExitStack() as ends:
+            runs = []
+            for group in stage:
+                folder = tempfile.TemporaryDirectory(prefix="tzdistd-proof-")
+                room = Path(ends.enter_context(folder))
+                copy_for_proof(used_by(group.names, crates), room)
+                environment = environment_for(at_once, group.is_chain)
+                # the last copy has all crates, and a plain `rt ci` leaves the program in it
+                words = ["ci", *([] if is_last else group.names)]
+                running = Running(words, environment, room)
+                runs.append(ends.enter_context(running))
+            failed = report_proofs(runs, names, left, estimate)
+            built = room / "crates" / "tzdistd" / "out" / "tzdistd"
+            if failed or is_last and not built.is_file():
+                raise not_proved(failed or running)
+            if is_last:
+                put_program(built, PROVED)
 
 
 def put_program(built, place):
@@ -344,16 +252,16 @@ def proved_program(at_once=None):
     if is_current(PROVED, PARTS_OF_PROOF):
         return PROVED
     crates = crates_in((TOP / "crates.txt").read_text())
-    names, at_once = used_by("tzdistd", crates), at_once or crates_at_once()
-    estimate = Estimate(crates, names, measured_times(), at_once)
+    names, at_once = used_by(["tzdistd"], crates), at_once or crates_at_once()
     # who limits the crates at once may want to keep processors for other work
-    stages = estimate.stages() if at_once >= processors() else [(names, False)]
-    estimate.give_second_processor(stages)
+    is_whole = at_once >= processors() > 1
+    stages = stages_of(names, crates, measured_times()) if is_whole else [[Group(names, False)]]
+    estimate = Estimate(crates, stages, measured_times(), min(at_once, processors()))
     say(
         f"Proving {len(names)} crates, then building the program: about {estimate.left()} minutes "
         f"from nothing on {processors()} processors. What an earlier run proved is kept."
     )
-    prove_in_copy(names, stages, estimate, at_once)
+    prove_in_copies(crates, stages, estimate, at_once)
     say(f"{len(names)} of {len(names)} crates are proved, and the program is built: {PROVED}")
     return PROVED
 

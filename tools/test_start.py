@@ -17,7 +17,8 @@ import tempfile
 import time
 from pathlib import Path
 
-from builds import Estimate, environment_for
+from build_plan import Estimate, Group, stages_of
+from builds import crates_at_once, environment_for
 from checks import LONG, holds, run_checks, same
 from served import DATA, Client, Failure, address_of, free_port
 
@@ -266,8 +267,7 @@ def reckons_by_a_plan(_program):
     crates = {"base": [], "top": ["base"], **{it: ["base"] for it in sides}}
     times = {"base": 400, "top": 3600, **{it: 600 for it in sides}}
     for pace in (0.5, 1, 2):
-        estimate = Estimate(crates, list(crates), times, 4)
-        estimate.width = 4  # also where this machine has fewer processors
+        estimate = Estimate(crates, [[Group(list(crates), False)]], times, 4)
         same("the minutes before anything is done", estimate.left(), 67)
         for name, seconds, minutes in (("base", 400, 60), ("side0", 1000, 50), ("side1", 1000, 50),
                                        ("side2", 1000, 50), ("side3", 1600, 40)):
@@ -278,7 +278,8 @@ def reckons_by_a_plan(_program):
 
 def reckons_without_what_is_kept(_program):
     crates = {"base": [], "top": ["base"]}
-    estimate = Estimate(crates, list(crates), {"base": 600, "top": 1200}, 2)
+    stages = [[Group(list(crates), False)]]
+    estimate = Estimate(crates, stages, {"base": 600, "top": 1200}, 2)
     estimate.count("base", True)
     same("the minutes that are left", estimate.left(), 20)
     estimate.count("top", True)
@@ -286,25 +287,51 @@ def reckons_without_what_is_kept(_program):
 
 
 def parts_its_proofs_into_stages(_program):
-    """A crate that all wait for, four beside one another, and two that wait for all of them."""
+    """A crate that all others use, four beside one another, two that use all of these, and two that
+    only the program uses."""
     sides = [f"side{number}" for number in range(4)]
-    crates = {"base": [], "leaf": [], **{it: ["base"] for it in sides}, "top": sides, "program": ["top"]}
-    times = {"base": 400, "leaf": 50, "top": 600, "program": 300, **{it: 600 for it in sides}}
-    for width, minutes, stages, later in (
-        (4, 32, [(["base"], True), (["leaf", *sides], False), (["top", "program"], True)], 25),
-        (2, 42, [(sorted(crates), False)], 42), (1, 62, [(sorted(crates), False)], 62),
+    crates = {
+        "leaf": [], "base": [], **{it: ["base"] for it in sides}, "wire": ["base"],
+        "socket": ["wire"], "runs": [*sides, "leaf"], "top": ["base", "runs"],
+        "program": ["top", "socket"],
+    }
+    times = {"leaf": 50, "base": 400, "wire": 100, "socket": 200, "runs": 300, "top": 600,
+             "program": 300, **{it: 600 for it in sides}}
+    stages = stages_of(list(crates), crates, times)
+    same("the stages", stages, [
+        [Group(["base"], True)], [Group(["leaf", *sides], False)],
+        [Group(["runs", "top"], True), Group(["wire", "socket"], True)], [Group(["program"], True)],
+    ])
+    # 0.7 of the time of `base` and of each of the last three crates, and between these one side
+    # after two others, or beside all of them
+    for width, minutes in ((4, 29), (2, 39)):
+        same(f"the minutes on {width}", Estimate(crates, stages, times, width).left(), minutes)
+
+
+def parts_small_programs_into_stages(_program):
+    """What has only a part of the stages, or one crate only."""
+    for crates, stages in (
+        ({"program": []}, [[Group(["program"], True)]]),
+        ({"base": [], "program": ["base"]}, [[Group(["base"], True)], [Group(["program"], True)]]),
+        ({"one": [], "two": [], "program": ["one", "two"]},
+         [[Group(["two"], True), Group(["one"], True)], [Group(["program"], True)]]),
     ):
-        estimate = Estimate(crates, list(crates), times, width)
-        estimate.width = width  # also where this machine has fewer processors
-        same(f"the minutes on {width} before", estimate.left(), minutes)
-        parted = estimate.stages()
-        found = [(it if is_serial else sorted(it), is_serial) for it, is_serial in parted]
-        same(f"the stages on {width}", found, stages)
-        estimate.give_second_processor(parted)
-        same(f"the minutes on {width} by stages", estimate.left(), later)
+        same(f"the stages of {list(crates)}", stages_of(list(crates), crates, {}), stages)
 
 
-def lets_rt_choose_for_serial_crates(_program):
+@in_top
+def proves_by_stages(top):
+    with top.start() as started:
+        started.until("^5 of 5 crates are proved, and the program is built")
+        started.until("^ready 1-")
+    if (processors := len(os.sched_getaffinity(0))) > 1 and crates_at_once() >= processors:
+        stages = ["ci td_base ", f"ci catalogue target {processors}", "ci td_top ", "ci "]
+        same("the calls", top.called(), stages)
+    copied = Path(f"{top.calls}.files").read_text().split()
+    holds("the last copy is whole", f"./crates/{PROVED.split()[1]}/src/lib.rt" in copied)
+
+
+def lets_rt_choose_for_chains(_program):
     os.environ["RT_JOBS"] = "7"
     same("many", environment_for(3, False)["RT_JOBS"], "3")
     same("one", environment_for(3, True).get("RT_JOBS"), None)
@@ -388,7 +415,7 @@ CHECKS = (
     finds_what_a_loader_runs,
     ends_a_build_by_signals,
     reckons_by_a_plan, reckons_without_what_is_kept, parts_its_proofs_into_stages,
-    lets_rt_choose_for_serial_crates,
+    parts_small_programs_into_stages, proves_by_stages, lets_rt_choose_for_chains,
     says_what_failed_in_a_compilation,
     packs_where_there_is_no_release,
     says_why_it_did_not_start,
