@@ -105,8 +105,8 @@ class Estimate:
         return ends
 
     def chains(self):
-        """Of each crate, the seconds of the longest chain of crates that begins with it and in which
-        each waits for the one before."""
+        """Of each crate, the seconds of the longest chain of crates that begins with it, each of
+        which waits for the one before."""
         chains = {}
         for name in reversed(list(self.crates)):
             if name in self.names:

@@ -104,7 +104,8 @@ class Running:
             )
         except OSError as error:
             raise BuildFailed(
-                f"rt does not start ({error.strerror}): install the toolchain, and put its rt on PATH"
+                f"rt does not start ({error.strerror}): install the toolchain, and put its rt on "
+                "PATH"
             ) from None
         self.printed = []
         self.reader = threading.Thread(target=self._read, daemon=True)
@@ -167,8 +168,9 @@ def proved_in(line):
 
 
 def report_proofs(runs, names, left, estimate):
-    """Prints a line for each crate that is proved, and one each minute, until each `rt` has ended or
-    one has failed. It takes what is proved from those that are left. It returns one that failed."""
+    """Prints a line for each crate that is proved, and one each minute, until each `rt` has ended
+    or one has failed. It takes what is proved from those that are left, and returns an `rt` that
+    failed."""
     seen, last_report = [0] * len(runs), time.monotonic()
     while True:
         ended = [it for it in runs if it.is_over()]
@@ -289,8 +291,8 @@ def is_program(path):
 
 
 def compiled_program():
-    """The program compiled with checks at run time, not proved: what `rt try` builds, copied while it
-    runs."""
+    """The program compiled with checks at run time, not proved: what `rt try` builds, copied while
+    it runs."""
     if is_current(COMPILED, ("src",)):
         return COMPILED
     say("Compiling the program, without proofs: about two minutes.")
@@ -312,11 +314,17 @@ def wait_for_program(running, room):
         if found:
             return found
         if running.is_over():
-            raise BuildFailed(f"the program was not compiled: mend what rt reports\n{running.last_lines()}")
+            raise BuildFailed(
+                f"the program was not compiled: mend what rt reports\n{running.last_lines()}"
+            )
         now = time.monotonic()
         if now - begin > LONGEST_COMPILATION:
-            raise BuildFailed("the compilation did not end in 30 minutes: look at the load of this machine")
+            raise BuildFailed(
+                "the compilation did not end in 30 minutes: look at the load of this machine"
+            )
         if now - told > 15:
             told = now
-            say(f"  compiling: {round(now - begin)} seconds so far, usually {USUAL_COMPILATION} in all")
+            say(
+                f"  compiling: {round(now - begin)} seconds so far, usually {USUAL_COMPILATION} in all"
+            )
         time.sleep(0.2)
