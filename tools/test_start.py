@@ -321,14 +321,34 @@ def parts_small_programs_into_stages(_program):
 
 @in_top
 def proves_by_stages(top):
+    """Two calls are made side by side. Where one of them fails, no later call is made."""
+    processors = len(os.sched_getaffinity(0))
+    if crates_at_once() < processors or processors < 2:
+        return
+    source = top.room / "crates" / "wire" / "src"
+    source.mkdir(parents=True)
+    (source / "lib.rt").write_text("//! A crate that only the program uses.\n")
+    crates = CRATES.replace("td_base td_top\n", "td_base td_top wire\n") + "wire: td_base\n"
+    (top.room / "crates.txt").write_text("\n".join(sorted(crates.splitlines(), key=places_of)))
+    first = ["ci td_base ", f"ci catalogue target {processors}", "ci td_top ", "ci wire "]
+    with top.start(fails="wire") as started:
+        status, _, errors = started.ended()
+    same("the status", (status, "a goal is left" in errors), (1, True))
+    same("the calls up to a failed one", in_order(top.called()), first)
     with top.start() as started:
-        started.until("^5 of 5 crates are proved, and the program is built")
+        started.until("^6 of 6 crates are proved, and the program is built")
         started.until("^ready 1-")
-    if (processors := len(os.sched_getaffinity(0))) > 1 and crates_at_once() >= processors:
-        stages = ["ci td_base ", f"ci catalogue target {processors}", "ci td_top ", "ci "]
-        same("the calls", top.called(), stages)
-    copied = Path(f"{top.calls}.files").read_text().split()
-    holds("the last copy is whole", f"./crates/{PROVED.split()[1]}/src/lib.rt" in copied)
+    same("the calls", in_order(top.called()[len(first):]), [*first, "ci "])
+
+
+def places_of(line):
+    """Puts the program last, and what only it uses before it."""
+    return line.startswith("tzdistd"), line.startswith("wire")
+
+
+def in_order(calls):
+    """Calls of which the third and the fourth may have come in any order."""
+    return calls[:2] + sorted(calls[2:4]) + calls[4:]
 
 
 def lets_rt_choose_for_chains(_program):
