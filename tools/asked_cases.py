@@ -1,7 +1,7 @@
-"""Asks the program of `crates/zone_cases` what it answers to rows of a table, without saying what is expected.
+"""Gets the answers of the program of `crates/zone_cases` to table rows without expected answers.
 
-A row without an answer is no case, and the program tells what it gives wherever that is not the empty text.
-Python's standard library alone.
+A row without an answer is no case. The program prints its own answer wherever that is not the empty
+text. Python's standard library only.
 """
 
 import os
@@ -21,7 +21,7 @@ class Unasked(Exception):
 
 
 def written(text):
-    """A text as it stands in a table; it has no character above 255, and each is a byte."""
+    """A text as it is written in a table; it has no character above 255, and each is a byte."""
     return re.sub(r"[^ -#%-\[\]-~]", lambda found: SIGNS.get(found[0], f"\\x{ord(found[0]):02x}"), text)
 
 
@@ -30,7 +30,8 @@ def table_of(texts, rows):
     return "\n".join([f"let t{place} {written(text)}" for place, text in enumerate(texts)] + rows) + "\n"
 
 
-# A process has at its end had as much memory as the one that it came from had then, so a small one begins it.
+# The peak memory of a process is at least what its parent had when the process began. So a small
+# process starts it.
 BEGIN = """
 import os, sys
 child = os.posix_spawn(sys.argv[1], sys.argv[1:], {})
@@ -40,7 +41,8 @@ print(os.waitstatus_to_exitcode(status), took.ru_utime + took.ru_stime, took.ru_
 
 
 def run(program, table):
-    """What the program says of a table, and what it took: seconds of processor time, and KiB of memory at the most."""
+    """What the program says of a table, and what it took: seconds of processor time, and the peak
+    of memory in KiB."""
     words = [sys.executable, "-c", BEGIN, os.path.abspath(program)]
     done = subprocess.run(words, input=table.encode(), capture_output=True, check=True)
     status, seconds, most = done.stderr.split()[-3:]
@@ -50,7 +52,7 @@ def run(program, table):
 
 
 def answers(program, texts, rows):
-    """The answer to each row, with the same signs in it as in a table; a row that is not understood has None."""
+    """The answer to each row, with the signs of a table; a row that is not understood has None."""
     said, _, _ = run(program, table_of(texts, rows))
     given = dict.fromkeys(rows, "")
     for line in said.splitlines():

@@ -6,7 +6,7 @@ Python's standard library only.
 import time
 from typing import NamedTuple
 
-# The seconds that are reckoned for a crate that was not measured.
+# The seconds that are assumed for a crate that was not measured.
 UNKNOWN_TIME = 120
 # The part of its time that a proof takes with a second processor.
 SECOND_PROCESSOR = 0.7

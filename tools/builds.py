@@ -1,4 +1,4 @@
-"""Builds the program for `start.py`: proved, with a line of progress a crate, or compiled only.
+"""Builds the program for `start.py`: proved, with a line of progress per crate, or only compiled.
 
 Python's standard library only. Needs Linux, as the toolchain does.
 """
@@ -88,7 +88,7 @@ def processors():
 
 
 def crates_at_once():
-    """How many crates to prove at once: one a processor, as many as memory holds."""
+    """How many crates to prove at once: one per processor, as many as memory holds."""
     return max(1, min(processors(), int(memory_available() / CRATE_MEMORY)))
 
 
@@ -215,7 +215,7 @@ def not_proved(running):
 
 def prove_in_copies(crates, stages, estimate, at_once):
     """Proves the crates of each stage and builds the program. The groups of a stage are proved side
-    by side, each in a copy, by `rt ci`, which keeps each crate for later runs of the gate."""
+    by side, each in a copy, by `rt ci`. It keeps each crate for later runs of the gate."""
     names = [it for stage in stages for group in stage for it in group.names]
     left = list(names)
     for stage in stages:

@@ -1,9 +1,9 @@
 #!/usr/bin/env python3
-"""Tells, by itself, what the cases of calendars must answer.
+"""Computes, by itself, what the cases of calendars must answer.
 
-It is written from the standards alone: zone files (RFC 9636), TZ strings (POSIX, section 8.3), yearly
-rules and VTIMEZONE (RFC 5545), and the same as JSON (RFC 7265), with the profile of docs/FORMATS.md. It goes over days and years one
-by one and shares nothing with the crates.
+It is written only from the standards, with the profile of docs/FORMATS.md. The standards cover zone
+files (RFC 9636), TZ strings (POSIX, section 8.3), yearly rules and VTIMEZONE (RFC 5545), and the
+same as JSON (RFC 7265). It goes over days and years one by one and shares nothing with the crates.
 
     calendar_model.py < crates/zone_cases/stdin     compares the rows that it knows
     calendar_model.py TZ-STRING                     prints what yearly rules say of it
@@ -165,7 +165,7 @@ def are_apart(tz):
 
 
 def carried(tz):
-    """A state that always holds, or the two rules of each year, or None."""
+    """A state that always applies, or the two rules of each year, or None."""
     std, dst, start, end = tz
     if dst is None:
         return std
@@ -522,7 +522,7 @@ SIGNS = {"r": "\r", "n": "\n", "t": "\t", "0": "\0", "e": "", "\\": "\\", "$": "
 
 
 def meaning(text, named):
-    """What a text of the table stands for: its form is told in crates/case_lines/src/lib.rt."""
+    """What a text of the table means: crates/case_lines/src/lib.rt describes its form."""
 
     def one(found):
         if found[1]:

@@ -1,7 +1,8 @@
-"""Reads calendars with one time zone, as lines (RFC 5545) and as JSON (RFC 7265), by going over the days.
+"""Reads calendars with one time zone, as lines (RFC 5545) and as JSON (RFC 7265), by going over the
+days.
 
-It knows no form of the server: a rule falls on a day where all of its words hold of that day. Python's standard
-library alone.
+It knows no form of the server: a rule falls on a day where all of its words are true of that day.
+Python's standard library only.
 """
 
 import calendar
@@ -19,12 +20,12 @@ LAST_YEAR = 2047
 
 
 class Unreadable(Exception):
-    """A text that is no calendar with one time zone, or that has what no calendar of a server has."""
+    """A text that is no calendar with one time zone, or that has what no server's calendar has."""
 
 
 class Rule(typing.NamedTuple):
-    """The words of a yearly rule: months, days of a month and of a year, and weekdays with their numbers, or None
-    where a rule does not have the word; and its last moment."""
+    """The words of a yearly rule and its last moment: months, days of a month and of a year, and
+    weekdays with their numbers. A word is None where the rule does not have it."""
 
     months: tuple | None = None
     month_days: tuple | None = None
@@ -34,8 +35,8 @@ class Rule(typing.NamedTuple):
 
 
 class Part(typing.NamedTuple):
-    """An observance: whether it is daylight saving time, its first onset by the clocks before it, the offsets before
-    and after it, its name, its further onsets, and its rule."""
+    """An observance: whether it is daylight saving time, its first onset by the clocks before it,
+    and the offsets before and after it. Then its name, its further onsets, and its rule."""
 
     daylight: bool
     start: datetime.datetime
@@ -47,7 +48,8 @@ class Part(typing.NamedTuple):
 
 
 class Zone(typing.NamedTuple):
-    """The time zone of a calendar: its identifier, the zone of which that is an alias, its end, and its parts."""
+    """The time zone of a calendar: its identifier, the zone of which that is an alias, its end, and
+    its parts."""
 
     tzid: str
     alias_of: str | None
@@ -73,7 +75,7 @@ def weekday_holds(day, word):
 
 
 def day_holds(day, rule):
-    """Whether all words of a rule hold of a day."""
+    """Whether all words of a rule are true of a day."""
     length = calendar.monthrange(day.year, day.month)[1]
     place = day.timetuple().tm_yday
     whole = 366 if calendar.isleap(day.year) else 365
@@ -87,7 +89,7 @@ def day_holds(day, rule):
 
 @functools.lru_cache(maxsize=None)
 def days_of(rule, first_year):
-    """The days on which a rule without an end falls, from a year on, up to a year after all that is compared."""
+    """The days of a rule without an end, from a year on, to a year after all that is compared."""
     day, found = datetime.date(first_year, 1, 1), []
     while day.year <= max(first_year, LAST_YEAR):
         if day_holds(day, rule):
@@ -97,7 +99,7 @@ def days_of(rule, first_year):
 
 
 def onsets_of(part):
-    """The onsets of a part, in UTC. The rule of one has to fall on its start."""
+    """The onsets of a part, in UTC. Where it has a rule, that must fall on its start."""
     back = datetime.timedelta(seconds=part.before)
     starts = [part.start, *part.dates]
     if part.rule:
@@ -113,7 +115,7 @@ def onsets_of(part):
 
 
 def turns_of(zone):
-    """The onsets of all parts in rising order: each with the offset, the flag and the name after it."""
+    """The onsets of all parts in rising order, each with the offset, flag and name after it."""
     turns = sorted(
         ((moment, (part.after, part.daylight, part.name), part.before) for part in zone.parts for moment in onsets_of(part)),
         key=lambda turn: turn[0],
@@ -168,7 +170,7 @@ def weekday_word(text):
 
 
 def rule_of(words, time, number, numbers):
-    """A rule of its words by name; the forms of its values differ."""
+    """A rule from its words by name; the forms of its values differ."""
     needs(words.pop("freq", None) == "YEARLY", "a rule that is not yearly")
     one = lambda name, read: (lambda value: None if value is None else read(value))(words.pop(name, None))
     rule = Rule(
@@ -300,7 +302,7 @@ def json_rule(value):
 
 
 def json_properties(rows, kinds):
-    """The values of properties by name, each of which comes once and with the type that is its own."""
+    """The values of properties by name. Each comes once and with the type that is its own."""
     found = {}
     for name, parameters, kind, *values in rows:
         needs(name not in found, f"{name} twice")

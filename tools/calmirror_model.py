@@ -1,7 +1,9 @@
 #!/usr/bin/env python3
-"""Tells, by itself, how runs of `calmirror` end: what is asked of the other server, what is printed, and the status.
+"""Computes, by itself, how runs of `calmirror` end: the requests to the other server, what is
+printed, and the status.
 
-It is written from docs/FORMATS.md and the standards, over the calendars of reader_model.py, and shares nothing with the crates.
+It is written from docs/FORMATS.md and the standards, over the calendars of reader_model.py, and
+shares nothing with the crates.
 
     calmirror_model.py < crates/run_cases/stdin     compares the cases of this command
 """
@@ -53,7 +55,7 @@ def reply_in(text, number, token):
 
 
 def sync(host, answers, failing, asked):
-    """The entries and the texts of a mirror that held nothing, after one sync."""
+    """The entries and the texts of a mirror that was empty, after one sync."""
     token, entries, texts, pending, lists = None, set(), {}, [], 0
     while lists < MOST_LISTS:
         number = len(asked) + 1
@@ -114,7 +116,7 @@ def run(words, case):
 
 
 def whole(text, named):
-    """What a text of the table stands for, where what it names may name more."""
+    """What a text of the table means, where the texts that it names may name others."""
     return meaning(text, {name: whole(named[name], named) for name in re.findall(r"\$\((\w+)\)", text)})
 
 

@@ -6,17 +6,19 @@
     example: tools/check_documents.py --program crates/tzdistd/out/tzdistd
 
 Each fault is a line `PAGE:LINE: what is wrong`; the status is 1 if there is one. Of every page it
-checks links and their anchors, and names in backticks: files, `Type::function`, `Record.field`,
-constants with the value behind them, identifiers, and `name` (`file`). Of tables it reads the columns:
+checks links and their anchors, and names in backticks. These are files, `Type::function`,
+`Record.field`, constants with the value behind them, identifiers, and `name` (`file`). Of tables it
+reads the columns:
 
-    Crate, Function, Clause   the function has a clause of this label (`result`: one without a label)
-    Definition, Where         the name is declared in this file
-    Edit                      the crate has this edit; `row x`: a table of cases has this word
-    Clause that falls         the first line of the row's edit names this function and this clause
+    Crate, Function, Clause  the function has a clause of this label (`result`: one without a label)
+    Definition, Where        the name is declared in this file
+    Edit                     the crate has this edit; `row x`: a table of cases has this word
+    Clause that falls        the first line of the row's edit names this function and this clause
 
-Of fenced blocks marked `sh` it checks that scripts have the flags; of those marked `sh run`, that
-each command ends with status 0, and that a block marked `text output` behind it is what it prints.
-`tools/foreign_names.txt` lists names that belong to other programs.
+Of fenced blocks marked `sh` it checks that scripts have the flags. Of those marked `sh run` it
+checks that each command ends with status 0. It also checks that a block marked `text output` behind
+such a block is what that prints. `tools/foreign_names.txt` lists names that belong to other
+programs.
 
 Python's standard library only.
 """
@@ -170,8 +172,8 @@ class Checks:
                     self.fault(page, number, f"{file} has no heading #{anchor}")
 
     def files_of(self, page, name):
-        """The files that a page means by a path: below the top, below crates/, in its own crate, or by
-        a name that has no folder."""
+        """The files that a page means by a path: below the top, below crates/, in its own crate, or
+        by a name without a folder."""
         path = name.split(":")[0].rstrip("/")
         if re.search(r"(^|/)[A-Z]{3,}(/|$)", path):
             return self.files_like(path)
@@ -185,7 +187,7 @@ class Checks:
         return [it for it in self.declared.files if it.endswith(f"/{path}")]
 
     def files_like(self, path):
-        """The files that a path with words as NAME for some of its folders may stand for."""
+        """The files that a path with words as NAME for some of its folders may mean."""
         parts = [r"[^/]+" if re.fullmatch(r"[A-Z]{3,}", it) else re.escape(it) for it in path.split("/")]
         pattern = re.compile(rf"(?:.*/)?{'/'.join(parts)}(?:/.*)?")
         return [it for it in self.declared.files if pattern.fullmatch(it)]
@@ -233,7 +235,7 @@ class Checks:
             self.fault(page, number, f"nothing declares {span}")
 
     def check_placed(self, page, number, name, file):
-        """A name is declared in the file that stands with it."""
+        """A name is declared in the file that is named with it."""
         files = self.files_of(page, file)
         declares = self.declared.names.get(name.split("::")[-1], set())
         if files and not declares & set(files):
@@ -345,7 +347,7 @@ class Checks:
 
 
 def run_block(top, program, lines):
-    """Runs a block by `sh` at the top, with the program as `tzdistd` and a folder for what it makes."""
+    """Runs a block by `sh` at the top, with the program as `tzdistd` and a folder for its files."""
     with tempfile.TemporaryDirectory() as room:
         os.symlink(os.path.abspath(program), os.path.join(room, "tzdistd"))
         environment = {**os.environ, "PATH": f"{room}:{os.environ['PATH']}", "ROOM": room}

@@ -1,5 +1,5 @@
-"""What the tests and trials share: what a check says, runs that end by themselves, releases that are
-made for them, a server of made answers, and many checks or tests beside one another.
+"""What the tests and trials share: what a check says, runs that end by themselves, and releases
+that are made for them. Also a server of made answers, and many checks or tests side by side.
 
 Python's standard library only.
 """
@@ -19,7 +19,7 @@ from http.server import BaseHTTPRequestHandler, ThreadingHTTPServer
 from formats import usage_line
 from served import DATA, HOST, PROGRAM, Failure, address_of, slim_zone
 
-# What a busy machine may add to a time, and how long anything else may take. No check measures speed.
+# What a busy machine may add to a time, and how long all else may take. No check measures speed.
 SLACK, LONG = 40, 60
 
 USAGE = usage_line().encode()
@@ -34,7 +34,7 @@ def same(what, seen, wanted):
 
 
 def holds(what, fact):
-    """Fails where something does not hold."""
+    """Fails where something is not true."""
     if not fact:
         raise Failure(what)
 
@@ -69,8 +69,8 @@ def release(at, version, zones, stamp="2025-06-01T00:00:00Z"):
 
 
 class Answering:
-    """A server of HTTP until the end of a `with` block, by threads. It answers as `answer` returns,
-    which has the target and the fields of a request: status and body."""
+    """A server of HTTP until the end of a `with` block, by threads. It answers with the status and
+    body that `answer` returns, which gets the target and the fields of a request."""
 
     def __init__(self, answer):
         class Handler(BaseHTTPRequestHandler):
@@ -96,12 +96,12 @@ class Answering:
         self.server.server_close()
 
 
-# ---- tests of unittest beside one another
+# ---- tests of unittest side by side
 
 
 def tasks_of(module, slow):
-    """The names of the tests of a module, the slow ones first. Those of a class that makes something
-    for all of its tests stay together."""
+    """The names of the tests of a module, the slow ones first. Those of a class that makes
+    something for all of its tests stay together."""
     tasks = []
     for name, kind in vars(module).items():
         if isinstance(kind, type) and issubclass(kind, unittest.TestCase):
@@ -130,7 +130,7 @@ def begin_worker():
 
 
 def run_tests_beside(whole, slow=(), beside=16):
-    """Runs the tests of the script, so many beside one another, and returns the status: 1 where one
+    """Runs the tests of the script, so many side by side, and returns the status: 1 where one
     failed. They wait for programs and for requests more than they compute. After so many seconds in
     all it ends in any case."""
     for number in (signal.SIGTERM, signal.SIGALRM):
@@ -161,7 +161,7 @@ def fault_of(check, program):
 
 
 def help_text(script):
-    """What a script of checks says of its words."""
+    """The help that a script of checks prints about its words."""
     return (
         f"usage: {script} [PROGRAM]\n\nTries a built tzdistd (default: {PROGRAM}).\n\n"
         f"example: tools/{script} crates/tzdistd/out/tzdistd"
@@ -169,7 +169,7 @@ def help_text(script):
 
 
 def run_checks(name, checks, whole, beside):
-    """Runs the checks, so many beside one another, and tells what failed. The status is 0 where all is
+    """Runs the checks, so many side by side, and prints what failed. The status is 0 where all is
     well. After so many seconds in all it ends in any case."""
     if sys.argv[1:2] in (["-h"], ["--help"]):
         print(help_text(os.path.basename(sys.argv[0])))

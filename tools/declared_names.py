@@ -1,5 +1,6 @@
-"""What the files of this repository declare, for pages that name it: files, crates, functions with the
-labels of their clauses, types, definitions with their fields, constants with their values, edits.
+"""What the files of this repository declare, for pages that name it. These are files, crates,
+functions with the labels of their clauses, types, definitions with their fields, constants with
+their values, and edits.
 
 It reads by the layout that `rt fmt` keeps, so it needs no parser. Python's standard library only.
 """
@@ -22,7 +23,8 @@ MEMBER = re.compile(r"^\s*(?:pub(?:\([a-z]+\))? )?(?:ghost )?([a-z_]\w*)\s*:")
 VARIANT = re.compile(r"^    ([A-Z]\w*)\s*(?:[,({=]|$)")
 KEYWORD = "abbrev|unfoldable|record|data|ruleset|inductive|pattern"
 DEFINITION = re.compile(
-    rf"^(?:  )?((?:pub )?(?:(?:{KEYWORD}) (?:pub )?)+)([^\s:(){{}}]+)(?:\s|$)"  # also in a `module _`
+    # also in a `module _`
+    rf"^(?:  )?((?:pub )?(?:(?:{KEYWORD}) (?:pub )?)+)([^\s:(){{}}]+)(?:\s|$)"
     r"|^(pub )?([^\s:(){}]+)\s+:"
 )
 FIELD = re.compile(r"^\s+(?:pub )?([^\s:(){}=]+)\s+:")
@@ -44,8 +46,8 @@ def listed_files(top):
 
 
 class Function:
-    """A function: its crate, its type if it has one, its file, and the labels of its clauses, of which
-    some are conditions."""
+    """A function: its crate, its type if it has one, its file, and the labels of its clauses, of
+    which some are conditions."""
 
     def __init__(self, crate, owner, name, file):
         self.crate, self.owner, self.name, self.file = crate, owner, name, file
@@ -65,7 +67,7 @@ class Declared:
         self.crates = crates_in(listed.read_text()) if listed.is_file() else {}
         self.functions = []
         self.names = {}      # a name, and the files that declare it
-        self.fields = {}     # a type or definition, and the names of its fields, variants and methods
+        self.fields = {}     # a type or definition, and the names of its fields, variants, methods
         self.values = {}     # a constant, and its values
         self.aliases = {}    # a type, and the type that it is another name of
         self.edits = {}      # a crate, and the names of its edits

@@ -13,7 +13,7 @@ there is none of HTTPS.
 
 `bind` prints lines for a zone file, as BIND and others read it. `knot` prints lines for `knotc`,
 and `dnsmasq` lines for its configuration. With `--path ''` no TXT record is printed, and clients
-ask `/.well-known/timezone`.
+request `/.well-known/timezone`.
 
 It needs only Python's standard library. test_discovery.py tests it.
 """

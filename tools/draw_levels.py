@@ -4,8 +4,8 @@
     tools/draw_levels.py            writes the drawing
     tools/draw_levels.py --check    status 1 if the drawing is not that of crates.txt
 
-A line leads from a crate down to each that it uses, unless another crate between them uses that too.
-The last group, the programs that only test, has no lines.
+A line leads from a crate down to each that it uses, unless another crate between them uses that
+too. The last group, the programs that only test, has no lines.
 Python's standard library only.
 """
 

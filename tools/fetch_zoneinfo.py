@@ -51,7 +51,7 @@ MOST_ZONE_BYTES = 1 << 20
 MOST_REDIRECTS = 5
 MOST_ROUNDS = 8
 
-# Seconds that a server may be silent, and that one exchange may take.
+# Seconds that a server may send nothing, and that one exchange may take.
 SILENCE, EXCHANGE = 20, 120
 
 
@@ -64,7 +64,7 @@ class Failed(Exception):
 
 
 class Wishes(NamedTuple):
-    """What a run is given beside a server: authorities to trust, a folder of tables, and a domain."""
+    """What a run gets beside a server: authorities to trust, a folder of tables, and a domain."""
 
     cacert: Optional[str] = None
     tables: Optional[str] = None
@@ -78,7 +78,8 @@ PLAIN = Wishes()
 
 
 def check_block(data, begin, size):
-    """Where the block ends whose header begins there, whose times have so many bytes, and its counts."""
+    """The end of the block whose header begins there and whose times have so many bytes, and its
+    counts."""
     header = data[begin : begin + 44]
     if len(header) < 44 or header[:4] != b"TZif":
         raise Failed("no TZif file")
@@ -92,7 +93,7 @@ def check_block(data, begin, size):
 
 
 def check_types(data, begin, counts):
-    """Judges counts, transitions and types of the second block."""
+    """Checks counts, transitions and types of the second block."""
     ut, standard, leaps, times, types, chars = counts
     if types == 0 or chars == 0 or ut not in (0, types) or standard not in (0, types):
         raise Failed("a TZif file with impossible counts")
@@ -118,7 +119,7 @@ FOOTER = re.compile(rf"\n(?:{NAME}{HOURS}(?:{NAME}(?:{HOURS})?{DATE}{DATE})?)?\n
 
 
 def check_tzif(data):
-    """Judges a TZif file of a zone: both blocks, and the footer, after which nothing follows."""
+    """Checks a TZif file of a zone: both blocks, and the footer, after which nothing follows."""
     second, _ = check_block(data, 0, 4)
     end, counts = check_block(data, second, 8)
     if data[second + 4] != data[4]:
@@ -132,7 +133,7 @@ def check_tzif(data):
 
 
 class Zone(NamedTuple):
-    """A zone as the list has it, and what is held of it: the tag of its get, and its file's digest."""
+    """A zone as the list has it, and what is kept of it: its get's tag, and its file's digest."""
 
     etag: str
     aliases: tuple
@@ -141,7 +142,7 @@ class Zone(NamedTuple):
 
 
 class State(NamedTuple):
-    """What a tree holds: zones by name, and the token since which changes are asked for."""
+    """What a tree contains: zones by name, and the token since which changes are requested."""
 
     token: Optional[str]
     zones: dict
@@ -151,7 +152,7 @@ NOTHING = State(None, {})
 
 
 def check_names(zones):
-    """Judges all names: none leaves the tree, none stands twice, none is a folder of another."""
+    """Checks all names: none is outside the tree, none comes twice, none is a folder of another."""
     names = [name for tzid, zone in zones.items() for name in (tzid, *zone.aliases)]
     if not names:
         raise Failed("a list without zones")
@@ -168,7 +169,7 @@ def check_names(zones):
             raise Failed(f"{name!r} lies below another zone")
 
 
-# What comes of reading members of a JSON text that is not as it should be.
+# The errors of reading members of a JSON text that is not as it should be.
 MISREAD = (ValueError, TypeError, KeyError, AttributeError, RecursionError)
 
 
@@ -204,7 +205,7 @@ def list_of(body):
 
 
 def merged(held, changes):
-    """The zones after a list of changes. A name that it gives to a zone is no other zone's any more."""
+    """The zones after a list of changes. A name that it gives a zone is then no other zone's."""
     taken = {name for zone in changes.values() for name in zone.aliases} | set(changes)
     zones = {}
     for tzid, zone in held.items():
@@ -241,7 +242,7 @@ def trusting(cacert):
 
 
 class Server:
-    """A server by a URL, and one connection to it, which is opened anew where it ended."""
+    """A server by a URL, and one connection to it, which is opened again where it ended."""
 
     def __init__(self, url, cacert=None):
         try:
@@ -372,17 +373,19 @@ def context_of(url, cacert):
 
 
 def tells(tag, etag):
-    """A get's tag shows that the file is the one of a list's entry. Of tzdistd it is the entry's with `.t`."""
+    """A get's tag shows that the file is the one of a list's entry. Of tzdistd it is the entry's
+    with `.t`."""
     found = ENTITY_TAG.fullmatch(tag or "")
     return found is not None and found.group(1) in (etag.strip('"'), etag.strip('"') + ".t")
 
 
 class Catching:
-    """Asks until what is held is what one list of the server says.
+    """Sends requests until what is kept is what one list of the server says.
 
-    What lies between may keep answers, and the server may go on meanwhile. So a file whose tag does not show that it
-    is the listed one is asked for again past all caches. Where that does not show it either, the file stays in doubt
-    until a list past all caches has still the same token; under another one it is asked for again.
+    Caches between may keep answers, and the server may change meanwhile. So a file whose tag does
+    not show that it is the listed one is requested again past all caches. Where that does not show
+    it either, the file stays in doubt until a list past all caches has still the same token. Under
+    another token it is requested again.
     """
 
     def __init__(self, server, state):
@@ -437,7 +440,7 @@ class Catching:
 
 
 def synced(path):
-    """Sees to it that a file or a folder is on the disk."""
+    """Makes sure that a file or a folder is on the disk."""
     descriptor = os.open(path, os.O_RDONLY)
     try:
         os.fsync(descriptor)
@@ -498,8 +501,8 @@ class Trees:
             return {}
 
     def held(self, number, url, domain=None):
-        """The state of a tree that came from this server, of the zones whose files are what they were.
-        Of another server of the same domain the zones count, and the token does not."""
+        """The state of a tree that came from this server, of the zones whose files are what they
+        were. Of another server of the same domain the zones count, and the token does not."""
         try:
             document = self.document(number)
             zones = {tzid: held_zone_of(entry) for tzid, entry in document["zones"].items()}
@@ -512,7 +515,7 @@ class Trees:
         except (OSError, Failed, *MISREAD):
             return NOTHING
         whole = {tzid: zone for tzid, zone in zones.items() if self.is_whole(number, tzid, zone)}
-        # changes since the token do not name what was lost here, so then all zones are asked for
+        # changes since the token do not name what was lost here, so then all zones are requested
         return state if same and len(whole) == len(zones) else State(None, whole)
 
     def is_whole(self, number, tzid, zone):
@@ -532,7 +535,7 @@ class Trees:
         return tables_of(self.path(number, "zoneinfo"), zones)
 
     def make(self, number, old, state, files, origin, tables):
-        """Writes a tree whole: new files as they came, the others as links to those of the old tree."""
+        """Writes a whole tree: new files as they came, others as links to those of the old tree."""
         root = self.path(number, "zoneinfo")
         folders = {self.path(number), root}
         os.makedirs(root)
@@ -569,14 +572,15 @@ class Trees:
         synced(self.path(number))
 
     def change_over(self, number):
-        """Renames DIR over to a tree: before it DIR leads to the old one, after it to the new one."""
+        """Renames DIR over to a tree: DIR leads to the old one before it, to the new one after."""
         new = os.path.join(self.folder, "link")
         os.symlink(os.path.join(os.path.basename(self.folder), str(number), "zoneinfo"), new)
         os.replace(new, self.link)
         synced(os.path.dirname(self.link))
 
     def clean(self):
-        """Removes what is neither the current tree nor the one before it, as a run that was ended leaves it."""
+        """Removes what is neither the current tree nor the one before it, such as what a run that
+        was ended leaves."""
         with contextlib.suppress(FileNotFoundError):
             os.unlink(os.path.join(self.folder, "link"))
         current = self.current()
@@ -616,7 +620,7 @@ def tables_of(folder, zones):
 
 
 def fetch(url, directory, wishes=PLAIN, path=None):
-    """Brings DIR to what the server has, and gives the line that says so. The path is that of its
+    """Brings DIR to what the server has, and returns the line that says so. The path is that of its
     context; without one the URL has it, or the well-known address says it."""
     with Trees(directory) as trees:
         current = trees.current()
@@ -713,7 +717,7 @@ def main():
     try:
         status = run(options)
         while options.every is not None:
-            # many devices that began at once are not to ask at once for ever
+            # many devices that began at once must not send requests at once for ever
             time.sleep(options.every * random.uniform(0.9, 1.1))
             status = run(options)
     except KeyboardInterrupt:

@@ -1,6 +1,7 @@
-"""What docs/FORMATS.md says that the program prints, for trials and models that compare it with what was printed.
+"""What docs/FORMATS.md says that the program prints, for trials and models that compare it with
+what was printed.
 
-Python's standard library alone.
+Python's standard library only.
 """
 
 import re

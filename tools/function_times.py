@@ -1,15 +1,16 @@
 #!/usr/bin/env python3
-"""Tells in which functions the time of a check went, the longest first.
+"""Prints in which functions the time of a check went, the longest first.
 
     (cd crates/NAME && rm -rf out/incremental && rt check --jobs 1)
     tools/function_times.py crates/NAME/out/incremental [--most N]
 
-A check keeps a file for each module that it has checked, a function has some twenty of them, and with one job they are
-written one after another. So the time from one file to the next is that of the next one's module, and a function's is
-the sum of its modules'. The last column has its dearest parts: `Lts` is what is owned and lent along its paths, `Proof`
-and `Answers` are goals. Work that writes no file, as the reading of libraries, is not seen.
+A check keeps a file for each module that it has checked, and a function has some twenty of them.
+With one job they are written one after another. So the time from one file to the next is that of
+the next one's module, and a function's is the sum of its modules'. The last column has its longest
+parts: `Lts` is what is owned and borrowed along its paths, `Proof` and `Answers` are goals. Work
+that writes no file, such as the reading of libraries, is not seen.
 
-Needs Python's standard library alone.
+Needs Python's standard library only.
 """
 
 import argparse
@@ -25,7 +26,7 @@ PARTS = frozenset(
 
 
 def function_in(name):
-    """The function or the page of a kept file, and which part of it the file is; None for another file."""
+    """The function or page of a kept file, and which part the file is; None for another file."""
     found = NAME.match(name)
     if not found:
         return None
@@ -35,7 +36,8 @@ def function_in(name):
 
 
 def times_of(files):
-    """The seconds of each function or page, in all and by its parts, of files as pairs of a moment and a name."""
+    """The seconds of each function or page, in all and by its parts, of files as pairs of a moment
+    and a name."""
     sums, before = {}, None
     for moment, name in sorted(files):
         what = function_in(name)

@@ -1,17 +1,20 @@
 #!/usr/bin/env python3
-"""Tells what processor time `rt ci` takes, crate by crate: its library or program, its tests, its edits and its runs.
+"""Prints what processor time `rt ci` takes, crate by crate: its library or program, its tests, its
+edits and its runs.
 
     tools/gate_times.py rt ci           runs it, and prints the table when it has ended
     tools/gate_times.py --of PID        the same of one that runs already: of what is left of it
-    tools/gate_times.py --to FILE ..    writes the table to FILE besides, every ten seconds, for a look before the end
+    tools/gate_times.py --to FILE ..    writes the table to FILE besides, every ten seconds, for a
+                                        look before the end
 
-`rt ci` says nothing of times, and what it keeps has none, so it is watched: once a second the processes below it are
-read from /proc. What the prover is called with tells its crate and whether it proves tests; where it runs, or the folder
-of what it begins with, whether it tries an edit. A run is a program or the tests of a crate that `rt ci` starts. The
-last second of each process may be lost. Beside the sums stands how long each library took by the clock, and at the end
-the longest chain of libraries by `crates.txt`, which no number of processors makes shorter.
+`rt ci` says nothing of times, and what it keeps has none. So it is watched: once a second the
+processes below it are read from /proc. The arguments of the prover show its crate and whether it
+proves tests. The folder in which it runs, or that of what it begins with, shows whether it tries an
+edit. A run is a program or the tests of a crate that `rt ci` starts. The last second of each
+process may be lost. Beside the sums is how long each library took by the clock. At the end is the
+longest chain of libraries by `crates.txt`, which no number of processors makes shorter.
 
-Needs Linux and Python's standard library alone.
+Needs Linux and Python's standard library only.
 """
 
 import argparse
@@ -26,7 +29,7 @@ TICKS = os.sysconf("SC_CLK_TCK")
 
 
 class Process:
-    """A process: its parent, its words, its folder, and the seconds of it and of its ended children."""
+    """A process: its parent, its words, its folder, and its seconds with its ended children's."""
 
     def __init__(self, folder):
         stat = (folder / "stat").read_text(errors="replace")
@@ -72,7 +75,8 @@ def is_below(found, pid, top):
 
 
 def works(found, top):
-    """The works below a process: each with its crate, its kind, and its seconds with those of all below it."""
+    """The works below a process: each with its crate, its kind, and its seconds with those of all
+    below it."""
     told, seconds = {}, {}
     for pid, process in found.items():
         at = pid
@@ -110,7 +114,7 @@ class Watch:
 
 
 def crates_in(text):
-    """The crates of a crates.txt, each with those that it stands on."""
+    """The crates of a crates.txt, each with those that it uses."""
     lines = [line.split("#")[0].partition(":") for line in text.splitlines()]
     crates = {name.split()[0]: used.split() for name, _, used in lines if name.strip()}
     return {name: [it for it in used if it in crates] for name, used in crates.items()}

@@ -5,7 +5,8 @@
 
     example: tools/lint.py shellcheck pyflakes
 
-Each linter that is not installed is skipped with a word. The status is 1 if one of them complains.
+Each linter that is not installed is skipped, with a line that says so. The status is 1 if one of
+them complains.
 
     shellcheck       scripts of the shell
     pyflakes         Python: names that are not used or not defined
@@ -91,7 +92,7 @@ def systemd(files):
         words = [program, "verify", "--man=no", *(str(room / Path(it).name) for it in units)]
         environment = {**os.environ, "SYSTEMD_UNIT_PATH": f"{room}:"}
         _, said = ran(words, env=environment)
-        # it also judges the units of this machine that ours name
+        # it also checks the units of this machine that ours name
         ours = [it for it in said.splitlines() if str(room) in it or any(Path(unit).name in it for unit in units)]
         return 1 if ours else 0, "\n".join(ours)
 
@@ -110,7 +111,7 @@ def nginx(files):
 
 
 def sites_in(files):
-    """The sites of nginx. One without a server is the first blocks of the main one, for other groups."""
+    """The sites of nginx. One without a server is the main one's first blocks, for other groups."""
     main = (TOP / "deploy/nginx-tzdistd.conf").read_text()
     for file in files:
         if re.search(r"^deploy/nginx-.*\.conf$", file):
@@ -126,7 +127,8 @@ def nginx_over(program, room, site):
     site = re.sub(r"(ssl_certificate_key )\S+;", rf"\1{room}/key.pem;", site)
     site = re.sub(r"(\w*(?:ssl_certificate|_trusted_certificate) )\S+;", rf"\1{room}/fullchain.pem;", site)
     site = re.sub(r"(proxy_cache_path )\S+", rf"\1{room}/cache", site)
-    site = re.sub(r"(^\s*server )[a-z][\w.-]*", r"\g<1>127.0.0.1", site, flags=re.MULTILINE)  # no name is looked up
+    # no name is looked up
+    site = re.sub(r"(^\s*server )[a-z][\w.-]*", r"\g<1>127.0.0.1", site, flags=re.MULTILINE)
     site = re.sub(r"((?:access|error)_log )[^;]+;", rf"\1{room}/log;", site)
     for at, line in enumerate(re.findall(r"listen [^;]+;", site)):
         words = [it for it in line[7:-1].split()[1:] if not it.startswith("ipv6only")]

@@ -1,8 +1,8 @@
 #!/usr/bin/env python3
-"""Tells, by itself, what the made load is: its releases, its requests and its counts.
+"""Computes, by itself, what the made load is: its releases, its requests and its counts.
 
-It is written from docs/FORMATS.md and the standards alone (RFC 9636, RFC 9112) and shares nothing with the
-crates.
+It is written only from docs/FORMATS.md and the standards (RFC 9636, RFC 9112) and shares nothing
+with the crates.
 
     load_model.py < crates/release_cases/stdin     compares the rows that it knows
     load_model.py NUMBER                           prints the line of a load of so many releases
@@ -77,7 +77,7 @@ def token(place):
 
 
 def places_of(number, texts):
-    """The tokens of the last places alone are known."""
+    """Only the tokens of the last places are known."""
     known = {text: place for place, text in enumerate(tokens(number), 1) if number - place < KEPT_TOKENS}
     return "[%s]" % ", ".join("Some(%d)" % known[text] if text in known else "None" for text in texts)
 
@@ -97,7 +97,7 @@ def requests(release):
 
 
 def counts(number):
-    """By what changes from release to release: one zone, whose hour moves on."""
+    """By what changes from release to release: the hour of one zone."""
     entries = 0
     for release in range(1, number + 1):
         before = max(1, release - 1)

@@ -3,9 +3,9 @@
 
     long_replies.py
 
-The lengths are of texts that are made here from the rules of docs/FORMATS.md alone, over two zone files that are
-made here too; that the files mean so is tried with Python's zoneinfo. So a server that runs out of memory at such a
-size, or answers less, differs from the table.
+The lengths are of texts that are made here only from the rules of docs/FORMATS.md, over two zone
+files that are made here too. Python's zoneinfo is used to check that the files mean so. So a server
+that runs out of memory at such a size, or answers less, differs from the table.
 """
 
 import datetime
@@ -27,7 +27,7 @@ def sunday(year, month, number):
 
 
 def onsets(first, last):
-    """The changes of the rules, from one year to another: moment and what holds from then on."""
+    """The changes of the rules, from one year to another: moment and what applies from then on."""
     for year in range(first, last + 1):
         yield datetime.datetime(year, 3, sunday(year, 3, 2), 7, tzinfo=UTC), EDT
         yield datetime.datetime(year, 11, sunday(year, 11, 1), 6, tzinfo=UTC), EST
@@ -60,7 +60,7 @@ def stamp(moment):
 
 
 def expansion(tzid, changes, start, end):
-    """The document of the observances from start to end, where standard time holds at first."""
+    """The document of the observances from start to end, where standard time applies at first."""
     rows = [(start, EST[0], EST)]
     for moment, kind in changes:
         if start < moment < end:
@@ -96,7 +96,7 @@ def folded(line):
 
 
 def alike(changes):
-    """The moments of all changes that are alike, by the first of them; the first moment of all is one."""
+    """The moments of all alike changes, by the first of them; the first moment of all is one."""
     sets = {(EST[0], EST): [datetime.datetime(1800, 1, 1, tzinfo=UTC)]}
     before = EST
     for moment, kind in changes:

@@ -5,12 +5,12 @@
 
 The folder is made new, and it appears whole or not at all. Zones and their aliases are those of
 `tzdata.zi` in the tree, or of the file that `--tzdata-zi` names. Without either, names whose files
-have the same bytes are one zone. `docs/FORMATS.md` says what a release folder holds.
+have the same bytes are one zone. `docs/FORMATS.md` says what a release folder contains.
 
 A zone file is written in its slim form: its second block ends where the TZ string of the footer
 says the same. Before that its states are compared with those of the file that came. A file that
-would say anything else stays as it came. A zone whose file the server would refuse in both forms,
-since its TZ string disagrees with its last transition, is left out with a warning. With
+would say anything else stays as it came. A zone whose file the server would refuse in both forms
+is left out with a warning. The TZ string of such a file disagrees with its last transition. With
 `--keep-from` the zone stays as an older release has it.
 """
 
@@ -41,7 +41,7 @@ IDENTIFIER = re.compile(r"[A-Za-z0-9_+.-]+(/[A-Za-z0-9_+.-]+)*")
 LABEL = re.compile(r"[\x20-\x7e]{1,64}")
 MOMENT = re.compile(r"\d{4}-\d\d-\d\dT\d\d:\d\d:\d\dZ")
 
-# Folders and files of a tree that hold no zone of their own.
+# Folders and files of a tree that contain no zone of their own.
 SKIPPED_FOLDERS = {"posix", "right"}
 SKIPPED_NAMES = {"localtime", "posixrules"}
 

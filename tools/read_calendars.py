@@ -1,12 +1,15 @@
 #!/usr/bin/env python3
-"""Reads the calendars of each zone of a release from a server, and compares them with the zone's file.
+"""Reads the calendars of each zone of a release from a server, and compares them with the zone's
+file.
 
-    read_calendars.py RELEASE [PROGRAM]     RELEASE as tools/pack_zoneinfo.py makes it; PROGRAM is tzdistd
+    read_calendars.py RELEASE [PROGRAM]     RELEASE as tools/pack_zoneinfo.py makes it; PROGRAM is
+                                            tzdistd
 
-Each zone is asked for whole and for ranges, as lines and as JSON. What a calendar says from 1995 to 2045, by
-`calendar_reader.py`, is compared in offset, flag and name with what Python's `zoneinfo` says of the file: at noon of
-each day, at each change of either to the second, and a second before it. The JSON is compared with the lines part by
-part. Prints how much was compared, and what the texts weigh. Python's standard library alone.
+Each zone is requested whole and for ranges, as lines and as JSON. `calendar_reader.py` reads what a
+calendar says from 1995 to 2045. That is compared in offset, flag and name with what Python's
+`zoneinfo` says of the file. It is compared at noon of each day, at each change of either to the
+second, and a second before it. The JSON is compared with the lines part by part. Prints how much
+was compared, and the size of the texts. Python's standard library only.
 """
 
 import datetime
@@ -23,7 +26,8 @@ from served import PROGRAM, Client, Failure, Served
 LINES, JSON = "text/calendar", "application/calendar+json"
 FIRST, LAST = (datetime.datetime(year, 1, 1, tzinfo=UTC) for year in (1995, 2046))
 
-# Ranges that are asked for: both bounds, one of them, and bounds at which most zones of a rule change.
+# Ranges that are requested: both bounds, one of them, and bounds at which most zones of a rule
+# change.
 RANGES = (
     (None, None),
     ("1995-01-01T00:00:00Z", "2046-01-01T00:00:00Z"),
@@ -39,7 +43,7 @@ def moment_of(text):
 
 
 class File:
-    """What a zone file says: the state at a moment, and each moment from 1995 to 2045 at which it changes."""
+    """What a zone file says: the state at a moment, and each moment of change from 1995 to 2045."""
 
     def __init__(self, path):
         with open(path, "rb") as file:
@@ -54,7 +58,7 @@ class File:
         return int(local.utcoffset().total_seconds()), bool(local.dst()), local.tzname()
 
     def change(self, low, high):
-        """The first moment after one at which the state of the other holds."""
+        """The first moment after one at which the state of the other applies."""
         before = self.state(low)
         while high - low > SECOND:
             middle = low + (high - low) // 2
@@ -64,7 +68,8 @@ class File:
 
 
 def compare_states(turns, file, first, last):
-    """Compares a calendar with the file between two moments, and gives how many moments were compared."""
+    """Compares a calendar with the file between two moments, and returns how many moments were
+    compared."""
     onsets = [moment for moment, _ in turns]
     near = {moment for turn in [*onsets, *file.changes, first, last] for moment in (turn - SECOND, turn)}
     noons = zip(file.noons, file.states)

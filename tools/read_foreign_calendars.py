@@ -1,20 +1,26 @@
 #!/usr/bin/env python3
-"""Reads the time zones of calendars that other programs wrote, and tells how many are read and why the others are not.
+"""Reads the time zones of calendars that other programs wrote, and prints how many are read and why
+the others are not.
 
     read_foreign_calendars.py [--program PATH] [--faults] TREE..
 
-Each TREE is searched for files with a VTIMEZONE (RFC 5545, section 3.6.5), such as what `dpkg -x` makes of a package. PATH
-is the program of `crates/zone_cases`, as `rt run` builds it there. Three things are read of each tree:
+Each TREE is searched for files with a VTIMEZONE (RFC 5545, section 3.6.5), such as what `dpkg -x`
+makes of a package. PATH is the program of `crates/zone_cases`, as `rt run` builds it there. Three
+things are read of each tree:
 
-    as they stand   each file whose name ends in .ics, with its own line ends and whatever else it holds
-    alone           each VTIMEZONE that is unlike those before, in a calendar of its own, with CRLF after each line
+    as they stand   each file whose name ends in .ics, with its own line ends and whatever else it
+                    contains
+    alone           each VTIMEZONE that is unlike those before, in a calendar of its own, with CRLF
+                    after each line
     named anew      the same, with the identifier Zone in the place of its TZID and TZID-ALIAS-OF
 
-and told is how many are read, and of the others each fault with the property at whose line it was found. All answers are
-compared with those of `reader_model.py`, which shares nothing with the program; any other answer makes the status 1. Then
-those that are read, and have the name of a zone of this system, are expanded from 2020 to 2030 and compared with Python's
-`zoneinfo`, in offset and in offset and name: `X-LIC-LOCATION` is such a name, or the end of the TZID. With --faults each
-calendar that is refused or differs is told by its file. Python's standard library alone.
+It prints how many are read, and of the others each fault with the property at whose line it was
+found. All answers are compared with those of `reader_model.py`, which shares nothing with the
+program; any other answer makes the status 1. Then those that are read, and have the name of a zone
+of this system, are expanded from 2020 to 2030. They are compared with Python's `zoneinfo`, in
+offset and in offset and name. The name of such a zone is `X-LIC-LOCATION`, or the end of the TZID.
+With --faults the file of each calendar that is refused or differs is printed. Python's standard
+library only.
 """
 
 import argparse
@@ -39,7 +45,7 @@ PLACE = re.compile(r"^X-LIC-LOCATION:(\S+)", re.IGNORECASE | re.MULTILINE)
 
 
 def files_in(tree):
-    """The files of a tree that hold a time zone, in order, with what they hold, a character a byte."""
+    """The files of a tree with a time zone, in order, and what they contain, a character a byte."""
     for path in sorted(Path(tree).rglob("*")):
         if path.is_file() and not path.is_symlink():
             text = path.read_bytes().decode("latin-1")
@@ -98,7 +104,7 @@ def tell(what, texts, given, differ):
 
 
 def zone_of(zone, known):
-    """The zone of this system of whose name the calendar speaks, or None."""
+    """The zone of this system whose name the calendar has, or None."""
     zone = unfolded(zone)
     place, tzid = PLACE.search(zone), NAMES.search(zone)
     pieces = tzid[2].lstrip(";:").split("/") if tzid else []
@@ -113,7 +119,7 @@ def state(zone, moment):
 
 
 def states_of(name):
-    """The state at the beginning of 2020, and each change of it before 2030: moment, offset and name."""
+    """The state at the beginning of 2020, and each change before 2030: moment, offset and name."""
     zone = zoneinfo.ZoneInfo(name)
     rows = [(START, *state(zone, START))]
     for day in range(START, END, 86400):
@@ -127,7 +133,7 @@ def states_of(name):
 
 
 def observances_in(answer):
-    """The observances that an answer tells: moment, offset and name."""
+    """The observances that an answer has: moment, offset and name."""
     rows = [row.split(" ") for row in answer.split("|")]
     return [(int(row[0]), int(row[2]), row[4]) for row in rows]
 
@@ -138,7 +144,7 @@ def offsets_of(rows):
 
 
 def has_begun(text):
-    """Whether a calendar says what holds from 2020 to 2030."""
+    """Whether a calendar says what applies from 2020 to 2030."""
     try:
         zone, parts = calendar_in(text)
     except Fault:
@@ -170,7 +176,7 @@ def compare(program, zones, tell_faults):
 
 
 def read_tree(program, tree, tell_faults):
-    """Tells of a tree, and gives how many answers are not those of the model."""
+    """Reports on a tree, and returns how many answers are not those of the model."""
     files = list(files_in(tree))
     print(f"{os.path.basename(os.path.normpath(tree))}: {len(files)} files with a time zone")
     zones = {zone: path for path, text in reversed(files) for zone in reversed(zones_in(text))}

@@ -1,8 +1,9 @@
 #!/usr/bin/env python3
-"""Tells, by itself, what the cases of calendars that are read must answer.
+"""Computes, by itself, what the cases of calendars that are read must answer.
 
-It is written from RFC 5545 and the forms of docs/FORMATS.md, by regular expressions and by lists of all onsets, and shares nothing with
-the crates. What it shares with calendar_model.py is days of a year and the form of the tables.
+It is written from RFC 5545 and the forms of docs/FORMATS.md, by regular expressions and by lists of
+all onsets. It shares nothing with the crates. What it shares with calendar_model.py is days of a
+year and the form of the tables.
 
     reader_model.py < crates/zone_cases/stdin     compares the rows that it knows
 """
@@ -21,7 +22,8 @@ class Fault(Exception):
 
 
 def named_value(line):
-    """The name of a line, in capitals, and its value: what follows the first colon outside of double quotes."""
+    """The name of a line, in capitals, and its value: what follows the first colon outside of
+    double quotes."""
     name = re.match(r"[A-Za-z0-9-]+(?=[:;])", line)
     rest = name and re.match(r'(?:[^":]|"[^"]*")*:', line[name.end() :])
     return (name[0].upper(), line[name.end() + rest.end() :]) if rest else None
@@ -120,7 +122,7 @@ def once(there, name, fault, value, at):
 
 
 def part_at_end(dst, lines, at):
-    """The part of what its lines gave."""
+    """The part that its lines gave."""
     if not {"DTSTART", "TZOFFSETFROM", "TZOFFSETTO"} <= set(lines):
         raise Fault(f"6 Count {at}")
     before = lines["TZOFFSETFROM"]
@@ -186,7 +188,7 @@ def calendar_in(text):
     return zone, parts
 
 
-# ---- what is told
+# ---- answers
 
 
 def told(moment):

@@ -1,7 +1,7 @@
-"""A running `tzdistd serve` or `tzdistd mirror` with its console, and connections to it, for tests and
-measurements.
+"""A running `tzdistd serve` or `tzdistd mirror` with its console, and connections to it, for tests
+and measurements.
 
-Every wait has a bound; what is started ends with its `with` block. Python's standard library alone.
+Every wait has a bound; what is started ends with its `with` block. Python's standard library only.
 """
 
 import collections
@@ -49,8 +49,8 @@ def free_port(host=HOST):
 
 
 class Served:
-    """A server over folders at a free port, which has said that it is ready, within so many seconds.
-    It is started by the words `by`, which end by running those that come after them."""
+    """A server over folders at a free port, which has said that it is ready, within so many
+    seconds. It is started by the words `by`, which end by running those that come after them."""
 
     command = "serve"
 
@@ -116,7 +116,7 @@ class Served:
         self.child.stdin.flush()
 
     def say(self, line, timeout=PATIENCE):
-        """Writes a line to the console, and gives its reply."""
+        """Writes a line to the console, and returns its reply."""
         self.write(line.encode() + b"\n")
         return self.line(timeout)
 
@@ -138,7 +138,7 @@ class Served:
         return status, b"".join(rest)
 
     def quit(self, timeout=PATIENCE):
-        """Ends the server by its console, and gives its status."""
+        """Ends the server by its console, and returns its status."""
         if (said := self.say("quit")) != "bye":
             raise Failure(f"quit was answered {said!r}")
         return self.ended(timeout)[0]
@@ -210,7 +210,7 @@ class Client:
         self.held += piece
 
     def reply(self, head_only=False, timeout=PATIENCE):
-        """The next reply; of a request for a head alone no body is awaited."""
+        """The next reply. After a request for only a head it waits for no body."""
         until = time.monotonic() + timeout
         while (end := self.held.find(b"\r\n\r\n")) < 0:
             self._more(until)

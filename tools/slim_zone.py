@@ -176,7 +176,7 @@ def kept_places(states, last, initial, constant):
     """
     before = [initial, *states]
     kept = [place for place in range(last) if states[place] != before[place]]
-    # A footer takes over at a transition, unless it says for ever what holds from the beginning.
+    # A footer takes over at a transition, unless it says for ever what applies from the beginning.
     if kept or states[last] != initial or constant != initial:
         kept.append(last)
     if hides_its_length(states, last) and last + 1 < len(states):

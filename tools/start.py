@@ -1,5 +1,6 @@
 #!/usr/bin/env python3
-"""Starts a server of this system's time zones: packs a release, proves and builds the program, serves.
+"""Starts a server of this system's time zones: packs a release, proves and builds the program, and
+serves.
 
     tools/start.py                       proves first, which takes long; what is proved is kept
     tools/start.py --look                serves after two minutes, compiled and not proved
@@ -24,7 +25,7 @@ from pathlib import Path
 from builds import TOP, BuildFailed, compiled_program, proved_program, say
 
 ZONEINFO = Path("/usr/share/zoneinfo")
-# How long the server may take to end once it was asked to, in seconds.
+# How long the server may take to end after the request for that, in seconds.
 TIME_TO_END = 20
 
 
@@ -93,7 +94,7 @@ class Server:
                 pass
 
     def forward_input(self):
-        """Hands on what is typed. The end of a terminal's input ends the server, that of a file does not."""
+        """Forwards what is typed. A terminal's end of input ends the server, a file's does not."""
         # by the system's call: a buffered reader that waits would abort the end of this script
         held = b""
         while (piece := os.read(sys.stdin.fileno(), 65_536)):

@@ -3,16 +3,18 @@
 
     time_hostile_calendars.py [--program PATH] [--rounds N] [--bytes N] [--only WORD]
 
-PATH is the program of `crates/zone_cases`, as `rt run` builds it there. Each text is a row of a table of its own, of about
-1,048,576 bytes, which is the most that is read, or of so many as are asked for. Told are the seconds of processor time, of
-user and system, of a run with that row, less those of a run of the same table whose row is of no kind: both read the table
-and the row, and only one the calendar. The least of N rounds counts (3). The last two columns are the peak of memory of both
-runs, in MiB.
+PATH is the program of `crates/zone_cases`, as `rt run` builds it there. Each text is a row of a
+table of its own. It has about 1,048,576 bytes, which is the most that is read, or as many as are
+requested. The script prints the seconds of processor time, of user and system, of a run with that
+row. Those of a run of the same table whose row is of no kind are subtracted. Both read the table
+and the row, and only one the calendar. The least of N rounds counts (3). The last two columns are
+the peak of memory of both runs, in MiB.
 
-A text that is read whole ends just before its last line, so that the answer is one fault, `2 Frame LINES`, and no time is
-spent on telling a megabyte of parts; where the text is refused earlier, that is told. Each answer is compared with that of
-`reader_model.py`. Expansions are of calendars that are read, over a range; where the state never changes the answer must be
-one observance, so that what is timed is the walk. Python's standard library alone.
+A text that is read whole ends just before its last line. So the answer is one fault, `2 Frame
+LINES`, and no time is spent on printing a megabyte of parts. Where the text is refused earlier,
+that is printed. Each answer is compared with that of `reader_model.py`. Expansions are of calendars
+that are read, over a range. Where the state never changes the answer must be one observance, so
+that what is timed is the pass over the onsets. Python's standard library only.
 """
 
 import argparse
@@ -36,7 +38,8 @@ class Texts:
         self.most = most
 
     def filled(self, front, piece, back):
-        """Front and back, and between them as many of a piece as there is room for; it may be told by its number."""
+        """Front and back, and between them as many of a piece as there is room for. The piece may
+        depend on its number."""
         made, room = [], self.most - len(front) - len(back)
         while True:
             one = piece(len(made)) if callable(piece) else piece
@@ -106,14 +109,15 @@ def ruled(number):
 
 
 def turning(number):
-    """A part with a rule on one of 84 days: those of a day come one after the other, in turn at two offsets."""
+    """A part with a rule on one of 84 days: those of a day come one after the other, in turn at two
+    offsets."""
     turn = number // 84
     time = f"T{turn // 3600 % 24:02}{turn // 60 % 60:02}{turn % 60:02}"
     return ruled(number).replace("T000000", time).replace("TZOFFSETTO:+00", f"TZOFFSETTO:+{turn % 2:02}")
 
 
 def row_of(program, rounds, what, text, kind, words):
-    """Tells what a row takes, and gives whether its answer is that of the model."""
+    """Prints what a row takes, and returns whether its answer is that of the model."""
     row, none = (" ".join([word, "$(t0)", *words]) for word in (kind, "none"))
     (_, seconds, most), (_, less, before) = (
         min((run(program, table_of([text], [it])) for _ in range(rounds)), key=lambda ran: ran[1]) for it in (row, none)

@@ -3,16 +3,16 @@
 
     tools/try_readers.py --ical-js /usr/share/thunderbird/omni.ja
 
-A tree of zone files is packed, PROGRAM serves it, and each zone is requested whole, from the
+A tree of zone files is packed, and PROGRAM serves it. Each zone is requested whole, from the
 beginning of this year on without an end, and for a range. Each library reads each calendar, from
 1970 to 2037 at and around each change. Its offsets, and its names where it has them, are compared
 with what Python's zoneinfo says of the zone's file. A CalDAV server, Radicale, is given events with
 such calendars and must find them at their time.
 
-A calendar that is read wrong is tried again in two other forms, which show the cause: with each
-date on an RDATE line of its own, and with the start of a part among these dates, too. Zones that
-still have RDATE lines from this year on are requested for each half of a year as well. A library
-that is not installed is passed over with a line that says so. It is run by hand and takes some
+A calendar that is read wrong is tried again in two other forms, which show the cause. One has each
+date on an RDATE line of its own, and the other has the start of a part among these dates, too.
+Zones that still have RDATE lines from this year on are requested for each half of a year as well. A
+library that is not installed is skipped, with a line that says so. It is run by hand and takes some
 minutes; the status is 1 only where nothing could be compared.
 """
 
@@ -83,8 +83,8 @@ ALL_HALVES = Form("each half of a year", "", begin_of(YEAR), begin_of(END))
 # What a library says that is wrong in a period at first, and the last moment that is wrong.
 Fault = namedtuple("Fault", "text last")
 
-# A library: its name, the package whose version is printed, whether it is asked by the clocks of
-# the zone instead of UTC, and the words that read a file of work.
+# A library: its name, and the package whose version is printed. Then whether its moments are by the
+# clocks of the zone instead of UTC, and the words that read a file of work.
 Reader = namedtuple("Reader", "name package by_clocks command")
 
 # The causes that another form of a calendar shows.
@@ -99,7 +99,7 @@ class Missing(Exception):
 
 
 class Zone:
-    """A zone's file, the moments to ask a reader of its calendar for, and what is right there."""
+    """A zone's file, the moments that a reader of its calendar gets, and what is right there."""
 
     def __init__(self, name, path):
         self.name = name
@@ -359,7 +359,7 @@ def texts_of(client, names, form):
 
 
 def readers_in(room, options):
-    """The libraries that are installed, of those that were asked for."""
+    """The libraries that are installed, of those that were requested."""
     for name in options.only or WAYS:
         try:
             yield WAYS[name](room, options)
@@ -368,7 +368,7 @@ def readers_in(room, options):
 
 
 def asked_of(server, options):
-    """The zones of a server and of each form the calendars; then those zones of which a calendar
+    """The zones of a server, and the calendars of each form. Then those zones of which a calendar
     from this year on has an RDATE line, and the calendars of each half of a year."""
     with Client(server.port) as client:
         names = sorted(zone["tzid"] for zone in json.loads(client.ask(ZONES).body)["timezones"])

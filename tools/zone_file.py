@@ -1,4 +1,4 @@
-"""What a compiled zone file holds (TZif, RFC 9636, section 3), and the limits of a release.
+"""What a compiled zone file contains (TZif, RFC 9636, section 3), and the limits of a release.
 
 Python's standard library only.
 """
@@ -13,8 +13,8 @@ HEADER_BYTES = 44
 VERSIONS = (b"2", b"3", b"4")
 COUNTS = struct.Struct(">6I")
 
-# The six counts of a header, in their order: indicators of UT and of standard time, leap seconds,
-# transitions, types of local time, and bytes of designations.
+# The six counts of a header, in order: indicators of UT and of standard time, leap seconds,
+# transitions, types of local time, bytes of designations.
 Counts = namedtuple("Counts", "ut standard leaps transitions types designations")
 
 # A zone file in parts:

@@ -57,7 +57,7 @@ class Scanner:
         return self.text[begin : self.at]
 
     def skip(self, letter):
-        """Whether this character stood here; it is passed over."""
+        """Whether this character was here; it is skipped."""
         found = self.next() == letter
         self.at += found
         return found
@@ -186,7 +186,7 @@ class States:
 def first_difference(one, other):
     """The first moment that was tried at which two files say something else, or None.
 
-    Tried are each transition of both, a second before and after it, and each half year from 1800 to
+    It tries each transition of both, a second before and after it, and each half year from 1800 to
     2500.
     """
     one, other = States(one), States(other)
