@@ -1,12 +1,14 @@
 #!/usr/bin/env python3
 """Runs a program of cases once for each of its allocations, and makes that one fail.
 
-    grep -E '^(#|let|file|joins)' crates/release_cases/stdin | bench/each_allocation.py release_cases [--most N]
+    grep -E '^(#|let|file|joins)' crates/release_cases/stdin |
+        bench/each_allocation.py release_cases [--most N]
 
-The table is read from standard input. A run must print what a run in which nothing fails prints, or
-end for want of memory, with status 1 and the beginning of it. The program is the one that `rt run`
-built last in the crate, and a small library, loaded in front of it, answers its Nth request for
-memory with none. It needs a C compiler as `cc`, is run by hand, and is no part of the gate.
+The table is read from standard input. A run must print what a run in which nothing fails prints. Or
+it must end because it is out of memory, with status 1, and print the beginning of that output. The
+program is the one that `rt run` built last in the crate. A small library, preloaded into it,
+refuses its Nth request for memory. The script needs a C compiler as `cc`, is run by hand, and is no
+part of the gate.
 """
 
 import argparse
@@ -17,7 +19,8 @@ import tempfile
 
 ROOT = os.path.dirname(os.path.dirname(os.path.abspath(__file__)))
 
-# The Nth call of malloc, calloc or realloc, of all threads, gives no memory, and makes the file TOLD.
+# The Nth call of malloc, calloc or realloc, of all threads, returns no memory, and creates the file
+# that FAILING_TOLD names.
 FAILING = r"""
 #include <errno.h>
 #include <fcntl.h>
@@ -49,7 +52,8 @@ void *realloc(void *old, size_t size) { return fails() ? NULL : __libc_realloc(o
 
 
 def failing_at(library, call, told):
-    """The variables of a process of which this call fails; where it came to that it makes the file `told`."""
+    """The environment variables of a process in which this call fails. If the process reaches that
+    call, it creates the file `told`."""
     return {"LD_PRELOAD": library, "FAILING_CALL": str(call), "FAILING_TOLD": told}
 
 
@@ -63,7 +67,7 @@ def build(folder):
 
 
 def run(program, table, library, call):
-    """The status of a run in which this call fails, its output, and whether it came to that call."""
+    """The status and output of a run in which this call fails, and whether it reached that call."""
     with tempfile.TemporaryDirectory() as folder:
         told = os.path.join(folder, "told")
         child = subprocess.run(
@@ -78,7 +82,7 @@ def run(program, table, library, call):
 
 
 def is_right(status, output, whole):
-    """Whether a run printed all of it, or ended for want of memory before that."""
+    """Whether a run printed the whole output, or ended out of memory before that."""
     if status == 0:
         return output == whole
     return status == 1 and whole.startswith(output)

@@ -1,5 +1,5 @@
 #!/usr/bin/env python3
-"""Answers how many servers a fleet of devices needs, and how long a change takes to reach it.
+"""Computes how many servers a fleet of devices needs, and how long a change takes to reach it.
 
     bench/fleet.py [--from JSON] [--devices N,..] [--changed N] [--processors N] [--link MBIT]
                    [--busy PART] [--spread PART] [--sync SECONDS] [--svg FILE]
@@ -7,20 +7,22 @@
 
     example: bench/fleet.py --from docs/performance.json --devices 1000000,100000000 --changed 20
 
-Each device asks once in each period of its timer, at a moment that it draws anew within the spread,
-a part of the period. It opens a connection, and requests the list of changes since its token. After
-a change it gets the changed zones over the same connection, too. There are three arrangements:
+Each device connects once in each period of its timer. It draws the moment anew within the spread, a
+part of the period. It requests the list of changes since its token. After a change it gets the
+changed zones over the same connection, too. There are three arrangements:
 
-    one server   all devices ask one tzdistd, without TLS
-    mirrors      they ask mirrors of a primary, without TLS; each mirror syncs by a timer
-    caches       they ask nginx with TLS and a cache of a second, which asks two mirrors
+    one server   all devices send requests to one tzdistd, without TLS
+    mirrors      they send requests to mirrors of a primary, without TLS; each mirror syncs by a
+                 timer
+    caches       they send requests to nginx with TLS, which caches answers for a second, and sends
+                 requests to two mirrors
 
 The processor time and the bytes of a request are those that bench/report.py measured, or defaults
-without --from. The devices are not simulated one by one: how many ask in the busiest second, and how
-many lack a change after a while, follows from their number and their timers. --trial measures the
-costs, and lets some thousands of devices ask over the loopback. It prints what was seen with what a
-simulation predicts, which draws for each second how many of those that did not ask yet do so. It
-needs nginx, openssl and wrk.
+without --from. The devices are not simulated one by one. Their number and their timers determine
+how many connect in the busiest second, and how many lack a change after a while. --trial measures
+the costs, and has some thousands of devices send requests over the loopback. It prints what was
+seen with what a simulation predicts. For each second the simulation draws how many of the devices
+that did not connect yet do so. --trial needs nginx, openssl and wrk.
 """
 
 import argparse
@@ -39,18 +41,18 @@ import plots
 
 DEVICES = (10**5, 10**6, 10**7, 10**8, 10**9)
 HOUR, DAY = 3600, 86_400
-# The cache's answers count for a second, as deploy/nginx-tzdistd.conf says.
+# The cache's answers are valid for a second, as deploy/nginx-tzdistd.conf says.
 VALID = 1.0
 PARTS = (0.5, 0.99, 0.999)
 
 
 @dataclasses.dataclass
 class Costs:
-    """Processor microseconds, and bytes that the server sends, of what a device or a mirror does."""
+    """Processor microseconds, and bytes sent by the server, for what a device or a mirror does."""
 
     server_new: float = 30.0  # a new connection that requests the change list
     server_more: float = 10.0  # a further request on a connection
-    cache_new: float = 600.0  # a new connection with TLS to the cache, which requests the change list
+    cache_new: float = 600.0  # a new TLS connection to the cache that requests the change list
     cache_more: float = 30.0  # a further request on it
     primary_sync: float = 500.0  # a sync of one changed zone, at the primary
     mirror_sync: float = 2000.0  # the same at the mirror
@@ -61,7 +63,7 @@ class Costs:
 
     @classmethod
     def of(cls, figures):
-        """The costs among the figures of a report; a cost that was not measured keeps its default."""
+        """The costs in the figures of a report; a cost that was not measured keeps its default."""
         known = {field.name for field in dataclasses.fields(cls)}
         measured = (figures.get("fleet") or {}).get("costs") or {}
         return cls(**{name: value for name, value in measured.items() if name in known})
@@ -69,7 +71,7 @@ class Costs:
 
 @dataclasses.dataclass
 class Plan:
-    """So many devices that ask once in each period, within the first `spread` seconds of it."""
+    """So many devices that connect once in each period, within the first `spread` seconds of it."""
 
     devices: int
     period: int
@@ -81,7 +83,7 @@ class Plan:
 
 
 def drawn(count, chance, rng):
-    """How many of so many do what each does with this chance: a binomial draw, also for very many."""
+    """How many of `count` do what each does with this chance: a binomial draw for any `count`."""
     if count <= 0 or chance <= 0:
         return 0
     if chance >= 1:
@@ -102,20 +104,20 @@ def poisson(mean, rng):
 
 
 class Group:
-    """The devices of one server. In each period some of them have not asked yet."""
+    """The devices of one server. In each period some of them have not connected yet."""
 
     def __init__(self, devices, visible):
         self.devices, self.visible = devices, visible
-        self.lacking = devices  # have not asked in this period, and lack the change
-        self.having = 0  # have not asked in this period, and have it
-        self.asked = 0  # have asked in this period, and lack it
+        self.lacking = devices  # have not connected in this period, and lack the change
+        self.having = 0  # have not connected in this period, and have it
+        self.asked = 0  # have connected in this period, and lack it
 
     def period(self):
         self.lacking += self.asked
         self.having, self.asked = self.devices - self.lacking, 0
 
     def second(self, now, chance, rng):
-        """How many ask in this second, and how many of them get the change."""
+        """How many connect in this second, and how many of them get the change."""
         lacking, having = drawn(self.lacking, chance, rng), drawn(self.having, chance, rng)
         self.lacking -= lacking
         self.having -= having
@@ -131,8 +133,8 @@ class Group:
 
 @dataclasses.dataclass
 class Seconds:
-    """What each second of a simulation had: for each group how many asked, and how many got the change;
-    and of all devices how many lack it at its end."""
+    """What happened in each second of a simulation: for each group how many devices connected, and
+    how many got the change. Of all devices: how many lack it at the end of the second."""
 
     asks: list
     gets: list
@@ -140,7 +142,7 @@ class Seconds:
 
 
 def simulate(plan, visible, seconds, rng):
-    """So many seconds of a fleet. In `visible` stands for each server the second from which it has the
+    """So many seconds of a fleet. `visible` has for each server the second from which it has the
     change."""
     share = plan.devices // len(visible)
     rest = plan.devices - share * len(visible)
@@ -160,7 +162,7 @@ def simulate(plan, visible, seconds, rng):
 
 
 def seconds_until(seen, begin, part, devices):
-    """The seconds from `begin` until so large a part of the devices has the change."""
+    """The seconds from `begin` until this part of the devices has the change."""
     for now in range(int(begin), len(seen.without)):
         if seen.without[now] <= devices * (1 - part) + 1e-9:
             return now + 1 - begin
@@ -172,7 +174,7 @@ def seconds_until(seen, begin, part, devices):
 
 @dataclasses.dataclass
 class Load:
-    """Of a tier in one second: requests, processor seconds, and megabits that it sends."""
+    """The load of a tier in one second: requests, processor seconds, and megabits that it sends."""
 
     requests: float = 0.0
     processors: float = 0.0
@@ -180,19 +182,19 @@ class Load:
 
 
 def wire(payload):
-    """Bytes on the wire for the bytes of replies: headers of packets, and those without data."""
+    """Bytes on the wire for the bytes of replies, with packet headers and packets without data."""
     return payload + 66 * (math.ceil(payload / 1448) + 4)
 
 
 def direct(asks, gets, changed, costs):
-    """The load of servers that devices ask without TLS."""
+    """The load of servers to which devices send requests without TLS."""
     micros = asks * costs.server_new + gets * changed * costs.server_more
     payload = asks * wire(costs.list_bytes) + gets * changed * (costs.listed_bytes + costs.zone_bytes) * 1.05
     return Load(asks + gets * changed, micros / 1e6, payload * 8 / 1e6)
 
 
 def cached(asks, gets, changed, costs):
-    """The load of caches that devices ask with TLS."""
+    """The load of caches to which devices send requests with TLS."""
     micros = asks * costs.cache_new + gets * changed * costs.cache_more
     payload = asks * wire(costs.list_bytes + costs.tls_bytes)
     payload += gets * changed * (costs.listed_bytes + costs.zone_bytes) * 1.05
@@ -200,13 +202,14 @@ def cached(asks, gets, changed, costs):
 
 
 def refreshed(rate):
-    """How often a second a cache asks for an answer that is requested so often: it keeps each for VALID."""
+    """How often a second a cache requests an answer that is requested at this rate. It keeps each
+    answer for VALID seconds."""
     return rate / (1 + rate * VALID)
 
 
 def upstream(asks, gets, changed, caches, costs):
-    """The load of a mirror of which so many caches ask again for what they keep. Devices without the
-    change name an older token."""
+    """The load of a mirror from which so many caches request again what they keep. Devices without
+    the change name an older token."""
     each = [refreshed((asks - gets) / caches), refreshed(gets / caches)]
     each += [refreshed(gets / caches)] * changed
     requests = caches * sum(each)
@@ -214,14 +217,14 @@ def upstream(asks, gets, changed, caches, costs):
 
 
 def needed(load, processors, link, busy):
-    """How many servers with so many processors and such a link carry a load, each busy for a part."""
+    """How many servers with these processors and this link a load needs, each busy for a part."""
     return max(1, math.ceil(load.processors / (processors * busy)), math.ceil(load.megabits / (link * busy)))
 
 
 @dataclasses.dataclass
 class Answer:
-    """How many servers a fleet needs, by tier, and the loads in the busiest second: of a usual period,
-    and of one in which each device gets the change."""
+    """How many servers a fleet needs, by tier, and the loads in the busiest second. These are of a
+    usual period, and of one in which each device gets the change."""
 
     plan: Plan
     most_asks: int
@@ -236,8 +239,8 @@ class Answer:
 
 
 def most_in_a_second(devices, spread):
-    """How many devices ask in the busiest of so many seconds: the median of the largest of as many Poisson
-    draws."""
+    """How many devices connect in the busiest of `spread` seconds: the median of the largest of as
+    many Poisson draws."""
     mean, below = devices / spread, 0.5 ** (1 / spread)
     if mean < 100:
         count, term = 0, math.exp(-mean)
@@ -252,8 +255,8 @@ def most_in_a_second(devices, spread):
 
 
 def answer(plan, costs, words):
-    """The loads of the busiest second of a usual period, and of one in which each device that asks gets a
-    change."""
+    """The loads of the busiest second of a usual period, and of one in which each device that
+    connects gets a change."""
     most, half = most_in_a_second(plan.devices, plan.spread), most_in_a_second(plan.devices // 2, plan.spread)
     server, cache = direct(most, most, plan.changed, costs), cached(most, most, plan.changed, costs)
     mirrors = needed(server, words.processors, words.link, words.busy)
@@ -268,7 +271,8 @@ def answer(plan, costs, words):
 
 
 def later_than(wait, period, spread, phases=96):
-    """The chance that a device asks only after so long, for a change at any moment of a period."""
+    """The chance that a device connects only after so long, if a change comes at any moment of a
+    period."""
     total = 0.0
     for number in range(phases):
         phase = (number + 0.5) * period / phases
@@ -280,7 +284,7 @@ def later_than(wait, period, spread, phases=96):
 
 
 def lacks(wait, period, spread, sync, steps=24):
-    """The chance that a device lacks a change after so long, where its server syncs by such a timer."""
+    """The chance that a device lacks a change after so long, if its server syncs by this timer."""
     if sync <= 0:
         return later_than(wait, period, spread)
     waits = [(number + 0.5) * sync / steps for number in range(steps)]
@@ -288,7 +292,7 @@ def lacks(wait, period, spread, sync, steps=24):
 
 
 def delay(part, period, spread, sync):
-    """After how many seconds so large a part of the devices has a change."""
+    """After how many seconds this part of the devices has a change."""
     low, high = 0.0, 2.0 * period + sync
     while high - low > period / 5000:
         middle = (low + high) / 2
@@ -310,7 +314,7 @@ def short(number):
 
 
 def answers(costs, words):
-    """For each number of devices and each timer an answer."""
+    """An answer for each number of devices and each timer."""
     found = []
     for period in (DAY, HOUR):
         spread = max(1, round(period * words.spread))
@@ -319,7 +323,7 @@ def answers(costs, words):
 
 
 def fleet_table(found):
-    """The table for the question how many servers are needed."""
+    """The table of how many servers are needed."""
     lines = [
         "| Devices | Timer | Connections | tzdistd: processors | Mbit/s | Servers "
         "| Caches: processors | Mbit/s | Caches | Requests behind them |",
@@ -386,7 +390,7 @@ def parser():
 
 
 def checked(flags, given=None):
-    """The words, with what they name read and within bounds."""
+    """The arguments, within bounds, with the file that they name read."""
     words = flags.parse_args(given)
     try:
         words.devices = [int(it) for it in words.devices.split(",")]
@@ -409,7 +413,7 @@ def checked(flags, given=None):
 
 
 def defaults():
-    """The words as they are without flags, for the page."""
+    """The arguments as they are without flags, for the page."""
     return checked(parser(), [])
 
 

@@ -1,5 +1,5 @@
-"""The real runs of bench/fleet.py: what a device and a mirror cost, and some thousands of devices over
-the loopback before a cache, two mirrors and a primary. It needs nginx and openssl.
+"""The real runs of bench/fleet.py: what a device and a mirror cost, and some thousands of devices
+over the loopback. The devices use a cache, two mirrors and a primary. It needs nginx and openssl.
 """
 
 import bisect
@@ -23,12 +23,12 @@ from serve import Asked, children_of, put_file
 from served import HOST, PROGRAM, Client, Failure, Mirror, Served, slim_zone
 
 TZIF = "Accept: application/tzif"
-# What a line of the proxy's log says where the answer came from a mirror.
+# What a line of the proxy's log says if the answer came from a mirror.
 REACHED = {"MISS", "EXPIRED", "REVALIDATED", "BYPASS"}
 
 
 def address_of(device):
-    """An address of the loopback for a device, which keeps it to one mirror."""
+    """An address of the loopback for a device, so that it always uses the same mirror."""
     return f"127.{1 + device // 62500}.{device // 250 % 250}.{device % 250 + 1}"
 
 
@@ -43,7 +43,7 @@ class Device(Client):
 
 def visit(port, context, device, token):
     """What a device does: it requests the changes since its token, and each zone that changed. The
-    result is the new token and how many zones came."""
+    result is the new token and how many zones it got."""
     with Device(port, context, device) as client:
         reply = client.ask(f"/tzdist/zones?changedsince={token}", timeout=30)
         if reply.status != 200:
@@ -57,7 +57,7 @@ def visit(port, context, device, token):
 
 
 def devices(port, certificate, begin, moments, token, pipe):
-    """A process that has some of the devices ask at their moments, in seconds after `begin`."""
+    """A process in which some of the devices connect at their moments, in seconds after `begin`."""
     context = ssl.create_default_context(cafile=certificate)
     tokens, seen, faults = collections.defaultdict(lambda: token), [], []
     for moment, device in moments:
@@ -127,7 +127,7 @@ class Trial:
         return folder
 
     def costs(self, seconds):
-        """What a device and a mirror cost, as bench/fleet.py has it."""
+        """What a device and a mirror cost, in the form of `Costs` of bench/fleet.py."""
         wrk, port, pids = shutil.which("wrk"), self.primary.port, [self.primary.pid]
         one = change_list(self.token)
         new = Asked(one.name, one.target, ["Connection: close"])
@@ -178,7 +178,7 @@ class Trial:
         return [spent(*children_of(self.proxy.child.pid)), spent(*(it.pid for it in self.mirrors)), spent(self.primary.pid)]
 
     def run(self, count, period, changed, costs, processes=2):
-        """Devices ask for three periods. In the second one the release changes."""
+        """Devices connect during three periods. In the second one the release changes."""
         plan = fleet.Plan(count, period, max(1, period // 2), changed)
         rng = random.Random(5)
         moments = [(number * period + rng.random() * plan.spread, device) for number in range(3) for device in range(count)]
@@ -211,7 +211,8 @@ class Trial:
         return self.compared(plan, seen, faults, install, visible, spent_by, lines, costs)
 
     def change(self, folder, begin, period, spread):
-        """Installs the release in the second period; the mirrors sync a sixth and a third of the spread later."""
+        """Installs the release in the second period. The mirrors sync a sixth and a third of the
+        spread later."""
         install = period + spread * 0.2
         time.sleep(max(0.0, begin + install - time.monotonic()))
         say(self.primary, f"install {folder}", "installed ")
@@ -253,7 +254,8 @@ class Trial:
 
 
 def predict(plan, install, visible, costs, rng):
-    """What bench/fleet.py says of three periods, where the mirrors have a change at these seconds."""
+    """What bench/fleet.py predicts for three periods, if the mirrors have a change at these
+    seconds."""
     sim = fleet.simulate(plan, visible, 3 * plan.period, rng)
     asks, gets = sum(map(sum, sim.asks)), sum(map(sum, sim.gets))
     reached = mirrors = 0.0
@@ -274,7 +276,7 @@ def predict(plan, install, visible, costs, rng):
 
 
 def measured(words, seconds=2):
-    """The costs and the trial, by the words of bench/fleet.py or of bench/report.py."""
+    """The costs and the trial, by the arguments of bench/fleet.py or of bench/report.py."""
     needed("nginx", "openssl")
     folder = words.trial
     if not os.path.isfile(os.path.join(folder, "manifest.json")):

@@ -1,16 +1,21 @@
 #!/usr/bin/env python3
-"""Measures what the proxy of deploy/ costs and saves, over the loopback: `tzdistd serve` alone, behind the site of nginx without its
-cache and with it, and two mirrors behind that site.
+"""Measures what the proxy of deploy/ costs and saves, over the loopback.
 
-    bench/front.py RELEASE_DIR [--program PATH] [--only PART,..] [--seconds N] [--rounds N] [--connections N] [--clients N]
+    bench/front.py RELEASE_DIR [--program PATH] [--only PART,..] [--seconds N] [--rounds N]
+                   [--connections N] [--clients N]
 
-The part rates: for each request a table's row, requests a second, percentiles of the time to a reply, and the processor time of a request, of all tzdistd together and
-of nginx. The server alone is asked without TLS, since it has none. A row is the median of the rounds by its rate. Each server has four
-workers, and nginx as many processes. The part many: clients whose connections are open ask once for the list, and a relay between the
-proxy and the server counts what reaches it, without the cache and with it.
+It measures `tzdistd serve` without a proxy, behind the site of nginx without its cache and with it,
+and two mirrors behind that site.
 
-It needs wrk, nginx and openssl. Every loop is bounded, and what is started ends with the script. It is run by hand on an idle machine, and is no
-part of the gate.
+The part rates has a row of a table for each request. It has requests a second, percentiles of the
+time to a reply, and processor time of a request, of all tzdistd together and of nginx. The server
+without a proxy gets its requests without TLS, since it has none. A row is the median of the rounds
+by its rate. Each server has four workers, and nginx as many processes. In the part many, clients
+whose connections are open request the list once. A relay between the proxy and the server counts
+what reaches it, without the cache and with it.
+
+It needs wrk, nginx and openssl. Every loop is bounded, and what is started ends with the script. It
+is run by hand on an idle machine, and is no part of the gate.
 """
 
 import contextlib
@@ -34,7 +39,7 @@ PARTS = ["rates", "many"]
 WORKERS = 4
 MEASURED = ["full list", "get as calendar, a year", "get as TZif"]
 WITHOUT = [("proxy_cache tzdistd;", "proxy_cache off;")]
-# wrk has one address, so here its connections are what keeps to a mirror
+# wrk has one address, so here each of its connections, not its address, selects a mirror
 BY_CONNECTION = [("split_clients $remote_addr ", "split_clients $connection ")]
 
 
@@ -71,7 +76,7 @@ class Bench:
             self.rows(what, proxy.port, asked, "https", servers, children_of(proxy.child.pid))
 
     def asked_once(self, what, server, edits):
-        """Clients that are there ask once, twenty at a time."""
+        """Clients that are connected send one request each, twenty at a time."""
         relay = Relay(server.port)
         site = edited(text_of("nginx-tzdistd.conf"), one_server(relay.port) + edits)
         with self.proxy(site) as proxy, contextlib.ExitStack() as stack:

@@ -7,18 +7,19 @@
 
 Each axis changes one thing and leaves the others as they are:
 
-    zones        100, 447, 1,000 and 4,096 zones, whose files are those of the release by turns
+    zones        100, 447, 1,000 and 4,096 zones, whose files are those of the release in turn
     names        447 zones with 447 to 16,384 names
     bytes        447 zones with made files of 512 to 65,536 bytes
     releases     1 to 512 releases in the history, each of which changes one zone
-    connections  1 to 10,000 connections that ask without a pause
+    connections  1 to 10,000 connections that send requests without a pause
     workers      1 to 4 workers, over 64 connections
 
-At each point stand the processor microseconds of a full list, of a change list of one zone, and of
-a TZif file; the milliseconds of an install and of a mirror's sync, each of one changed zone; and
-the resident memory of the server at its end. wrk asks where it is installed, and else processes of
-this script. The release needs two zones at least. Every loop is bounded, and what is started ends
-with the script. It is run by hand on an idle machine, and is no part of the gate.
+Each point has the processor microseconds of a full list, of a change list of one zone, and of a
+TZif file. It has the milliseconds of an install and of a mirror's sync, each of one changed zone.
+It also has the resident memory of the server at its end. Requests come from wrk where it is
+installed, and otherwise from processes of this script. The release needs two zones at least. Every
+loop is bounded, and what is started ends with the script. It is run by hand on an idle machine, and
+is no part of the gate.
 """
 
 import argparse
@@ -60,7 +61,7 @@ def sized_zone(size):
 
 
 def release_of(folder, zones, names, files):
-    """A release of so many zones and names, whose files are these by turns."""
+    """A release of so many zones and names, whose files are these in turn."""
     os.makedirs(folder)
     listed = []
     for zone in range(zones):
@@ -122,7 +123,7 @@ class Growth:
         folders = self.made(axis, value)
         set_to = {**self.usual, **({"connections": 64} if axis == "workers" else {}), axis: value}
         try:
-            # only with more workers are all processors for the server, too
+            # only on the axis of workers the server, too, may use all processors
             with started(lambda: Served([folders[0]], set_to["workers"], program=self.program, within=300),
                          PROCESSORS if axis == "workers" else SERVING) as server:
                 row = self.costs(server, folders, set_to)
@@ -159,7 +160,7 @@ class Growth:
         return row
 
     def mirror(self, server):
-        """A mirror, whose first sync may find the server still busy with what was asked before."""
+        """A mirror. At its first sync the server may still be busy with earlier requests."""
         for wait in (1, 5, None):
             try:
                 return started(lambda: Mirror(server.address, workers=1, program=self.program, within=300))
@@ -183,8 +184,8 @@ class Growth:
         return round(sorted(walls)[len(walls) // 2], 3), round(sum(costs) / len(costs), 3)
 
     def run(self, axes, done=lambda row: None, is_late=lambda: False):
-        """The rows of all points, or those that were measured until it was late. A point that failed
-        says why."""
+        """The rows of all points, or of those that were measured while there was time. The row of a
+        point that failed says why."""
         rows = []
         for axis, values in axes.items():
             for value in values:
@@ -199,7 +200,7 @@ class Growth:
 
 
 def table(rows):
-    """The one table of growth, as lines of Markdown."""
+    """The table of growth, as lines of Markdown."""
     lines = ["| Axis | | " + " | ".join(COSTS.values()) + " |", "|---|" + "---:|" * (len(COSTS) + 1)]
     for row in rows:
         cells = [f"{row[cost]:,.1f}" if row.get(cost) is not None else "-" for cost in COSTS]
@@ -220,7 +221,7 @@ def parser():
 
 
 def checked(flags, given=None):
-    """The words, within what can be done."""
+    """The arguments, after a check that they can be used."""
     words = flags.parse_args(given)
     unknown = [it for it in words.only.split(",") if it not in AXES]
     if unknown:

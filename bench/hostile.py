@@ -1,39 +1,43 @@
 #!/usr/bin/env python3
 """Attacks `tzdistd` as it is built, over the loopback, and prints what was seen.
 
-    bench/hostile.py RELEASE_DIR [--program PATH] [--only PART,..] [--page FILE] [--count N] [--seconds N]
+    bench/hostile.py RELEASE_DIR [--program PATH] [--only PART,..] [--page FILE] [--count N]
+                     [--seconds N]
 
-For example, what a good client sees during floods, with nginx in the same run, and the tables of
-the page on hostile use with these figures:
+For example, this measures what a good client sees during floods, with nginx in the same run. It
+also writes the tables of the page on hostile use with these figures:
 
     bench/hostile.py /srv/tzdist/2025b --only floods,costly,memory,backlog --page docs/SECURITY.md
 
-With --page, the table of each part replaces what stands between `<!-- PART -->` and `<!-- end -->`
-in that file. The marks, and whether they are met, are printed last.
+With --page, the table of each part replaces the text between `<!-- PART -->` and `<!-- end -->` in
+that file. The marks, and whether they are met, are printed last.
 
 The parts, each of them rows of a table:
 
-    clients      so many connections of each kind of client that misbehaves, beside a good one whose 50th and
-                 99th percentile are told: garbage, half a head, a reset, a half-closed stream, a slow writer,
-                 a slow reader, one that takes nothing
+    clients      so many connections of each kind of client that misbehaves. The kinds are garbage,
+                 half a head, a reset, a half-closed stream, a slow writer, a slow reader, and one
+                 that takes nothing. The 50th and 99th percentile of a good client beside them are
+                 printed.
     floods       a good client on a kept connection, and one that connects anew for each request,
-                 beside floods of cheap requests and crowds; the same of nginx, which serves files
-                 with the same bodies
-    costly       the same beside requests that take milliseconds each, which nginx cannot have
+                 beside floods of cheap requests and crowds. The same of nginx, which serves files
+                 with the same bodies.
+    costly       the same beside requests that take milliseconds each, which nginx does not have
     memory       600 readers of large replies who take little: memory, and a good client
     backlog      2,000 connections at once: how long each waited until it was open
-    descriptors  a server that may open 64, of which 300 connections want one, and the same once they are gone
-    space        a server whose address space is limited, from what it cannot start with to ample
-    upstreams    a mirror whose other server is slow, silent, endless, resets, ends, cuts or lies, in a first
-                 sync and in one of a console
+    descriptors  a server that may open 64, while each of 300 connections needs one, and the same
+                 once they are gone
+    space        a server whose address space is limited, from too little to start with to ample
+    upstreams    a mirror whose other server is slow or silent, answers without end, resets, ends,
+                 cuts its answer or sends a wrong one. It does so in a first sync, and in one from
+                 a console.
 
-After each attack on a server a new client must get the whole list, the console must know the release that
-is served, and a quit must end it with status 0; where memory is limited it may end with status 70 as well,
-and a request may be answered 503. What is held by then, descriptors and memory, is told. Anything else
-makes the status 1.
+After each attack on a server a new client must get the whole list, and the console must know the
+release that is served. A quit must end the server with status 0. Where memory is limited it may
+also end with status 70, and a request may get 503. Anything else makes the status 1. The
+descriptors and the memory that are held by then are printed.
 
-Every loop is bounded in count and time, and what is started ends with the script. It is run by hand, and
-is no part of the gate. It needs Linux and Python's standard library alone.
+Every loop is bounded in count and time, and what is started ends with the script. It is run by
+hand, and is no part of the gate. It needs only Linux and Python's standard library.
 """
 
 import collections
@@ -64,10 +68,10 @@ from serve import resetting, sip, small_window, status_of
 from served import DATA, HOST, Client, Failure, Mirror, Served, request
 
 PARTS = ["clients", "floods", "costly", "memory", "backlog", "descriptors", "space", "upstreams"]
-# The processors of the machine, of which a server has as many workers and nginx as many processes.
+# The processors of the machine. A server has as many workers, and nginx as many processes.
 WORKERS = os.cpu_count() or 1
 SEARCH = f"{ZONES}?pattern=*york"
-# nginx gets room for the crowd, too.
+# nginx gets enough connections for the crowd, too.
 serve.SITE = serve.SITE.replace("worker_connections 512", "worker_connections 16384")
 # For how long good clients are timed beside each flood.
 BESIDE_SECONDS = 8
@@ -110,7 +114,7 @@ LONG_LIVED = {"slow writers": drip, "slow readers": sip, "takers of nothing": de
 
 
 class Good:
-    """A client that asks for the list, a thousand times a second at most, and keeps its times."""
+    """A client that requests the list, a thousand times a second at most, and keeps its times."""
 
     def __init__(self, port):
         self.port, self.times, self.faults, self.done = port, [], [], threading.Event()
@@ -140,7 +144,8 @@ class Good:
 
 
 def misbehave(port, kind, count, seconds):
-    """So many connections of a kind, by eight threads: how many were made, and how many were refused."""
+    """So many connections of a kind, by eight threads: how many were made, and how many were
+    refused."""
     turns, lock, made, refused = iter(range(count)), threading.Lock(), [], []
     end = time.monotonic() + seconds
 
@@ -166,7 +171,7 @@ def misbehave(port, kind, count, seconds):
 
 
 def keep(port, kind, count, seconds):
-    """So many connections of a kind that last, for so long, once a second each."""
+    """So many connections of a kind that lasts, for so long. Each has its turn once a second."""
     peers = []
     for _ in range(count):
         try:
@@ -213,7 +218,7 @@ class Times:
 
 
 def ask_on(port, target, is_fresh, done, pipe):
-    """The process of a good client, which asks 200 times a second at most, until it is done."""
+    """The process of a good client, which makes at most 200 requests a second, until it is done."""
     times, faults, client = [], [], None
     while not done.wait(0.005):
         begin = time.monotonic()
@@ -233,7 +238,7 @@ def ask_on(port, target, is_fresh, done, pipe):
 
 
 class Watched:
-    """Two good clients, each in a process of its own: on a kept connection, and connecting anew."""
+    """Two good clients, each in a process of its own: on a kept connection, and on new ones."""
 
     def __init__(self, port, target):
         self.done, self.pipes, self.processes = multiprocessing.Event(), [], []
@@ -274,7 +279,7 @@ class Sender:
         self.left = memoryview(data)
 
     def turn(self, events):
-        """Does what can be done at this moment. It ends with an error where the peer ended it."""
+        """Does what can be done now. It raises an error if the peer ended the connection."""
         if events & select.POLLIN and not self.socket.recv(1 << 18):
             raise ConnectionResetError
         if events & select.POLLOUT and self.left:
@@ -286,7 +291,7 @@ class Sender:
 
 def send_all(port, done, begun, streams, again=False):
     """The process of a flood over as many connections as there are streams of bytes. With `again`,
-    one that the server ended begins anew."""
+    one that the server ended is opened again."""
     poll, senders = select.poll(), {}
 
     def begin(data):
@@ -315,8 +320,8 @@ def send_all(port, done, begun, streams, again=False):
 
 
 def open_and_ask(port, done, begun, heads, count):
-    """The process of a flood of new connections, of which so many are open. Each asks once, and is
-    closed once something came."""
+    """The process of a flood of new connections, of which so many are open. Each sends one request,
+    and is closed once something arrives."""
     poll, peers, turns = select.epoll(), {}, itertools.cycle(heads)
     begun.set()
     while not done.is_set():
@@ -338,8 +343,8 @@ def open_and_ask(port, done, begun, heads, count):
 
 
 def stay(port, done, begun, target, idle, slow):
-    """The process of a crowd: so many connections that rest, every second one after a request, and
-    so many slow ones."""
+    """The process of a crowd: so many idle connections, every second one after a request, and so
+    many slow ones."""
     resting = [socket.create_connection((HOST, port), 20) for _ in range(idle)]
     for peer in resting[::2]:
         peer.sendall(request(target))
@@ -354,7 +359,7 @@ def stay(port, done, begun, target, idle, slow):
 
 @contextlib.contextmanager
 def running(act, port, *words):
-    """A flood or a crowd, by a process of its own, which has begun."""
+    """A flood or a crowd in a process of its own, which has begun."""
     done, begun = multiprocessing.Event(), multiprocessing.Event()
     process = multiprocessing.Process(target=act, args=(port, done, begun, *words), daemon=True)
     process.start()
@@ -372,8 +377,8 @@ def running(act, port, *words):
 
 @contextlib.contextmanager
 def closing_flood(port, target, count):
-    """So many connections that open, ask and close without a pause: by wrk where it is installed,
-    and else by a process of this script."""
+    """So many connections that open, send a request and close without a pause. They are made by wrk
+    where it is installed, and otherwise by a process of this script."""
     wrk = shutil.which("wrk")
     if not wrk:
         with running(open_and_ask, port, [request(target, "Connection: close")], count):
@@ -390,7 +395,7 @@ def closing_flood(port, target, count):
 
 
 def costly_streams(count):
-    """For so many connections 1,000 costly requests each, in one piece."""
+    """1,000 costly requests for each of so many connections, in one piece."""
     return [b"".join(costly_heads(1_000, seed)) for seed in range(count)]
 
 
@@ -437,7 +442,7 @@ class Bench:
     # -- tables
 
     def row(self, *columns):
-        """Prints a row of the present table, and keeps it for the page."""
+        """Prints a row of the current table, and keeps it for the page."""
         self.lines.append(f"| {' | '.join(map(str, columns))} |")
         print(self.lines[-1], flush=True)
 
@@ -481,7 +486,7 @@ class Bench:
         print(f"\nWRONG: {what}\n", flush=True)
 
     def is_well(self, server, whole, what):
-        """A new client has the whole list, the console knows its token, and nothing was complained of."""
+        """A new client gets the whole list, the console knows its token, and there was no error."""
         try:
             with Client(server.port, timeout=60) as client:
                 same("the list", client.ask(ZONES, timeout=60).body, whole)
@@ -536,7 +541,8 @@ class Bench:
         return seen
 
     def seen_beside(self, name, flood, asked=()):
-        """What the good clients saw of a new server. The bodies of what is asked are kept."""
+        """What the good clients saw of a new server. The bodies that the requests in `asked` get
+        are kept."""
         with self.served(workers=WORKERS) as server:
             act = flood(server.port, SEARCH)
             seen = self.beside(name, "tzdistd", server.port, server.pid, SEARCH, act)
@@ -565,7 +571,8 @@ class Bench:
             self.mark(name, f"{times:.2f}", times <= TIMES_NGINX)
 
     def beside_nginx(self, name, flood, asked):
-        """The same of nginx, with files of the same bodies. Slow clients ask for the list by name."""
+        """The same of nginx, with files of the same bodies. Slow clients request the list by its
+        path."""
         search, listing = asked
         with Nginx("nginx", [search], WORKERS) as site:
             site.put(listing.target, listing.body)
@@ -630,7 +637,7 @@ class Bench:
 
     @staticmethod
     def take(peer, count):
-        """Takes so many bytes of a reply, or what comes of it. The server may have ended it."""
+        """Takes so many bytes of a reply, or those that arrive. The server may have ended it."""
         peer.settimeout(2)
         with contextlib.suppress(OSError):
             while count > 0 and (piece := peer.recv(min(count, 1 << 16))):
@@ -711,8 +718,8 @@ class Bench:
     # -- address space
 
     def space(self):
-        """The smallest address space with which a server starts, in steps of 1,024 KiB, and from there on steps of
-        256 until nothing is refused."""
+        """The smallest address space with which a server starts, in steps of 1,024 KiB. From there
+        on, steps of 256 KiB until nothing is refused."""
         print("| Address space, KiB | Began | Requests | Answered | 503 | Ended | Installs | Status |")
         print("|---|---|---|---|---|---|---|---|")
         kib = 2_048
@@ -740,7 +747,7 @@ class Bench:
         except Failure:
             status, output, errors = self.alone(by)
             seen["status"] = status
-            # 126 and 127 are the words of the system for a program that it has no room to load
+            # the system reports 126 or 127 for a program that it has no memory to load
             if status not in (5, 6, 70, 126, 127) or output:
                 self.fault(f"{kib} KiB: status {status}, {output!r}, {errors!r} at the start")
             return seen
@@ -815,7 +822,8 @@ class Bench:
 
     @staticmethod
     def one_zone(answer):
-        """A server of one zone, whose file is answered so, and which has changed for whoever has it."""
+        """A server of one zone, whose file gets this answer. To a client that has the zone, it
+        reports that the zone changed."""
         listed = test_mirror.listing("u", ("Test/One",))
         settled = test_mirror.listing("u")
         return test_mirror.Answers(
@@ -829,7 +837,8 @@ class Bench:
 
     @staticmethod
     def behaves(fake, peer, target):
-        """Answers as a server of one zone does whose token is t; of any other it tells that the zone changed."""
+        """Answers as a server of one zone whose token is t. For any other token it reports that the
+        zone changed."""
         if target.startswith(f"{ZONES}/"):
             peer.sendall(test_mirror.reply(test_mirror.slim_zone(1)))
         elif target.endswith("changedsince=t"):
@@ -845,8 +854,8 @@ class Bench:
             peer.sendall(test_mirror.listing(f"t{len(fake.requests)}", ("Test/One",)))
 
     def follow(self, name, kind):
-        """A first sync with such a server ends by status 2 or 7 and a line that says why; a sync of a mirror that
-        serves already says why, and leaves what is served."""
+        """A first sync with such a server ends with status 2 or 7 and a line that says why. A sync
+        of a mirror that already serves says why, and does not change what is served."""
         with test_mirror.Fake(kind) as fake:
             begin = time.monotonic()
             status, output, errors = ran(self.program, "mirror", "127.0.0.1:0", "1", fake.address, timeout=200)

@@ -1,9 +1,10 @@
 #!/usr/bin/env python3
-"""Runs loads by the built program, compares what they print with tools/load_model.py, and tells their times.
+"""Runs loads by the built program, compares their output with tools/load_model.py, and prints their
+times.
 
     bench/load.py [NUMBER ..]     1, 3, 100 and 1000 where none is given
 
-Python's standard library alone.
+Python's standard library only.
 """
 import os
 import subprocess

@@ -1,6 +1,6 @@
-"""What the parts of bench/report.py share: processors, costs of a process, and actions that are repeated.
+"""What the parts of bench/report.py share: processors, costs of a process, and repeated actions.
 
-Python's standard library alone.
+Python's standard library only.
 """
 
 import contextlib
@@ -15,17 +15,17 @@ from served import Client, Failure
 
 PROCESSORS = sorted(os.sched_getaffinity(0))
 HALF = len(PROCESSORS) // 2
-# With four processors or more the first half is for servers, and the other for those who ask.
+# With four processors or more the first half is for servers, and the other for clients.
 SERVING, ASKING = (PROCESSORS[:HALF], PROCESSORS[HALF:]) if HALF >= 2 else (PROCESSORS, PROCESSORS)
 WORKERS = max(1, len(SERVING))
-# While releases are installed, the console has one of the clients' processors, and requests the others:
-# a client that waits for its processor would count as one that waits for a reply.
+# While releases are installed, the console has one of the clients' processors, and requests have
+# the others: a client that waits for its processor would count as one that waits for a reply.
 INSTALLING, MEANWHILE = (ASKING[:1], ASKING[1:]) if len(ASKING) > 1 else (ASKING, ASKING)
 
 
 @contextlib.contextmanager
 def on(processors):
-    """What is started meanwhile runs on these processors."""
+    """What is started in this context runs on these processors."""
     before = os.sched_getaffinity(0)
     os.sched_setaffinity(0, processors)
     try:
@@ -41,8 +41,8 @@ def started(make, processors=None):
 
 
 def spent(*pids):
-    """The processor seconds of processes, in nanoseconds where the kernel counts them. One that ended
-    counts nothing."""
+    """The processor seconds of processes, to the nanosecond where the kernel counts nanoseconds. A
+    process that ended counts nothing."""
     if not os.path.exists("/proc/self/schedstat"):
         return processor_seconds(pids)
     total = 0
@@ -55,7 +55,7 @@ def spent(*pids):
 
 
 class Repeated:
-    """An action that is repeated: seconds by the clock of each, and processor seconds of the processes."""
+    """A repeated action: seconds by the clock of each, and processor seconds of the processes."""
 
     def __init__(self, action, pids, most, seconds):
         self.walls, before, end = [], [spent(pid) for pid in pids], time.monotonic() + seconds
@@ -72,8 +72,8 @@ class Repeated:
 
 
 def driven(wrk, port, pids, asked, connections, seconds, processors=ASKING):
-    """A row of what came of asking from these processors: rate, processor microseconds of a request,
-    and waiting times."""
+    """The row of requests from these processors: rate, processor microseconds of a request, and
+    waiting times."""
     before = spent(*pids)
     with on(processors):
         drive = by_wrk if wrk else by_processes
@@ -89,7 +89,7 @@ def middle_row(rows):
 
 
 def say(server, line, word, timeout=300):
-    """Has a console do something, and fails unless its reply begins with the word."""
+    """Sends a line to a console, and fails unless its reply begins with the word."""
     reply = server.say(line, timeout)
     if not reply.startswith(word):
         raise Failure(f"{line.split(' ')[0]} was answered {reply!r}")

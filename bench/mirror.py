@@ -1,22 +1,23 @@
 #!/usr/bin/env python3
-"""Measures `tzdistd mirror` as it is built, beside a primary over the loopback that serves a release folder.
+"""Measures `tzdistd mirror` as it is built, with a primary on the loopback that serves a release.
 
     bench/mirror.py RELEASE_DIR [--program PATH] [--only PART,..] [--rounds N] [--syncs N]
 
 The parts:
 
-    first    a first sync, from the start of the process until it serves; a process a round
+    first    a first sync, from the start of the process until it serves; one process in each round
     nothing  syncs that find nothing new
     one      syncs after an install at the primary that changes one zone
     all      the same, where the content of each zone changes
 
-Of each a table's row: the time of one by the clock, the processor time of the mirror and that of the
-primary, and the most memory that the mirror took until then. The time by the clock is a median; the
-processor time of a process is told in hundredths of a second, so it is that of all, over their
-number, and is that of a process from its start in the part first alone.
+Each has a row of a table. It has the time of one sync by the clock, the processor time of the
+mirror, and that of the primary. Last is the most memory that the mirror used until then. The time
+by the clock is a median. The system reports the processor time of a process in hundredths of a
+second, so it is that of all syncs, divided by their number. Only in the part first is it that of a
+process from its start.
 
-Every loop is bounded, and what is started ends with the script. It is run by hand on an idle machine,
-and is no part of the gate.
+Every loop is bounded, and what is started ends with the script. It is run by hand on an idle
+machine, and is no part of the gate.
 """
 
 import json
@@ -56,13 +57,13 @@ def one_zone(zones, at):
 
 
 def all_zones(zones, _):
-    """An alias more of each zone."""
+    """One more alias of each zone."""
     for number, zone in enumerate(zones):
         zone["aliases"] = [*zone.get("aliases", []), f"Bench/Z{number}"]
 
 
 def without_drops(zones, _):
-    """The same aliases, each on the next zone: so each content changes, and no name is dropped."""
+    """The same aliases, each for the next zone: each content changes, and no name is dropped."""
     for number, zone in enumerate(zones):
         zone["aliases"] = [*zone.get("aliases", []), f"Bench/Z{(number + 1) % len(zones)}"]
 

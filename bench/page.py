@@ -1,6 +1,6 @@
 """Makes docs/PERFORMANCE.md and its plots from the figures of bench/report.py.
 
-Nothing is measured here, and a part that is missing has no section. Python's standard library alone.
+Nothing is measured here, and a part that is missing has no section. Python's standard library only.
 """
 
 import textwrap
@@ -10,7 +10,7 @@ import growth
 import plots
 
 SINGLE_ROWS = "single rows vary by a tenth between runs; most keep it."
-# What is known of a mark that is missed, by its name. A new one is looked for with `perf` and `strace -c`.
+# What is known of a missed mark, by its name. To look for a new reason, use `perf` and `strace -c`.
 REASONS = {
     "limit, 1 connection": "a request takes as many system calls as the limit's, and three quarters of its processor time are the "
     "system's. The rest is its own code: some 8,800 instructions for a short request.",
@@ -49,7 +49,7 @@ def wrapped(text):
 
 
 def table(heads, rows, left=1):
-    """A table whose first columns stand to the left, and the others to the right."""
+    """A table whose first columns are aligned to the left, and the others to the right."""
     lines = [f"| {' | '.join(heads)} |", "|" + "---|" * left + "---:|" * (len(heads) - left)]
     return "\n".join(lines + [f"| {' | '.join(map(str, row))} |" for row in rows])
 
@@ -184,7 +184,7 @@ def changes(figures):
 
 
 def costs_of(figures):
-    """What installs, syncs and expansions take, by their names: by the clock and of the processor."""
+    """The times of installs, syncs and expansions, by name: by the clock, and of the processor."""
     found = {}
     for what in ("install", "sync"):
         for row in figures.get("changes", {}).get(f"{what}s", []):
@@ -205,7 +205,7 @@ def beside_earlier(figures):
 
 
 def waits(rows):
-    """Waiting times beside installs: of the program alone, and as the service's scripts install."""
+    """Waiting times during installs: by only the program, and as the service's scripts install."""
     ways = [it for it in ("installing", "yielding") if it in rows[0]]
     cells = [[row["request"], f"{row['alone']:.2f}", *(text for it in ways for text in (f"{row[it]:.2f}", ratio(row[it], row["alone"])))]
              for row in rows]
@@ -282,7 +282,7 @@ def fleets(figures):
 
 
 def marks(figures):
-    """Each mark: its name, what it wants, what was measured, and whether it is kept."""
+    """Each mark: its name, what it requires, what was measured, and whether it is kept."""
     found = []
     if "requests" in figures:
         found += request_marks(figures["requests"])

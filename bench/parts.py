@@ -1,6 +1,7 @@
-"""The parts of bench/report.py but growth and the fleet: each gives rows of figures, and prints nothing.
+"""The parts of bench/report.py but growth and the fleet: each returns rows of figures, and prints
+nothing.
 
-Python's standard library alone.
+Python's standard library only.
 """
 
 import contextlib
@@ -19,7 +20,7 @@ from serve import Limit, Nginx, put_file, requests_of, status_of
 from served import Client, Mirror, Served, slim_zone
 from tzdistd_priority import FirstThread, can_return
 
-# nginx has room for the connections of the attacks, too.
+# nginx gets enough connections for the attacks, too.
 serve.SITE = serve.SITE.replace("worker_connections 512", "worker_connections 16384")
 
 
@@ -45,7 +46,7 @@ class Measured:
     # -- requests with nginx and the limit
 
     def requests(self):
-        """Each request over some numbers of connections, by turns of all servers."""
+        """Each request over some numbers of connections; all servers take turns."""
         rows = []
         with contextlib.ExitStack() as stack:
             ours = stack.enter_context(self.served([self.folder], WORKERS))
@@ -87,7 +88,7 @@ class Measured:
         return rows
 
     def traced(self, port, pids, one, connections):
-        """So many calls of each kind for a request."""
+        """How many calls of each kind a request takes."""
         path = os.path.join(self.room, "calls")
         words = [word for pid in pids for word in ("-p", str(pid))]
         tracer = subprocess.Popen(["strace", "-f", "-c", "-qq", "-o", path, *words], stdin=subprocess.DEVNULL, stderr=subprocess.DEVNULL)
@@ -101,7 +102,7 @@ class Measured:
             return {kind: round(calls / max(count, 1), 3) for kind, calls in calls_of(text.read()).items()}
 
     def expansion(self):
-        """What the longest expansions cost, by their heads alone and whole."""
+        """What the longest expansions cost: only their heads, and the whole replies."""
         rows = []
         with self.served([self.folder], 1) as server, Client(server.port, timeout=60) as client:
             until = self.settings["costly_until"].encode()
@@ -135,7 +136,8 @@ class Measured:
         return self.variants()
 
     def changes(self):
-        """Installs and syncs that change nothing, one zone, and all zones; and memory of a mirror after them."""
+        """Installs and syncs that change nothing, one zone, and all zones; and memory of a mirror
+        after them."""
         installs, syncs = [], []
         for what, folder in self.variants().items():
             folders = [self.folder, folder]
@@ -157,8 +159,9 @@ class Measured:
         return {"installs": installs, "syncs": syncs}
 
     def synced(self, server, mirror, install, first):
-        """Syncs after installs, and the most memory of the mirror: beyond that of its primary, which
-        installed the same releases, and beyond a server at rest that installed none."""
+        """Syncs after installs, and the most memory of the mirror. It is counted beyond that of its
+        primary, which installed the same releases, and beyond that of an idle server that
+        installed none."""
         walls, costs, end, turn = [], [], time.monotonic() + 2 * self.settings["seconds"], 0
         while len(walls) < 2 or (len(walls) < 100 and time.monotonic() < end):
             install(turn)
@@ -175,7 +178,7 @@ class Measured:
                 "beyond_kib": peak - resting}
 
     def largest(self):
-        """A release of 4,096 zones and files of 65,536 bytes, installed again with one changed zone."""
+        """A release of 4,096 zones of 65,536 bytes, installed again with one changed zone."""
         zones, size = self.settings["largest"]
         folder = growth.release_of(os.path.join(self.room, "largest"), zones, 4 * zones, [growth.sized_zone(size)])
         later = growth.with_one_changed(folder)
@@ -193,8 +196,8 @@ class Measured:
                 "peak_kib": before, "peak_after_kib": after}
 
     def installs_with_requests(self):
-        """The 99th percentile of waiting times without installs and with installs in a loop: by the program
-        alone, and as the service's scripts let requests go first."""
+        """The 99th percentile of waiting times without installs and with installs in a loop. These
+        are made by only the program, and as the service's scripts let requests go first."""
         rows, folders = [], [self.folder, self.variants()["one zone"]]
         ways = {"installing": False, **({"yielding": True} if can_return() else {})}
         for one in self.asked:
@@ -209,7 +212,8 @@ class Measured:
         return rows
 
     def late(self, server, one):
-        """The 99th percentile of waiting times, of requests from the processors that the console leaves."""
+        """The 99th percentile of waiting times, of requests from the processors that the console
+        does not use."""
         return self.driven(server.port, [server.pid], one, WORKERS, MEANWHILE)["p99"]
 
     def while_installing(self, server, folders, one, first):
@@ -240,7 +244,7 @@ class Measured:
     # -- attacks
 
     def attacks(self):
-        """What good clients see during floods, of tzdistd and of nginx, and during costly requests."""
+        """What good clients of tzdistd and nginx see during floods, and during costly requests."""
         hostile.WORKERS = WORKERS
         rows, seconds = [], self.settings["attack_seconds"]
         search = next(one for one in self.asked if one.target == hostile.SEARCH)
@@ -285,7 +289,7 @@ def calls_of(text):
     found = {kind: 0 for kind in (*KINDS, "other")}
     for line in text.splitlines():
         words = line.split()
-        # the columns are part, seconds, microseconds of a call, calls, errors if there are any, and the name
+        # the columns: part, seconds, microseconds of a call, calls, errors if there are any, name
         if len(words) in (5, 6) and words[3].isdigit() and words[-1] != "total":
             found[next((kind for kind, names in KINDS.items() if words[-1] in names), "other")] += int(words[3])
     return found

@@ -1,6 +1,6 @@
 """Plots as SVG text: bars in groups, and lines over axes that may be logarithmic.
 
-The same figures give the same bytes on every machine. Python's standard library alone.
+The same figures give the same bytes on every machine. Python's standard library only.
 """
 
 import math
@@ -53,7 +53,7 @@ class Drawing:
 
 
 def number_text(value):
-    """A number as short as a label has it: 1,500, 20, 0.5, 10M."""
+    """A number in the short form of a label: 1,500, 20, 0.5, 10M."""
     if value >= 1e9:
         return f"{value / 1e9:g}G"
     if value >= 1e6:
@@ -62,7 +62,8 @@ def number_text(value):
 
 
 def steps(low, high, is_log):
-    """The values of an axis at which a line stands. They begin at or below `low` and end at or above `high`."""
+    """The values of an axis that have a line. They begin at or below `low` and end at or above
+    `high`."""
     if is_log:
         first, last = math.floor(math.log10(low) + 1e-9), math.ceil(math.log10(high) - 1e-9)
         return [10.0**power for power in range(first, max(last, first + 1) + 1)]
@@ -74,8 +75,8 @@ def steps(low, high, is_log):
 
 
 class Axis:
-    """An axis from a first to a last value, over so many pixels from an offset on. Its marks are those
-    that are given, or stand at round values."""
+    """An axis from a first to a last value, over so many pixels from an offset on. Its marks are
+    those that are given, or round values."""
 
     def __init__(self, low, high, offset, length, is_log=False, marks=()):
         self.marks = sorted(marks) if len(marks) > 1 else steps(low, high, is_log)
@@ -115,7 +116,8 @@ def bars(title, unit, groups, names, rows, is_log=False):
 
 
 def panel(drawing, place, title, lines, names, labels):
-    """One set of axes. `place` is x, y, width, height; each of `lines` has the points of a name or None."""
+    """One set of axes. `place` is x, y, width, height; each of `lines` has the points of a name or
+    None."""
     x, y, width, height = place
     points = [it for line in lines for it in line or []]
     values = {it[0] for it in points}

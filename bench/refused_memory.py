@@ -3,18 +3,19 @@
 
     bench/refused_memory.py [--program PATH] [--only RUN,..] [--most N]
 
-The runs are those of `RUNS` below: a program that ends by itself, a server with a client and an operator,
-and a mirror beside a primary. Each is made once as it is, and then with its first allocation refused, its
-second, and so on, until one comes to its end before the call that is to fail.
+The runs are those of `RUNS` below. They are of programs that end by themselves, of a server with a
+client and an operator, and of a mirror beside a primary. Each is made once as it is. It is then
+made with its first allocation refused, its second, and so on, until a run ends before the call that
+is to fail.
 
-What may be seen then: what is seen where nothing fails; or the end with status 70, before that with
-nothing said, with whole replies and then the one with 503, or with whole lines. Of a server, too: a
-connection that gets 503 or ends, a line of the console that is answered `no memory`, and status 5 or 6,
-with a word on standard error, where the system could not start a thread or open an address. A release
-that was refused for want of memory is not served, and one that was installed is.
+A run may look like one in which nothing fails. It may also end with status 70, after no output,
+after whole replies and then one with 503, or after whole lines. Of a server, a connection may get
+503 or end, and a line of the console may be answered `no memory`. Where the system could not start
+a thread or open an address, a server's status may be 5 or 6, with text on standard error. A release
+that was refused because the server is out of memory is not served, and one that was installed is.
 
-Anything else is told, and makes the status 1. It needs a C compiler as `cc`, is run by hand, and is no
-part of the gate.
+Anything else is printed, and makes the status 1. It needs a C compiler as `cc`, is run by hand, and
+is no part of the gate.
 """
 
 import argparse
@@ -36,7 +37,7 @@ from served import DATA, PROGRAM, Client, Failure, Mirror, Served, request
 NEW_YORK = f"{ZONES}/America%2FNew_York"
 YEAR = "start=2025-01-01T00:00:00Z&end=2026-01-01T00:00:00Z"
 REFUSAL = b"HTTP/1.1 503 Service Unavailable\r\nContent-Length: 0\r\nConnection: close\r\n\r\n"
-# One of each action, with a tag that is known, in one stream.
+# One request of each action, with a tag that is known, in one stream.
 STREAM = b"".join(
     [
         request(ZONES),
@@ -54,14 +55,14 @@ STREAM = b"".join(
 
 
 class Wrong(Exception):
-    """What was seen may not be seen."""
+    """What was seen must not be seen."""
 
 
 # ---- programs that end by themselves
 
 
 def replies_of(stream):
-    """The places at which the replies of a stream end, where all but the last are to GET."""
+    """The positions at which the replies of a stream end, if all but the last are to GET."""
     ends, at = [0], 0
     while at < len(stream):
         head = stream.index(b"\r\n\r\n", at) + 4
@@ -72,7 +73,7 @@ def replies_of(stream):
 
 
 def lines_of(text):
-    """The places at which the lines of a text end."""
+    """The positions at which the lines of a text end."""
     return [0] + [at + 1 for at, byte in enumerate(text) if byte == 10]
 
 
@@ -132,7 +133,7 @@ def asked_list(server):
 
 
 class Talk:
-    """A server with an operator, who says some lines, and a new client after each."""
+    """A server with an operator, who enters some lines, and a new client after each."""
 
     def __init__(self, lines):
         self.lines = lines
@@ -165,11 +166,11 @@ class Talk:
         return "; ".join(sorted(seen)) or "as if nothing had failed"
 
     def unserved(self, program, by, fault):
-        """What became of a server that did not say that it is ready."""
+        """What happened to a server that did not report that it is ready."""
         return self.judged([*by, program, "serve", "127.0.0.1:0", "2", "data/a"], fault)
 
     def judged(self, words, fault):
-        """What becomes of one more run of these words, without input, after one that never served."""
+        """The result of another run of this command, without input, after one that never served."""
         child = subprocess.run(words, cwd=DATA, stdin=subprocess.DEVNULL, capture_output=True, timeout=60)
         if child.returncode == 0 and b"ready" in child.stdout:
             return "status 70 before it served, once"
@@ -200,7 +201,7 @@ class Talk:
 
 
 class MirrorTalk(Talk):
-    """The same of a mirror, whose primary installs before it."""
+    """The same of a mirror, whose primary installs a release before it does."""
 
     def start(self, program, by):
         self.primary = Served(["data/a"], program=program)
@@ -239,7 +240,8 @@ RUNS = {
 
 
 def play_all(name, run, program, library, most):
-    """Refuses each allocation of a run in turn: how often, how often what was seen, and what was wrong."""
+    """Refuses each allocation of a run in turn: how many there were, how often each result was
+    seen, and how many runs were wrong."""
     seen, wrong = collections.Counter(), 0
     run.play(program, dict(os.environ))
     for call in range(1, most + 1):

@@ -1,19 +1,19 @@
 #!/usr/bin/env python3
 """Measures tzdistd in all parts, and makes docs/PERFORMANCE.md with its plots from the figures.
 
-    bench/report.py RELEASE_DIR [--quick | --smoke] [--program PATH] [--earlier PATH] [--only PART,..]
-                    [--minutes N] [--note TEXT] [--out DIR]
+    bench/report.py RELEASE_DIR [--quick | --smoke] [--program PATH] [--earlier PATH]
+                    [--only PART,..] [--minutes N] [--note TEXT] [--out DIR]
     bench/report.py --from JSON [--out DIR]
 
     example: bench/report.py --quick release
 
 The figures are one file, performance.json, with a description of the machine and the commit. The
-page and its plots are made from it alone, so `--from docs/performance.json` makes them again without
-measuring. Without a flag all parts take an hour at most, with --quick a quarter of an hour, and
-with --smoke a minute or two, over a release of few zones: its figures say nothing. With --only the
-other parts keep the figures of the file that is there. With --earlier, a program of an earlier commit,
-changes and expansion are measured of that program too, right after this one: times of two machines do
-not compare, and the two ratios do. The parts:
+page and its plots are made only from it, so `--from docs/performance.json` makes them again without
+measuring. Without a flag all parts take an hour at most, and with --quick a quarter of an hour.
+With --smoke they take a minute or two, over a release of few zones, and the figures mean nothing.
+With --only the other parts keep the figures of the file that is there. --earlier names a program of
+an earlier commit: changes and expansion are measured of that program too, right after this one.
+Times of two machines cannot be compared, but the two ratios can. The parts:
 
     requests   each request with 1, 2, 16 and 64 connections, with nginx and the program of limit.c
     changes    installs and syncs that change nothing, one zone and all zones
@@ -26,8 +26,8 @@ not compare, and the two ratios do. The parts:
     growth     costs as the work grows: bench/growth.py
 
 It needs Linux, and uses wrk, nginx, openssl and a C compiler: on Debian
-`apt-get install wrk nginx openssl gcc strace`. The servers run on one half of the processors, and the
-clients on the other. It is run by hand on an idle machine, and is no part of the gate.
+`apt-get install wrk nginx openssl gcc strace`. The servers run on one half of the processors, and
+the clients on the other. It is run by hand on an idle machine, and is no part of the gate.
 """
 
 import argparse
@@ -50,7 +50,7 @@ sys.path[:0] = [os.path.join(TOP, "tools"), os.path.join(TOP, "deploy")]
 import page
 from served import PROGRAM, Failure
 
-# Growth comes last, since it can end between two of its points where time is short.
+# Growth comes last, since it can end between two of its points if time is short.
 PARTS = ["requests", "changes", "largest", "expansion", "calls", "attacks", "fleet", "waits", "growth"]
 # Those that are measured of an earlier program, too.
 COMPARED = ["changes", "expansion"]
@@ -67,7 +67,7 @@ NEEDED = {"wrk": "wrk", "nginx": "nginx", "openssl": "openssl", "cc": "gcc"}
 
 
 def said(*words):
-    """What a command prints, on one line, or an empty text where there is no such command."""
+    """What a command prints, on one line, or an empty text if there is no such command."""
     try:
         done = subprocess.run(words, capture_output=True, text=True, timeout=20, cwd=TOP)
     except OSError:
@@ -123,8 +123,8 @@ class Run:
         return {name: getattr(self.measured, name)()}
 
     def compare(self, name, figures):
-        """Measures a part of the earlier program, too. What another run had of it goes, and so do the
-        figures of another commit."""
+        """Measures a part of the earlier program, too. The figures of it from another run are
+        dropped, and so are those of another commit."""
         if name not in COMPARED:
             return
         known = figures.pop("earlier", {})
@@ -248,7 +248,7 @@ def read_figures(flags, path):
 
 
 def checked(flags, given=None):
-    """The words, within what can be done."""
+    """The arguments, after a check that they can be used."""
     words = flags.parse_args(given)
     if not os.path.isdir(words.out):
         flags.error(f"--out: there is no folder {words.out}")

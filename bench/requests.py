@@ -3,13 +3,14 @@
 
     bench/requests.py RELEASE_DIR [--program PATH] [--rounds N] [--zone TZID]
 
-Each action is asked for once, and then 1,000 times, on one stream that `answer` serves. The
-difference of the two, over 999, is what a further request costs: processor microseconds (user and
-system) and bytes. Four rows ask for all zones by turns, so that no answer is still kept. Beside it stands the time that the program takes to read, check and publish the
-release, which is the run without any request less one that prints the usage line. At last comes
-one head that arrives a byte at a time, short and long: what a byte costs is not to grow with the
-head. Figures are medians over several rounds, in each of which all runs come once. It needs
-Python's standard library alone, is run by hand on an idle machine, and is no part of the gate.
+Each action is requested once, and then 1,000 times, on one stream that `answer` serves. The
+difference of the two, divided by 999, is what a further request costs: processor microseconds (user
+and system) and bytes. Four rows request all zones in turn, so that no answer is still cached.
+Another figure is the time that the program takes to read, check and publish the release. It is that
+of the run without any request, less that of one that prints the usage line. The last is one head
+that arrives a byte at a time, short and long: what a byte costs must not grow with the head.
+Figures are medians over several rounds, in each of which all runs are made once. It needs only
+Python's standard library, is run by hand on an idle machine, and is no part of the gate.
 """
 
 import argparse
@@ -93,7 +94,7 @@ def first_reply(output):
 
 
 def ask(program, folder, request):
-    """The first reply to one request, which is to be 200."""
+    """The first reply to one request, which must be 200."""
     run = Run(program, ["answer", folder], request)
     if run.status != 0 or not run.output:
         sys.exit(f"{program} answer {folder} ended with status {run.status}: {run.output[:200]!r}")
@@ -104,7 +105,7 @@ def ask(program, folder, request):
 
 
 def requests_of(program, folder, zone):
-    """The requests that are measured, each with its name and the status that it is to get."""
+    """The requests that are measured, each with its name and the status that it must get."""
     listing = json.loads(ask(program, folder, head("/tzdist/zones"))[1])
     names = [item["tzid"] for item in listing["timezones"]]
     if zone is None:
@@ -135,12 +136,12 @@ def requests_of(program, folder, zone):
 
 
 def stream_of(requests, count):
-    """So many requests, by turns."""
+    """So many requests, in turn."""
     return b"".join(requests[number % len(requests)] for number in range(count))
 
 
 def measure(program, folder, rounds, requests):
-    """The runs of each request, once and many times, and of the release alone."""
+    """The runs of each request, once and many times, and of only the release."""
     once = {name: [] for name, _, _ in requests}
     many = {name: [] for name, _, _ in requests}
     empty, usage = [], []

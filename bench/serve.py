@@ -2,43 +2,48 @@
 """Measures `tzdistd serve` as it is built, over a release folder.
 
     bench/serve.py RELEASE_DIR [--program PATH] [--beside PATH] [--only PART,..] [--seconds N]
-                   [--rounds N] [--installs N] [--idle N] [--slow N] [--zone TZID] [--no-nginx] [--no-limit]
-                   [--no-wrk]
+                   [--rounds N] [--installs N] [--idle N] [--slow N] [--zone TZID] [--no-nginx]
+                   [--no-limit] [--no-wrk]
 
     example: bench/serve.py release --only rates --seconds 1 --rounds 3
 
 The parts:
 
-    rates    requests a second and processor microseconds a request over kept connections, with 1, 2 and 4
-             workers and as many connections, and with 64 connections on 4 workers; by turns with the
-             program at --beside, over as many connections as it has workers; and of nginx, which serves
-             files of the same bodies by as many processes, at the better of as many and eight times as
-             many connections; and of bench/limit.c, a C program that only receives a head and sends the
-             bytes of the reply, by as many processes and over as many connections
-    opened   connections that are opened for one request each and closed, by turns with the program at
-             --beside and nginx, each with 4 workers
-    crowd    --idle connections that rest, half of which asked once, and --slow ones that send or take a
-             byte a second or take nothing, beside 4 workers: how soon a good client has its replies with
-             and without them, what one that rests takes of memory, and the processor time that they cost
-    installs the 99th percentile of the time to a reply, with releases installed in a loop and without
+    rates    requests a second and processor microseconds a request over kept connections. There are
+             1, 2 and 4 workers with as many connections, and 4 workers with 64 connections. The
+             program at --beside takes turns with this, over as many connections as it has workers.
+             nginx serves files of the same bodies by as many processes, at the better of as many
+             and eight times as many connections. bench/limit.c, a C program, only receives a head
+             and sends the bytes of the reply, by as many processes and over as many connections.
+    opened   connections that are opened for one request each and closed, in turn with the program
+             at --beside and nginx, each with 4 workers
+    crowd    --idle connections that are idle, half after one request, and --slow ones that send or
+             read a byte a second or read nothing. It prints how soon a good client of 4 workers has
+             its replies with and without them. It also prints the memory of an idle one, and the
+             processor time that they cost.
+    installs the 99th percentile of the time to a reply, with releases installed in a loop and
+             without
     memory   resident memory over many installs of two releases that take turns
-    kept     resident memory of 64 workers before they have answered, and once each keeps the full list and the
-             whole calendars of 64 zones
-    changes  lists of changes after 0, 1, 50 and 447 zones changed, over the release and over one of 4,096 zones
-    limits   a release at all limits, 256 MiB of zone files: until it is served, and the most memory
-    rules    installs with both rules and without: where nothing changed, where the bytes of all zones did and
-             their local times did not (another form of the same files, by zic), and where these did, too
-    idle     200 connections that ask once and stay, and the time of a new client
+    kept     resident memory of 64 workers before they have answered, and once each keeps the full
+             list and the whole calendars of 64 zones
+    changes  lists of changes after 0, 1, 50 and 447 zones changed, over the release and over one of
+             4,096 zones
+    limits   a release at all limits, 256 MiB of zone files: the time until it is served, and the
+             most memory
+    rules    installs with both rules and without: where nothing changed, where only the bytes of
+             all zones changed, and where their local times changed, too. For the second, zic makes
+             another form of the same files.
+    idle     200 connections that send one request and stay, and the time of a new client
     delay    replies on one connection that come later than 5 ms
     peers    memory and descriptors before and after 10,000 connections of peers that misbehave
 
-The program at --beside is one that was built before and kept, to be measured in the same run. The part
-crowd needs as many descriptors as connections and some, and takes what the system allows.
+The program at --beside is one that was built before and kept, to be measured in the same run. The
+part crowd needs some more descriptors than connections, and takes what the system allows.
 
-Requests come from `wrk` where it is installed, and else from processes of this script. nginx is
-used where it is installed, and bench/limit.c where there is a C compiler as `cc`. Everything is on the loopback, every loop is bounded in count and time,
-and what is started ends with the script. It is run by hand on an idle machine, and is no part of
-the gate.
+Requests come from `wrk` where it is installed, and otherwise from processes of this script. nginx
+is used where it is installed, and bench/limit.c where there is a C compiler as `cc`. Everything is
+on the loopback, every loop is bounded in count and time, and what is started ends with the script.
+It is run by hand on an idle machine, and is no part of the gate.
 """
 
 import argparse
@@ -71,7 +76,7 @@ TICKS = os.sysconf("SC_CLK_TCK")
 LIMIT = os.path.join(os.path.dirname(os.path.abspath(__file__)), "limit.c")
 
 
-# --- what is asked -----------------------------------------------------------------------------
+# --- what is requested -------------------------------------------------------------------------
 
 
 class Asked:
@@ -121,7 +126,7 @@ def requests_of(port, zone):
 
 
 class Driven:
-    """What came of asking for a while: requests, seconds, and percentiles in milliseconds."""
+    """The result of requests for a while: their count, seconds, and percentiles in milliseconds."""
 
     def __init__(self, count, seconds, middle, late, faults):
         self.count, self.seconds, self.middle, self.late = count, seconds, middle, late
@@ -133,7 +138,8 @@ UNITS = {"us": 1e-3, "ms": 1, "s": 1e3, "m": 6e4}
 
 
 def by_wrk(wrk, port, asked, connections, seconds, scheme="http"):
-    # no more threads than processors: one that waits for a processor would count as one that waits for a reply
+    # no more threads than processors: one that waits for a processor would count as one that waits
+    # for a reply
     threads = min(connections, 2, len(os.sched_getaffinity(0)))
     words = [wrk, f"-t{threads}", f"-c{connections}", f"-d{seconds}s", "--latency"]
     for field in asked.fields:
@@ -143,7 +149,7 @@ def by_wrk(wrk, port, asked, connections, seconds, scheme="http"):
 
     def percentile(part):
         found = re.search(rf"^\s+{part}%\s+([0-9.]+)(us|ms|s|m)$", text, re.M)
-        # where no request had its reply there is none
+        # if no request got its reply there is none
         return float(found[1]) * UNITS[found[2]] if found else 0.0
 
     count, took, unit = re.search(r"(\d+) requests in ([0-9.]+)(us|ms|s|m),", text).groups()
@@ -203,7 +209,7 @@ def children_of(pid):
 
 
 def status_of(pid, name):
-    """A number of a process's status, as of its memory in KiB."""
+    """A number of a process's status, such as its memory in KiB."""
     with open(f"/proc/{pid}/status") as lines:
         return next(int(line.split()[1]) for line in lines if line.startswith(name + ":"))
 
@@ -238,7 +244,7 @@ http {{
 
 
 def put_file(path, data):
-    """Writes a file anew, also one that was copied without leave to write."""
+    """Writes a file again, also one that was copied without permission to write."""
     if os.path.exists(path):
         os.chmod(path, 0o644)
     with open(path, "wb") as out:
@@ -259,7 +265,7 @@ def made_release(folder, zones, names, data):
 
 
 def largest_zone(size=65_536, count=4096):
-    """A TZif file of so many bytes and transitions, of which the last leads to what its footer says."""
+    """A TZif file of so many bytes and transitions. The last leads to what its footer says."""
     letters = b"+01\0+02\0"
     moments = struct.pack(f">{count}q", *(86_400 * (number - count) for number in range(count)))
     numbers = bytes((number + 1) % 2 for number in range(count))
@@ -269,7 +275,7 @@ def largest_zone(size=65_536, count=4096):
     def header(times, types, size):
         return b"TZif2" + bytes(15) + struct.pack(">6I", 0, 0, 0, times, types, size)
 
-    # the first block is not looked at, so it fills the file
+    # the first block is not read, so it gives the file its size
     filled = size - 2 * len(header(0, 0, 0)) - 6 - len(second) - len(footer)
     return header(0, 1, filled) + bytes(6 + filled) + header(count, 2, len(letters)) + second + footer
 
@@ -304,14 +310,14 @@ class Nginx:
             raise Failure("nginx does not listen")
 
     def put(self, path, body):
-        """Serves a body at a path of tzdistd, so that a client asks both servers for the same."""
+        """Serves a body at a path of tzdistd, so that clients request the same of both servers."""
         at = f"{self.room.name}/files{path}"
         os.makedirs(os.path.dirname(at), mode=0o755, exist_ok=True)
         with open(at, "wb") as file:
             file.write(body)
 
     def asked(self, number, one):
-        """The request for a file, with its tag where none of its bytes are wanted."""
+        """The request for a file, with its tag if none of its bytes are wanted."""
         same = Asked(one.name, f"/{number}", [], one.status)
         if one.status == 304:
             with Client(self.port) as client:
@@ -338,7 +344,7 @@ class Nginx:
 
 
 class Limit:
-    """bench/limit.c, built for this run, which sends the replies of requests by so many processes."""
+    """bench/limit.c, built for this run. It sends the replies of requests by so many processes."""
 
     def __init__(self, asked, workers):
         self.room = tempfile.TemporaryDirectory()
@@ -408,8 +414,8 @@ class Bench:
         return self.drive(self.wrk, port, asked, connections, seconds or self.words.seconds)
 
     def by_turns(self, workers, connections, asked, names):
-        """For each request and program the median of rounds that take turns: requests a second, processor
-        microseconds of each, and the driven."""
+        """For each request and program the median of rounds that take turns: requests a second,
+        processor microseconds of each, and the `Driven`."""
         found = {}
         for turn in range(self.words.rounds):
             for name in names if turn % 2 == 0 else reversed(names):
@@ -426,7 +432,8 @@ class Bench:
         print("|---" * 16 + "|")
         names, others = list(self.programs), {}
         for workers, connections in ((1, 1), (2, 2), (4, 4), (4, 64)):
-            # others are asked over as many connections as there are workers, and nginx also over more
+            # others get requests over as many connections as there are workers, and nginx also over
+            # more
             alone = connections > workers
             rows = self.by_turns(workers, connections, self.asked, names[:1] if alone else names)
             if not alone:
@@ -447,7 +454,8 @@ class Bench:
         return f"| {' | '.join(map(str, cells))} |"
 
     def of_nginx(self, workers, counts, asked, closing=()):
-        """For each request the median of rounds of nginx, at the better of these counts of connections."""
+        """For each request the median of rounds of nginx, at the better of these counts of
+        connections."""
         found = {}
         if self.nginx:
             with Nginx(self.nginx, asked, workers) as site:
@@ -473,7 +481,7 @@ class Bench:
         return sorted(rows, key=lambda it: it[0])[len(rows) // 2]
 
     def once(self, port, pids, asked, connections):
-        """Requests a second, processor microseconds of each, and the driven."""
+        """Requests a second, processor microseconds of each, and the `Driven`."""
         before = processor_seconds(pids)
         driven = self.driven(port, asked, connections)
         return driven.rate, (processor_seconds(pids) - before) / max(driven.count, 1) * 1e6, driven
@@ -513,7 +521,7 @@ class Bench:
             mine.send("slow ones")
             slow = heard(mine)
             with_slow = status_of(server.pid, "VmRSS")
-            # once all are there, and before those that take nothing are given up
+            # once all are connected, and before the server closes those that take nothing
             busy = self.share(server)
             mine.send("again and again")
             rows.append(("beside them", *self.good(server.port, path)))
@@ -536,15 +544,15 @@ class Bench:
             server.quit(timeout=30)
 
     def share(self, server, seconds=5):
-        """The processors that a server takes meanwhile."""
+        """How many processors a server uses during so many seconds."""
         time.sleep(1)
         before, begin = processor_seconds([server.pid]), time.monotonic()
         time.sleep(seconds)
         return (processor_seconds([server.pid]) - before) / (time.monotonic() - begin)
 
     def good(self, port, path, seconds=10):
-        """The times to the replies of a good client, sorted, in milliseconds: over one connection that is
-        kept, and over one for each request."""
+        """The times to the replies of a good client, sorted, in milliseconds: over one connection
+        that is kept, and over one for each request."""
         kept, fresh = [], []
         end = time.monotonic() + seconds
         client = Client(port)
@@ -563,7 +571,7 @@ class Bench:
         return sorted(kept), sorted(fresh)
 
     def two_releases(self, room):
-        """Two copies of the release that differ in a zone which is not asked for."""
+        """Two copies of the release that differ in a zone which is not requested."""
         with open(os.path.join(self.folder, "manifest.json"), encoding="utf-8") as file:
             zones = json.load(file)["zones"]
         file = next(zone["file"] for zone in reversed(zones) if zone["tzid"] != self.zone)
@@ -592,7 +600,7 @@ class Bench:
                 print(f"| {one.name} | {alone:.2f} | {beside:.2f} | {beside / alone:.1f} | {count:.0f} | {rate:.0f} | {busy:.0f} |")
 
     def while_installing(self, server, folders, asked, workers):
-        """How many releases were installed meanwhile, and what came of asking."""
+        """How many releases were installed during requests, and the result of these."""
         done, said = threading.Event(), []
 
         def install():
@@ -691,7 +699,7 @@ class Bench:
         rules = ["--max-changed", "4096", "--no-past-change", "1800-01-01T00:00:00Z"]
         with tempfile.TemporaryDirectory() as room:
             for name, folders in self.changed_releases(room):
-                # taking turns, so that both have the same of whatever else the machine does
+                # taking turns, so that other work of the machine affects both alike
                 with self.served(folders[:1], 1) as plain, self.served([*rules, folders[0]], 1) as ruled:
                     took = {plain: [], ruled: []}
                     for number in range(50 * self.words.rounds):
@@ -723,7 +731,7 @@ class Bench:
                 shutil.copyfile(os.path.join(tree, zone["tzid"]), os.path.join(other, zone["file"]))
             kept = 0
             while found := re.match(rb"refused \d+ \w+ (\d+)\n", subprocess.run([self.program, "check", other], capture_output=True).stdout):
-                # an old zic writes some files so that they are refused
+                # an old zic writes some files in a form that is refused
                 file = zones[int(found[1])]["file"]
                 shutil.copyfile(os.path.join(self.folder, file), os.path.join(other, file))
                 kept += 1
@@ -745,7 +753,7 @@ class Bench:
             with Client(server.port) as client:
                 zones = json.loads(client.ask("/tzdist/zones").body)["timezones"][:64]
             targets = ["/tzdist/zones", *(f"/tzdist/zones/{quote(zone['tzid'], safe='')}" for zone in zones)]
-            # the system gives connections to workers by chance, one in each round on an average to each
+            # the system gives connections to workers by chance: on average one to each in a round
             for _ in range(rounds):
                 clients = [Client(server.port, timeout=60) for _ in range(64)]
                 for target in targets:
@@ -930,9 +938,9 @@ def heard(pipe):
 
 
 def crowd(port, path, idle, slow, pipe):
-    """The process that has the connections of the part crowd: those that rest, and from a first word on the
-    slow ones. From the second on those that were given up come again. It ends at the third, or after ten
-    minutes."""
+    """The process that has the connections of the part crowd: the idle ones, and from a first
+    message on the slow ones. From the second on it opens again those that were closed. It ends at
+    the third, or after ten minutes."""
     end = time.monotonic() + 600
     resting = []
     for number in range(idle):
@@ -981,7 +989,7 @@ def processor():
 
 
 def parser_of(page, parts):
-    """A parser of what every such script takes: a release, a program and parts of it."""
+    """A parser of what each such script takes: a release, a program and parts of it."""
     example = re.search(r"example: .+", page)
     parser = argparse.ArgumentParser(description=page.split("\n")[0], epilog=example and example[0])
     parser.add_argument("folder", metavar="RELEASE_DIR", help="as tools/pack_zoneinfo.py makes it")
@@ -991,7 +999,7 @@ def parser_of(page, parts):
 
 
 def parts_of(words, known):
-    """The parts that are asked for. The script ends where one is none, or where the program is not built."""
+    """The requested parts. The script ends if one does not exist, or the program is not built."""
     parts = words.only.split(",")
     if unknown := [part for part in parts if part not in known]:
         sys.exit(f"no such part: {', '.join(unknown)}")
