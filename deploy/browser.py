@@ -1,5 +1,5 @@
-"""A real browser without a window and its one page, for try_page.py: what is typed, clicked and read
-in the page, and whether its texts can be read.
+"""A real headless browser and its one page, for try_page.py: what is typed, clicked and read there,
+and whether its texts can be read.
 
 It needs chromium and openssl, and otherwise only the standard library of Python.
 """
@@ -23,7 +23,7 @@ KEYS = {"Tab": 9, "Enter": 13, "ArrowRight": 39, "ArrowDown": 40}
 
 
 class Browser:
-    """A browser without a window that is controlled by pipes. It has one page, and trusts one
+    """A headless browser that is controlled by pipes. It has one page, and trusts one
     certificate."""
 
     def __init__(self, room, certificate):
@@ -89,7 +89,7 @@ class Browser:
         return done["result"].get("value")
 
     def await_that(self, what, script):
-        """Waits until an expression holds in the page."""
+        """Waits until an expression is true in the page."""
         end = time.monotonic() + PATIENCE
         while not self.value(f"document.readyState == 'complete' && !!({script})"):
             if time.monotonic() > end:
@@ -118,7 +118,7 @@ class Browser:
                       windowsVirtualKeyCode=KEYS[name], **more)
 
     def tab_to(self, identifier):
-        """Goes on by the tabulator until an element has the focus."""
+        """Presses the tab key until an element has the focus."""
         for _ in range(80):
             if self.value("document.activeElement.id") == identifier:
                 return
@@ -142,7 +142,7 @@ class Browser:
             self.call("Input.dispatchMouseEvent", type=kind, x=x, y=y, button="left", clickCount=1)
 
     def events_of(self, method):
-        """The words of all events of a kind."""
+        """The parameters of all events of a kind."""
         return [event["params"] for event in self.events if event.get("method") == method]
 
     def picture(self, path):
@@ -158,7 +158,7 @@ class Browser:
 
 
 def key_hash(certificate):
-    """The digest by which the browser knows the key of a certificate."""
+    """The digest by which the browser identifies the key of a certificate."""
     words = ["openssl", "x509", "-in", certificate, "-noout", "-pubkey"]
     text = subprocess.run(words, check=True, capture_output=True, timeout=60).stdout.decode()
     key = base64.b64decode("".join(text.split("-----")[2].split()))
@@ -173,7 +173,7 @@ def text_at(identifier):
 
 
 def each(selector, value):
-    """The value of an expression for `one` after another of the elements that a selector finds."""
+    """The values of an expression, where `one` is each of the elements that a selector finds."""
     return f"[...document.querySelectorAll({selector!r})].map((one) => {value})"
 
 
@@ -202,7 +202,7 @@ FITS = """(() => {
     return faults;
 })()"""
 
-# Texts whose contrast with what is behind them is below 4.5 to 1 (WCAG 2.1, 1.4.3).
+# Texts whose contrast with their background is below 4.5 to 1 (WCAG 2.1, 1.4.3).
 CONTRAST = """(() => {
     const numbers = (text) => (text.match(/[\\d.]+/g) ?? []).map(Number);
     const part = (value) =>

@@ -1,5 +1,5 @@
-"""What scripts that make Debian packages share: the files of a package, what it says of itself,
-and a trial in a root.
+"""What scripts that make Debian packages share: the files of a package, its metadata, and a trial
+in a root.
 
 Python's standard library only. It needs dpkg-deb.
 """
@@ -30,7 +30,7 @@ def output(*words, **more):
 
 
 def commit():
-    """The commit of the repository, when it was made, and how many there are up to it."""
+    """The last commit of the repository, when it was made, and the number of commits up to it."""
     when, name = output("git", "-C", ROOT, "log", "-1", "--format=%ct %h").split()
     return name, int(when), output("git", "-C", ROOT, "rev-list", "--count", "HEAD")
 
@@ -42,7 +42,7 @@ def version():
 
 
 def words_of(name, options):
-    """What a package says of itself and of its commit, for its texts, and when that was made."""
+    """The metadata of a package and of its commit, for its texts, and when that commit was made."""
     commit_name, when, _ = commit()
     words = {
         "name": name,
@@ -78,7 +78,7 @@ def write_changes(stage, words):
 
 
 def describe(stage, control, conffiles, scripts):
-    """Writes what the package says of itself, the sums of its files, and its scripts."""
+    """Writes the metadata of the package, the checksums of its files, and its scripts."""
     walk = os.walk(stage)
     files = sorted(os.path.join(folder, name) for folder, _, names in walk for name in names)
     files = [path for path in files if not os.path.islink(path)]
@@ -104,7 +104,7 @@ def build(stage, path, when):
 
 
 def lint(path):
-    """The errors that lintian finds, if it is installed, after all that it says was printed."""
+    """Prints all that lintian reports, if it is installed. Returns the errors that it finds."""
     if shutil.which("lintian") is None:
         return []
     done = subprocess.run(["lintian", "--allow-root", path], capture_output=True, text=True)
@@ -112,7 +112,7 @@ def lint(path):
     return [line for line in done.stdout.splitlines() if line.startswith("E:")]
 
 
-# What dpkg and the tools of users keep for themselves, whatever the package.
+# Paths that dpkg and the tools for users keep for themselves, whatever the package.
 KEPT = re.compile(
     r"(var/lib/dpkg|var/log|var/cache/(apt|debconf|ldconfig|man)|proc|sys|dev|tmp)/.*"
     r"|etc/[a-z]+-|run/adduser"
@@ -142,7 +142,7 @@ PLAIN = {"PATH": "/usr/sbin:/usr/bin:/sbin:/bin", "LC_ALL": "C.UTF-8"}
 
 
 def in_root(root, *words, user=None, **values):
-    """What a command prints in a root, which is to end well."""
+    """What a command prints in a root. The command must succeed."""
     by = [f"--userspec={user}:{user}"] if user else []
     words = ["chroot", *by, root, *words]
     done = subprocess.run(words, capture_output=True, text=True, env={**PLAIN, **values})
@@ -157,7 +157,7 @@ def room():
 
 
 def add_words(parser):
-    """Adds the words that each script understands."""
+    """Adds the arguments that each script accepts."""
     parser.add_argument("--to", metavar="FOLDER", default=".", help="where the package goes (default: here)")
     parser.add_argument("--version", help="its version (default: the date of the last commit and the number of commits)")
     parser.add_argument("--maintainer", default=MAINTAINER, help="who keeps it")

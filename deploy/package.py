@@ -9,9 +9,10 @@ For example, of the program that README builds, into the current folder:
 
     deploy/package.py --to .
 
-It prints the path of the package. It needs dpkg-dev and binutils. Where lintian is installed, the
-package must have no error of its. try_system.py tries the package under systemd. With --into, the
-files are put into a root, as `--into /` for a system without dpkg, and settings that exist there are not replaced.
+It prints the path of the package. It needs dpkg-dev and binutils. Where lintian is installed, it
+must report no error in the package. try_system.py tries the package under systemd. With --into, the
+files are put into a root, as `--into /` for a system without dpkg. Settings that exist there are
+not replaced.
 """
 
 import argparse
@@ -27,13 +28,14 @@ sys.path.insert(0, os.path.join(os.path.dirname(HERE), "tools"))
 import deb
 from served import PROGRAM, ROOT
 
-# The units, each a file of this folder. Those of a mirror and of figures may be enabled, and are
-# not, since a machine need not have them. Scripts of the package have these names for @UNITS@, @ENABLED@ and @OTHERS@.
+# The units, each a file of this folder. Those of a mirror and of metrics may be enabled, and are
+# not, since a machine need not have them. In the scripts of the package these names replace
+# @UNITS@, @ENABLED@ and @OTHERS@.
 ENABLED = ["tzdistd.service", "tzdistd-follow.timer"]
 OTHERS = ["tzdistd-mirror.service", "tzdistd-sync.timer", "tzdistd-metrics.timer"]
 UNITS = [*ENABLED, *OTHERS, "tzdistd-follow.service", "tzdistd-sync.service", "tzdistd-metrics.service"]
 
-# The programs of the package. The modules that they import come along.
+# The programs of the package. The modules that they import are added.
 TOOLS = [
     "deploy/tzdistd-serve",
     "deploy/tzdistd-install",
@@ -102,7 +104,7 @@ def depends(program, room):
 
 
 def modules_of(path):
-    """The modules of this repository that a program and they import."""
+    """The modules of this repository that a program imports, and those that these import."""
     if not deb.read(path).startswith(b"#!/usr/bin/env python3") and not path.endswith(".py"):
         return set()
     found = set()
@@ -137,7 +139,7 @@ def fill(stage, program, version):
     target = os.path.join(stage, "usr/bin/tzdistd")
     os.makedirs(os.path.dirname(target), exist_ok=True)
     if os.path.exists(target):
-        # a program that runs cannot be written
+        # a program that runs cannot be overwritten
         os.unlink(target)
     shutil.copyfile(program, target)
     deb.output("strip", "--strip-unneeded", "--remove-section=.comment", "--remove-section=.note", target)
@@ -156,7 +158,7 @@ def scripts():
 
 
 def package(options):
-    """Builds the package, and gives its path."""
+    """Builds the package, and returns its path."""
     words, when = deb.words_of("tzdistd", options)
     words["architecture"] = deb.output("dpkg", "--print-architecture")
     os.umask(0o022)

@@ -4,12 +4,12 @@
     deploy/package_device.py [--to FOLDER] [--version V] [--maintainer "NAME <ADDRESS>"]
                              [--try ROOT] [PROGRAM]
 
-It prints the path of the package, which has tzfetch.sh as the command `tzfetch`, a unit with its
-timer, and the command `tzdistd-device`, which points a system at the tree. With --try, as root,
-the package is installed in a folder that debootstrap made with the packages systemd, curl,
-python3 and man-db. There it fetches the zones of a server that runs the built program, points the
-root at them, and is used, removed and purged. Nothing may be left behind. It needs dpkg-dev.
-Where lintian is installed, the package must have no error of its.
+It prints the path of the package. The package has tzfetch.sh as the command `tzfetch`, a unit with
+its timer, and the command `tzdistd-device`, which points a system at the tree. With --try, as root,
+the package is installed in a folder that debootstrap made with the packages systemd, curl, python3
+and man-db. There it fetches the zones of a server that runs the built program, points the root at
+them, and is used, removed and purged. Nothing may be left behind. It needs dpkg-dev. Where lintian
+is installed, it must report no error in the package.
 """
 
 import argparse
@@ -64,7 +64,7 @@ Description: time zone files of a device, as a server has them (RFC 7808)
 
 
 def package(options):
-    """Builds the package, and gives its path."""
+    """Builds the package, and returns its path."""
     words, when = deb.words_of("tzdistd-device", options)
     os.umask(0o022)
     with deb.room() as room:
@@ -92,7 +92,7 @@ def release(folder):
 
 
 def fetched(root):
-    """The line of a run, as the unit would start it."""
+    """The line that a run prints, started as the unit would start it."""
     with open(root + "/etc/default/tzdistd-device") as file:
         lines = [line.strip() for line in file if "=" in line and not line.startswith("#")]
     values = dict(line.split("=", 1) for line in lines)

@@ -1,8 +1,8 @@
-"""Services by the scripts of this folder, nginx with its site in front of them, and clients of
-that, for trials and measurements.
+"""Services that the scripts of this folder start, nginx with its site in front of them, and clients
+of nginx, for trials and measurements.
 
-All stands on high ports of one machine and in a temporary folder, and is ended by `close`. It
-needs nginx and openssl.
+All use high ports of one machine and a temporary folder, and are ended by `close`. They need nginx
+and openssl.
 """
 
 import contextlib
@@ -64,7 +64,7 @@ def text_of(name):
 
 
 def edited(text, edits):
-    """A text with each old part replaced by the new one beside it."""
+    """A text with each old part replaced by the new part of its pair."""
     for old, new in edits:
         if old not in text:
             raise Failure(f"there is no {old!r}")
@@ -132,7 +132,7 @@ def one_server(port):
 
 
 def two_mirrors(site, ports):
-    """The site with two mirrors at ports of this machine in the place of one server."""
+    """The site with two mirrors at ports of this machine instead of one server."""
     begin, end = site.index("# Which group"), site.index("# Answers are cached")
     edits = [(f"server 192.0.2.{number}:8008", f"server {HOST}:{port}") for number, port in enumerate(ports, 1)]
     return site[:begin] + edited(text_of("nginx-mirrors.conf"), edits) + "\n" + site[end:]
@@ -185,8 +185,7 @@ def listens(what, port):
 
 
 class Proxy(Nginx):
-    """nginx with the site of this folder, or one that is made of it, and a certificate of its own.
-    """
+    """nginx with the site of this folder or one made from it, and with its own certificate."""
 
     def __init__(self, at, site, workers=2):
         os.makedirs(at, exist_ok=True)
@@ -228,8 +227,8 @@ class Proxy(Nginx):
 
 
 def tunnel(at, front, name=NAME):
-    """nginx with the recipe for TLS to an upstream, which is the proxy `front` and must have that
-    name."""
+    """nginx with the configuration for TLS to an upstream. That is the proxy `front`, which must
+    have that name."""
     port = free_port()
     site = edited(text_of("nginx-upstream.conf"), [
         (f"server {NAME}:443;", f"server {front.address};"),
@@ -241,7 +240,7 @@ def tunnel(at, front, name=NAME):
 
 
 class Stunnel(Listening):
-    """stunnel with one part of the recipe for TLS to an upstream."""
+    """stunnel with one part of the configuration for TLS to an upstream."""
 
     def __init__(self, at, part, edits):
         os.makedirs(at, exist_ok=True)
@@ -319,9 +318,9 @@ class Relay:
         return rest
 
     def _answered(self, held):
-        """Counts the replies which say that what is kept still counts."""
+        """Counts the replies which say that a cached answer is still valid."""
         self.unmodified += held.count(NOT_MODIFIED)
-        # of the beginning of such a reply nothing is lost, and none is counted twice
+        # the beginning of such a reply is kept, and no reply is counted twice
         return held[1 - len(NOT_MODIFIED) :]
 
     def clear(self):

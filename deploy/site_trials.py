@@ -1,6 +1,5 @@
-"""Trials of the site of nginx, which try.py runs: attacks on its cache, its limits, its
-log, HTTP/2, and a server that is out of memory. Each starts another nginx in front of the
-server of the trial."""
+"""Trials of nginx's site, which try.py runs: attacks on its cache, its limits, its log, HTTP/2, and
+a server that is out of memory. Each starts another nginx in front of the server of the trial."""
 
 import contextlib
 import http.client
@@ -53,8 +52,7 @@ ATTACKS = [
     Attack("a format that a zone has not", ("Accept: application/json",), ZONE, good=("Accept: application/tzif",)),
     Attack("a range of years as TZif", ("Accept: application/tzif",), f"{ZONE}?{YEAR}", good=("Accept: text/calendar",)),
 ]
-# What an answer of another client replaces where refusals are cached, or else this trial shows
-# nothing.
+# Attacks that must succeed where refusals are cached. Otherwise this trial shows nothing.
 SUCCEEDED = {"a control byte in a field", "a high byte in Host", "a quote in Host", "a format that a zone has not",
              "a range of years as TZif"}
 
@@ -136,7 +134,8 @@ FEW_AT_ONCE = [("limit_conn tzdistd_open 256;", "limit_conn tzdistd_open 4;")]
 
 
 def limits(deployed):
-    """A client may send many costly requests at once, and more are refused; others notice nothing."""
+    """A client may send many costly requests at once. More are refused, and other clients are not
+    affected."""
     with site(deployed, "limits") as proxy, proxy.connect("127.0.0.2") as client:
         same("1,000 expansions of one address", expansions(client, range(1000)), {200})
     with site(deployed, "few-wait", edits=FEW_WAIT) as proxy:
@@ -159,7 +158,7 @@ def limits(deployed):
 
 
 def at_once(proxy, address, count):
-    """How often each status comes where an address sends so many costly requests at once."""
+    """How often each status comes where an address sends this many costly requests at once."""
     with contextlib.ExitStack() as stack:
         clients = [stack.enter_context(proxy.connect(address)) for _ in range(count)]
         for number, one in enumerate(clients):
@@ -186,8 +185,7 @@ LOGGED = [
 
 
 def log(deployed):
-    """The log names the action of each request, and the command in the site's comment counts them.
-    """
+    """The log names the action of each request. The command in the site's comment counts them."""
     with site(deployed, "logged") as proxy:
         with proxy.connect() as client:
             for target, _, accept in LOGGED:
@@ -218,7 +216,7 @@ def second_version(deployed):
 
 
 class Fickle:
-    """A server that answers each request with the same list, after so many seconds, or with 503."""
+    """A server that answers each request with the same list, after `seconds`, or with 503."""
 
     def __init__(self, seconds=0):
         self.seconds, self.full = seconds, False
@@ -238,7 +236,7 @@ class Fickle:
 
 
 def out_of_memory(deployed):
-    """While the server has no memory, clients get what the cache has."""
+    """While the server is out of memory, clients get what the cache has."""
     server = Fickle()
     with site(deployed, "stale", server.port) as proxy, proxy.connect() as client:
         same("the list", ask(client, LIST)[0].status, 200)
@@ -250,7 +248,7 @@ def out_of_memory(deployed):
 
 
 def figures(deployed):
-    """The file of figures is for this machine only."""
+    """The file of metrics is for this machine only."""
     with site(deployed, "figures") as proxy:
         with proxy.connect() as client:
             same("no figures yet", ask(client, "/metrics")[0].status, 404)

@@ -3,10 +3,10 @@
 
     deploy/try.py [PROGRAM] [--clients N]
 
-Between nginx and the server stands a relay, which counts what reaches the server. The site by
-itself is tried by site_trials.py: attacks on its cache among them. It needs nginx, openssl, curl
-and Python's standard library; it is run by hand, and everything that it starts ends with it.
-systemd itself is not tried, and the page is only fetched: try_page.py looks at it.
+Between nginx and the server is a relay, which counts what reaches the server. site_trials.py tries
+the site by itself, with attacks on its cache among others. This script needs nginx, openssl, curl
+and Python's standard library. It is run by hand, and everything that it starts ends with it.
+systemd itself is not tried, and the page is only fetched: try_page.py tries it.
 """
 
 import argparse
@@ -53,7 +53,7 @@ class Deployed:
         return os.path.join(self.releases, name)
 
     def add_moved(self, name, hours):
-        """A later release, with a zone so many hours east of UTC."""
+        """A later release, with a zone this many hours east of UTC."""
         folder = self.add("b", name)
         with open(os.path.join(folder, "moved"), "wb") as file:
             file.write(slim_zone(hours))
@@ -66,7 +66,7 @@ class Deployed:
         return folder
 
     def start_mirror(self):
-        """A mirror of the server, by the script of its unit."""
+        """A mirror of the server, started by the script of its unit."""
         at = os.path.join(self.room, "mirror")
         self.mirror = Service("tzdistd-mirror", at, self.program, UPSTREAM=self.server.address)
 
@@ -126,7 +126,7 @@ def proxy(deployed):
 
 
 def cache(deployed):
-    """Many clients cost one request, and what is kept is asked for again by its tag."""
+    """Many clients cost one request, and a cached answer is requested again with its tag."""
     relay = deployed.relay
     clients = [deployed.connect() for _ in range(deployed.clients)]
     for target in ("/tzdist/zones", UTC):
@@ -143,7 +143,7 @@ def cache(deployed):
     for client in clients[1:]:
         client.close()
     front = clients[0]
-    # what is kept no longer counts
+    # the cached answer is no longer valid
     time.sleep(2.5)
     relay.clear()
     reply, body = ask(front, UTC)
@@ -215,7 +215,7 @@ def device(deployed):
 
 
 def watching(deployed):
-    """What installs change is handed to a command, also once more where it failed."""
+    """What installs change is given to a command, also once more where it failed."""
     heard = os.path.join(deployed.room, "heard")
     tell, fail = ["sh", "-c", 'cat >>"$1"', "sh", heard], ["false"]
 
@@ -244,7 +244,8 @@ def watching(deployed):
 
 
 def mirror(deployed):
-    """A mirror is started, and asked to sync as by its timer; a refusal is told by the status."""
+    """A mirror is started, and gets the command to sync as from its timer. The status reports a
+    refusal."""
     nothing = {name: value for name, value in deployed.server.environment.items() if name != "UPSTREAM"}
     same("a mirror of nothing", started("tzdistd-mirror", nothing).wait(20), 1)
     deployed.start_mirror()

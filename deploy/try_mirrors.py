@@ -1,14 +1,14 @@
 #!/usr/bin/env python3
-"""Tries the way to many machines on one: a primary, a mirror of it, a mirror of that mirror, and a
+"""Tries a setup for many machines on one: a primary, a mirror of it, a mirror of that mirror, and a
 proxy over both mirrors.
 
     deploy/try_mirrors.py [PROGRAM] [--zones FOLDER] [--clients N]
 
-Each is started by the script of its unit, the proxy by the site of this folder with the blocks of
+Each is started by the script of its unit, the proxy with the site of this folder and the blocks of
 nginx-mirrors.conf. A release of the system's zones is served. Another one is installed at the
-primary, and seen at the proxy once the mirrors have had their syncs. A mirror is killed and comes
+primary, and seen at the proxy once the mirrors have had their syncs. A mirror is killed and started
 again. A mirror follows the primary over TLS, by nginx and by stunnel. A mirror is restarted while
-the primary is away, and the primary ends. Between the proxy and each mirror stands a relay, which
+the primary is down, and the primary ends. Between the proxy and each mirror is a relay, which
 counts what reaches the mirror.
 
 It needs what try.py needs, and stunnel4, and is run by hand. Everything that it starts ends with
@@ -65,7 +65,7 @@ class Machines:
         os.environ["SSL_CERT_FILE"] = self.proxy.certificate
 
     def service(self, name, script, program, **values):
-        """A service that has said its first line."""
+        """A service that has printed its first line."""
         made = Service(script, os.path.join(self.room, name), program, **values)
         self.all.append(made)
         same(f"the {name} is ready", made.first_reply()[:8], "ready 1-")
@@ -76,7 +76,7 @@ class Machines:
         subprocess.run([*words, "--stamp", stamp], check=True, capture_output=True)
 
     def later(self, name, stamp, hours):
-        """A release with a zone more, or with another file of that zone."""
+        """A release with one more zone, or with another file of that zone."""
         folder = os.path.join(self.releases, name)
         shutil.copytree(os.path.join(self.releases, "2025a"), folder)
         with open(os.path.join(folder, "moved"), "wb") as file:
@@ -91,7 +91,7 @@ class Machines:
         return folder
 
     def fetch(self):
-        """The last words of a device's run, and what a zone's file is then."""
+        """The last words of a device's run, and what a zone's file contains then."""
         said = fetch_zoneinfo.fetch(self.proxy.url, self.tree).rpartition(", ")[2]
         with open(os.path.join(self.tree, "Test/Moved"), "rb") as file:
             return said, file.read()
@@ -116,7 +116,7 @@ def clear(machines):
 
 
 def clients(machines):
-    """Clients by the mirror that answers them, each of which keeps to it."""
+    """Clients by the mirror that answers them. The same mirror always answers a client."""
     found = [[], []]
     for number in range(20):
         clear(machines)
@@ -133,7 +133,7 @@ def clients(machines):
 
 
 def same_status(client, status):
-    """An answer past the cache with this status."""
+    """Fails unless an answer that bypasses the cache has this status."""
     if (seen := ask(client, ZONES, Cache_Control="no-cache")[0].status) != status:
         raise Failure(f"the list was answered {seen}")
 
@@ -156,13 +156,13 @@ def many(machines):
 
 
 def status_of(machines, side):
-    """The status that a client of a mirror has of the zone of the later releases."""
+    """The status that a client of a mirror gets for the zone of the later releases."""
     with machines.proxy.connect(machines.addresses[side]) as client:
         return ask(client, MOVED)[0].status
 
 
 def seen_after(machines, side):
-    """The seconds until a client of a mirror has the zone of the later releases."""
+    """The seconds until a client of a mirror gets the zone of the later releases."""
     begin = time.monotonic()
     while time.monotonic() < begin + PATIENCE:
         if status_of(machines, side) == 200:
@@ -172,7 +172,7 @@ def seen_after(machines, side):
 
 
 def install(machines):
-    """A release is installed at the primary, and goes by the near mirror to the far one."""
+    """A release is installed at the primary, and the near mirror passes it to the far one."""
     same("a zone before it is there", [status_of(machines, side) for side in (0, 1)], [404, 404])
     same("the far mirror before the near one", machines.far.say("sync")[1][:11], "unchanged 1")
     folder = machines.later("2025b", "2025-07-01T00:00:00Z", 1)
@@ -188,7 +188,7 @@ def install(machines):
 
 
 def device(machines):
-    """A device has the release by the proxy, and asks for what changed alone."""
+    """A device gets the release through the proxy, and requests only what changed."""
     same("a device's file", machines.fetch()[1], slim_zone(1))
     folder = machines.later("2025c", "2025-08-01T00:00:00Z", 2)
     same("another install at the primary", machines.primary.say("install", folder)[1][:12], "installed 3-")
@@ -200,7 +200,7 @@ def device(machines):
 
 
 def failure(machines):
-    """A mirror is killed: its clients have the other one, and itself again once it is there."""
+    """A mirror is killed. Its clients get the other one, and the first again once it is there."""
     machines.near.close()
     begin = time.monotonic()
     for count in range(1, 51):
@@ -212,7 +212,7 @@ def failure(machines):
     machines.near.start()
     same("the near mirror again, with a history of its own", machines.near.first_reply()[:8], "ready 1-")
     same("the far mirror's sync after it", machines.far.say("sync")[1][:10], "unchanged ")
-    # nginx asks a server again ten seconds after it failed
+    # nginx uses a server again ten seconds after it failed
     time.sleep(11)
     clear(machines)
     with machines.proxy.connect(machines.addresses[0]) as client:
@@ -222,8 +222,8 @@ def failure(machines):
 
 
 def zones_of(service):
-    """The zones that a service lists, with their tags. The moments and versions of a mirror are
-    its own."""
+    """The zones that a service lists, with their tags. The times and versions of a mirror are its
+    own."""
     with Client(service.port) as client:
         return {entry["tzid"]: entry["etag"] for entry in json.loads(client.ask(ZONES).body)["timezones"]}
 
@@ -273,7 +273,7 @@ def by_stunnel(machines):
 
 
 def away(machines):
-    """A mirror that is restarted while the primary is away serves its last copy, and then follows
+    """A mirror that is restarted while the primary is down serves its last copy, and then follows
     the primary again."""
     primary, near = machines.primary, machines.near
     same("the near mirror's sync", near.say("sync")[1][:10], "installed ")

@@ -1,15 +1,15 @@
 #!/usr/bin/env python3
-"""Tries the page of this folder in a real browser without a window, behind the proxy of try.py.
+"""Tries the page of this folder in a real headless browser, behind the proxy of try.py.
 
     deploy/try_page.py [PROGRAM] [--pictures FOLDER]
 
     deploy/try_page.py                             tries the program that was built here
     deploy/try_page.py --pictures /var/tmp/page    draws the page, too
 
-The server has releases of the system's zones. The page is loaded and used by mouse and by keys, on
-the width of a phone and of a desk, light and dark. What it shows is compared with the C library,
-with the release and with what was installed. Every request must go to the proxy. It needs chromium
-and what try.py needs, and is run by hand.
+The server has releases of the system's zones. The page is loaded and used by mouse and by keys, at
+the width of a phone and of a desktop screen, light and dark. What it shows is compared with the C
+library, with the release and with what was installed. Every request must go to the proxy. It needs
+chromium and what try.py needs, and is run by hand.
 """
 
 import argparse
@@ -35,7 +35,7 @@ from served import PROGRAM, Failure
 deploy = importlib.import_module("try")
 
 ZONEINFO = "/usr/share/zoneinfo"
-# A phone and a desk: width, height, and whether it is a small touch screen.
+# A phone and a desktop: width, height, and whether it is a small touch screen.
 PHONE, DESK = (390, 844, True), (1280, 1000, False)
 CHANGED = ["America/Coyhaique", "Asia/Manila", "Asia/Tehran"]
 HOSTILE = '<img src=x onerror="window.hurt=1">'
@@ -51,7 +51,7 @@ def manifest_of(folder):
 
 
 def copied(source, folder, edit):
-    """A release like another one, but for an edit of its manifest."""
+    """A release like another one, except for an edit of its manifest."""
     shutil.copytree(source, folder)
     manifest = manifest_of(folder)
     edit(manifest)
@@ -61,7 +61,7 @@ def copied(source, folder, edit):
 
 
 def before(manifest):
-    """Makes a release of the system's one: three zones were otherwise, and no leap seconds."""
+    """Makes a release from the system's one: three zones differ, and there are no leap seconds."""
     zones = {zone["tzid"]: zone for zone in manifest["zones"]}
     zones["Asia/Manila"]["file"] = zones["Asia/Tokyo"]["file"]
     zones["Asia/Tehran"]["file"] = zones["Asia/Dubai"]["file"]
@@ -71,7 +71,8 @@ def before(manifest):
 
 
 def after(manifest):
-    """Makes a later release of the system's one, with the same zones and a table that goes on."""
+    """Makes a later release from the system's one: it has the same zones, and a table that expires
+    later."""
     manifest.update(publisher=HOSTILE, stamp="2026-01-01T00:00:00Z")
     manifest["leapseconds"]["expires"] = "9000-01-01"
 
@@ -127,7 +128,7 @@ def loaded(browser):
 
 
 def release_meanwhile(browser, releases):
-    """Of the release before, the page knows only its date; the next one comes while it is open."""
+    """The page knows only the date of the release before. The next one comes while it is open."""
     all_same = "All zones have the date 2025-01-21."
     browser.await_that("no later change", f"{text_at('last')}.startsWith({all_same!r})")
     same("no leap seconds", "no table" in browser.value(text_at("leaps")), True)
@@ -163,7 +164,7 @@ def leap_seconds(browser, releases):
 
 
 def clocks(browser):
-    """The clocks of both zones go on, and are right."""
+    """The clocks of both zones run, and are right."""
     for side, zone in enumerate(("Europe/Rome", "US/Eastern")):
         text = browser.value(text_at(f"clock{side}"))
         now = int(time.time())
@@ -195,7 +196,7 @@ NO_FACTS = "document.getElementById('about0').hidden"
 
 
 def search(browser, side, text):
-    """Types into the search of a side, or empties it."""
+    """Types into the search field of a side, or empties it."""
     field = f"document.getElementById('search{side}')"
     browser.value(f"{field}.focus()")
     browser.type(text)
@@ -208,7 +209,7 @@ def found(side=0):
 
 
 def searches(browser):
-    """By name, country and abbreviation. Facts are those of a zone that was found."""
+    """Searches by name, country and abbreviation. Facts are those of a zone that was found."""
     search(browser, 0, "portugal")
     same("a country", browser.value(found()), [
         "Portugal", "Europe/Lisbon (Portugal)", "Atlantic/Madeira (Portugal)",
@@ -245,7 +246,8 @@ def searches(browser):
 
 
 def by_keys(browser):
-    """Only by keys zones are searched and chosen, and years, a day and a part of the world set."""
+    """Only with keys, zones are searched and chosen, and years, a day and a part of the world are
+    set."""
     browser.tab_to("search0")
     browser.type("new york")
     browser.await_that("one match is chosen", "location.hash.startsWith('#America%2FNew_York&')")
@@ -320,7 +322,7 @@ def offset_text(offset):
 
 
 def all_offsets(browser, releases):
-    """At some days of some years every zone has the offset and the flag of the C library."""
+    """On some days of some years every zone has the offset and the flag of the C library."""
     browser.value("document.getElementById('list').open = true")
     caption = "document.querySelector('#by-offset caption')?.innerText"
     whole = f"{caption}?.startsWith('{len(releases.zones)} zones')"
@@ -378,7 +380,7 @@ def position(browser, name):
 
 
 def the_map(browser, rows):
-    """Colours and shapes follow the day, places stand where they are, and a click chooses."""
+    """Colours and shapes follow the day, places are at the right position, and a click chooses."""
     browser.value("document.getElementById('world').scrollIntoView()")
     browser.await_that("all places", all_dots(rows))
     set_day(browser, 2026, 15)
@@ -404,7 +406,7 @@ def the_map(browser, rows):
 
 
 def clicks(browser):
-    """A click at a place chooses its zone for the side that is set."""
+    """A click on a place chooses its zone for the side that is set."""
     browser.click("document.querySelector('input[name=target][value=\"1\"]')")
     browser.click(place("Asia/Tokyo") + ".querySelector('.dot')")
     browser.await_that("a click for the second zone", "location.hash.includes('&Asia%2FTokyo&')")
@@ -439,7 +441,7 @@ def downloads(browser, releases):
 
 
 def downloaded(path):
-    """The bytes of a file, once the browser wrote it."""
+    """The bytes of a file, once the browser has written it."""
     end = time.monotonic() + PATIENCE
     while not (os.path.exists(path) and os.path.getsize(path)):
         if time.monotonic() > end:
@@ -452,7 +454,7 @@ def downloaded(path):
 # ---- how it looks
 
 def looks(browser):
-    """On a phone and at a desk, light and dark, all fits and can be read."""
+    """At the sizes of a phone and a desktop, light and dark, all fits and can be read."""
     for width, height, is_touch in (PHONE, DESK):
         for scheme in ("light", "dark"):
             browser.size(width, height, is_touch, scheme)
@@ -523,7 +525,7 @@ def lazily(browser, url, rows):
 
 
 def without_memory(browser, url, releases):
-    """Without a token the dates say what changed, and with an older token both say it."""
+    """Without a token the dates say what changed. With an older token both say it."""
     count = len(releases.zones)
     browser.value("localStorage.clear()")
     browser.open(url + "/")
@@ -557,7 +559,7 @@ def without_tables(browser, url):
 
 
 def failures(browser, url, rows):
-    """A file that can't be had is named and tried again, and a server that is away is shown."""
+    """A file that cannot be read is named and tried again, and an unreachable server is shown."""
     browser.call("Network.clearBrowserCache")
     browser.call("Network.setBlockedURLs", urls=["*/zones/Asia%2FTokyo"])
     opened(browser, url + CHOICE)
@@ -580,7 +582,7 @@ def failures(browser, url, rows):
 
 
 def passing(browser, url):
-    """The clock goes over a change of local time, and the next changes follow."""
+    """The clock passes a change of local time, and the changes after it are shown."""
     stopped = browser.call("Page.addScriptToEvaluateOnNewDocument", source="""
         window.moment = Date.parse("2027-03-28T00:59:59Z");
         Date.now = () => window.moment;
@@ -597,7 +599,7 @@ def passing(browser, url):
 
 
 def hostile(browser, url, releases):
-    """Markup of a release and of tables is text, and a release without a change is one."""
+    """Markup of a release and of tables is text, and a release without a change is shown as one."""
     releases.install(releases.after)
     table = json.dumps(f"IT\t{HOSTILE}\n{HOSTILE}\t{HOSTILE}\n")
     replaced = browser.call("Page.addScriptToEvaluateOnNewDocument", source=f"""
@@ -618,14 +620,14 @@ def hostile(browser, url, releases):
 
 
 def requests(browser, url):
-    """Nothing was requested of another host, and nothing was refused or thrown in the page."""
+    """Nothing was requested from another host, and nothing was refused or thrown in the page."""
     sent = [one["request"]["url"] for one in browser.events_of("Network.requestWillBeSent")]
     mine = (url + "/", "data:", "about:", f"blob:{url}/")
     others = [one for one in sent if not one.startswith(mine)]
     same(f"requests of another host, of {len(sent)}", others, [])
     same("what the page threw", browser.events_of("Runtime.exceptionThrown"), [])
     logs = [log["entry"]["text"] for log in browser.events_of("Log.entryAdded")]
-    # an unknown token is answered 400, and the trial blocks requests
+    # an unknown token is answered with 400, and the trial blocks requests
     known = ("status of 400", "ERR_BLOCKED_BY_CLIENT", "ERR_INTERNET_DISCONNECTED")
     logs = [text for text in logs if not any(word in text for word in known)]
     same("what the browser complains of", logs, [])

@@ -9,10 +9,10 @@ For example, as root, with a base that the next run uses again:
     deploy/try_system.py --base /var/tmp/bookworm
 
 With --few the machine has the zones of a dozen places, for a busy computer. The machine is a copy
-of BASE, which debootstrap makes where it is not there, in namespaces of its own: it has no network
-but its loopback. A primary, a mirror of it and a device are on it. New versions of tzdata are
-packages made here, and dpkg installs them. It needs root, debootstrap, unshare, nsenter and what
-package.py needs, and is run by hand. Everything that it starts ends with it; --keep leaves the
+of BASE in its own namespaces, without a network except its loopback. debootstrap makes BASE where
+it does not exist. A primary, a mirror of it and a device are on the machine. New versions of tzdata
+are packages made here, and dpkg installs them. It needs root, debootstrap, unshare, nsenter and
+what package.py needs, and is run by hand. Everything that it starts ends with it; --keep leaves the
 machine's folder.
 """
 
@@ -40,15 +40,15 @@ PLAIN = {"PATH": "/usr/sbin:/usr/bin:/sbin:/bin", "LC_ALL": "C.UTF-8", "DEBIAN_F
 PRIMARY, MIRROR = "127.0.0.1:8008", "127.0.0.1:8009"
 TOKYO, SEOUL, AZORES = "Asia/Tokyo", "Asia/Seoul", "Atlantic/Azores"
 DEVICE = "/var/lib/device"
-# The services of the package, and the most exposure that systemd may find of one.
+# The services of the package, and the highest exposure that systemd may report for one.
 UNITS = ["tzdistd", "tzdistd-follow", "tzdistd-mirror", "tzdistd-sync", "tzdistd-metrics"]
 MOST_EXPOSURE = 2.0
 # The zones of --few.
 FEW = [TOKYO, SEOUL, AZORES, "Etc/UTC", "Europe/Berlin", "Europe/Lisbon", "America/New_York", "Africa/Abidjan",
        "Africa/Casablanca", "America/Sao_Paulo", "Australia/Sydney", "Pacific/Auckland"]
 
-# What a container manager does before systemd starts: the folders of the kernel, and a root of its
-# own.
+# What a container manager does before systemd starts: it mounts the folders of the kernel, and
+# changes to another root.
 BOOT = r"""
 set -e
 mount --make-rprivate /
@@ -77,7 +77,7 @@ exec env -i container=other PATH=/usr/sbin:/usr/bin:/sbin:/bin \
 
 
 def eventually(what, wanted, look, seconds=300):
-    """Waits until a look gives what is wanted."""
+    """Waits until `look` returns what is wanted."""
     until = time.monotonic() + seconds
     while (seen := look()) != wanted:
         if time.monotonic() > until:
@@ -117,7 +117,7 @@ class Machine:
         self.root, self.first, self.group = root, None, Group()
 
     def boot(self):
-        """Boots, and returns how systemd finds the machine then."""
+        """Boots, and returns the state of the machine that systemd reports then."""
         words = ["unshare", "--mount", "--pid", "--uts", "--ipc", "--net", "--cgroup", "--fork", "--kill-child"]
         self.child = subprocess.Popen([*words, "sh", "-c", BOOT, "sh", self.root], stdin=subprocess.DEVNULL,
                                       preexec_fn=self.group.enter)
@@ -218,7 +218,7 @@ class Machine:
 
 
 def tzdata(machine, version, change):
-    """Makes a package of tzdata of the machine's tree with a change, and returns its path on the
+    """Makes a package of tzdata from the machine's tree with a change, and returns its path on the
     machine."""
     stage = machine.path(f"/root/tzdata-{version}")
     tree = os.path.join(stage, "usr/share/zoneinfo")
@@ -231,7 +231,7 @@ def tzdata(machine, version, change):
     text = change(tree, text)
     with open(source, "w") as file:
         file.write(text)
-    # a release without a known date has that of its newest file
+    # a release without a known date has the date of its newest file
     os.utime(os.path.join(tree, "Etc/UTC"))
     documents = os.path.join(stage, "usr/share/doc/tzdata")
     os.makedirs(documents)
@@ -265,7 +265,7 @@ def keep_few(tree):
 
 
 def moved(*names, to=SEOUL):
-    """A change by which zones have the file of another one. Links have the same bytes."""
+    """A change by which zones get the file of another one. Links have the same bytes."""
 
     def change(tree, text):
         with open(os.path.join(tree, to), "rb") as file:
@@ -281,7 +281,7 @@ def moved(*names, to=SEOUL):
 
 
 def without(name):
-    """A change by which a zone is left out, to which no link leads."""
+    """A change that leaves out a zone, to which no link points."""
 
     def change(tree, text):
         return re.sub(f"^Z {name} ", f"# {name} ", text, flags=re.M)
@@ -290,7 +290,7 @@ def without(name):
 
 
 def leave_quiet(machine):
-    """Waits until no follow is at work, and none is about to be."""
+    """Waits until no follow runs, and none is about to run."""
     for _ in range(1200):
         shown = machine.run("systemctl", "show", "-p", "Job,ActiveState", "tzdistd-follow")[1].splitlines()
         found = dict(line.split("=", 1) for line in shown)
@@ -324,7 +324,7 @@ def installed(machine):
 
 
 def may_yield(machine):
-    """Whether a process with the unit's filter of calls may yield to others, and return from that."""
+    """Whether a process with the unit's system call filter may yield to others, and end that."""
     with open(machine.path("/lib/systemd/system/tzdistd.service")) as unit:
         filters = [f"-p{line.strip()}" for line in unit if line.startswith(("SystemCall", "RestrictRealtime="))]
     look = "import sys; sys.path.insert(0, '/usr/lib/tzdistd'); import tzdistd_priority as it; print(it.can_return())"
@@ -332,13 +332,13 @@ def may_yield(machine):
 
 
 def exposure(machine, unit):
-    """How exposed systemd finds a unit to be, from 0 to 10."""
+    """The exposure that systemd reports for a unit, from 0 to 10."""
     lines = machine.run("systemd-analyze", "security", "--no-pager", f"{unit}.service")[1].splitlines()
     return float(re.search(r": (\d+\.\d) ", lines[-1])[1])
 
 
 def without_release(machine):
-    """A machine without a release boots clean, and a start makes up for it."""
+    """A machine without a release boots without failed units. A start with a release serves."""
     machine.sh("systemctl stop tzdistd; mkdir /root/aside; mv /var/lib/tzdistd/* /root/aside; "
                "echo FOLLOW=no >>/etc/default/tzdistd")
     same("the state after a reboot without a release", machine.reboot(), "running")
@@ -361,7 +361,7 @@ def signals(machine):
     time.sleep(1)
     same("the server after SIGHUP", machine.token(), token)
     for _ in range(3):
-        # a computer that was busy with something else has another try
+        # where the computer was busy with something else, there is another try
         begin = time.monotonic()
         machine.run("systemctl", "stop", "tzdistd")
         took = time.monotonic() - begin
@@ -409,8 +409,8 @@ def followed(machine):
 
 
 def refused(machine):
-    """A refusal leaves what is served, is in the journal, and fails the unit; then a reboot
-    serves."""
+    """A refusal leaves what is served, is in the journal, and fails the unit. A reboot serves
+    after it."""
     token = machine.token()
     upgrade(machine, tzdata(machine, "2026y", without(AZORES)))
     same("the token after a refusal", machine.token(), token)
@@ -456,8 +456,9 @@ def ruled(machine):
     machine.sh("sed -i /RULES/d /etc/default/tzdistd; systemctl restart tzdistd")
 
 
-# Prints whether the program may be given the limit by which its first thread yields to requests,
-# whether that thread does so while a command runs, and not after it, and what the command printed.
+# Prints whether the program may get the limit by which its first thread yields to requests. Then
+# whether that thread yields while a command runs, whether it does not after it, and what the
+# command printed.
 POLICIES = r"""
 import os, resource, subprocess, sys
 pid = int(open("/run/tzdistd/pid").read())
@@ -488,7 +489,7 @@ def rolled_back(machine):
 
 
 def alone(machine):
-    """A mirror that boots while its primary is away serves what it had."""
+    """A mirror that boots while its primary is down serves what it had."""
     wanted = machine.file_of(TOKYO)
     eventually("the rollback at the mirror", wanted, lambda: machine.file_of(TOKYO, MIRROR))
     machine.sh("systemctl disable --now tzdistd")
@@ -524,7 +525,7 @@ PARTS = [installed, without_release, signals, others, followed, refused, strays,
 
 
 def base(folder):
-    """Makes the Debian of which the machine is a copy, unless it is there."""
+    """Makes the Debian of which the machine is a copy, unless it exists."""
     if not os.path.isdir(os.path.join(folder, "usr")):
         print(f"debootstrap {folder}", flush=True)
         subprocess.run(["debootstrap", "--variant=minbase", f"--include={PACKAGES}", "bookworm", folder],

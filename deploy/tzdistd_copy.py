@@ -24,7 +24,7 @@ from tzdistd_service import Failed
 LIST_FILE = "list.json"
 MOST_LIST_BYTES = 16 << 20
 MOST_ZONE_BYTES = 65_536
-# How often a copy is begun again where the mirror installs a release meanwhile.
+# How often a copy is started again where the mirror installs a release meanwhile.
 TRIES = 5
 SILENCE = 20
 # How long a slow machine may take to check a copy.
@@ -44,7 +44,7 @@ def host_and_port(address):
 
 
 def near(address):
-    """Where a client of this machine reaches a server that listens at an address."""
+    """The address at which a client of this machine reaches a server that listens at an address."""
     host, port = host_and_port(address)
     return {"0.0.0.0": "127.0.0.1", "::": "::1"}.get(host, host), port
 
@@ -62,7 +62,7 @@ def tag_of(entry, data):
 
 
 def write(path, data):
-    """Writes a file, which is on the disk then."""
+    """Writes a file, and returns once it is on the disk."""
     with open(path, "wb") as file:
         file.write(data)
         file.flush()
@@ -70,7 +70,7 @@ def write(path, data):
 
 
 def sync_folder(path):
-    """Puts the names in a folder on the disk."""
+    """Writes the names in a folder to the disk."""
     descriptor = os.open(path, os.O_RDONLY)
     try:
         os.fsync(descriptor)
@@ -131,8 +131,8 @@ class Copies:
             return None
 
     def problem(self, number):
-        """Why a copy cannot be used, or None: its files are those that were kept, and the program
-        takes them."""
+        """Why a copy cannot be used. It is None where its files are those that were kept, and the
+        program accepts them."""
         zones = self.zones(number)
         if not zones:
             return "it has no list"
@@ -160,7 +160,7 @@ class Copies:
             return file.read(MOST_ZONE_BYTES + 1)
 
     def _refusal(self, folder):
-        """What the program refuses a folder by, or None."""
+        """The fault for which the program refuses a folder, or None."""
         try:
             done = subprocess.run(
                 [self.program, "check", folder], stdin=subprocess.DEVNULL, stdout=subprocess.PIPE,

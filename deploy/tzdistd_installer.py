@@ -47,7 +47,7 @@ HINTS = {
 
 
 def packer():
-    """The path of the tool that makes a release of a tree, of the package or of the repository."""
+    """The path of the tool that makes a release from a tree, in the package or the repository."""
     packaged = os.path.join(HERE, "pack_zoneinfo.py")
     return packaged if os.path.exists(packaged) else os.path.join(os.path.dirname(HERE), "tools/pack_zoneinfo.py")
 
@@ -72,8 +72,8 @@ def is_tree(folder):
 
 
 def content(folder):
-    """What a release says, but for its stamp: its labels, and the bytes and the aliases of each
-    zone."""
+    """What a release contains, except for its stamp: its labels, and the bytes and the aliases of
+    each zone."""
     manifest = manifest_of(folder)
 
     def data(entry):
@@ -86,7 +86,7 @@ def content(folder):
 
 
 def same_content(one, other):
-    """Whether two releases say the same, which none does that cannot be read."""
+    """Whether two releases have the same content. A release that cannot be read never does."""
     try:
         return not (odd_file(one) or odd_file(other)) and content(one) == content(other)
     except (OSError, KeyError, TypeError, AttributeError):
@@ -94,14 +94,14 @@ def same_content(one, other):
 
 
 def open_to_all(folder):
-    """Lets everybody read a release, whatever the mask of who made it; of root it goes to the
-    service."""
+    """Lets everybody read a release, whatever the umask of its maker. What root made is given to
+    the service."""
     model = os.path.dirname(folder)
     for _, _, names, at in os.fwalk(folder):
         os.fchmod(at, 0o755)
         give_to_owner(at, model)
         for name in names:
-            # a link is not followed, nor what somebody puts there meanwhile
+            # no link is followed, also none that somebody puts there meanwhile
             with contextlib.suppress(OSError):
                 descriptor = os.open(name, os.O_RDONLY | os.O_NOFOLLOW | os.O_NONBLOCK | os.O_CLOEXEC, dir_fd=at)
                 try:
@@ -117,14 +117,14 @@ def names_of(zones):
 
 
 def age(version):
-    """A version of tz data as something that rises, as for 2026b, or None for any other label."""
+    """A version of tz data as a value that rises, as for 2026b, or None for any other label."""
     found = re.fullmatch(r"(\d{4})([a-z]+)", version) if isinstance(version, str) else None
     return found and (int(found.group(1)), len(found.group(2)), found.group(2))
 
 
 def lift_stamp(staged, served):
-    """Gives a release that was made of a tree the stamp of what is served, where its own is earlier
-    though its version is not. So the same tz data of another package is no step back."""
+    """Gives a release that was made from a tree the stamp of what is served, where its own is
+    earlier though its version is not. So the same tz data from another package is not older."""
     manifest = manifest_of(staged)
     new, old = age(manifest.get("version")), age(served.get("version"))
     if new and old and new >= old and manifest["stamp"] < served["stamp"]:
@@ -134,8 +134,8 @@ def lift_stamp(staged, served):
 
 
 class Installer:
-    """Installs releases into the folder of the settings. Use it in a `with` block, which keeps
-    others out."""
+    """Installs releases into the folder of the settings. Use it in a `with` block, which excludes
+    other installs."""
 
     def __init__(self, settings, force=False, options=()):
         self.settings, self.force, self.options = settings, force, options
@@ -151,7 +151,7 @@ class Installer:
             self._lock()
             for name in os.listdir(self.settings.releases):
                 if name.startswith(".incoming-"):
-                    # what an install left that was killed
+                    # what a killed install left
                     shutil.rmtree(self.releases.path(name), ignore_errors=True)
             self.room = tempfile.mkdtemp(prefix=".incoming-", dir=self.settings.releases)
             os.chmod(self.room, 0o755)
@@ -186,8 +186,8 @@ class Installer:
     # ---- from a source to a folder
 
     def stage(self, source):
-        """A release folder made of a source: a copy, what the packer makes of a tree, or the source
-        itself where it is in the folder of releases already."""
+        """The release folder for a source. It is a copy, what the packer makes from a tree, or the
+        source itself where that is in the folder of releases already."""
         source = os.path.realpath(source)
         if not os.path.isdir(source):
             raise Failed(f"{source}: no such folder")
@@ -224,7 +224,7 @@ class Installer:
 
     def stage_older(self, name):
         """A release folder with the zones of an older release, and the stamp of the one that is
-        served. Names that came since stay as they are, since clients know them."""
+        served. Names that were added since stay as they are, since clients know them."""
         accepted = self.releases.accepted()
         if not accepted:
             raise Failed(f"{self.settings.releases}: no release was accepted yet, so there is no older one")
@@ -265,8 +265,8 @@ class Installer:
     # ---- from a folder to the server
 
     def put(self, staged):
-        """Installs a staged release, and returns the status for the caller: 0 where it is served or
-        was."""
+        """Installs a staged release, and returns the status for the caller: 0 where it is served
+        or was served before."""
         current = self.releases.current()
         if current and not self.force and same_content(staged, current):
             return self._unchanged(staged, current)
@@ -354,7 +354,7 @@ class Installer:
             fault = rest if word == "refused" else reply
             last = self.records.last()
             known = last.get("reason", "") if last.get("result") in ("refused", "failed") else ""
-            # the server's account of a file that it cannot read is better than one of this user
+            # the server's reason for a file that it cannot read is better than this user's
             reason = known if known.startswith(fault) else explained(fault, path, self.settings.rules)
             raise Refused(path, reason, HINTS.get(fault.split(" ")[0]), recorded=True)
         self.records.record("install", "failed", reason=reply, folder=path)
@@ -362,7 +362,7 @@ class Installer:
         return 1
 
     def refuse(self, refused):
-        """Moves a refused release aside, with its reason, and returns the status for the caller."""
+        """Moves a refused release away, with its reason, and returns the status for the caller."""
         path = refused.path
         name = os.path.basename(path)
         if path.startswith(self.room):

@@ -2,7 +2,7 @@
 
 The first thread of the program runs the console, with all installs and syncs; the other threads
 answer requests. While the first thread works on a line of the console, it gets the scheduling
-policy SCHED_IDLE, so a thread with a request need not wait until its time slice is over. Where
+policy SCHED_IDLE. So a thread with a request need not wait until its time slice is over. Where
 requests leave no processor time, the policy ends after a second: they delay an install, and do not
 stop it.
 
@@ -18,8 +18,8 @@ YIELDING_SECONDS = 1.0
 
 
 def can_return():
-    """Whether a process may leave SCHED_IDLE again: it needs CAP_SYS_NICE, or a limit RLIMIT_NICE of
-    at least 20. A child tries it, since a process without the right keeps the policy."""
+    """Whether a process may leave SCHED_IDLE again. It needs CAP_SYS_NICE, or a limit RLIMIT_NICE
+    of at least 20. A child tries it, since a process without the right keeps the policy."""
     child = os.fork()
     if child == 0:
         status = 1
@@ -41,7 +41,7 @@ class FirstThread:
         self.until = None
 
     def _set(self, policy):
-        # a number of a process stands for its first thread only
+        # the number of a process stands for its first thread only
         with contextlib.suppress(OSError):
             os.sched_setscheduler(self.pid, policy, os.sched_param(0))
 

@@ -1,7 +1,7 @@
 """The program as the child of a service script. Its console is a FIFO, its replies go to a file,
 and what happens goes to the journal.
 
-A line of the FIFO is handed on once the reply to the line before it has come. So each reply is
+A line of the FIFO is passed on once the reply to the line before it has come. So each reply is
 known by its line. SIGTERM and SIGINT end the program by `quit`; SIGHUP ends nothing. Python's
 standard library only.
 """
@@ -17,16 +17,17 @@ import time
 from tzdistd_priority import FirstThread, can_return
 from tzdistd_service import say
 
-# A longer line is none of the console; the program answers so many bytes of it as it answers the
-# whole.
+# A longer line is no command of the console; the program answers this many bytes of it as it
+# answers the whole.
 MOST_LINE_BYTES = 1101
-# What peers have not taken goes out for two seconds after `quit`; then the program is ended.
+# Replies that peers have not read yet are sent for two seconds after `quit`. Then the program is
+# ended.
 QUIT_SECONDS = 2.7
 BUSY_SECONDS = 20
 
 
 def notify(text):
-    """Tells systemd a state of the service, where it waits for one."""
+    """Reports a state of the service to systemd, where systemd waits for one."""
     path = os.environ.get("NOTIFY_SOCKET")
     if not path:
         return
@@ -35,7 +36,7 @@ def notify(text):
 
 
 class Watcher:
-    """What a service does at the lines of its console. Each method may be overridden."""
+    """What a service does for the lines of its console. Each method may be overridden."""
 
     def before(self, line):
         """A reply to give at once, so that the program does not get the line, or None."""
@@ -49,7 +50,7 @@ class Watcher:
 
 
 class Lines:
-    """Whole lines from a descriptor, with a bound on the length of each."""
+    """Whole lines from a descriptor, with a limit on the length of each."""
 
     def __init__(self, descriptor, most=None):
         self.descriptor, self.most, self.held, self.waiting = descriptor, most, b"", []
@@ -100,7 +101,7 @@ class Relay:
             os.unlink(fifo)
         with contextlib.suppress(FileNotFoundError):
             os.replace(replies, replies + ".last")
-        # what watched an earlier run is no subscriber of this one
+        # a watch of an earlier run is no subscriber of this one
         for name in os.listdir(self.at):
             if name.startswith("watch-") and name.endswith(".number"):
                 os.unlink(self._path(name))
@@ -116,7 +117,7 @@ class Relay:
 
     def start(self, words):
         """Starts the program. Returns once it serves, with None, or once it has ended, with its
-        status. The fault by which it refused a start is then in `fault`."""
+        status. The fault for which it refused a start is then in `fault`."""
         self.is_ready, self.fault, self.asked, self.reply = False, None, None, []
         try:
             self.child = subprocess.Popen(
@@ -136,7 +137,7 @@ class Relay:
         return self._loop(lambda: False)
 
     def close(self):
-        """Takes the console away, so that nobody waits for a reply of it."""
+        """Removes the console, so that nobody waits for a reply from it."""
         for name in ("console", "pid"):
             with contextlib.suppress(FileNotFoundError):
                 os.unlink(self._path(name))
@@ -201,7 +202,7 @@ class Relay:
             self.child.stdin.write(line)
 
     def _ask(self, line):
-        # the program takes one carriage return off, too
+        # the program removes one carriage return, too
         self.asked = line[:-1] if line.endswith("\r") else line
         reply = self.watcher.before(self.asked)
         if reply is None:

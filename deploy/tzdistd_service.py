@@ -1,4 +1,5 @@
-"""What the scripts of the service share: its settings, its folder of releases with their marks, the judgement of folders by the program, and the records of what happened.
+"""What the service's scripts share: its settings, its folder of releases with their marks, the
+program's judgement of folders, and the records of events.
 
 Python's standard library only.
 """
@@ -17,7 +18,7 @@ import time
 
 HERE = os.path.dirname(os.path.abspath(__file__))
 
-# As many folders as the program takes, and as many lines as the log of events keeps.
+# As many folders as the program accepts, and as many lines as the log of events keeps.
 MOST_FOLDERS = 64
 MOST_EVENTS = 1000
 MOST_PATH_BYTES = 1024
@@ -39,12 +40,12 @@ class Failed(Exception):
 
 
 def now_text(seconds=None):
-    """The text of a moment, of now if none is given."""
+    """The text of a time, of now if none is given."""
     return time.strftime("%Y-%m-%dT%H:%M:%SZ", time.gmtime(seconds))
 
 
 def plain(text):
-    """A text as one line that any stream takes, whatever a name of a file holds."""
+    """A text as one line that any stream accepts, whatever the name of a file contains."""
     return "".join(letter if letter.isprintable() else "?" for letter in text)
 
 
@@ -126,7 +127,7 @@ def give_to_owner(descriptor, model):
 
 
 def without_links(path, flags):
-    """An opener for files in folders of the service, where root is not to follow a link."""
+    """An opener for files in folders of the service, where root must not follow a link."""
     return os.open(path, flags | os.O_NOFOLLOW)
 
 
@@ -138,8 +139,8 @@ class Records:
         self.state, self.runtime = settings.state, settings.runtime
 
     def record(self, what, result, token="", reason="", folder=""):
-        """Keeps an event. A record that cannot be written is a warning, and nothing else fails for
-        it."""
+        """Keeps an event. A record that cannot be written is a warning, and nothing else fails
+        because of it."""
         seconds = int(time.time())
         line = f"{now_text(seconds)} what={what} result={result} token={token}"
         line += f" folder={folder}" if folder else ""
@@ -186,7 +187,7 @@ def manifest_of(folder):
 
 def odd_file(folder):
     """The first path in a folder that is neither a folder nor a regular file, or None. A link that
-    leads out of the folder is such a path."""
+    points outside the folder is such a path."""
     inside = os.path.realpath(folder) + os.sep
     for at, folders, names in os.walk(folder):
         folders.sort()
@@ -201,7 +202,7 @@ def odd_file(folder):
 
 
 def name_problem(path):
-    """Why the program or its console could not take a path, or None."""
+    """Why the program or its console could not accept a path, or None."""
     raw = os.fsencode(path)
     if len(raw) > MOST_PATH_BYTES:
         return f"its path has more than {MOST_PATH_BYTES} bytes"
@@ -214,7 +215,7 @@ def name_problem(path):
 
 class Releases:
     """The folder of releases. A file NAME.accepted next to the folder NAME marks a release that was
-    accepted or forced once: it is served again at each start, whatever the rules say."""
+    accepted or forced once. It is served again at each start, whatever the rules say."""
 
     def __init__(self, folder):
         self.folder = folder
@@ -280,7 +281,7 @@ class Releases:
         return self.path(found[-1]) if found else None
 
     def next_name(self, version):
-        """A name that sorts after all that are there, with the moment and the version of the
+        """A name that sorts after all that are there, with the time and the version of the
         release."""
         label = re.sub(r"[^A-Za-z0-9._-]", "_", version) or "unnamed"
         made = datetime.datetime.now(datetime.timezone.utc)
@@ -299,7 +300,7 @@ class Releases:
 
 
 class Judge:
-    """Lets the program judge folders, without a listener that anybody knows of."""
+    """Lets the program judge folders, without a listener at a known address."""
 
     def __init__(self, program, rules):
         self.program, self.rules = program, rules
@@ -322,7 +323,7 @@ class Judge:
         return done.returncode, lines
 
     def check_rules(self):
-        """Fails where the words of RULES are none of the program."""
+        """Fails where the program does not accept the arguments in RULES."""
         if self.rules and self.run("serve", "127.0.0.1:0", "1", *self.rules, "/nonexistent")[0] == 1:
             raise Failed(f"RULES={' '.join(self.rules)} is not understood: see COMMANDS in tzdistd(8)")
 
@@ -335,7 +336,7 @@ class Judge:
         good = sum(line.startswith("ok ") for line in lines)
         refused = [line[len("refused ") :] for line in lines if line.startswith("refused ")]
         if status == 3:
-            # the lines before a failed read may not have been printed, so each folder is looked at
+            # the lines before a failed read may not have been printed, so each folder is checked
             good = next((k for k, folder in enumerate(folders) if unreadable(folder)), good)
         return min(good, len(folders) - 1), refused[0] if refused else "9 ReadFault"
 
@@ -400,7 +401,7 @@ def zone_name(folder, number):
 
 
 def explained(fault, folder, rules=()):
-    """A fault with the zone, the file or the rule that it means in brackets behind it."""
+    """A fault, followed in brackets by the zone, the file or the rule that it means."""
     words = fault.split()
     meaning = None
     found = re.search(r"zones\[(\d+)\]", fault)
@@ -427,7 +428,7 @@ def version():
 
 def usage(script, text):
     """Prints a text at --help, or the version at --version, and ends the script, which takes no
-    other words."""
+    other arguments."""
     if sys.argv[1:] in (["--help"], ["-h"]):
         print(text.strip())
         sys.exit(0)

@@ -1,9 +1,9 @@
-"""A port of this machine that leads the requests of a mirror to another server, and the server of
+"""A port of this machine that passes the requests of a mirror to another server, and the server of
 its last copy.
 
 A mirror has one upstream for its whole run. So where it starts from its last copy, its upstream is
-this port. That leads to the server of the copy first, and to the real upstream from then on.
-Python's standard library only.
+this port. It passes requests to the server of the copy first, and to the real upstream from then
+on. Python's standard library only.
 """
 
 import contextlib
@@ -20,9 +20,9 @@ from tzdistd_service import Failed, Settings
 
 LOOPBACK = "127.0.0.1"
 MOST_HEAD_BYTES = 16_384
-# As many requests at once, of which a mirror makes one.
+# The most requests at once. A mirror makes one.
 MOST_REQUESTS = 8
-# Seconds of silence, after which the mirror itself gives up, too.
+# Seconds without a byte, after which the mirror itself gives up, too.
 SILENCE = 12
 # How long a slow machine may take to check and serve a copy.
 READY_SECONDS = 600
@@ -49,7 +49,7 @@ def answers(address):
 
 
 class Passage:
-    """The port. Each request that comes there goes on to `to`, with that in its Host field."""
+    """The port. Each request that comes there is passed on to `to`, with that in its Host field."""
 
     def __init__(self, to):
         self.to, self.free = to, threading.Semaphore(MOST_REQUESTS)
@@ -58,11 +58,11 @@ class Passage:
         threading.Thread(target=self._accept, daemon=True).start()
 
     def lead(self, to):
-        """Leads later requests to another address."""
+        """Passes later requests to another address."""
         self.to = to
 
     def close(self):
-        # an accept that waits would keep the port
+        # a waiting accept would keep the port
         with contextlib.suppress(OSError):
             self.listener.shutdown(socket.SHUT_RDWR)
         self.listener.close()

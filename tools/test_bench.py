@@ -1,6 +1,7 @@
 #!/usr/bin/env python3
-"""Tests of the parts of bench/ that measure nothing: the model of a fleet, the made zone files, the plots,
-the page and its marks, and the words of the scripts. The C program of the limit is built if there is `cc`.
+"""Tests of the parts of bench/ that measure nothing. They are the model of a fleet, the made zone
+files, the plots, the page and its marks, and the arguments of the scripts. The C program of the
+limit is built if `cc` is installed.
 
     tools/test_bench.py
 
@@ -85,7 +86,7 @@ def delays_are_those_of_the_simulation():
 
 
 def delays_have_their_closed_forms():
-    # devices that ask at any moment of the period get a change after a uniform time
+    # devices that send requests at any moment of the period get a change after a uniform time
     for part in (0.5, 0.99):
         near("a whole spread", fleet.delay(part, 3600, 3600, 0), 3600 * math.sqrt(1) * delay_of_uniform(part), 0.03)
     holds("a sync takes no time", fleet.delay(0.5, 3600, 1800, 3840) > fleet.delay(0.5, 3600, 1800, 0))
@@ -95,8 +96,10 @@ def delays_have_their_closed_forms():
 
 
 def delay_of_uniform(part):
-    """Of periods of 1 in which each device draws its moment anew: the time after which so many have asked."""
-    # the change is at c: who asks later in this period waits a - c, and the others 1 - c + b
+    """The time after which this part of the devices has sent a request. Periods have the length 1,
+    and each device draws its moment anew in each period."""
+    # the change is at c: a device that requests later in this period waits a - c, the others
+    # 1 - c + b
     def lacks(wait):
         steps, total = 2000, 0.0
         for at in range(steps):
@@ -138,7 +141,8 @@ def answers_grow_with_the_fleet():
     same("answers", len(found), 4)
     small, large = found[2:]
     holds("a larger fleet needs no more caches", large.caches > small.caches)
-    # 10^9 devices within half an hour are 555,556 a second, and the busiest second has four deviations more
+    # 10^9 devices within half an hour are 555,556 a second, and the busiest second has four
+    # standard deviations more
     holds(f"{large.most_asks} in the busiest second", 555_556 < large.most_asks < 555_556 + 6 * 746)
     holds("a usual period costs more than one with a change", large.usual_server.processors < large.server.processors)
     same("costs of a report", fleet.Costs.of({"fleet": {"costs": {"server_new": 1, "other": 2}}}).server_new, 1)
@@ -184,7 +188,7 @@ def bends_are_found():
 
 
 def figures_of(worst=1.0):
-    """Figures of all parts, in which each request costs so many times the limit's."""
+    """Figures of all parts. A request of tzdistd costs `worst` times as much as the limit's."""
     rows = []
     for connections in (1, 2, 16, 64):
         for name in REQUESTS:
@@ -322,7 +326,7 @@ def the_page_is_made_of_its_figures():
 
 
 def refused(script, *words):
-    """What a script says on standard error as it refuses its words."""
+    """What a script prints on standard error when it refuses its arguments."""
     errors = io.StringIO()
     with contextlib.redirect_stderr(errors):
         try:

@@ -1,11 +1,12 @@
 #!/usr/bin/env python3
-"""Tries `tzdistd calmirror` as it is built, over the loopback, beside servers of real zones.
+"""Tests the built `tzdistd calmirror` over the loopback, with servers of real zones.
 
     tools/test_calmirror.py [PROGRAM]
 
-What it prints of each zone is compared with what the server itself answers of the same range. It needs Python's
-standard library alone, and does not try the zones of a system that has no text of them. The status is 0 where all
-is well, and 1 where a check failed. What comes of bad calendars is tried by test_mirror.py.
+What it prints for each zone is compared with what the server itself answers for the same range. It
+needs Python's standard library only, and does not test the zones of a system that has no text of
+them. The status is 0 where all is well, and 1 where a check failed. What follows from bad calendars
+is tested by test_mirror.py.
 """
 
 import json
@@ -22,9 +23,9 @@ from test_mirror import zones_at
 
 HERE = os.path.dirname(os.path.abspath(__file__))
 TREE = "/usr/share/zoneinfo"
-# After how many seconds all is given up.
+# Seconds after which the whole run is given up.
 WHOLE = 900
-# How long a run over all zones may take on a busy machine.
+# Seconds that a run over all zones may take on a busy machine.
 ALL_ZONES = 300
 
 NEW_YORK = """zone America/New_York
@@ -36,7 +37,7 @@ zone Etc/UTC
 """
 
 def printed(program, port, start, end):
-    """What a run prints that ends well: the rows of each zone, by its name, in their order."""
+    """What a successful run prints, and its rows of each zone, by the zone's name, in order."""
     status, output, errors = ran(program, "calmirror", address_of(port), start, end, timeout=ALL_ZONES)
     same("status and standard error", (status, errors), (0, b""))
     zones = {}
@@ -50,14 +51,14 @@ def printed(program, port, start, end):
 
 
 def expanded(client, tzid, start, end):
-    """The same rows, without the kind of time, as the server itself answers them."""
+    """The same rows, without the kind of time, as the server itself returns them."""
     target = f"{ZONES}/{quote(tzid, safe='')}/observances?start={start}&end={end}"
     told = json.loads(client.ask(target, timeout=LONG).body)["observances"]
     return [(o["onset"], str(o["utc-offset-from"]), str(o["utc-offset-to"]), o["name"] or "-") for o in told]
 
 
 def compare(program, server, start, end):
-    """Fails where a run does not print what the server answers of each of its zones."""
+    """Fails where a run does not print what the server answers for each of its zones."""
     zones = printed(program, server.port, start, end)[1]
     same("the zones", list(zones), sorted(zones_at(server.port)))
     rows = 0
@@ -73,7 +74,7 @@ def compare(program, server, start, end):
 
 
 def small_releases(program):
-    """The zones of a small release, through an install, and of ranges at both ends of time."""
+    """The zones of a small release, before and after an install, in ranges at both ends of time."""
     with Served(["data/a"], program=program) as server:
         compare(program, server, "2025-01-01T00:00:00Z", "2026-01-01T00:00:00Z")
         server.say("install data/b")
@@ -84,7 +85,8 @@ def small_releases(program):
 
 
 def all_zones(program):
-    """The zones of this system, where it has them as text, in ranges before, about and after their transitions."""
+    """The zones of this system, where it has them as text, in ranges before, about and after their
+    transitions."""
     if not os.path.exists(f"{TREE}/tzdata.zi"):
         return
     with tempfile.TemporaryDirectory() as room:

@@ -1,5 +1,5 @@
 #!/usr/bin/env python3
-"""Tests of check_documents.py: each kind of fault is found in a small repository, and nothing else is.
+"""Tests of check_documents.py: it finds each kind of fault in a small repository, and nothing else.
 
     tools/test_check_documents.py
 """
@@ -91,7 +91,7 @@ said one
 ```
 """
 
-# What is put in the place of what, and what the fault then says.
+# A text, what replaces it, and what the fault then says.
 FAULTS = (
     ("`base::Names`", "`base::Nothing`", "nothing declares base::Nothing"),
     ("`Names::find_one`, `Other", "`Names::find_two`, `Other", "nothing declares Names::find_two"),

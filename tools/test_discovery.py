@@ -1,12 +1,12 @@
 #!/usr/bin/env python3
-"""Tests of discovery.py, of dns_records.py, and of the option --domain of both clients, over a
-real dnsmasq.
+"""Tests of discovery.py, of dns_records.py, and of the option --domain of both clients, with a real
+dnsmasq.
 
     tools/test_discovery.py
 
 What needs dnsmasq, dnspython, dig or curl is skipped where they are missing, and the output says
-so. The interpreter with dnspython is this one or /usr/bin/python3. Needs Python's standard
-library otherwise.
+so. The interpreter with dnspython is this one or /usr/bin/python3. Otherwise Python's standard
+library is needed.
 """
 
 import contextlib
@@ -33,7 +33,7 @@ from test_fetch_zoneinfo import FIRST, SECOND, Fake
 TOOLS = Path(__file__).resolve().parent
 DOMAIN = "zones.test"
 LONG = 120
-# After how many seconds all is given up.
+# Seconds after which the whole run is given up.
 WHOLE = 600
 # The tests that take longest, which start first.
 SLOW = "another_server_of_the_domain", "no_dns", "test_weights", "next_server"
@@ -72,7 +72,7 @@ class Order(unittest.TestCase):
         self.assertEqual(in_order([A, B, LATER], lambda record: record is B), [B, A, LATER])
 
     def test_weights(self):
-        """Running sums, weights of 0 first; the first sum that is not below the number counts."""
+        """Running sums, weights of 0 first; the first sum that is not below the number is taken."""
         for number, wanted in ((0, C), (1, A), (2, B), (4, B)):
             numbers = iter([number, 0, 0])
             self.assertEqual(in_order([A, B, C], choose=lambda low, high: next(numbers))[0], wanted)
@@ -152,7 +152,7 @@ class Records(unittest.TestCase):
 
 
 class Dnsmasq:
-    """A dnsmasq at a free port of the loopback, with lines of configuration."""
+    """A dnsmasq at a free port of the loopback, with these lines of configuration."""
 
     def __init__(self, room, lines):
         program = shutil.which("dnsmasq", path=os.environ["PATH"] + ":/usr/sbin:/sbin")
@@ -172,7 +172,7 @@ class Dnsmasq:
         self.address = f"127.0.0.1:{self.port}"
 
     def listens(self):
-        """Whether it listens at its port within a while."""
+        """Whether it listens at its port in time."""
         for _ in range(500):
             time.sleep(0.02)
             if self.child.poll() is not None:
@@ -207,7 +207,7 @@ class Found(cases.Room):
         return served
 
     def clients(self):
-        """The words of each client that can run here."""
+        """The command of each client that can run here."""
         python = interpreter()
         if python:
             yield "Python", [python, str(TOOLS / "fetch_zoneinfo.py")]
@@ -251,7 +251,7 @@ class Found(cases.Room):
             self.assertFalse(self.dir.exists())
 
     def test_the_well_known_address(self):
-        """Without a path in the DNS the server's well-known address says it."""
+        """Without a path in the DNS, the server's well-known address gives it."""
         text = f"txt-record=_timezone._tcp.{DOMAIN},v=1"
         served = self.dns((self.up, "0,1"), path="", lines=[text])
         for run in self.each():
@@ -259,7 +259,8 @@ class Found(cases.Room):
             self.assertEqual(self.fake.asked[:2], ["/.well-known/timezone", "/at/tzdist/zones"])
 
     def test_another_server_of_the_domain(self):
-        """It costs the list, and no file whose tag is the same. The server in use comes first."""
+        """A change of servers costs the list, and no file whose tag is the same. The server in use
+        comes first."""
         other = Fake(FIRST, SECOND)
         self.addCleanup(other.close)
         both = self.dns((self.up, "0,1"), (other.server.server_port, "0,9"))
@@ -316,7 +317,7 @@ class Found(cases.Room):
                 self.assertEqual(list(dict.fromkeys(tried)), [str(other), str(self.down)])
 
     def tools(self, *more):
-        """A folder of what the script needs, and of these programs."""
+        """A folder with what the script needs, and with these programs."""
         folder = Path(tempfile.mkdtemp(dir=self.box))
         needed = "curl sh awk cat cmp cp cut find flock grep ln ls mkdir mv od readlink rm sed"
         needed += " sha256sum sort sync tail touch tr wc xargs"

@@ -1,9 +1,11 @@
 #!/usr/bin/env python3
-"""Tests of fetch_zoneinfo.py against a server made here, which lies in each way, and against the built program.
+"""Tests of fetch_zoneinfo.py with a server made here, which gives false replies of each kind, and
+with the built program.
 
     tools/test_fetch_zoneinfo.py [PROGRAM] [unittest's words]
 
-Where a PROGRAM is given, a release of it is fetched from end to end as well. Needs Python's standard library alone.
+Where a PROGRAM is given, a release of it is fetched from end to end as well. Needs Python's
+standard library only.
 """
 
 import contextlib
@@ -38,7 +40,7 @@ SYSTEM = Path("/usr/share/zoneinfo")
 
 
 def zone_file(footer, types=((3600, 0, b"AAA"),), times=(), **odd):
-    """A TZif file with these types, transitions to them and footer, and with what is odd about it."""
+    """A TZif file with these types, transitions to them and footer, and with what `odd` changes."""
     names = b"".join(name + b"\0" for _, _, name in types)
     block = b"".join(struct.pack(">q", at) for at, _ in times) + bytes(number for _, number in times)
     begin = 0
@@ -58,7 +60,7 @@ def zone_file(footer, types=((3600, 0, b"AAA"),), times=(), **odd):
     return first + second + block + odd.get("end", b"\n" + footer + b"\n")
 
 
-# Changes of March and October 2007, after which the footer says what comes.
+# Changes in March and October 2007. The footer has those after them.
 CHANGES = ((1_174_784_400, 1), (1_193_533_200, 0))
 TYPES = ((3600, 0, b"AAA"), (7200, 1, b"BBB"))
 STEADY = zone_file(b"AAA-1", TYPES, CHANGES)
@@ -71,7 +73,7 @@ SECOND = {**FIRST, "Test/Deep/Zone": (["Test/Old"], RULED)}
 
 
 def tree_wanted(zones):
-    """What a tree of zones holds: bytes of files, and where links lead."""
+    """What a tree of zones contains: the bytes of files, and the targets of links."""
     files = {}
     for tzid, (aliases, data) in zones.items():
         files[tzid] = data
@@ -81,7 +83,7 @@ def tree_wanted(zones):
 
 
 def tree_of(folder):
-    """What a tree holds, the same way."""
+    """What a tree contains, in the same form."""
     files = {}
     for at, folders, names in os.walk(folder):
         for name in names + [name for name in folders if os.path.islink(os.path.join(at, name))]:
@@ -92,7 +94,7 @@ def tree_of(folder):
 
 
 def quiet(*_):
-    """Instead of lines and tracebacks of the server on standard error."""
+    """Replaces lines and tracebacks of the server on standard error."""
 
 
 def etag_of(zones, tzid):
@@ -110,7 +112,8 @@ class Handler(http.server.BaseHTTPRequestHandler):
 
 
 class Fake:
-    """A server of zones over a list of releases, which answers as it should but where a lie stands for a target."""
+    """A server of zones with a list of releases. It answers as it should, unless `lies` has a false
+    reply for the target."""
 
     def __init__(self, *releases, certificate=None):
         self.releases, self.lies, self.asked, self.stale = list(releases), {}, [], {}
@@ -136,7 +139,8 @@ class Fake:
         return f"at {len(self.releases)}"
 
     def list(self, since):
-        """The document of all zones, or of those that changed since a release, or are not as they were in it."""
+        """The document of all zones, of those that changed since a release, or of those that differ
+        from it."""
         zones = self.releases[-1]
         entries = []
         for tzid, (aliases, _) in zones.items():
@@ -181,7 +185,7 @@ class Fake:
 
 
 def send(handler, status, body, length=None, **fields):
-    """A reply, whose told length may be another than that of its body, and which ends the connection then."""
+    """A reply. With a length, which may be wrong for the body, the connection ends after it."""
     lines = [f"HTTP/1.1 {status} x", *(f"{name.replace('_', '-')}: {value}" for name, value in fields.items())]
     told = length or [] if body is None else length or [len(body)]
     lines += [f"Content-Length: {value}" for value in told]
@@ -190,12 +194,12 @@ def send(handler, status, body, length=None, **fields):
 
 
 def said(status, body, *length, **fields):
-    """A lie that says this."""
+    """A false reply with this content."""
     return lambda handler: send(handler, status, body, length or None, **fields)
 
 
 def cut(text):
-    """A lie that writes so much, and then ends the connection."""
+    """A false reply that sends this text, and then ends the connection."""
 
     def lie(handler):
         handler.wfile.write(text)
@@ -205,13 +209,13 @@ def cut(text):
 
 
 def in_pieces(body):
-    """A lie of a body in pieces, which come to their end."""
+    """A false reply with a chunked body, which is complete."""
     head = b"HTTP/1.1 200 x\r\nTransfer-Encoding: chunked\r\n\r\n"
     return cut(head + f"{len(body):x}\r\n".encode() + body + b"\r\n0\r\n\r\n")
 
 
 def dripping(handler):
-    """A lie that never comes to its end."""
+    """A false reply that never ends."""
     with contextlib.suppress(OSError):
         handler.wfile.write(b"HTTP/1.1 200 x\r\nContent-Length: 100000\r\n\r\n")
         for _ in range(200):
@@ -221,7 +225,7 @@ def dripping(handler):
 
 
 def listed(*entries, token="t"):
-    """A lie of a list of these names, each with its aliases."""
+    """A false reply with a list of these names, each with its aliases."""
     zones = [{"tzid": tzid, "etag": "e", "aliases": list(aliases)} for tzid, *aliases in entries]
     return said(200, json.dumps({"synctoken": token, "timezones": zones}).encode())
 
@@ -278,7 +282,7 @@ BAD_FILES = {
     "one byte less inside": RULED[:60] + RULED[61:],
 }
 
-# Lists whose fault is that they are none, and others with what is said of them.
+# Replies that are no list, and bad lists by what is said of them.
 NO_LISTS = {
     "no JSON": said(200, b"hello"),
     "half of it": said(200, b'{"synctoken":"t","timezones":[{"tzid":"A"'),
@@ -309,18 +313,18 @@ BAD_LISTS = {
 BAD_NAMES = ["", ".", "..", "../out", "A/../../out", "A/..", "./A", "/out", "//out", "A//B", "A/", "A" * 65]
 BAD_NAMES += ["A B", "A\\..\\B", "A\0B", "A\nB", "Ä", "~root", "A:B", "%2e%2e/out"]
 
-# The calls that change what is on the disk, or wait for it.
+# The calls that change what is on the disk, or wait for the disk.
 CALLS = ["mkdir", "symlink", "replace", "rename", "link", "unlink", "rmdir", "fsync"]
 
 
 class Room(unittest.TestCase):
-    """A folder for trees, and the client that brings them there."""
+    """A folder for trees, and the client that fetches them into it."""
 
-    # The name of the state beside a tree.
+    # The name of the state file beside a tree.
     STATE = "state.json"
 
     def bring(self, url, seconds=None, **wishes):
-        """A run of the client, each of whose exchanges takes so many seconds at most."""
+        """A run of the client, in which each exchange takes at most this many seconds."""
         with mock.patch.object(fetch_zoneinfo, "EXCHANGE", seconds or fetch_zoneinfo.EXCHANGE):
             return fetch(url, str(self.dir), Wishes(**wishes))
 
@@ -333,12 +337,12 @@ class Room(unittest.TestCase):
         self.dir = self.home / "zi"
 
     def holds(self, zones, where=None):
-        """DIR holds these zones, and nothing lies about."""
+        """DIR contains these zones, and no other files are left."""
         self.assertEqual(tree_of(where or self.dir), tree_wanted(zones))
         self.assert_tidy()
 
     def assert_tidy(self):
-        """There are DIR, its tree, the tree before and their lock, and nothing else in the room."""
+        """DIR, its tree, the tree before it and their lock are in the folder, and nothing else."""
         self.assertLessEqual({path.name for path in self.root.iterdir()}, {"home", "base"})
         names = {path.name for path in self.home.iterdir()}
         self.assertLessEqual(names, {"zi", "zi.trees"})
@@ -350,7 +354,7 @@ class Room(unittest.TestCase):
 
 
 class Faked(Room):
-    """A server that may lie, beside it."""
+    """Such a folder, and a server that may give false replies."""
 
     def setUp(self):
         super().setUp()
@@ -358,15 +362,15 @@ class Faked(Room):
         self.addCleanup(self.fake.close)
 
     def fetch(self, seconds=None):
-        """The line of a run, and what it asked for."""
+        """The line that a run prints, and what it requested."""
         self.fake.asked = []
         line = self.bring(self.fake.url, seconds)
-        # a client that follows redirects by itself asks for the context path, too
+        # a client that follows redirects by itself requests the context path, too
         asked = [target for target in self.fake.asked[1:] if target != "/at/tzdist"]
         return line, [target.removeprefix("/at/tzdist") for target in asked]
 
     def refused(self, part=""):
-        """A run fails, and DIR stays what it was."""
+        """A run fails, and DIR stays as it was."""
         link = os.readlink(self.dir) if self.dir.is_symlink() else None
         held, state = tree_of(self.dir), self.state()
         with self.assertRaises(Failed) as seen:
@@ -378,12 +382,13 @@ class Faked(Room):
         self.assert_tidy()
 
     def begin_anew(self):
-        """Nothing is there, as before the first run."""
+        """Removes everything, so that it is as before the first run."""
         shutil.rmtree(self.home)
         self.home.mkdir()
 
     def settles(self, token, zones, first=None):
-        """A run, and one more where it got the first release, end at this token with these zones; then nothing is there."""
+        """A run ends at this token with these zones. Where it got the first release, that takes one
+        more run. Then everything is removed."""
         self.fetch()
         if self.state()["token"] == "at 1":
             if first is not None:
@@ -400,7 +405,7 @@ class Faked(Room):
         return json.loads(self.state_path().read_text()) if self.state_path().is_file() else None
 
     def lied(self, lies, target, part="", first=True):
-        """Each lie is refused, without a tree and beside one, and then all is well again."""
+        """Each false reply is refused, without a tree and beside one, and then a run succeeds."""
         for what, lie in lies.items():
             with self.subTest(what):
                 self.begin_anew()
@@ -415,7 +420,7 @@ class Faked(Room):
                 self.holds(SECOND)
 
     def refused_with(self, lies, part):
-        """A run fails by lies. Where they are of lists, there is a file for any name."""
+        """A run fails because of false replies. If they are lists, there is a file for any name."""
         self.fake.lies, self.fake.any_name = lies, part != ""
         self.refused(part)
         self.fake.lies, self.fake.any_name = {}, False
@@ -486,7 +491,7 @@ class Fetching(Faked):
             if count == 1:
                 self.fake.known = 2
             elif count == 4:
-                # this list leaves names out, which no list of changes tells
+                # this list leaves names out, which no list of changes shows
                 self.fake.known = 5
             self.fetch()
             self.holds(zones)
@@ -530,7 +535,7 @@ class Fetching(Faked):
                 self.holds(FIRST)
 
     def test_a_tag_is_asked_with(self):
-        """A list that has another tag for the same file costs no file."""
+        """Where a list has another tag for the same file, the file is not sent."""
         self.fetch()
         text = self.state_path().read_text()
         changed = text.replace(etag_of(FIRST, "Plain"), "older", 1).replace("at 1", "at 9")
@@ -540,7 +545,7 @@ class Fetching(Faked):
         self.holds(FIRST)
 
     def test_an_old_answer_on_the_way(self):
-        """A file that something on the way has kept is not taken for the listed one."""
+        """A file that a cache on the way has kept is not taken for the listed one."""
         self.fetch()
         self.fake.releases.append(SECOND)
         old = '"{}.t"'.format(etag_of(FIRST, "Test/Deep/Zone"))
@@ -556,7 +561,7 @@ class Fetching(Faked):
             self.fake.releases.append(SECOND)
 
     def test_tags_that_tell_nothing(self):
-        """Of a server with such tags, or none, a list of changes without any confirms what was fetched."""
+        """If a server has such tags or none, a list without changes confirms what was fetched."""
         for form in ('"{}-x"', ""):
             self.fake.form = form
             self.fake.releases = [FIRST]
@@ -583,7 +588,8 @@ class Fetching(Faked):
                     self.settles("at 2", SECOND, first=FIRST)
 
     def test_a_release_that_comes_and_goes(self):
-        """The file of a release that was taken back is not kept for that of the release before and after it."""
+        """The file of a release that was taken back is not kept for the release before and after
+        it."""
         for form, between in ((form, between) for form in ('"{}.t"', '"{}-x"', "") for between in (True, False)):
             with self.subTest(form=form, between=between):
                 self.fake.form, self.fake.releases, self.fake.between = form, [FIRST], between
@@ -678,7 +684,7 @@ class Fetching(Faked):
         for call in ("link", "symlink", "replace", "fsync"):
             with self.subTest(call), mock.patch.object(os, call, side_effect=OSError(28, "No space left")):
                 if call == "link":
-                    # where a file can't be the same, it is written anew
+                    # where a file cannot be linked, it is written anew
                     self.fetch()
                     self.holds(SECOND)
                     self.fake.releases.append(FIRST)
@@ -689,7 +695,8 @@ class Fetching(Faked):
 
 
 def certified(folder):
-    """The certificate of an authority, and a file of a certificate of localhost by it with its key."""
+    """The certificate of an authority, and a file with a certificate for localhost, which that
+    authority signed, and its key."""
     if shutil.which("openssl") is None:
         raise unittest.SkipTest("openssl: not installed")
     authority, key, request, extension, server = (
@@ -709,7 +716,7 @@ def certified(folder):
 
 
 class Secure(Room):
-    """A server of HTTPS, whose certificate is by an authority that no system trusts."""
+    """An HTTPS server whose certificate is from an authority that no system trusts."""
 
     @classmethod
     def setUpClass(cls):
@@ -751,7 +758,7 @@ class Secure(Room):
 
 
 def with_fields(send, body, fields):
-    """`send`, which adds fields to the replies with this body."""
+    """`send`, but the replies with this body have these fields."""
     return lambda handler, status, data, *rest, **more: send(
         handler, status, data, *rest, **(fields if data == body else more)
     )
@@ -760,13 +767,13 @@ def with_fields(send, body, fields):
 class Killed(Faked):
     """A run that is killed before any of its calls leaves the old tree or the new one, whole."""
 
-    # the steps: the first, and how many from one to the next
+    # the first step, and how many steps from one to the next
     BEGIN, STRIDE = 1, 1
-    # there are more of them than these before a run changes over, and after
+    # a run has more steps than these before it changes to the new tree, and after that
     FEW = 20, 5
 
     def kill(self, step):
-        """A run that is killed before its call of this number, counted from 1; whether it was."""
+        """A run that is killed before its call of this number, from 1. Returns whether it was."""
         child = os.fork()
         if child == 0:
             try:
@@ -794,14 +801,15 @@ class Killed(Faked):
         fetch_zoneinfo.open = counted(open)
 
     def state_of_home(self):
-        """All that lies there: what a reader sees of it, and each folder."""
+        """All that is there: what a reader sees of it, and each folder."""
         folders = frozenset(at for at, _, _ in os.walk(self.home))
         return folders, frozenset(tree_of(self.home).items())
 
     def each_step(self, begin, wanted):
-        """From a state of the room, each step; at how many DIR was the old tree, and the new one.
+        """Tries each step from a state of the folder. Returns at how many steps DIR was the old
+        tree, and at how many the new one.
 
-        What a step left is mended by a whole run, once for all steps that left the same.
+        A whole run repairs what a step left, once for all steps that left the same.
         """
         old = new = 0
         mended = set()
@@ -863,7 +871,7 @@ class Words(Faked):
         self.assertEqual(done.returncode, 2)
 
     def test_every(self):
-        """It stays over a failure, and takes what comes."""
+        """It continues after a failure, and fetches what comes later."""
         with self.run_script(self.fake.url, str(self.dir), "--every", "1") as child:
             try:
                 self.assertIn("at 1, 3 zones", child.stdout.readline())
@@ -879,7 +887,7 @@ class Words(Faked):
 
 
 def some_of(source, zones):
-    """The lines of a `tzdata.zi` with these zones and the links to them; all where none are given."""
+    """The lines of a `tzdata.zi` with these zones and the links to them; all if none are given."""
     words = [line.split() for line in source.splitlines() if line[:1] in ("Z", "L")]
     if not zones:
         return source
@@ -888,13 +896,13 @@ def some_of(source, zones):
 
 
 class ServedAndFetched(Room):
-    """From a tree of zone files over a release and the built program to a tree of a device."""
+    """From a tree of zone files, by a release and the built program, to a tree of a device."""
 
-    # the zones of the system that are served; all where there are none
+    # the zones of the system that are served, or all if there are none
     SOME = ()
 
     def command(self, url):
-        """The words that start the client, and its environment."""
+        """The command that starts the client, and its environment."""
         script = str(Path(__file__).with_name("fetch_zoneinfo.py"))
         return [sys.executable, script, url, str(self.dir)], None
 
@@ -924,7 +932,7 @@ class ServedAndFetched(Room):
         return str(folder)
 
     def assert_tidy(self):
-        """The room holds more here."""
+        """The folder contains more here."""
 
     def as_released(self, folder):
         """DIR has the file of each name of the release, and no other file."""
@@ -938,7 +946,8 @@ class ServedAndFetched(Room):
                 self.assertEqual((self.dir / name).read_bytes(), found.read_bytes(), name)
 
     def test_killed_at_any_time(self):
-        """The script is killed a little later each time, until that comes too late: the old tree stands, or the new one."""
+        """The script is killed a little later each time, until that is too late. DIR is the old
+        tree or the new one."""
         first, second = self.release(STEADY, "2025-06-01"), self.release(RULED, "2025-06-02")
         device, base = self.home / "device", self.root / "base"
         device.mkdir()
@@ -948,7 +957,7 @@ class ServedAndFetched(Room):
             begin = time.monotonic()
             subprocess.run(words, env=environment, check=True, capture_output=True)
             step = (time.monotonic() - begin) / 8
-            # without its state a run asks for all zones, as the first one did
+            # without its state a run requests all zones, as the first one did
             (Path(os.path.realpath(self.dir)).parent / self.STATE).unlink()
             shutil.copytree(device, base, symlinks=True)
             server.say(f"install {second}")
@@ -967,7 +976,7 @@ class ServedAndFetched(Room):
             self.assertEqual(server.quit(), 0)
 
     def date(self, name):
-        """Local time at the beginning of July 2025, as the system's own program tells it."""
+        """Local time at the beginning of July 2025, as the system's own program prints it."""
         environment = {**os.environ, "TZDIR": str(self.dir), "TZ": name, "LC_ALL": "C"}
         words = ["date", "-d", "@1751371200", "+%F %T %Z %z"]
         return subprocess.run(words, env=environment, check=True, capture_output=True, text=True).stdout.strip()
@@ -1003,7 +1012,7 @@ def main():
         PROGRAM = os.path.abspath(words.pop(1))
         if not os.path.exists(PROGRAM):
             sys.exit(f"{PROGRAM} is not built: README says how")
-    # what waits for ever ends the tests
+    # tests that wait for ever are ended
     faulthandler.dump_traceback_later(WHOLE, exit=True)
     unittest.main(argv=words)
 

@@ -1,5 +1,5 @@
 #!/usr/bin/env python3
-"""Tests of function_times.py over names and moments that stand here. Needs Python's standard library alone."""
+"""Tests of function_times.py with given names and times. Needs Python's standard library only."""
 
 import os
 import subprocess

@@ -1,5 +1,5 @@
 #!/usr/bin/env python3
-"""Tests of gate_times.py over folders like /proc that are made here. Needs Python's standard library alone."""
+"""Tests of gate_times.py with made folders like /proc. Needs Python's standard library only."""
 
 import subprocess
 import sys
@@ -23,7 +23,8 @@ class Watching(unittest.TestCase):
         self.proc = Path(folder.name)
 
     def begin(self, pid, parent, words, cwd="/work/crates/low", seconds=0.0, name="rattle", began=7):
-        """A process; its own time in user mode, and as much of children that have ended."""
+        """A process. Half of its seconds is its own time in user mode, half that of children that
+        have ended."""
         folder = self.proc / str(pid)
         folder.mkdir(exist_ok=True)
         ticks = int(seconds * gate_times.TICKS / 2)

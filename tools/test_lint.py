@@ -1,5 +1,5 @@
 #!/usr/bin/env python3
-"""Tests of lint.py: each linter of this machine complains of a planted fault, and not before.
+"""Tests of lint.py: each linter of this machine reports a fault that is put in, and none before.
 
     tools/test_lint.py
 """
@@ -11,7 +11,7 @@ from pathlib import Path
 
 import lint
 
-# What is planted for each linter: the file, what stands in it, and what is put in its place.
+# The fault for each linter: the file, a text in it, and what replaces that text.
 PLANTS = {
     "shellcheck": ("deploy/tzdistd-console", "\n", '\ncd $1 && rm -r "$NOTHING"/* $*\n'),
     "pyflakes": ("tools/formats.py", "import re\n", "import re\nimport socket\n"),
@@ -22,7 +22,7 @@ PLANTS = {
 
 
 def copy_of(room):
-    """The scripts, units, sites and pages in another place, which lint.py then takes."""
+    """A copy of the scripts, units, sites and pages, which lint.py then checks."""
     top = Path(room).resolve() / "top"
     for folder in ("deploy", "tools"):
         shutil.copytree(lint.TOP / folder, top / folder, symlinks=True)

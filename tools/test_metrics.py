@@ -1,5 +1,5 @@
 #!/usr/bin/env python3
-"""Tries deploy/tzdistd-metrics over a server that is made here, and over the built program.
+"""Tests deploy/tzdistd-metrics with a server that is made here, and with the built program.
 
     tools/test_metrics.py [PROGRAM]
 
@@ -24,7 +24,7 @@ from checks import LONG, Answering, holds, release, run_checks, same
 from served import HOST, Client, Served
 
 SCRIPT = os.path.join(DEPLOY, "tzdistd-metrics")
-# After how many seconds all is given up.
+# Seconds after which the whole run is given up.
 WHOLE = 900
 
 # The text format: a comment, or a name, labels and a number.
@@ -39,14 +39,14 @@ STAMP, EXPIRY = 1742601600, 1782604800
 
 
 def ran(*words):
-    """Status, output and complaints of the script."""
+    """Status, standard output and standard error of the script."""
     done = subprocess.run([sys.executable, SCRIPT, *words], capture_output=True, text=True, timeout=LONG)
     return done.returncode, done.stdout, done.stderr
 
 
 def samples(text):
-    """The samples of a text, each line of which must be of the format, and each metric in one
-    group with its type."""
+    """The samples of a text. Each line must be of the format, and each metric must be in one group
+    with its type."""
     found, typed = {}, []
     for line in text.splitlines():
         if line.startswith("#"):
@@ -62,7 +62,7 @@ def samples(text):
 
 
 def fake(**answers):
-    """A server of answers by the last part of a target."""
+    """A server whose answers depend on the last part of a target."""
 
     def answer(target, _):
         status, document = answers.get(target.rpartition("/")[2], (400, {}))
@@ -73,8 +73,8 @@ def fake(**answers):
 
 @contextlib.contextmanager
 def folders(address, service="tzdistd"):
-    """The words for a service at an address, with a runtime and a state folder, and these folders.
-    """
+    """The arguments for a service at an address, with a runtime and a state folder, and these
+    folders."""
     with tempfile.TemporaryDirectory() as room:
         runtime, state = os.path.join(room, "run"), os.path.join(room, "state")
         os.mkdir(runtime)
@@ -117,7 +117,8 @@ def reports_a_missing_leap_table(program):
 
 
 def reports_a_server_that_is_down(program):
-    """A server that does not answer, or answers something else, is down, and the script is well."""
+    """A server without an answer, or with another answer, is reported as down. The script
+    succeeds."""
     with socket.socket() as silent:
         silent.bind((HOST, 0))
         cases = [f"{HOST}:{silent.getsockname()[1]}"]
@@ -131,7 +132,7 @@ def reports_a_server_that_is_down(program):
 
 
 def reports_the_events(program):
-    """The last event of each kind counts, and a mirror on its last copy says so."""
+    """The last event of each kind is reported, and whether a mirror serves its last copy."""
     log = (
         "2026-01-01T00:00:00Z what=install result=installed token=2-aa folder=x\n"
         "2026-01-02T00:00:00Z what=install result=refused token=2-aa reason=13 FooterDisagrees 1\n"
@@ -178,7 +179,7 @@ def reports_the_process(program):
 
 
 def writes_a_file(program):
-    """A file appears whole, and may be read by everybody."""
+    """A file appears complete, and everybody may read it."""
     with folders(f"{HOST}:1") as (words, runtime, _):
         path = os.path.join(runtime, "tzdistd.prom")
         os.umask(0o077)

@@ -1,11 +1,11 @@
 #!/usr/bin/env python3
-"""Tries `tzdistd mirror` as it is built, over the loopback: beside a primary, behind another mirror, and
-behind servers that misbehave, which are made here.
+"""Tests the built `tzdistd mirror` over the loopback: with a primary, behind another mirror, and
+with servers made here that misbehave.
 
     tools/test_mirror.py [PROGRAM]
 
-Each check starts servers of its own at free ports, and ends them. It needs Python's standard
-library alone. The status is 0 where all is well, and 1 where a check failed.
+Each check starts its own servers at free ports, and ends them. It needs Python's standard library
+only. The status is 0 where all is well, and 1 where a check failed.
 """
 
 import json
@@ -26,10 +26,11 @@ FIRST, SECOND = "1-e2b2cb478d218163", "2-d7dd2fc2e202fff3"
 GONE = "refused 1 UpstreamFault"
 COMPLAINT = b"tzdistd: cannot ask the other server: "
 BACK = "refused 3 StampBack 2025-03-22T00:00:00Z 2025-01-20T00:00:00Z"
-# For how many seconds an exchange may stand still, and go on in all; how many bytes of it are too many.
+# The seconds that an exchange may go without progress, and that it may take in all; how many bytes
+# of it are too many.
 PROGRESS, EXCHANGE = 10, 60
 MOST = 8_388_608
-# After how many seconds all is given up.
+# Seconds after which the whole run is given up.
 WHOLE = 1800
 
 
@@ -37,8 +38,8 @@ WHOLE = 1800
 
 
 class Fake:
-    """Another server, by threads: each of its connections is treated by `treat`, which has the connection
-    and the target of its request. It keeps the requests."""
+    """Another server, with threads. Each of its connections is handled by `treat`, which gets the
+    connection and the target of its request. It keeps the requests."""
 
     def __init__(self, treat, host=HOST):
         self.treat, self.requests = treat, []
@@ -68,7 +69,7 @@ class Fake:
                 pass
 
     def targets(self):
-        """The targets of the requests since this was asked last."""
+        """The targets of the requests since the last call."""
         found = [head.split(b" ")[1].decode() for head in self.requests]
         self.requests.clear()
         return found
@@ -102,8 +103,8 @@ def whole_head(peer):
 
 
 class Way:
-    """A way to a server whose port may change, as that of one that is started anew. Where nothing listens
-    there a connection is reset."""
+    """Passes requests on to a server whose port may change, as after a restart. Where nothing
+    listens there, a connection is reset."""
 
     def __init__(self, port):
         self.port = port
@@ -127,7 +128,7 @@ def reply(body, *lines, status="200 OK"):
 
 
 def listing(token, *zones):
-    """A list of zones, each a name, and aliases where it has some."""
+    """A reply with a list of zones, each a name and its aliases, if it has some."""
     found = [
         {
             "tzid": tzid,
@@ -143,7 +144,7 @@ def listing(token, *zones):
 
 
 class Answers:
-    """Answers by the target, and what is done where that is so to be."""
+    """Answers by the target: bytes to send, or a function to call."""
 
     def __init__(self, **by_target):
         self.by_target = by_target
@@ -159,7 +160,7 @@ class Answers:
 
 
 def one_zone(token="t", hours=1, name="Test/One", **others):
-    """A server that has one zone, and is settled."""
+    """A server that has one zone, and then no changes."""
     return Answers(
         **{
             ZONES: listing(token, (name,)),
@@ -176,9 +177,9 @@ def resets(fake, peer):
 
 
 def resets_inside(fake, peer):
-    """Ends the connection by a reset once a part of the answer was taken."""
+    """Ends the connection by a reset after a part of the answer was read."""
     peer.sendall(listing("t", ("Test/One",))[:100])
-    # the other side has read it where nothing is unsent, or will be told of the reset anyhow
+    # the other side has read it if nothing is unsent, or sees the reset anyhow
     time.sleep(0.5)
     resets(fake, peer)
 
@@ -188,12 +189,12 @@ def ends(fake, peer):
 
 
 def hangs(fake, peer):
-    """Says nothing."""
+    """Sends nothing."""
     fake.done.wait(EXCHANGE + SLACK)
 
 
 def stops(fake, peer):
-    """Says nothing more, after a part of the answer."""
+    """Sends nothing more, after a part of the answer."""
     peer.sendall(listing("t", ("Test/One",))[:100])
     fake.done.wait(EXCHANGE + SLACK)
 
@@ -207,7 +208,7 @@ def drips(fake, peer):
 
 
 def floods(fake, peer):
-    """Answers with far too much."""
+    """Answers with far too many bytes."""
     peer.sendall(b"HTTP/1.0 200 OK\r\n\r\n")
     piece = b"x" * 65_536
     while not fake.done.is_set():
@@ -215,7 +216,7 @@ def floods(fake, peer):
 
 
 def just(answer):
-    """What is done where these bytes are the answer to all."""
+    """A function that answers each request with these bytes."""
     return lambda fake, peer, *_: peer.sendall(answer)
 
 
@@ -229,7 +230,8 @@ def zones_at(port):
 
 
 def files_at(port, names):
-    """What a server answers to gets of these names: status, tag and body, as TZif file and as calendar."""
+    """What a server answers to GET requests for these names, as TZif file and as calendar: status,
+    tag and body."""
     found = {}
     with Client(port) as client:
         for name in names:
@@ -241,8 +243,9 @@ def files_at(port, names):
 
 
 def compare(what, primary, mirror, all_members=True):
-    """Fails where a mirror does not have exactly the zones of its primary. When a zone changed it knows of its
-    own releases, so it has that as the primary does where it took each of them."""
+    """Fails where a mirror does not have exactly the zones of its primary. A mirror knows from its
+    own releases when a zone changed. So it agrees with the primary in that if it took each
+    release."""
     zones = [zones_at(server.port) for server in (primary, mirror)]
     if not all_members:
         zones = [{name: (zone["etag"], zone.get("aliases")) for name, zone in one.items()} for one in zones]
@@ -256,7 +259,7 @@ def compare(what, primary, mirror, all_members=True):
 
 
 def follows(program):
-    """A mirror has what its primary has, through installs and syncs, and so has a mirror of the mirror."""
+    """A mirror has what its primary has, after installs and syncs, and so has a mirror of it."""
     with Served(["data/a"], program=program) as primary, Fake(Way(primary.port)) as way:
         with Mirror(way.address, program=program) as mirror:
             same("ready", mirror.token, FIRST)
@@ -295,7 +298,7 @@ def calendar(name, *lines):
 
 
 def prints(program, address, status, *lines):
-    """Fails where the calendars of a server do not tell these lines of the year 2025."""
+    """Fails where the calendars of a server do not give these lines for the year 2025."""
     words = ["calmirror", address, "2025-01-01T00:00:00Z", "2026-01-01T00:00:00Z"]
     *seen, errors = ran(program, *words)
     same("the calendars", seen, [status, b"".join(line.encode() + b"\n" for line in lines)])
@@ -303,7 +306,7 @@ def prints(program, address, status, *lines):
 
 
 def calendars(program):
-    """The calendars of a server, and of servers that give others."""
+    """The calendars of a server, and of servers that give other calendars."""
     with Served(["data/a", "data/b"], program=program) as primary, Fake(Way(primary.port)) as way:
         east = ["2025-01-01T00:00:00Z -18000 -18000 std EST", "2025-03-09T07:00:00Z -18000 -14400 dst EDT", "2025-11-02T06:00:00Z -14400 -18000 std EST"]
         prints(program, way.address, 0, "zone America/New_York", *east, "zone Etc/UTC", "2025-01-01T00:00:00Z 0 0 std UTC")
@@ -364,7 +367,8 @@ def console(program):
 
 
 def while_asked(program):
-    """While a primary installs and a mirror syncs, each reply of both is of one release, and none goes back."""
+    """While a primary installs and a mirror syncs, each reply of both is of one release. None is
+    of an older release than the one before."""
     count = 12
     with tempfile.TemporaryDirectory() as room:
         names = [f"Test/Z{number:02}" for number in range(20)]
@@ -394,7 +398,8 @@ def while_asked(program):
                     for place in range(2, count + 1):
                         said = primary.say(f"install {folders[1 - place % 2]}")
                         same("install", said.split("-")[0], f"installed {place}")
-                        # each release of the mirror has all of the primary's, so their tokens are the same
+                        # each release of the mirror has all that the primary's has, so their
+                        # tokens are the same
                         same("sync", mirror.say("sync", timeout=LONG), said)
                         compare(f"release {place}", primary, mirror)
                 finally:
@@ -426,8 +431,8 @@ def aliases(program):
 
 
 def recovers(program):
-    """A primary that is started anew, with another history or without a zone, is followed or refused; while it
-    is gone what is served stays."""
+    """A primary that is started anew, with another history or without a zone, is followed or
+    refused. While it is not there, what is served stays."""
     with tempfile.TemporaryDirectory() as room:
         later = release(f"{room}/later", "2", {"Etc/UTC": 1, "America/New_York": 2, "US/Eastern": 3}, "2025-12-01T00:00:00Z")
         with Served(["data/a", "data/b"], program=program) as primary, Fake(Way(primary.port)) as way:
@@ -475,7 +480,8 @@ def recovers(program):
 
 
 def retires(program):
-    """A primary knows the tokens of its last 512 releases; a mirror that was away for longer takes everything anew."""
+    """A primary knows the tokens of its last 512 releases. A mirror that has not synced for longer
+    gets everything anew."""
     with Served(["data/a"], program=program) as primary, Fake(Way(primary.port)) as way:
         with Mirror(way.address, program=program) as mirror:
             same("ready", mirror.token, FIRST)
@@ -495,14 +501,15 @@ def retires(program):
 
 
 def installed(server, folder):
-    """The token of a release that is installed."""
+    """Installs a release, and returns its token."""
     said = server.say(f"install {folder}")
     holds(f"an install: {said}", said.startswith("installed "))
     return said.split(" ")[1]
 
 
 def names(program):
-    """The upstream may be a host's name, of which several addresses are tried, and an address of IPv6."""
+    """The upstream may be a host's name, of which several addresses are tried, or an IPv6
+    address."""
     with Fake(one_zone()) as upstream:
         word = f"localhost:{upstream.port}"
         with Mirror(word, program=program) as mirror:
@@ -516,12 +523,12 @@ def names(program):
         same("the status", mirror.quit(), 0)
 
 
-# ---- a first sync that comes to nothing
+# ---- a first sync that fails
 
 
 def first_sync(program, address, line, status=7, timeout=LONG):
-    """Fails where a mirror does not end at once with this line, and with one on standard error where the
-    system refused."""
+    """Fails where a mirror does not end at once with this line, and with a line on standard error
+    where the system refused."""
     words = ["mirror", address_of(free_port()), "1", address]
     *seen, errors = ran(program, *words, timeout=timeout)
     same(line, seen, [status, line.encode() + b"\n"])
@@ -532,7 +539,8 @@ def first_sync(program, address, line, status=7, timeout=LONG):
 
 
 def refused_starts(program):
-    """The words, an upstream that is none, a release that the check refuses, and an address that is in use."""
+    """Wrong arguments, an upstream that is no server, a release that the check refuses, and an
+    address that is in use."""
     address, other = address_of(free_port()), address_of(free_port())
     for words in (
         ["mirror"],
@@ -561,7 +569,8 @@ def refused_starts(program):
 
 
 def bad_answers(program):
-    """Answers of another form, or that refuse or never settle, end the first sync, each by its name."""
+    """Answers of another form, and answers that refuse or never settle, end the first sync. Each
+    fault is named."""
     whole = listing("t", ("Test/One",))
     head = whole[: whole.index(b"\r\n\r\n") + 4]
     body = whole[len(head):]
@@ -589,7 +598,8 @@ def bad_answers(program):
 
 
 def bad_peers(program):
-    """Servers that are gone, that reset, that end too early or that answer too much end the first sync."""
+    """Servers that are not there, that reset, that end too early or that answer too much end the
+    first sync."""
     with Fake(just(b"")) as upstream:
         upstream.treat = lambda fake, peer, target: resets(fake, peer)
         first_sync(program, upstream.address, GONE)
@@ -602,7 +612,7 @@ def bad_peers(program):
 
 
 def lies(program):
-    """Another zone's bytes are taken as they are; lists that never settle are given up."""
+    """The bytes of another zone are accepted as they are. Lists that never settle are given up."""
     with Fake(one_zone(hours=5)) as upstream, Mirror(upstream.address, program=program) as mirror:
         with Client(mirror.port) as client:
             same("the file", client.ask(f"{ZONES}/Test%2FOne", TZIF).body, slim_zone(5))
@@ -627,14 +637,14 @@ def lies(program):
         same("how much was asked", len(upstream.targets()), 16)
 
 
-# ---- a later sync that comes to nothing
+# ---- a later sync that fails
 
 
 def keeps_serving(program):
-    """Whatever an upstream does at a later sync, its fault is named, and what is served stays; then the mirror
-    goes on where it was."""
+    """Whatever an upstream does at a later sync, its fault is named, and what is served stays. Then
+    the mirror continues where it was."""
     good = one_zone("1")
-    # what a list since the first token brings, and the file
+    # what a list since the first token contains, and the file
     more = {
         f"{ZONES}?changedsince=1": listing("2", ("Test/Two",)),
         f"{ZONES}/Test%2FTwo": reply(slim_zone(2)),
@@ -668,13 +678,14 @@ def keeps_serving(program):
 
 
 def took_at_least(what, begin, seconds, most):
-    """Fails where something came sooner than after so many seconds, or long after them."""
+    """Fails where something came sooner than after `seconds`, or much later than `most`."""
     took = time.monotonic() - begin
     holds(f"{what} came after {took:.1f} seconds", seconds - 1 <= took < most + SLACK)
 
 
 def hanging(program):
-    """Where an upstream says nothing a sync ends after ten seconds, and clients are served meanwhile."""
+    """Where an upstream sends nothing, a sync ends after ten seconds. Clients are served
+    meanwhile."""
     with Fake(one_zone("1")) as upstream, Mirror(upstream.address, workers=1, program=program) as mirror:
         upstream.treat = lambda fake, peer, target: hangs(fake, peer)
         upstream.targets()
@@ -687,7 +698,7 @@ def hanging(program):
         beside = time.monotonic() - begin
         same("the sync", mirror.line(PROGRESS + SLACK), GONE)
         took_at_least("the fault", begin, PROGRESS, PROGRESS)
-        # a machine that stood still until then is not judged
+        # a machine that was stalled until then is not judged
         holds("a client waited for the sync", beside < PROGRESS - 1 or time.monotonic() - begin > PROGRESS + 2)
         same("status after it", mirror.line(), f"serving {mirror.token} 1")
         upstream.treat = one_zone("1")
@@ -696,7 +707,7 @@ def hanging(program):
 
 
 def first_hanging(program):
-    """The same of a first sync, from the first byte on and inside an answer."""
+    """The same for a first sync, before the first byte and inside an answer."""
     for treat in (hangs, stops):
         with Fake(lambda fake, peer, target: treat(fake, peer)) as upstream:
             begin = time.monotonic()
@@ -705,17 +716,17 @@ def first_hanging(program):
 
 
 def dripping(program):
-    """An exchange in which a byte comes each second ends after sixty seconds in all."""
+    """An exchange with one byte each second ends after sixty seconds in all."""
     with Fake(lambda fake, peer, target: drips(fake, peer)) as upstream:
         begin = time.monotonic()
         first_sync(program, upstream.address, GONE, timeout=EXCHANGE + SLACK)
         took = time.monotonic() - begin
-        # where nothing came for ten seconds, on a machine that stood still, it ends sooner
+        # where nothing came for ten seconds, on a machine that was stalled, it ends sooner
         holds(f"the fault came after {took:.1f} seconds", PROGRESS - 1 < took < EXCHANGE + SLACK)
 
 
 def later_dripping(program):
-    """The same of a sync at the console, beside which clients are served."""
+    """The same for a sync at the console, while clients are served."""
     with Fake(one_zone("1")) as upstream, Mirror(upstream.address, workers=1, program=program) as mirror:
         upstream.treat = lambda fake, peer, target: drips(fake, peer)
         mirror.write(b"sync\n")
@@ -750,7 +761,7 @@ CHECKS = [
 
 
 def main():
-    # the slow ones wait alone, so the others come beside them
+    # the slow ones only wait, so the others run beside them
     return run_checks("mirror", CHECKS, WHOLE, 6)
 
 

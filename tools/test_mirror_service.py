@@ -1,6 +1,6 @@
 #!/usr/bin/env python3
-"""Tries deploy/tzdistd-mirror: a mirror as a service, which keeps a copy of what it serves and
-starts from that where its upstream is away.
+"""Tests deploy/tzdistd-mirror: a mirror as a service, which keeps a copy of what it serves, and
+starts from that copy where its upstream is unreachable.
 
     tools/test_mirror_service.py [PROGRAM]
 
@@ -28,14 +28,14 @@ from served import HOST, Client, Failure, Served, free_port
 from tzdistd_copy import Copies, manifest_of, tag_of
 from tzdistd_service import Failed
 
-# After how many seconds all is given up.
+# Seconds after which the whole run is given up.
 WHOLE = 1800
 ONE, TWO = {"Test/One": 1}, {"Test/One": 2, "Test/Two": 3}
 GONE = "refused 1 UpstreamFault\n"
 
 
 def awaited(what, found, seconds=LONG):
-    """What a function returns, once that is something."""
+    """Waits until a function returns something, and returns that."""
     end = time.monotonic() + seconds
     while not (value := found()):
         if time.monotonic() > end:
@@ -153,7 +153,7 @@ def keeps_a_copy(program):
 
 
 def starts_from_its_copy(program):
-    """Without the upstream the last copy is served; then the upstream is followed, and no
+    """Without the upstream the last copy is served. Then the upstream is followed, and no
     connection ends."""
     with rooms(program) as (room, primary, mirror):
         port, before, token = primary.port, mirror.zones(), mirror.ready()
@@ -212,7 +212,7 @@ def has_no_copy(program):
 
 
 def words_are_wrong(program):
-    """What no later start can do is the status 1."""
+    """The status is 1 where no later start can succeed."""
     cases = [
         ("", {}, "UPSTREAM is not set"),
         ("https://tz.example.org", {}, "is no HOST:PORT"),
@@ -225,7 +225,7 @@ def words_are_wrong(program):
 
 
 def upstream_is_silent(program):
-    """An upstream that says nothing for longer than FIRST_SYNC_SECONDS is away."""
+    """An upstream that sends nothing for longer than FIRST_SYNC_SECONDS counts as unreachable."""
     with rooms(program, FIRST_SYNC_SECONDS="1") as (_, primary, mirror):
         token = mirror.ready()
         mirror.stop()
@@ -239,12 +239,12 @@ def upstream_is_silent(program):
 
 
 def copy_is_damaged(program):
-    """A copy with another file than was kept is not used."""
+    """A copy in which a file is not the one that was kept is not used."""
     with rooms(program) as (_, primary, mirror):
         mirror.stop()
         primary.close()
         with open(os.path.join(mirror.state, "copy/1/z0"), "r+b") as file:
-            # still a zone file, of another offset
+            # still a zone file, with another offset
             data = file.read().replace(b"\n<+01>-1\n", b"\n<+01>-2\n")
             file.seek(0)
             file.write(data)
@@ -254,7 +254,7 @@ def copy_is_damaged(program):
 
 
 def upstream_is_refused(program):
-    """A first release that the program refuses is no reason to serve nothing."""
+    """Where the program refuses a first release, the last copy is served."""
     zones = [{"tzid": "Test/One", "etag": "0" * 32, "last-modified": "2025-06-01T00:00:00Z", "publisher": "T", "version": "1"}]
     with rooms(program) as (_, primary, mirror), Fake(zones, lambda: b"no zone file") as fake:
         token = mirror.ready()
@@ -270,7 +270,7 @@ def upstream_is_refused(program):
 
 
 class Fake(Answering):
-    """A server of one list, of which nothing changes, and for each zone what `body` returns."""
+    """A server with one list, in which nothing changes, and for each zone what `body` returns."""
 
     token = "1-0123456789abcdef"
 
@@ -279,7 +279,7 @@ class Fake(Answering):
         super().__init__(self.answer)
 
     def answer(self, target, fields):
-        """Status and body for a request, whose Host field is kept."""
+        """Status and body for a request. Its Host field is kept."""
         self.hosts.add(fields["Host"])
         if target.startswith("/tzdist/zones/"):
             return 200, self.body()
@@ -290,7 +290,7 @@ class Fake(Answering):
 
 
 def copy_is_of_one_release(program):
-    """While the mirror changes, nothing is kept; a file that is known is not requested again."""
+    """While the mirror changes, nothing is kept. A file that is known is not requested again."""
     with rooms(program) as (room, primary, mirror):
         entry, folder = mirror.zones()[0], os.path.join(mirror.state, "copy")
         with open(os.path.join(folder, "1/z0"), "rb") as file:
@@ -329,7 +329,7 @@ def program_ends_with_the_script(program):
 
 
 def has_ended(pid):
-    """Whether a process has ended, though nobody may have asked for its status yet."""
+    """Whether a process has ended, even if no process has read its status yet."""
     try:
         with open(f"/proc/{pid}/stat", encoding="ascii", errors="replace") as file:
             return file.read().rpartition(")")[2].split()[0] == "Z"

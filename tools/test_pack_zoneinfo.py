@@ -1,5 +1,5 @@
 #!/usr/bin/env python3
-"""Tests of pack_zoneinfo.py over small trees made here. Needs Python's standard library only."""
+"""Tests of pack_zoneinfo.py with small trees made here. Needs Python's standard library only."""
 
 import contextlib
 import gzip
@@ -28,7 +28,7 @@ SYSTEM = Path("/usr/share/zoneinfo")
 
 
 def zone_file(name, leaps=0, version=b"2", transitions=0):
-    """A TZif file of one type, with as many leap lines and transitions as asked for."""
+    """A TZif file of one type, with this many leap seconds and transitions."""
     block = b"".join(struct.pack(">q", at) for at in range(transitions)) + bytes(transitions)
     block += struct.pack(">iBB", 0, 0, 0) + name + b"\0"
     block += b"".join(struct.pack(">qi", 78_796_800 + at, 1 + at) for at in range(leaps))
@@ -48,7 +48,7 @@ EASTERN = (-18_000, 0, b"EST"), (-14_400, 1, b"EDT")
 
 
 def ruled_file(rows, footer, types=EASTERN, slim_first=False):
-    """A TZif file whose two blocks have these rows, each a moment and the number of a type."""
+    """A TZif file whose two blocks have these rows, each a time and the number of a type."""
     times = [moment_of(text) for text, _ in rows]
     numbers = bytes(number for _, number in rows)
     names = b"".join(name + b"\0" for _, _, name in types)
@@ -88,7 +88,7 @@ TREE = {"A/Alpha": ALPHA, "A/Old": ALPHA, "Older": ALPHA, "Etc/UTC": UTC}
 
 
 def in_days(days):
-    """The seconds from 1900 to so many days from now, as a leap-seconds.list has them."""
+    """The seconds from 1900 to this many days from now, as a leap-seconds.list has them."""
     return int(time.time()) + 86_400 * days + 2_208_988_800
 
 
@@ -262,7 +262,7 @@ class Packing(unittest.TestCase):
         self.assertEqual(modes, {(True, 0o755), (False, 0o644)})
 
     def test_installed_in_one_folder(self):
-        """As a package has it: the modules lie beside the script, and it is run from anywhere."""
+        """As in a package: the modules are beside the script, and it is run from anywhere."""
         self.grow(TREE)
         folder = self.root / "installed"
         folder.mkdir()

@@ -1,6 +1,7 @@
 #!/usr/bin/env python3
-"""Tests of read_calendars.py and calendar_reader.py over zone files that are made here, whose calendars are those of
-calendar_model.py, and over wrong texts. Python's standard library alone."""
+"""Tests of read_calendars.py and calendar_reader.py with zone files that are made here, whose
+calendars are those of calendar_model.py, and with wrong texts. Needs Python's standard library
+only."""
 
 import struct
 import tempfile
@@ -59,7 +60,7 @@ SHORT = zone_file([(-3723, 0, b"AAA")], [], b"AAA1:02:03")
 
 class Reading(unittest.TestCase):
     def compared(self, data, start=None, end=None, change=lambda text: text, change_json=lambda text: text):
-        """Compares the texts of a zone between two bounds, changed, with its file."""
+        """Changes the texts of a zone between two bounds, and compares them with its file."""
         with tempfile.TemporaryDirectory() as folder:
             path = Path(folder, "zone")
             path.write_bytes(data)
@@ -78,7 +79,7 @@ class Reading(unittest.TestCase):
                 self.assertGreater(self.compared(data, *bounds), 1000)
 
     def differs(self, old, new, old_json, new_json, data=NEW_YORK, start=None, end=None):
-        """A change in both texts alike is seen by the file, or is unreadable."""
+        """The same change in both texts is found by the file, or makes them unreadable."""
         with self.assertRaises((Failure, Unreadable)):
             self.compared(data, start, end, replaced(old, new), replaced(old_json, new_json))
 

@@ -1,7 +1,7 @@
 #!/usr/bin/env python3
-"""Tests of read_foreign_calendars.py over files that are made here. Needs Python's standard library alone.
+"""Tests of read_foreign_calendars.py with made files. Needs Python's standard library only.
 
-In the place of the program stands one that answers as `reader_model.py` does, or wrongly on purpose.
+The program is replaced by one that answers as `reader_model.py` does, or wrongly on purpose.
 """
 
 import contextlib

@@ -1,10 +1,10 @@
 #!/usr/bin/env python3
-"""Tries `tzdistd serve` as it is built, over the loopback, with real clients and a real console.
+"""Tests the built `tzdistd serve` over the loopback, with real clients and a real console.
 
     tools/test_serve.py [PROGRAM]
 
-Each check starts servers of its own at free ports, and ends them. It needs Python's standard
-library alone. The status is 0 where all is well, and 1 where a check failed.
+Each check starts its own servers at free ports, and ends them. It needs Python's standard library
+only. The status is 0 where all is well, and 1 where a check failed.
 """
 
 import calendar
@@ -39,10 +39,11 @@ UTC = "/tzdist/zones/Etc%2FUTC"
 NOWHERE = "refused 8 Absent nowhere/manifest.json"
 BACK = "refused 3 StampBack 2025-03-22T00:00:00Z 2025-01-20T00:00:00Z"
 
-# For how long a connection may rest between requests, and give or take nothing inside one; after what
-# time a request must be whole; for how long peers are still sent what is owed to them at the end.
+# The seconds that a connection may be idle between requests, and without progress inside one. The
+# seconds after which a request must be whole. The seconds for which pending replies are still sent
+# at the end.
 IDLE, PROGRESS, HEAD, OWED = 60, 10, 30, 2
-# After how many seconds all is given up.
+# Seconds after which the whole run is given up.
 WHOLE = 1800
 
 # Zones with rules of several kinds, and one without: half an hour, a negative daylight saving time,
@@ -52,7 +53,7 @@ ZONEINFO = "/usr/share/zoneinfo"
 
 
 def far_years(program):
-    """An expansion over 8,000 years has each change of a zone, as Python's zoneinfo has them."""
+    """An expansion over 8,000 years has each change of a zone, as Python's zoneinfo has it."""
     with tempfile.TemporaryDirectory() as room:
         zones = [{"tzid": it, "file": str(number)} for number, it in enumerate(FAR_ZONES)]
         for number, name in enumerate(FAR_ZONES):
@@ -70,7 +71,8 @@ def far_years(program):
 
 
 def has_each_change(name, zone, observances):
-    """Whether offsets follow one another as those of a zone, as many in each year as 400 years before."""
+    """Fails unless the offsets follow one another as those of a zone. Each year must have as many
+    changes as the year 400 years before."""
 
     def offset(moment):
         return int(datetime.fromtimestamp(moment, zone).utcoffset().total_seconds())
@@ -92,7 +94,7 @@ def replies(program):
     """Single requests get the documented replies."""
     with Served(["data/a"], program=program) as server:
         same("the token of ready", server.token, FIRST)
-        # workers wait for long where nobody comes
+        # workers wait for long where no client connects
         time.sleep(2)
         with Client(server.port) as client:
             reply = client.ask(ZONES)
@@ -115,7 +117,7 @@ def replies(program):
 
 
 def pipelined(program):
-    """Requests in any pieces are answered one by one; the server closes at the 1,000th at least."""
+    """Requests in any pieces are answered one by one. The server closes only at the 1,000th."""
     asked = [request(ZONES), request(UTC, TZIF, method="HEAD"), request(UTC, TZIF, f'If-None-Match: "{TAG}.t"')]
     with Served(["data/a"], program=program) as server:
         for size in (1, 7, 4096):
@@ -128,12 +130,12 @@ def pipelined(program):
                 same("the second", client.reply(head_only=True).fields["Content-Length"], "111")
                 same("the third", client.reply().status, 304)
         with Client(server.port) as client:
-            # all heads are there before the server looks for the second time
+            # all heads are there before the server reads for the second time
             same("the list", client.ask(ZONES).body, LIST)
             os.kill(server.pid, signal.SIGSTOP)
             client.send(request(ZONES) * 1001)
             os.kill(server.pid, signal.SIGCONT)
-            # the 1,000th reply of one turn closes; a turn may end before that by the clock
+            # the 1,000th reply of one turn closes; a turn may end earlier by the clock
             for number in range(1, 1002):
                 reply = client.reply(timeout=LONG)
                 same(f"reply {number}", reply.body, LIST)
@@ -141,7 +143,7 @@ def pipelined(program):
                     same("the reply that closes", number, 1000)
                     break
         with Client(server.port) as client:
-            # with pauses between them there is no end to them
+            # with pauses between the requests the server never closes
             for number in range(1, 1202):
                 reply = client.ask(ZONES, timeout=LONG)
                 same(f"reply {number} of one after another", (reply.body, reply.closes), (LIST, False))
@@ -149,7 +151,7 @@ def pipelined(program):
 
 
 def bad_requests(program):
-    """What is no request gets its closing reply, and the worker goes on with the next."""
+    """What is no request gets its closing reply, and the worker continues with the next."""
     cases = [
         (b"GET /tzdist/zones HTTP/1.1\r\n\r\n", 400),
         (b"\x16\x03\x01\x02\x00\x01\x00\r\n\r\n", 400),
@@ -175,7 +177,7 @@ def bad_requests(program):
 
 
 def installs(program):
-    """The console installs while a connection stays, and every refusal leaves what is served."""
+    """The console installs while a connection stays open. A refusal leaves what is served."""
     with Served(["data/a"], program=program) as server, Client(server.port) as client:
         same("the token before", token_of(client.ask(ZONES)), FIRST)
         same("status", server.say("status"), f"serving {FIRST} 1")
@@ -210,7 +212,8 @@ def installs(program):
 
 
 def whole_releases(program):
-    """While releases are installed each reply is of one release, and none goes back."""
+    """While releases are installed, each reply is of one release. None is of an older release than
+    the one before."""
     count = 40
     with tempfile.TemporaryDirectory() as room:
         names = [f"Test/Z{number:02}" for number in range(30)]
@@ -263,7 +266,8 @@ def whole_releases(program):
 
 
 def ends(program):
-    """`quit` and the end of the input end the server, and the connections that wait for a request."""
+    """`quit` and the end of the input end the server and the connections that wait for a
+    request."""
     with Served(["data/a"], program=program) as server, Client(server.port) as client:
         client.ask(ZONES)
         same("quit", server.say("quit"), "bye")
@@ -290,7 +294,7 @@ def ends(program):
 
 
 def refused_starts(program):
-    """Status 6 for an address that can't be had, 2 for a folder, 1 for the words."""
+    """Status 6 for an address that is not available, 2 for a folder, 1 for the arguments."""
     with socket.socket() as listener:
         listener.bind(("127.0.0.1", 0))
         listener.listen()
@@ -324,7 +328,7 @@ def refused_starts(program):
 
 
 def sixth_version(program):
-    """An address of IPv6 in brackets is served, where the machine has one."""
+    """An IPv6 address in brackets is served, where the machine has one."""
     try:
         free_port("::1")
     except OSError:
@@ -336,7 +340,7 @@ def sixth_version(program):
 
 
 def quick_answer(server, arrange):
-    """Beside peers a new client has its answer, long before these are given up."""
+    """Beside these peers a new client gets its answer, long before they are given up."""
     peers = arrange(server.port)
     time.sleep(0.3)
     begin = time.monotonic()
@@ -349,19 +353,19 @@ def quick_answer(server, arrange):
 
 
 def silent(port):
-    """A peer that says nothing."""
+    """A peer that sends nothing."""
     return [Client(port)]
 
 
 def idle(port):
-    """A peer that asked once and stays."""
+    """A peer that sent one request and stays."""
     peer = Client(port)
     peer.ask(ZONES)
     return [peer]
 
 
 def resetting(port):
-    """Peers that ask for much, and are gone."""
+    """Peers that send many requests, and then reset the connection."""
     for _ in range(20):
         peer = Client(port)
         peer.send(request(ZONES) * 30)
@@ -390,7 +394,7 @@ def drip(port, done):
 
 
 def bad_peers(program):
-    """Beside peers that misbehave others are served, by the one worker that there is."""
+    """While peers misbehave, the only worker serves others."""
     with Served(["data/a"], workers=1, program=program) as server:
         done = threading.Event()
         slow = threading.Thread(target=drip, args=(server.port, done))
@@ -407,8 +411,8 @@ def bad_peers(program):
 
 
 def half_closed(program):
-    """A peer that ends its side gets its replies, and then the end; without a whole head it gets the
-    end alone, and is not waited for."""
+    """A peer that ends its side gets its replies, and then the end. Without a whole head it gets
+    only the end, and is not waited for."""
     whole, part = request(ZONES), request(ZONES)[:-2]
     cases = [
         ("nothing", [b""], 0),
@@ -439,7 +443,7 @@ def half_closed(program):
 
 
 def resets(program):
-    """Peers reset at each point of a request and of its replies, and the server goes on."""
+    """Peers reset at each point of a request and of its replies, and the server continues."""
     whole = request(ZONES)
     with Served(["data/a"], workers=1, program=program) as server:
         before = descriptors(server)
@@ -464,7 +468,7 @@ def resets(program):
 
 
 def byte_by_byte(program):
-    """A head of 16,384 bytes is taken byte by byte, and one of a byte more is refused."""
+    """A head of 16,384 bytes is accepted byte by byte, and one with a byte more is refused."""
     front, back = request(ZONES, "Long: ")[:-4], b"\r\n\r\n"
     with Served(["data/a"], workers=1, program=program) as server:
         for size, status in ((16_384, 200), (16_385, 431)):
@@ -477,14 +481,14 @@ def byte_by_byte(program):
                     reply = client.reply(timeout=LONG)
                 same(f"a head of {size} bytes", (reply.status, reply.closes), (status, status == 431))
             except (Failure, OSError):
-                # a machine that was as slow as no head may be is not judged
+                # a machine that was slower than a head may be is not judged
                 if time.monotonic() - begin < HEAD - 1:
                     raise
         same("the status", server.quit(), 0)
 
 
 def few_descriptors(program):
-    """Where connections find no descriptor, workers wait for one, and none of them ends."""
+    """Where no descriptor is left for connections, workers wait for one, and none of them ends."""
     with Served(["data/a"], workers=4, program=program) as server:
         # as many descriptors as a server has, and two connections
         most = len(os.listdir(f"/proc/{server.pid}/fd")) + 2
@@ -505,19 +509,19 @@ def few_descriptors(program):
 
 
 def limited(most):
-    """Words that begin a program which may open so many descriptors."""
+    """The command that starts a program which may open this many descriptors."""
     return ["sh", "-c", f'ulimit -n {most}; exec "$@"', "sh"]
 
 
 def many_idle(program):
-    """Where no descriptor is left for more, the connections that did the least lately give way."""
+    """Where no descriptor is left for more, the least recently active connections are ended."""
     kept, reserved = 30, 64
     with Served(["data/a"], workers=1, program=program, by=limited(reserved + 1 + kept)) as server:
         clients = []
         for _ in range(50):
             clients.append(Client(server.port))
             same("the list", clients[-1].ask(ZONES, timeout=LONG).body, LIST)
-            # the first asks again and again, and so stays
+            # the first sends requests again and again, and so stays
             same("the list of the first", clients[0].ask(ZONES, timeout=LONG).body, LIST)
         for client in clients[1:21]:
             client.seconds_to_end(LONG)
@@ -529,7 +533,7 @@ def many_idle(program):
 
 
 def is_ended(client):
-    """Whether the peer has ended a connection on which nothing comes before that."""
+    """Whether the peer has ended a connection. No byte may come before that."""
     client.socket.setblocking(False)
     try:
         piece = client.socket.recv(1)
@@ -542,8 +546,9 @@ def is_ended(client):
 
 
 def silence(program):
-    """A connection that gives nothing keeps no worker, and is ended in time: between requests after
-    sixty seconds, inside one after ten, and after thirty where a byte comes now and then."""
+    """A connection that sends nothing occupies no worker, and is ended in time. Between requests
+    that is after sixty seconds, inside one after ten. Where a byte comes now and then it is after
+    thirty."""
     least = {"silent": IDLE, "idle": IDLE, "inside": PROGRESS, "slow": HEAD}
     with Served(["data/a"], workers=1, program=program) as server:
         begin = last = time.monotonic()
@@ -566,7 +571,7 @@ def silence(program):
             time.sleep(1)
         holds(f"{list(left)} had not ended", not left)
         for name, seconds in least.items():
-            # a machine that stood still was silent, too
+            # a machine that was stalled sent nothing, too
             early = name == "slow" and gap > PROGRESS - 1
             holds(f"{name} ended after {took[name]} seconds", early or seconds <= took[name] < seconds + SLACK)
         same("the status", server.quit(), 0)
@@ -578,12 +583,12 @@ def descriptors(server):
 
 
 def large_release(room):
-    """A release of which a list is large."""
+    """A release whose list is large."""
     return release(f"{room}/large", "1", {f"Test/{'Z' * 50}{number}": 1 for number in range(900)})
 
 
 def small_window(port):
-    """A connection whose system takes little for who does not read."""
+    """A connection with a small receive buffer, for a peer that does not read."""
     peer = socket.socket()
     peer.settimeout(LONG)
     peer.setsockopt(socket.SOL_SOCKET, socket.SO_RCVBUF, 4096)
@@ -601,7 +606,7 @@ def all_that_comes(peer, pause=0):
 
 
 def whole_replies(stream):
-    """How many replies there are in a stream, none of them cut."""
+    """How many replies a stream has, none of them cut."""
     count = 0
     while stream:
         head, _, rest = stream.partition(b"\r\n\r\n")
@@ -613,7 +618,7 @@ def whole_replies(stream):
 
 
 def deaf_peers(program):
-    """A peer that takes nothing keeps no worker, and is given up after ten seconds."""
+    """A peer that reads nothing occupies no worker, and is given up after ten seconds."""
     with tempfile.TemporaryDirectory() as room:
         with Served([large_release(room)], workers=1, program=program) as server:
             before = descriptors(server)
@@ -633,8 +638,8 @@ def deaf_peers(program):
 
 
 def slow_readers(program):
-    """Peers that read slowly get all their replies, in order, beyond the end of a stretch; others are
-    served beside them by the one worker."""
+    """Peers that read slowly get all their replies, in order, beyond the end of a batch. Others are
+    served beside them by the only worker."""
     count = 24
     with tempfile.TemporaryDirectory() as room:
         with Served([large_release(room)], workers=1, program=program) as server:
@@ -668,13 +673,14 @@ def slow_readers(program):
 
 
 def at_the_end(program, folder, deaf):
-    """Ends a server that owes lists to four readers, and as much to so many peers that take nothing: after
-    how many seconds the readers had their end, and how many of them had a reply that was cut."""
+    """Ends a server that still has to send lists to four readers, and as many to `deaf` peers that
+    read nothing. Returns after how many seconds the readers had the end, and how many of them had a
+    reply that was cut."""
     with Served([folder], workers=2, program=program) as server:
         peers = [small_window(server.port) for _ in range(deaf + 4)]
         for peer in peers:
             peer.sendall(request(ZONES) * 60)
-        # something has come of all, and more waits behind it
+        # each has received something, and more waits behind it
         first = [peer.recv(1) for peer in peers]
         time.sleep(0.5)
         same("quit", server.say("quit"), "bye")
@@ -710,22 +716,22 @@ def is_cut(stream):
 
 
 def owed_at_the_end(program):
-    """What is owed to peers at the end goes out whole, for two seconds at most, and nobody waits for the
-    peers of another worker."""
+    """Replies that are pending at the end are sent whole, for two seconds at most. Nobody waits for
+    the peers of another worker."""
     with tempfile.TemporaryDirectory() as room:
         folder = large_release(room)
         for _ in range(3):
             took, cut = at_the_end(program, folder, 4)
             if cut == 0:
                 return
-            # where readers alone need as long the machine is slow, and is not judged
+            # where readers without such peers need as long, the machine is slow, and is not judged
             if at_the_end(program, folder, 0)[0] > OWED / 4:
                 return
         raise Failure(f"{cut} of 4 readers had a part of a reply, after {took} seconds")
 
 
 def expansions(zone, count):
-    """HEAD requests for expansions over 8,000 years, of ranges that differ, so none is cached."""
+    """HEAD requests for expansions over 8,000 years, with different ranges, so none is cached."""
     heads = []
     for number in range(count):
         first = f"{1810 + number % 89}-{1 + number // 89:02}-01T00:00:00Z"
@@ -751,7 +757,7 @@ def turns(program):
 
 
 def replies_held(client):
-    """How many replies without a body have come so far, the first of which was read."""
+    """How many replies without a body have come so far. The first of them was read before."""
     client.socket.setblocking(False)
     try:
         while piece := client.socket.recv(1 << 18):
@@ -762,7 +768,7 @@ def replies_held(client):
 
 
 def kept_beside_new(program):
-    """A client on a kept connection is answered before many new connections that came first."""
+    """On a persistent connection a client is answered before many new ones that came first."""
     count = 200
     with Served(["data/b"], workers=1, program=program) as server:
         with Client(server.port) as good:
@@ -776,7 +782,7 @@ def kept_beside_new(program):
 
 
 def new_clients(server, heads):
-    """A new client for each of these bytes, which it has sent."""
+    """A new client for each of these heads, which it has sent."""
     clients = []
     for head in heads:
         clients.append(Client(server.port, timeout=LONG))
@@ -785,8 +791,8 @@ def new_clients(server, heads):
 
 
 def answered_before(server, good, others):
-    """How many of the others had an answer when the good client had its own. The server is stopped when this is called;
-    it goes on, and the others are closed."""
+    """How many of the others had an answer when the good client had its own. The server, which is
+    stopped before the call, continues, and the others are closed."""
     os.kill(server.pid, signal.SIGCONT)
     good.reply(timeout=LONG)
     os.kill(server.pid, signal.SIGSTOP)
@@ -798,8 +804,8 @@ def answered_before(server, good, others):
 
 
 def quick_before_costly(program):
-    """A new client's quick request is answered before costly ones of new clients that came first,
-    also where each of these sends a quick one in front."""
+    """A new client's quick request is answered before costly ones of new clients that came first.
+    This is also so where each of these sends a quick one in front."""
     count = 200
     for front in (b"", request(ZONES)):
         with Served(["data/b"], workers=1, program=program) as server:
@@ -814,7 +820,7 @@ def quick_before_costly(program):
 
 def one_beside_many(program):
     """A new client's request is answered before most of those of new clients that came first, and
-    send many at once."""
+    that send many at once."""
     count, each = 100, 12
     with tempfile.TemporaryDirectory() as room:
         with Served([large_release(room)], workers=1, program=program) as server:
@@ -869,7 +875,7 @@ def backlog(program):
 
 
 def downloads_stay(program):
-    """Where descriptors run out a download that moves does not give way to silent connections."""
+    """Where no descriptor is left, a download with progress is not ended for silent connections."""
     with tempfile.TemporaryDirectory() as room:
         folder = large_release(room)
         by = ["sh", "-c", 'ulimit -n 100; exec "$@"', "sh"]
@@ -894,7 +900,7 @@ def downloads_stay(program):
 
 
 def odd_files(program):
-    """What is no file in a release is refused at once, by `check` and by the console."""
+    """What is no regular file in a release is refused at once, by `check` and by the console."""
     with tempfile.TemporaryDirectory() as room:
         piped = release(f"{room}/piped", "1", {"Etc/UTC": 1})
         os.remove(f"{piped}/z0")
@@ -923,10 +929,10 @@ os.execv(sys.argv[1], sys.argv[1:])
 
 
 def streams_that_do_not_block(program):
-    """Standard streams that another process has set not to block are waited for."""
+    """The server waits for standard streams that another process has set to non-blocking."""
     with Served(["data/a"], program=program, by=[sys.executable, "-c", NOT_BLOCKING]) as server:
         time.sleep(0.5)
-        # more than a pipe holds, in both directions
+        # more than fits into a pipe, in both directions
         count = 20_000
         writer = threading.Thread(target=server.write, args=(b"status\n" * count,))
         writer.start()

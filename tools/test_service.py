@@ -1,6 +1,6 @@
 #!/usr/bin/env python3
 """Tests of the service's scripts with the built program: each branch of a start, an install and a
-follow. They need no root, no systemd and nothing but Python's standard library.
+follow. They need no root, no systemd, and only Python's standard library.
 
     tools/test_service.py [PROGRAM]
 
@@ -53,7 +53,7 @@ def write(path, data, mode=None):
 
 
 def edit(folder, **members):
-    """Changes members of a manifest; one that is None goes."""
+    """Changes members of a manifest, and removes those that are None."""
     path = os.path.join(folder, "manifest.json")
     manifest = json.loads(text_of(path))
     manifest.update(members)
@@ -112,7 +112,7 @@ class Trial(unittest.TestCase):
         return {**names, **self.values, **more}
 
     def add(self, name, version="2025a", stamp=FIRST, **zones):
-        """A release in the folder of releases, with so many hours for each zone."""
+        """A release in the folder of releases, with these offsets in hours for the zones."""
         return release(os.path.join(self.releases, name), version, self.zones(zones), stamp)
 
     def source(self, name, version="2025a", stamp=FIRST, **zones):
@@ -146,7 +146,7 @@ class Trial(unittest.TestCase):
         return running
 
     def until(self, what, holds):
-        """Waits until something holds."""
+        """Waits until something is true."""
         end = time.monotonic() + LONG
         while not holds():
             self.assertLess(time.monotonic(), end, f"it was not {what} in time")
@@ -187,7 +187,7 @@ class Trial(unittest.TestCase):
         return sorted(name[: -len(".accepted")] for name in os.listdir(self.releases) if name.endswith(".accepted"))
 
     def refusals(self):
-        """What the reasons of refused releases say, without their moments."""
+        """What the reasons of refused releases say, without their times."""
         paths = [os.path.join(self.refused, name, "reason") for name in sorted(os.listdir(self.refused))]
         return [text_of(path).split(" ", 1)[1].rstrip("\n") for path in paths]
 
@@ -234,7 +234,7 @@ class Start(Trial):
         self.assertEqual(running.stop(), 0)
 
     def test_odd_folders(self):
-        """What cannot be read is left out by name, and what comes after it is served."""
+        """What cannot be read is left out and named, and what comes after it is served."""
         self.add("1")
         for name in ("2-torn", "3-loop", "4-folder"):
             self.add(name, stamp=SECOND)
@@ -246,7 +246,7 @@ class Start(Trial):
         os.mkdir(os.path.join(self.releases, "4-folder/manifest.json"))
         os.mkdir(os.fsencode(self.releases) + b"/5-\xff")
         self.add("6", stamp=SECOND)
-        # a mark that cannot be written, and what watched the run before
+        # a mark that cannot be written, and the file of a watch in the run before
         os.mkdir(os.path.join(self.releases, "6.accepted"))
         write(os.path.join(self.run_folder, "watch-mine.number"), "1")
         self.start()
@@ -264,7 +264,7 @@ class Start(Trial):
         self.assertEqual(self.marks(), ["1", "6"])
 
     def test_folders_that_are_none(self):
-        """Each fault of the folders of the service is told, by each script."""
+        """Each script reports the faults of the folders of the service."""
         file = os.path.join(self.at, "file")
         write(file, "")
         self.add("1")
@@ -406,7 +406,8 @@ echo bye
         pid = int(text_of(os.path.join(self.run_folder, "pid")))
 
         def yields():
-            """Whether the program is seen to yield within two seconds, of which it does so for one."""
+            """Whether the program is seen to yield within two seconds, of which it yields for
+            one."""
             end = time.monotonic() + 2
             while time.monotonic() < end:
                 if os.sched_getscheduler(pid) == os.SCHED_IDLE:
@@ -419,7 +420,7 @@ echo bye
             asked = subprocess.Popen([os.path.join(DEPLOY, "tzdistd-console"), "status"], env=self.environment(),
                                      stdout=subprocess.PIPE, text=True)
             seen = yields()
-            # a line that takes long gets its share
+            # a line that takes long gets its share of the processor
             self.until("beside requests", lambda: os.sched_getscheduler(pid) == os.SCHED_OTHER)
             self.assertIsNone(asked.poll())
             write(go, "")
@@ -448,7 +449,7 @@ echo bye
         self.assertEqual(running.wait(), 4)
 
     def test_a_line_while_a_server_starts(self):
-        """A start that is refused a folder begins another process; a line waits for that one."""
+        """A start with a refused folder begins another process, and a line waits for that one."""
         self.program = os.path.join(self.at, "program")
         write(self.program, f"""#!/bin/sh
 case $1 in check) exec "{PROGRAM}" "$@" ;; esac
@@ -540,7 +541,7 @@ class Install(Trial):
         self.assertEqual((self.names(), os.listdir(self.refused)), (names, []))
 
     def test_the_same_version_of_another_package(self):
-        # versions whose dates nobody knows, so that a release has the date of its files
+        # versions without known dates, so that a release has the date of its files
         self.add("1", "2000xb", "2025-06-01T00:00:00Z")
         self.start()
         for version, stamp, status in (
@@ -566,7 +567,7 @@ class Install(Trial):
         # one that sorts before the last gets another name
         self.assertEqual(self.install(self.add("15", stamp=SECOND, Alpha=4, Beta=2))[0], 0)
         self.assertEqual((self.names()[:2], len(self.names())), (["1", "2"], 3))
-        # one that says what is served goes
+        # one that has the content of what is served is removed
         self.assertEqual(self.install(self.add("9", stamp=SECOND, Alpha=4, Beta=2))[0], 0)
         self.assertEqual(len(self.names()), 3)
         # and one that is refused is moved
@@ -588,10 +589,10 @@ class Install(Trial):
         self.assertEqual(self.refusals(), ["10 Tzif 1 3 Short 0 (Test/Beta)"])
         self.assertEqual((self.names(), self.last()["result"]), (["1"], "refused"))
         self.assertEqual(self.last()["token"][:2], "1-")
-        # the server goes on, and a restart has the token
+        # the server continues, and a restart has the token
         token = self.console("status")[1]
         self.assertEqual(self.console("status")[1], token)
-        # of what is refused again one copy is kept
+        # one copy is kept of what is refused again
         self.assertEqual(self.install("--force", "torn")[0], 1)
         self.assertEqual((len(self.refusals()), self.marks()), (1, ["1"]))
 
@@ -643,7 +644,7 @@ class Install(Trial):
             self.assertEqual((file.read(), leaps["expires"]), (leap_file(), "2030-01-01"))
 
     def test_an_install_beside_another(self):
-        """It waits for the other one, and removes what one left that was killed."""
+        """It waits for the other one, and removes what a killed one left."""
         os.makedirs(os.path.join(self.releases, ".incoming-killed"))
         with open(os.path.join(self.at, "state/install.lock"), "w") as lock:
             fcntl.flock(lock, fcntl.LOCK_EX)
@@ -851,7 +852,7 @@ exec "{DEPLOY}/tzdistd-console" "$@"
         self.assertEqual(self.follow(TZDISTD_QUIET="2")[0], 0)
         self.assertGreater(time.monotonic() - begin, 1)
         self.assertEqual(len(self.names()), 1)
-        # a packer in whose time the tree changes
+        # a packer during which the tree changes
         tools = os.path.join(self.at, "tools")
         for name in ("tzdistd-follow", "tzdistd_installer.py", "tzdistd_service.py", "tzdistd-console"):
             os.makedirs(tools, exist_ok=True)

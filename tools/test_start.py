@@ -30,7 +30,7 @@ CRATES = (
 PROVED = "td_base catalogue target td_top tzdistd"
 RELEASE = os.path.join(DATA, "data", "a")
 
-# A loader by which the toolchain may start what it compiled.
+# A loader with which the toolchain may start what it compiled.
 LOADER = "/lib64/ld-linux-x86-64.so.2"
 
 # What it compiled waits for its input, so that start.py sees it on a fast machine, too.
@@ -107,7 +107,7 @@ class Started:
         self.child.stdin.flush()
 
     def ended(self):
-        """The status, and all that was printed and complained about."""
+        """The status, all of the standard output, and the standard error."""
         try:
             output, errors = self.child.communicate(timeout=LONG)
         except subprocess.TimeoutExpired:
@@ -302,14 +302,14 @@ def parts_its_proofs_into_stages(_program):
         [Group(["base"], True)], [Group(["leaf", *sides], False)],
         [Group(["runs", "top"], True), Group(["wire", "socket"], True)], [Group(["program"], True)],
     ])
-    # 0.7 of the time of `base` and of each of the last three crates, and between these one side
-    # after two others, or beside all of them
+    # 0.7 of the time of `base` and of each of the last three crates. Between these, one side after
+    # two others, or beside all of them.
     for width, minutes in ((4, 29), (2, 39)):
         same(f"the minutes on {width}", Estimate(crates, stages, times, width).left(), minutes)
 
 
 def parts_small_programs_into_stages(_program):
-    """What has only a part of the stages, or one crate only."""
+    """Programs with only some of the stages, or with only one crate."""
     for crates, stages in (
         ({"program": []}, [[Group(["program"], True)]]),
         ({"base": [], "program": ["base"]}, [[Group(["base"], True)], [Group(["program"], True)]]),
@@ -342,7 +342,7 @@ def proves_by_stages(top):
 
 
 def places_of(line):
-    """Puts the program last, and what only it uses before it."""
+    """A key that puts the program last, and what only it uses before it."""
     return line.startswith("tzdistd"), line.startswith("wire")
 
 

@@ -1,11 +1,11 @@
 #!/usr/bin/env python3
 """Tests of tzfetch.sh over the cases of test_fetch_zoneinfo.py, once with the system's shell and
-curl, and once with busybox, whose shell, applets and wget are then all that is on the PATH.
+curl, and once with busybox. Then its shell, applets and wget are all that is on the PATH.
 
     tools/test_tzfetch.py [PROGRAM] [unittest's words]
 
 Where a PROGRAM is given, a release of it is fetched from end to end as well. What is missing is
-skipped, and the output says so. Without further words the tests run beside one another. Needs
+skipped, and the output says so. Without further arguments the tests run beside one another. Needs
 Python's standard library only.
 """
 
@@ -83,8 +83,8 @@ class Shell(cases.Room):
         super().setUp()
 
     def words(self, *words):
-        """The words that start the script, and its environment. Programs of the folder `first` come
-        before all others."""
+        """The command that starts the script, and its environment. Programs of the folder `first`
+        come before all others."""
         path = f"{self.box / 'first'}{os.pathsep}{self.path}"
         return [*self.shell, str(SCRIPT), *words], {"PATH": path, "HOME": str(self.box)}
 
@@ -111,7 +111,8 @@ class Shell(cases.Room):
 
 
 class Fetching(Shell, cases.Fetching):
-    """The cases of the other client: each lie beside a tree, and with curl without one, too."""
+    """The cases of the other client: each false reply beside a tree, and with curl also without
+    one."""
 
     def state(self):
         """The state in the form of the other client."""
@@ -131,7 +132,7 @@ class Fetching(Shell, cases.Fetching):
 
     def lied(self, lies, target, part="", first=True):
         if self.kind is Busybox:
-            # its wget hides the body of a refusal, so that each is taken for that of a token
+            # its wget hides the body of a refusal, so each is taken for the refusal of a token
             hidden = "a refusal that is no problem"
             lies = {what: lie for what, lie in lies.items() if what != hidden}
         self.begin_anew()
@@ -185,7 +186,7 @@ class Fetching(Shell, cases.Fetching):
         self.holds(SECOND)
 
     def test_a_stale_lock(self):
-        """A run that was killed leaves a lock behind, which the next run takes away."""
+        """A run that was killed leaves a lock behind, which the next run removes."""
         boot = Path("/proc/sys/kernel/random/boot_id").read_text().strip()
         for holder in (f"pid-999999999-{boot}", "pid-1-another", f"pid-1-{boot}", "nonsense"):
             self.fetch()
@@ -293,13 +294,14 @@ def group_runs(group):
 class Killed(Shell, cases.Killed):
     """A run that is killed before a program that changes the disk leaves an old or a new tree.
 
-    Three classes have a third of the steps each, so that these go beside one another.
+    Three classes have a third of the steps each, so that these run beside one another.
     """
 
     STRIDE, FEW = 3, (3, 0)
 
     def kill(self, step):
-        """A run that is killed before its program of this number, from 1; whether it was."""
+        """A run that is killed before its program of this number, from 1. Returns whether it
+        was."""
         first, counter = self.box / "first", self.box / "count"
         shutil.rmtree(first, ignore_errors=True)
         first.mkdir()
@@ -357,7 +359,7 @@ def main():
             sys.exit(f"{cases.PROGRAM} is not built: README says how")
     if len(words) == 1:
         sys.exit(run_tests_beside(WHOLE, SLOW))
-    # what waits for ever ends the tests
+    # tests that wait for ever are ended
     faulthandler.dump_traceback_later(WHOLE, exit=True)
     unittest.main(argv=words)
 

@@ -1,8 +1,8 @@
 #!/usr/bin/env python3
-"""Tests of zone_states.py and slim_zone.py beside Python's own reader of zone files.
+"""Tests of zone_states.py and slim_zone.py against Python's own reader of zone files.
 
-Python 3.9 or later for its `zoneinfo`, and its standard library only. The zones of this system are
-read where it has them, and those that `zic -b slim` makes of them where it is installed.
+Needs Python 3.9 or later for its `zoneinfo`, and its standard library only. The zones of this
+system are read where it has them, and those that `zic -b slim` makes of them where it is installed.
 """
 
 import io
@@ -29,7 +29,7 @@ from zone_states import HALF_YEARS, States, first_difference, year_with
 UTC = timezone.utc
 
 # Forms of a TZ string: dates of each form, hours of each sign, daylight saving time of the south,
-# all year and behind standard time, names in brackets, offsets with seconds.
+# all year and behind standard time. Also names in brackets, and offsets with seconds.
 FOOTERS = (
     b"EST5EDT,M3.2.0,M11.1.0",
     b"<+1030>-10:30<+11>-11,M10.1.0,M4.1.0",
@@ -100,7 +100,7 @@ class Agreeing(unittest.TestCase):
                 self.assertNotEqual(states.at(moment - 60)[2], name)
 
     def test_zones_of_this_system(self):
-        """Python reads of each file, and of its slim form, what is read here."""
+        """Python reads from each file, and from its slim form, the same as the tested code."""
         for name, data in system_zones():
             ours, theirs, slim = States(data), reference(data), reference(slim_of(data))
             for moment in moments_of(ours):
