@@ -144,8 +144,7 @@ class Good:
 
 
 def misbehave(port, kind, count, seconds):
-    """So many connections of a kind, by eight threads: how many were made, and how many were
-    refused."""
+    """So many connections of a kind, by eight threads. It returns how many were made."""
     turns, lock, made, refused = iter(range(count)), threading.Lock(), [], []
     end = time.monotonic() + seconds
 

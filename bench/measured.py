@@ -55,7 +55,8 @@ def spent(*pids):
 
 
 class Repeated:
-    """A repeated action: seconds by the clock of each, and processor seconds of the processes."""
+    """A repeated action: the seconds by the clock of each, and for each process the processor
+    milliseconds of an action."""
 
     def __init__(self, action, pids, most, seconds):
         self.walls, before, end = [], [spent(pid) for pid in pids], time.monotonic() + seconds

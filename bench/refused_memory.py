@@ -117,7 +117,8 @@ class Program:
 
 
 def asked_list(server):
-    """The place of the list that a new connection gets, `503`, or `ended`."""
+    """The place of the list that a new connection gets, `503`, `ended` where the connection ends
+    without a reply, or `gone` where the server has ended."""
     try:
         with Client(server.port) as client:
             reply = client.ask(ZONES)
@@ -133,7 +134,7 @@ def asked_list(server):
 
 
 class Talk:
-    """A server with an operator, who enters some lines, and a new client after each."""
+    """A server with an operator, who enters some lines, and a new client before each."""
 
     def __init__(self, lines):
         self.lines = lines

@@ -16,7 +16,7 @@ The parts:
              and eight times as many connections. bench/limit.c, a C program, only receives a head
              and sends the bytes of the reply, by as many processes and over as many connections.
     opened   connections that are opened for one request each and closed, in turn with the program
-             at --beside and nginx, each with 4 workers
+             at --beside, and then those of nginx, each with 4 workers
     crowd    --idle connections that are idle, half after one request, and --slow ones that send or
              read a byte a second or read nothing. It prints how soon a good client of 4 workers has
              its replies with and without them. It also prints the memory of an idle one, and the
