@@ -8,6 +8,7 @@ use crate::wire::{Readiness, Wire};
 use mio::unix::SourceFd;
 use mio::{Events, Interest, Poll};
 use std::alloc::Global;
+use std::boxed::Box;
 use std::io;
 use std::io::{Eprint, Error, ErrorKind};
 use std::net::{Net, SocketAddr, TcpStream};
@@ -42,7 +43,9 @@ pub struct Acceptor<R> {
     alloc: Global,
     listening: Listening,
     poll: Poll,
+    /// The events of the last poll, and the index of the first that is not handled.
     events: Events<Global>,
+    next_event: usize,
     idle: IdleConnections,
     /// Room for a received piece, shared by all connections: clearing it for each would cost each
     /// request.
@@ -108,6 +111,7 @@ impl<R: Clock + Eprint + Copy> Acceptor<R> {
             listening,
             poll,
             events,
+            next_event: 0,
             idle: IdleConnections::new(alloc),
             room: [0; PIECE],
             most,
@@ -148,11 +152,10 @@ impl<R: Clock + Eprint + Copy> Acceptor<R> {
 
     /// The next connection that can be served, if one comes within 100 ms. After a passing failure
     /// it pauses; a broken listener fails each time.
-    pub fn next(&mut self) -> io::Result<Option<Wire<TcpStream>>> {
+    pub fn next(&mut self) -> io::Result<Option<Box<Wire<TcpStream>>>> {
         if let Some(kind) = self.broken {
             return Err(Error::from(kind));
         }
-        self.tick();
         match self.coming(self.idled.saturating_add(IDLE_ANSWER_MILLIS)) {
             Ok(Some(mut wire)) => {
                 let limit = self.limit(wire.queue());
@@ -169,7 +172,7 @@ impl<R: Clock + Eprint + Copy> Acceptor<R> {
     }
 
     /// Takes back a connection after a stretch that ended so.
-    pub fn take_back(&mut self, wire: Wire<TcpStream>, end: End) {
+    pub fn take_back(&mut self, wire: Box<Wire<TcpStream>>, end: End) {
         let mut wire = wire;
         self.tick();
         let now = self.now();
@@ -183,15 +186,17 @@ impl<R: Clock + Eprint + Copy> Acceptor<R> {
 
     /// Keeps a connection that is not served. If there are too many, another is evicted for it, or
     /// it is closed itself.
-    fn keep(&mut self, wire: Wire<TcpStream>, readiness: Readiness, now: Now) {
+    fn keep(&mut self, wire: Box<Wire<TcpStream>>, readiness: Readiness, now: Now) {
         self.idle
             .keep(self.poll.registry(), wire, readiness, self.most, now);
     }
 
     /// For how many microseconds a connection is served that would wait in this queue. A new one
-    /// with quick requests has a first turn.
+    /// with quick requests has a first turn. Each event that is left may be another that waits.
     fn limit(&self, queue: Queue) -> u64 {
-        let others = self.idle.waiting_in(queue);
+        let left = self.events.iter().len().saturating_sub(self.next_event);
+        let left = u64::try_from(left).unwrap_or(u64::MAX);
+        let others = self.idle.waiting_in(queue).saturating_add(left);
         match queue {
             Queue::Heavy => turn_limit(queue, others),
             Queue::Fresh | Queue::Light => turn_limit(self.queue, others),
@@ -212,7 +217,7 @@ impl<R: Clock + Eprint + Copy> Acceptor<R> {
 
     /// Pauses after a failure. If too much failed recently, the listener is broken, and its
     /// connections are closed.
-    fn fail(&mut self, error: Error) -> io::Result<Option<Wire<TcpStream>>> {
+    fn fail(&mut self, error: Error) -> io::Result<Option<Box<Wire<TcpStream>>>> {
         self.tick();
         self.failures.fail(self.time);
         if !self.failures.is_broken() {

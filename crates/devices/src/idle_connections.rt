@@ -9,6 +9,7 @@ use mio::unix::SourceFd;
 use mio::{Events, Interest, Registry, Token};
 use slab::Slab;
 use std::alloc::Global;
+use std::boxed::Box;
 use std::collections::VecDeque;
 use std::net::TcpStream;
 use stretches::{Queue, Timeouts, Waiting};
@@ -26,12 +27,17 @@ const MOST_STALE: u32 = 1_024;
 /// The token of the listening socket. Those of connections are one more than their keys.
 pub const LISTENS: Token = Token(0);
 
+/// Whether one of the events is that of the listening socket.
+pub fn has_listener(events: &Events<Global>) -> bool {
+    events.iter().any(|event| event.token() == LISTENS)
+}
+
 /// The connections that no worker serves. Those that can be served wait in two queues, first come
 /// first served. The timeouts say what each waits for, and since when. A key in a queue counts only
 /// while its connection says that it waits there.
 #[derive(Drop)]
 pub struct IdleConnections {
-    wires: Slab<Wire<TcpStream>>,
+    wires: Slab<Box<Wire<TcpStream>>>,
     timeouts: Timeouts,
     light: VecDeque<usize>,
     heavy: VecDeque<usize>,
@@ -96,7 +102,7 @@ impl IdleConnections {
     pub fn keep(
         &mut self,
         registry: &Registry,
-        wire: Wire<TcpStream>,
+        wire: Box<Wire<TcpStream>>,
         readiness: Readiness,
         most: usize,
         now: Now,
@@ -117,7 +123,7 @@ impl IdleConnections {
     }
 
     /// Holds a connection, and returns its key. Out of memory it is closed.
-    fn hold(&mut self, wire: Wire<TcpStream>) -> Option<usize> {
+    fn hold(&mut self, wire: Box<Wire<TcpStream>>) -> Option<usize> {
         let (unsent, held) = (wire.unsent(), wire.room());
         let key = self.wires.insert(wire).ok()?;
         self.unsent = self.unsent.saturating_add(unsent);
@@ -195,28 +201,15 @@ impl IdleConnections {
         }
     }
 
-    /// Handles events. It returns whether one was that of the listening socket. What is received
+    /// Handles an event of a connection. That of the listening socket is none. What is received
     /// comes into this room first.
-    pub fn stir_all(&mut self, events: &Events<Global>, room: &mut [u8], now: Now) -> bool
-        requires { 0 < length room.old }
-    {
-        let mut listens = false;
-        for event in events.iter() {
-            if event.token() == LISTENS {
-                listens = true;
-            } else {
-                self.stir(event, room, now);
-            }
-        }
-        listens
-    }
-
-    /// Handles an event of a connection.
-    fn stir(&mut self, event: &Event, room: &mut [u8], now: Now)
+    pub fn stir(&mut self, event: &Event, room: &mut [u8], now: Now)
         requires { 0 < length room.old }
     {
         let Token(place) = event.token();
-        let key = place.saturating_sub(1);
+        let Some(key) = place.checked_sub(1) else {
+            return;
+        };
         if let Some(wire) = self.wires.get_mut(key) {
             wire.wake(event.is_read_closed() || event.is_error());
         }
@@ -246,7 +239,7 @@ impl IdleConnections {
     }
 
     /// The connection that has waited in a queue for the longest time.
-    pub fn take_ready(&mut self, queue: Queue) -> Option<Wire<TcpStream>> {
+    pub fn take_ready(&mut self, queue: Queue) -> Option<Box<Wire<TcpStream>>> {
         for _ in 0..MOST_STALE {
             let key = match queue {
                 Queue::Heavy => self.heavy.pop_front()?,
@@ -268,7 +261,7 @@ impl IdleConnections {
     }
 
     /// Takes the connection at a key out.
-    fn remove(&mut self, key: usize) -> Option<Wire<TcpStream>> {
+    fn remove(&mut self, key: usize) -> Option<Box<Wire<TcpStream>>> {
         self.timeouts.clear(key);
         let wire = self.wires.try_remove(key)?;
         self.unsent = self.unsent.saturating_sub(wire.unsent());

@@ -8,17 +8,19 @@ use crate::incoming::Given;
 use crate::now::micros;
 use crate::socket::Sent;
 use crate::wire::Wire;
+use std::boxed::Box;
 use std::io::{Read, Write};
 use std::time::Clock;
 use td_base::{Conn, ReadStep, WriteStep};
 
 /// A connection over a stream that does not block, for a stretch of whole heads. It reads the clock
-/// before each read but the first, so that something is served before its turn is spent. To the
-/// contract of [`Conn`] it states no bytes, since the end of a stretch is not that of its stream.
-/// Its counts are the failed reads and writes of the stretch.
+/// before each read but the first, so that something is served before its turn is spent. It does
+/// not where a read can only end the stretch. To the contract of [`Conn`] it states no bytes, since
+/// the end of a stretch is not that of its stream. Its counts are the failed reads and writes of
+/// the stretch.
 #[derive(Drop)]
 pub struct RealConn<S, R> {
-    wire: Wire<S>,
+    wire: Box<Wire<S>>,
     clock: R,
     /// Whether it was read in this stretch.
     was_read: bool,
@@ -28,7 +30,7 @@ pub struct RealConn<S, R> {
 
 impl<S, R: Drop> RealConn<S, R> {
     /// The connection, of which no call failed in this stretch yet.
-    pub(crate) fn new(wire: Wire<S>, clock: R) -> RealConn<S, R>
+    pub(crate) fn new(wire: Box<Wire<S>>, clock: R) -> RealConn<S, R>
         ensures { IsUnfailed (conn_view result) }
     {
         RealConn {
@@ -41,7 +43,7 @@ impl<S, R: Drop> RealConn<S, R> {
     }
 
     /// What is left of the connection at the end of the stretch.
-    pub(crate) fn into_wire(self) -> Wire<S>
+    pub(crate) fn into_wire(self) -> Box<Wire<S>>
         ensures { result ≡ self.wire }
     {
         let RealConn { wire, .. } = self;
@@ -50,15 +52,19 @@ impl<S, R: Drop> RealConn<S, R> {
 }
 
 impl<S, R: Clock> RealConn<S, R> {
-    /// Reads the clock for its turn, unless this is the first read of the stretch.
+    /// Reads the clock for its turn, unless this is the first read of the stretch, or nothing is
+    /// left to give in it.
     fn look_at_clock(&mut self)
-        ensures incoming { self.new.wire.incoming ≡ self.old.wire.incoming }
-        ensures outgoing { self.new.wire.outgoing ≡ self.old.wire.outgoing }
-        ensures stream { self.new.wire.stream ≡ self.old.wire.stream }
+        ensures incoming { self.new.wire.value.incoming ≡ self.old.wire.value.incoming }
+        ensures outgoing { self.new.wire.value.outgoing ≡ self.old.wire.value.outgoing }
+        ensures stream { self.new.wire.value.stream ≡ self.old.wire.value.stream }
         ensures faults { conn_view self.new ≡ conn_view self.old }
     {
         if !self.was_read {
             self.was_read = true;
+            return;
+        }
+        if self.wire.is_exhausted() {
             return;
         }
         if let Ok(time) = self.clock.monotonic() {
@@ -75,10 +81,12 @@ impl<S: Read + Write, R: Clock> Conn for RealConn<S, R> {
         requires { 0 < length room.old }
         ensures read { ConnReads (conn_view self.old) (conn_view self.new) result room.new }
         ensures gives { GivesStep
-            (to_give self.old.wire.incoming (S.remaining self.old.wire.stream))
-            (to_give self.new.wire.incoming (S.remaining self.new.wire.stream)) result room.new }
+            (to_give self.old.wire.value.incoming (S.remaining self.old.wire.value.stream))
+            (to_give self.new.wire.value.incoming (S.remaining self.new.wire.value.stream))
+            result room.new }
         ensures end { result ≡ ReadStep.End
-            → EndsStretch self.old.wire.outgoing self.new.wire.turn self.new.wire.incoming }
+            → EndsStretch self.old.wire.value.outgoing self.new.wire.value.turn
+            self.new.wire.value.incoming }
     {
         self.look_at_clock();
         match self.wire.read(room) {
@@ -96,8 +104,9 @@ impl<S: Read + Write, R: Clock> Conn for RealConn<S, R> {
         requires { 0 < length piece.now }
         ensures write { ConnWrites (conn_view self.old) (conn_view self.new) result piece.now }
         ensures written { WriteTells
-            (written self.old.wire.outgoing (S.contents self.old.wire.stream))
-            (written self.new.wire.outgoing (S.contents self.new.wire.stream)) result piece.now }
+            (written self.old.wire.value.outgoing (S.contents self.old.wire.value.stream))
+            (written self.new.wire.value.outgoing (S.contents self.new.wire.value.stream))
+            result piece.now }
     {
         match self.wire.write(piece) {
             Sent::Bytes(count) => WriteStep::Took(count),

@@ -162,6 +162,11 @@ impl<S> Wire<S> {
         self.queue
     }
 
+    /// Whether this is a quick turn, and no byte is left to give in it.
+    pub fn is_exhausted(&self) -> bool {
+        self.queue != Queue::Heavy && self.incoming.is_empty()
+    }
+
     /// Chooses where it waits for its next turn, by its last one and by what it requests.
     fn classify(&mut self)
         ensures { self.new ≡ record self.old {

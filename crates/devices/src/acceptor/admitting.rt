@@ -6,6 +6,7 @@ use crate::passing::{is_passing, is_short};
 use crate::wire::{Readiness, Wire};
 use mio::Interest;
 use mio::unix::SourceFd;
+use std::boxed::Box;
 use std::io;
 use std::io::{Eprint, ErrorKind};
 use std::net::TcpStream;
@@ -19,7 +20,7 @@ const MOST_ACCEPTED: u32 = 16;
 /// What accepting came to.
 pub(super) enum Admitted {
     /// A connection whose first request has come.
-    Ready(Wire<TcpStream>),
+    Ready(Box<Wire<TcpStream>>),
     /// None can be served yet.
     None,
     /// An accept failed, and the next may fail too: retrying at once is useless.
@@ -61,7 +62,7 @@ impl<R: Clock + Eprint + Copy> Acceptor<R> {
     }
 
     /// Accepts a connection, if one waits. It is returned if it can be served at once.
-    fn admit(&mut self) -> io::Result<Option<Wire<TcpStream>>> {
+    fn admit(&mut self) -> io::Result<Option<Box<Wire<TcpStream>>>> {
         match next_stream(&self.listening) {
             Ok(stream) => {
                 self.short = false;
@@ -80,10 +81,11 @@ impl<R: Clock + Eprint + Copy> Acceptor<R> {
     }
 
     /// Takes a new connection. It is returned if its first request has come and is a quick one. A
-    /// costly one waits in its queue, while that has room, so that quick ones overtake it.
-    fn receive(&mut self, stream: TcpStream) -> Option<Wire<TcpStream>> {
+    /// costly one waits in its queue, while that has room, so that quick ones overtake it. Out of
+    /// memory it is closed.
+    fn receive(&mut self, stream: TcpStream) -> Option<Box<Wire<TcpStream>>> {
         let now = self.now();
-        let mut wire = Wire::new(self.alloc, stream, now);
+        let mut wire = Box::new(self.alloc, Wire::new(self.alloc, stream, now)).ok()?;
         let readiness = wire.advance(&mut self.room, now);
         let is_quick = wire.queue() != Queue::Heavy;
         if readiness == Readiness::Ready && (is_quick || self.idle.heavy() >= self.most / 2) {

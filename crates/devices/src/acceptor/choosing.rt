@@ -1,8 +1,10 @@
 //! Which connection a worker serves next, and the events for which a listener waits.
-use crate::acceptor::Acceptor;
 use crate::acceptor::admitting::Admitted;
+use crate::acceptor::{Acceptor, MOST_EVENTS};
+use crate::idle_connections::has_listener;
 use crate::now::thread_micros;
 use crate::wire::Wire;
+use std::boxed::Box;
 use std::io;
 use std::io::{Eprint, ErrorKind};
 use std::net::TcpStream;
@@ -21,7 +23,7 @@ const MOST_LOOKS: u32 = 65_536;
 impl<R: Clock + Eprint + Copy> Acceptor<R> {
     /// The next connection that can be served, if one comes before this time in milliseconds. The
     /// loop polls between two turns once in 250 microseconds, even while others can be served.
-    pub(super) fn coming(&mut self, end: u64) -> io::Result<Option<Wire<TcpStream>>> {
+    pub(super) fn coming(&mut self, end: u64) -> io::Result<Option<Box<Wire<TcpStream>>>> {
         for _ in 0..MOST_LOOKS {
             if self.time >= end {
                 break;
@@ -55,17 +57,51 @@ impl<R: Clock + Eprint + Copy> Acceptor<R> {
         }
     }
 
-    /// In which queues a connection may wait.
+    /// In which queues a connection may wait. Events are handled until that is known.
     fn waiting(&mut self) -> Waiting {
         let own = self.idle.count();
         self.shares.report(own);
         let fresh = self.takes();
+        self.handle_some(fresh);
         self.idle.waiting(fresh)
+    }
+
+    /// Handles events until a quick connection waits. Where new or costly ones wait, all events are
+    /// handled, since the order of the queues rests on who waits.
+    fn handle_some(&mut self, fresh: bool) {
+        for _ in 0..MOST_EVENTS {
+            let waiting = self.idle.waiting(fresh);
+            let is_enough = waiting.light && !waiting.fresh && !waiting.heavy;
+            if is_enough || !self.handle_next() {
+                return;
+            }
+        }
+    }
+
+    /// Handles all events that are left.
+    fn handle_all(&mut self) {
+        for _ in 0..MOST_EVENTS {
+            if !self.handle_next() {
+                return;
+            }
+        }
+    }
+
+    /// Handles the first event that is left, and returns whether there was one.
+    fn handle_next(&mut self) -> bool {
+        let Some(event) = self.events.iter().as_slice().get(self.next_event).copied() else {
+            return false;
+        };
+        self.next_event = self.next_event.saturating_add(1);
+        let now = self.now();
+        self.idle.stir(&event, &mut self.room, now);
+        true
     }
 
     /// Polls, and waits for events if nothing else can be done. After a failed accept it does not
     /// retry before an event.
     fn look(&mut self, end: u64, in_vain: bool) -> io::Result<()> {
+        self.handle_all();
         let left = end.saturating_sub(self.time);
         let waiting = self.idle.waiting(false);
         let patience = if waiting.light || waiting.heavy {
@@ -80,27 +116,35 @@ impl<R: Clock + Eprint + Copy> Acceptor<R> {
         self.wait(patience)
     }
 
-    /// Waits for events for so many milliseconds at most, or until a signal, and handles them.
+    /// Handles the events that are left, and waits for others for so many milliseconds at most, or
+    /// until a signal.
     pub(super) fn wait(&mut self, millis: u64) -> io::Result<()> {
+        self.handle_all();
         self.poll_events(millis)?;
         self.tick();
         self.polled = self.micros;
         self.read_ran();
-        let now = self.now();
-        let listens = self.idle.stir_all(&self.events, &mut self.room, now);
-        if listens && !self.comes {
+        if !self.comes && has_listener(&self.events) {
             self.comes = true;
             self.came = self.time;
         }
         if self.time.saturating_sub(self.swept) >= SWEEP_MILLIS {
-            self.swept = self.time;
-            self.idle.sweep(&mut self.room, now);
+            self.sweep();
         }
         Ok(())
     }
 
+    /// Closes the connections that rested for too long, after the events that are left.
+    fn sweep(&mut self) {
+        self.handle_all();
+        self.swept = self.time;
+        let now = self.now();
+        self.idle.sweep(&mut self.room, now);
+    }
+
     /// Waits for events for so many milliseconds at most, or until a signal.
     fn poll_events(&mut self, millis: u64) -> io::Result<()> {
+        self.next_event = 0;
         let wait = Duration::from_millis(millis);
         match self.poll.poll(&mut self.events, Some(wait)) {
             Err(error) if error.kind() != ErrorKind::Interrupted => Err(error),
