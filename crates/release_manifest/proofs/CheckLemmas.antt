@@ -3,10 +3,10 @@ use Rattle.std.proofs.Common.{◌≡◌, ◌≢◌, ◌<◌, ℕ, ◌+◌, true,
 use Rattle.std.proofs.Common.{drop-cons, cond, ◌≤◌, Option, None, Some, Result, Ok, Err, IsErrAnd}
 use Rattle.std.proofs.lemmas.List.{append-nil, drop_all}
 use Rattle.std.specs.Option.{option_or}
-use Rattle.serde_json.specs.Data.{Data, Items, item}
-use Rattle.serde_json.specs.View.{view, items_view}
-use Rattle.serde_json.specs.declared.value.Value.{Value}
-use Rattle.serde_json.specs.Find.{as_array}
+use Rattle.json.specs.Json.{Json, Items, item}
+use Rattle.json.specs.Value.{value_view, items_view}
+use Rattle.json.specs.declared.value.Value.{Value}
+use Rattle.json.specs.Find.{as_array}
 use Rattle.release_manifest.specs.declared.manifest_fault.Path.TheVariants as path
 use Rattle.release_manifest.specs.Checks.{Check, first_failing, each_checks, text_checks, alias_checks}
 use Rattle.release_manifest.specs.Meaning.{AllAre}
@@ -21,49 +21,50 @@ first_failing-append (c ∷ cs) b =
     [ true ↦ first_failing-append cs b | false ↦ refl ]
 
 -- the next of the values of a list
-next_of : (vs : List Value) (i : ℕ) (v : Value) → i < length vs → drop i vs ≡ get_or vs i v ∷ drop (i + 1) vs
+next_of : {A : Type 0} (vs : List (Value A)) (i : ℕ) (v : Value A) → i < length vs → drop i vs ≡ get_or vs i v ∷ drop (i + 1) vs
 next_of vs i v h = rw (add-one, drop-cons vs i v)
 
-pub next_value : (vs : List Value) (i : ℕ) (v : Value) → i < length vs → v ≡ get_or vs i v
-    → items_view (drop i vs) ≡ item (view v) (items_view (drop (i + 1) vs))
+pub next_value : {A : Type 0} (vs : List (Value A)) (i : ℕ) (v : Value A) → i < length vs → v ≡ get_or vs i v
+    → items_view (drop i vs) ≡ item (value_view v) (items_view (drop (i + 1) vs))
 next_value vs i v h e =
-    ap items_view (next_of vs i v h) ∙ ap (λ x. item (view x) (items_view (drop (i + 1) vs))) (sym e)
+    ap items_view (next_of vs i v h) ∙ ap (λ x. item (value_view x) (items_view (drop (i + 1) vs))) (sym e)
 
 -- The checks of the values from one on, of which that one passes.
-pub next_passes : (checks : ℕ → Data → List Check) (vs : List Value) (i : ℕ) (v : Value) → i < length vs → v ≡ get_or vs i v
-    → first_failing (checks i (view v)) ≡ None
+pub next_passes : {A : Type 0} (checks : ℕ → Json → List Check) (vs : List (Value A)) (i : ℕ) (v : Value A) → i < length vs → v ≡ get_or vs i v
+    → first_failing (checks i (value_view v)) ≡ None
     → first_failing (each_checks checks i (items_view (drop i vs))) ≡ first_failing (each_checks checks (i + 1) (items_view (drop (i + 1) vs)))
 unfolding each_checks
 next_passes checks vs i v h e passes =
     ap (λ ds. first_failing (each_checks checks i ds)) (next_value vs i v h e)
-    ∙ first_failing-append (checks i (view v)) _ ∙ rw passes
+    ∙ first_failing-append (checks i (value_view v)) _ ∙ rw passes
 
 -- The same where it does not.
-pub next_fails : (checks : ℕ → Data → List Check) (vs : List Value) (i : ℕ) (v : Value) (f : ManifestFault) → i < length vs → v ≡ get_or vs i v
-    → first_failing (checks i (view v)) ≡ Some f
+pub next_fails : {A : Type 0} (checks : ℕ → Json → List Check) (vs : List (Value A)) (i : ℕ) (v : Value A) (f : ManifestFault)
+    → i < length vs → v ≡ get_or vs i v
+    → first_failing (checks i (value_view v)) ≡ Some f
     → first_failing (each_checks checks i (items_view (drop i vs))) ≡ Some f
 unfolding each_checks
 next_fails checks vs i v f h e fails =
     ap (λ ds. first_failing (each_checks checks i ds)) (next_value vs i v h e)
-    ∙ first_failing-append (checks i (view v)) _ ∙ rw fails
+    ∙ first_failing-append (checks i (value_view v)) _ ∙ rw fails
 
 -- one more of the values
-pub next_is : {X : Type 0} (Is : Data → X → Type 0) (vs : List Value) (i : ℕ) (v : Value) (found : List X) (x : X) → i < length vs → v ≡ get_or vs i v
+pub next_is : {A X : Type 0} (Is : Json → X → Type 0) (vs : List (Value A)) (i : ℕ) (v : Value A) (found : List X) (x : X) → i < length vs → v ≡ get_or vs i v
     → ((rest : List X) → AllAre Is (items_view (drop i vs)) rest → AllAre Is (items_view vs) (found ++ rest))
-    → Is (view v) x
+    → Is (value_view v) x
     → (rest : List X) → AllAre Is (items_view (drop (i + 1) vs)) rest → AllAre Is (items_view vs) ((found ++ x ∷ []) ++ rest)
 next_is Is vs i v found x h e so_far is rest all =
     rw append_assoc (so_far (x ∷ rest) (rw (next_value vs i v h e) (is, all)))
 
 -- no more of the values
-pub all_are : {X : Type 0} (Is : Data → X → Type 0) (vs : List Value) (i : ℕ) (found : List X) → length vs ≤ i
+pub all_are : {A X : Type 0} (Is : Json → X → Type 0) (vs : List (Value A)) (i : ℕ) (found : List X) → length vs ≤ i
     → ((rest : List X) → AllAre Is (items_view (drop i vs)) rest → AllAre Is (items_view vs) (found ++ rest))
     → AllAre Is (items_view vs) found
 all_are Is vs i found end so_far =
     rw append-nil at (so_far [] (rw (drop_all i vs end) tt))
 
 -- the checks of no values
-pub none_fails : (checks : ℕ → Data → List Check) (vs : List Value) (i : ℕ) → length vs ≤ i
+pub none_fails : {A : Type 0} (checks : ℕ → Json → List Check) (vs : List (Value A)) (i : ℕ) → length vs ≤ i
     → first_failing (each_checks checks i (items_view (drop i vs))) ≡ None
 unfolding each_checks
 none_fails checks vs i end = rw (drop_all i vs end)
@@ -75,7 +76,7 @@ judges_after (Ok x) c cs passes judged = rw passes judged
 judges_after (Err e) c cs passes judged = λ n. rw passes (judged n)
 
 -- the aliases where there is a list of them
-pub judges_aliases : {T : Type 0} (r : Result T ManifestFault) (zone : ℕ) (member : Option Data) (d : Data) (items : Items)
+pub judges_aliases : {T : Type 0} (r : Result T ManifestFault) (zone : ℕ) (member : Option Json) (d : Json) (items : Items)
     → Some d ≡ member → Some items ≡ as_array d
     → JudgesChecks r (each_checks (λ n alias. text_checks (path.Alias zone n) (Some alias)) 0 items) → JudgesChecks r (alias_checks zone member)
 unfolding alias_checks

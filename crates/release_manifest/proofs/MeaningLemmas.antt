@@ -6,8 +6,8 @@ use Rattle.std.proofs.lemmas.Option.{same_Some}
 use Rattle.std.specs.Int.Signed.{le_z_yes, lt_z_yes}
 use Rattle.std.proofs.lemmas.Float.{T_from_true}
 use Rattle.td_civil.specs.declared.moment_type.TheConstants.{LO, HI}
-use Rattle.serde_json.specs.Data.{Data, null, boolean, number, string, array, object, Items, item, no_items}
-use Rattle.serde_json.specs.Find.{get, as_str, as_array}
+use Rattle.json.specs.Json.{Json, null, boolean, number, string, array, object, Items, item, no_items}
+use Rattle.json.specs.Find.{get, as_str, as_array}
 use Rattle.td_base.specs.Names.{is_label, is_file_name}
 use Rattle.td_civil.specs.Bounds.{HasMeaning, has_meaning}
 use Rattle.td_civil.specs.Reading.{moment_in, is_date_text}
@@ -64,7 +64,7 @@ spelled (Some m) h = (m, refl, h)
 -- ---- members
 
 -- what has a text as a member is an object
-object_passes : (at : Path) (d : Data) (name text : List ℕ) → option_and_then as_str (get name d) ≡ Some text
+object_passes : (at : Path) (d : Json) (name text : List ℕ) → option_and_then as_str (get name d) ≡ Some text
     → first_failing (object_checks at d) ≡ None
 unfolding object_checks
 object_passes at null name text is = cc
@@ -74,22 +74,22 @@ object_passes at (string s) name text is = cc
 object_passes at (array ds) name text is = cc
 object_passes at (object ms) name text is = refl
 
-text_passes : (at : Path) (member : Option Data) (text : List ℕ) → option_and_then as_str member ≡ Some text
+text_passes : (at : Path) (member : Option Json) (text : List ℕ) → option_and_then as_str member ≡ Some text
     → first_failing (text_checks at member) ≡ None
 unfolding text_checks
 text_passes at member text is = rw is
 
-text_there : (at : Path) (member : Option Data) → first_failing (text_checks at member) ≡ None
+text_there : (at : Path) (member : Option Json) → first_failing (text_checks at member) ≡ None
     → (text : List ℕ) × (option_and_then as_str member ≡ Some text)
 unfolding text_checks
 text_there at member h = there (option_and_then as_str member) (cond_none _ _ _ h).0
 
-form_passes : (form : List ℕ → Bool) (at : Path) (member : Option Data) (text : List ℕ) → IsForm form member text
+form_passes : (form : List ℕ → Bool) (at : Path) (member : Option Json) (text : List ℕ) → IsForm form member text
     → first_failing (form_checks form at member) ≡ None
 unfolding form_checks
 form_passes form at member text is = rw (is.is, is.fits)
 
-form_there : (form : List ℕ → Bool) (at : Path) (member : Option Data) → first_failing (form_checks form at member) ≡ None
+form_there : (form : List ℕ → Bool) (at : Path) (member : Option Json) → first_failing (form_checks form at member) ≡ None
     → (text : List ℕ) × IsForm form member text
 unfolding form_checks
 form_there form at member h =
@@ -98,13 +98,13 @@ form_there form at member h =
     let fits : form (unwrap_or (option_and_then as_str member) []) ≡ true = (cond_none _ _ _ parts.1).0 in
     (found.0, record { is = found.1; fits = rw found.1 at fits })
 
-form_one : (form : List ℕ → Bool) (member : Option Data) (a b : List ℕ) → IsForm form member a → IsForm form member b → a ≡ b
+form_one : (form : List ℕ → Bool) (member : Option Json) (a b : List ℕ) → IsForm form member a → IsForm form member b → a ≡ b
 form_one form member a b p q = same_Some a b (sym p.is ∙ q.is)
 
 -- ---- lists
 
-each_passes : {X : Type 0} (Is : Data → X → Type 0) (checks : ℕ → Data → List Check)
-    → ((n : ℕ) (d : Data) (x : X) → Is d x → first_failing (checks n d) ≡ None)
+each_passes : {X : Type 0} (Is : Json → X → Type 0) (checks : ℕ → Json → List Check)
+    → ((n : ℕ) (d : Json) (x : X) → Is d x → first_failing (checks n d) ≡ None)
     → (n : ℕ) (ds : Items) (xs : List X) → AllAre Is ds xs → first_failing (each_checks checks n ds) ≡ None
 unfolding each_checks
 each_passes Is checks passes n no_items xs all = refl
@@ -112,8 +112,8 @@ each_passes Is checks passes n (item d ds) [] all = absurd all
 each_passes Is checks passes n (item d ds) (x ∷ xs) all =
     none_in_both (checks n d) _ (passes n d x all.0) (each_passes Is checks passes (n + 1) ds xs all.1)
 
-each_there : {X : Type 0} (Is : Data → X → Type 0) (checks : ℕ → Data → List Check)
-    → ((n : ℕ) (d : Data) → first_failing (checks n d) ≡ None → (x : X) × Is d x)
+each_there : {X : Type 0} (Is : Json → X → Type 0) (checks : ℕ → Json → List Check)
+    → ((n : ℕ) (d : Json) → first_failing (checks n d) ≡ None → (x : X) × Is d x)
     → (n : ℕ) (ds : Items) → first_failing (each_checks checks n ds) ≡ None → (xs : List X) × AllAre Is ds xs
 unfolding each_checks
 each_there Is checks finds n no_items h = ([], tt)
@@ -123,7 +123,7 @@ each_there Is checks finds n (item d ds) h =
     let xs = each_there Is checks finds (n + 1) ds parts.1 in
     (x.0 ∷ xs.0, (x.1, xs.1))
 
-all_one : {X : Type 0} (Is : Data → X → Type 0) → ((d : Data) (x y : X) → Is d x → Is d y → x ≡ y)
+all_one : {X : Type 0} (Is : Json → X → Type 0) → ((d : Json) (x y : X) → Is d x → Is d y → x ≡ y)
     → (ds : Items) (xs ys : List X) → AllAre Is ds xs → AllAre Is ds ys → xs ≡ ys
 all_one Is one no_items [] [] p q = refl
 all_one Is one no_items [] (y ∷ ys) p q = absurd q
@@ -135,7 +135,7 @@ all_one Is one (item d ds) (x ∷ xs) (y ∷ ys) p q =
 
 -- ---- aliases
 
-aliases_pass : (zone : ℕ) (member : Option Data) (texts : List (List ℕ)) → AreAliases member texts
+aliases_pass : (zone : ℕ) (member : Option Json) (texts : List (List ℕ)) → AreAliases member texts
     → first_failing (alias_checks zone member) ≡ None
 unfolding alias_checks
 aliases_pass zone None texts are = refl
@@ -144,7 +144,7 @@ aliases_pass zone (Some d) texts are =
     (each_passes IsText (λ n alias. text_checks (path.Alias zone n) (Some alias))
     (λ n alias text is. text_passes (path.Alias zone n) (Some alias) text is) 0 are.0 texts are.2)
 
-aliases_there : (zone : ℕ) (member : Option Data) → first_failing (alias_checks zone member) ≡ None
+aliases_there : (zone : ℕ) (member : Option Json) → first_failing (alias_checks zone member) ≡ None
     → (texts : List (List ℕ)) × AreAliases member texts
 unfolding alias_checks
 aliases_there zone None h = ([], refl)
@@ -155,10 +155,10 @@ aliases_there zone (Some d) h =
     (λ n alias passes. text_there (path.Alias zone n) (Some alias) passes) 0 items.0 (rw items.1 at parts.1) in
     (all.0, (items.0, items.1, all.1))
 
-text_one : (d : Data) (a b : List ℕ) → IsText d a → IsText d b → a ≡ b
+text_one : (d : Json) (a b : List ℕ) → IsText d a → IsText d b → a ≡ b
 text_one d a b p q = same_Some a b (sym p ∙ q)
 
-aliases_one : (member : Option Data) (a b : List (List ℕ)) → AreAliases member a → AreAliases member b → a ≡ b
+aliases_one : (member : Option Json) (a b : List (List ℕ)) → AreAliases member a → AreAliases member b → a ≡ b
 aliases_one None a b p q = p ∙ sym q
 aliases_one (Some d) a b p q =
     let same : p.0 ≡ q.0 = same_Some p.0 q.0 (sym p.1 ∙ q.1) in
@@ -166,7 +166,7 @@ aliases_one (Some d) a b p q =
 
 -- ---- zones
 
-zone_passes : (n : ℕ) (d : Data) (z : ManifestZone) → IsZone d z → first_failing (zone_checks n d) ≡ None
+zone_passes : (n : ℕ) (d : Json) (z : ManifestZone) → IsZone d z → first_failing (zone_checks n d) ≡ None
 unfolding zone_checks
 zone_passes n d z is =
     simp (
@@ -177,7 +177,7 @@ zone_passes n d z is =
       aliases_pass n (get (codes "aliases") d) z.aliases is.aliases,
     )
 
-zone_there : (n : ℕ) (d : Data) → first_failing (zone_checks n d) ≡ None → (z : ManifestZone) × IsZone d z
+zone_there : (n : ℕ) (d : Json) → first_failing (zone_checks n d) ≡ None → (z : ManifestZone) × IsZone d z
 unfolding zone_checks
 zone_there n d h =
     let parts = none_of_four (object_checks (path.Zone n) d) (text_checks (path.Tzid n) (get (codes "tzid") d))
@@ -192,17 +192,17 @@ zone_there n d h =
 abbrev zone_of : List ℕ → List ℕ → List (List ℕ) → ManifestZone
 zone_of tzid file aliases = record { tzid = tzid; file = file; aliases = aliases }
 
-zone_one : (d : Data) (a b : ManifestZone) → IsZone d a → IsZone d b → a ≡ b
+zone_one : (d : Json) (a b : ManifestZone) → IsZone d a → IsZone d b → a ≡ b
 zone_one d a b p q =
     ap (λ tzid. zone_of tzid a.file a.aliases) (same_Some a.tzid b.tzid (sym p.tzid ∙ q.tzid))
     ∙ ap (λ file. zone_of b.tzid file a.aliases) (form_one is_file_name _ a.file b.file p.file q.file)
     ∙ ap (λ aliases. zone_of b.tzid b.file aliases) (aliases_one _ a.aliases b.aliases p.aliases q.aliases)
 
-zones_pass : (member : Option Data) (zs : List ManifestZone) → AreZonesOf member zs → first_failing (zones_checks member) ≡ None
+zones_pass : (member : Option Json) (zs : List ManifestZone) → AreZonesOf member zs → first_failing (zones_checks member) ≡ None
 unfolding zones_checks
 zones_pass member zs are = rw are.is (each_passes IsZone zone_checks zone_passes 0 are.items zs are.zones)
 
-zones_there : (member : Option Data) → first_failing (zones_checks member) ≡ None → (zs : List ManifestZone) × AreZonesOf member zs
+zones_there : (member : Option Json) → first_failing (zones_checks member) ≡ None → (zs : List ManifestZone) × AreZonesOf member zs
 unfolding zones_checks
 zones_there member h =
     let parts = cond_none _ _ _ h in
@@ -210,14 +210,14 @@ zones_there member h =
     let all = each_there IsZone zone_checks zone_there 0 items.0 (rw items.1 at parts.1) in
     (all.0, record { items = items.0; is = items.1; zones = all.1 })
 
-zones_one : (member : Option Data) (a b : List ManifestZone) → AreZonesOf member a → AreZonesOf member b → a ≡ b
+zones_one : (member : Option Json) (a b : List ManifestZone) → AreZonesOf member a → AreZonesOf member b → a ≡ b
 zones_one member a b p q =
     let same : p.items ≡ q.items = same_Some p.items q.items (sym p.is ∙ q.is) in
     all_one IsZone zone_one q.items a b (subst (λ items. AllAre IsZone items a) same p.zones) q.zones
 
 -- ---- leap seconds
 
-leaps_pass : (member : Option Data) (leaps : Option ManifestLeaps) → AreLeaps member leaps → first_failing (leap_checks member) ≡ None
+leaps_pass : (member : Option Json) (leaps : Option ManifestLeaps) → AreLeaps member leaps → first_failing (leap_checks member) ≡ None
 unfolding leap_checks
 leaps_pass None None are = refl
 leaps_pass None (Some l) are = absurd are
@@ -230,7 +230,7 @@ leaps_pass (Some d) (Some l) are =
       form_passes is_date_text path.Expires (get (codes "expires") d) l.expires are.expires,
     )
 
-leaps_there : (member : Option Data) → first_failing (leap_checks member) ≡ None
+leaps_there : (member : Option Json) → first_failing (leap_checks member) ≡ None
     → (leaps : Option ManifestLeaps) × AreLeaps member leaps
 unfolding leap_checks
 leaps_there None h = (None, tt)
@@ -244,12 +244,12 @@ leaps_there (Some d) h =
 abbrev leaps_of : List ℕ → List ℕ → ManifestLeaps
 leaps_of file expires = record { file = file; expires = expires }
 
-leap_one : (d : Data) (a b : ManifestLeaps) → IsLeaps d a → IsLeaps d b → a ≡ b
+leap_one : (d : Json) (a b : ManifestLeaps) → IsLeaps d a → IsLeaps d b → a ≡ b
 leap_one d a b p q =
     ap (λ file. leaps_of file a.expires) (form_one is_file_name _ a.file b.file p.file q.file)
     ∙ ap (λ expires. leaps_of b.file expires) (form_one is_date_text _ a.expires b.expires p.expires q.expires)
 
-leaps_one : (member : Option Data) (a b : Option ManifestLeaps) → AreLeaps member a → AreLeaps member b → a ≡ b
+leaps_one : (member : Option Json) (a b : Option ManifestLeaps) → AreLeaps member a → AreLeaps member b → a ≡ b
 leaps_one None None None p q = refl
 leaps_one None None (Some y) p q = absurd q
 leaps_one None (Some x) b p q = absurd p
@@ -278,12 +278,12 @@ within_fact m h =
     let tests = both_true (int_le LO m) (int_lt m HI) h in
     (le_z_yes (T_from_true _ tests.0), lt_z_yes (T_from_true _ tests.1))
 
-stamp_passes : (member : Option Data) (m : Moment) → IsStampOf member m
+stamp_passes : (member : Option Json) (m : Moment) → IsStampOf member m
     → first_failing (form_checks is_stamp_text path.Stamp member) ≡ None
 unfolding form_checks is_stamp_text
 stamp_passes member m is = rw (is.is, is.spells, within_test m.seconds is.within)
 
-stamp_there : (member : Option Data) → first_failing (form_checks is_stamp_text path.Stamp member) ≡ None
+stamp_there : (member : Option Json) → first_failing (form_checks is_stamp_text path.Stamp member) ≡ None
     → (m : Moment) × IsStampOf member m
 unfolding is_stamp_text
 stamp_there member h =
@@ -294,7 +294,7 @@ stamp_there member h =
 abbrev moment_at : ℤ → Moment
 moment_at seconds = record { seconds = seconds }
 
-stamp_one : (member : Option Data) (a b : Moment) → IsStampOf member a → IsStampOf member b → a ≡ b
+stamp_one : (member : Option Json) (a b : Moment) → IsStampOf member a → IsStampOf member b → a ≡ b
 stamp_one member a b p q =
     let same : p.text ≡ q.text = same_Some p.text q.text (sym p.is ∙ q.is) in
     let seconds : a.seconds ≡ b.seconds = same_Some a.seconds b.seconds (sym p.spells ∙ ap moment_in same ∙ q.spells) in
@@ -302,7 +302,7 @@ stamp_one member a b p q =
 
 -- ---- the whole
 
-pub no_fault : (d : Data) (m : Manifest) → IsManifest d m → document_fault d ≡ None
+pub no_fault : (d : Json) (m : Manifest) → IsManifest d m → document_fault d ≡ None
 unfolding document_fault manifest_checks
 no_fault d m is =
     simp (
@@ -315,7 +315,7 @@ no_fault d m is =
       leaps_pass (get (codes "leapseconds") d) m.leaps is.leaps,
     )
 
-pub has_manifest : (d : Data) → document_fault d ≡ None → (m : Manifest) × IsManifest d m
+pub has_manifest : (d : Json) → document_fault d ≡ None → (m : Manifest) × IsManifest d m
 unfolding document_fault manifest_checks
 has_manifest d h =
     let last = none_of_both
@@ -343,7 +343,7 @@ abbrev manifest_of : List ℕ → List ℕ → Moment → List ManifestZone → 
 manifest_of publisher version stamp zones leaps =
     record { publisher = publisher; version = version; stamp = stamp; zones = zones; leaps = leaps }
 
-pub one_manifest : (d : Data) (a b : Manifest) → IsManifest d a → IsManifest d b → a ≡ b
+pub one_manifest : (d : Json) (a b : Manifest) → IsManifest d a → IsManifest d b → a ≡ b
 one_manifest d a b p q =
     ap (λ publisher. manifest_of publisher a.version a.stamp a.zones a.leaps)
     (form_one is_label _ a.publisher b.publisher p.publisher q.publisher)

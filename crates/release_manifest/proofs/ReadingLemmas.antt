@@ -1,29 +1,67 @@
 -- From bytes to a manifest.
-use Rattle.std.proofs.Common.{◌≡◌, ◌≢◌, ◌<◌, ◌≤◌, ℕ, Bool, true, false, cond, List, length, refl, sym, ap, ◌∙◌, Option, None, Some, Result, Ok, Err, IfOk}
+use Rattle.std.proofs.Common.{◌≡◌, ◌≢◌, ◌<◌, ◌≤◌, ℕ, Bool, true, false, cond, List, [], ◌∷◌, length, refl, sym, ap, ◌∙◌, Option, None, Some, Result, Ok, Err, IfOk}
 use Rattle.std.proofs.Common.{IfErr, IsErrAnd, IsUtf8, nat_le, arith, subst, ◌⊎◌, inl, inr}
-use Rattle.std.specs.Option.{option_map_or}
+use Rattle.std.specs.Option.{option_map_or, option_and_then}
 use Rattle.std.proofs.lemmas.Str.{IsUtf8-from_is_utf8, is_utf8-from_IsUtf8}
 use Rattle.std.proofs.lemmas.Option.{same_Some}
-use Rattle.serde_json.specs.Data.{Data}
-use Rattle.serde_json.specs.Read.{read as read_text}
+use Rattle.json.specs.Json.{Json, if_last, value}
+use Rattle.json.specs.Lex.{tokens}
+use Rattle.json.specs.Token.{Token}
+use Rattle.json.specs.declared.error.Error.{Error}
+use Rattle.json.specs.declared.error.Error.TheVariants as unread
 use Rattle.release_manifest.specs.Checks.{document_fault, manifest_checks}
-use Rattle.release_manifest.specs.Reading.{value_in, manifest_text_fault, JudgesChecks, IsManifestText}
+use Rattle.release_manifest.specs.Reading.{document, value_in, manifest_text_fault, JudgesChecks, IsManifestText, ReadsDocument, ReadsValue}
 use Rattle.release_manifest.specs.Meaning.{IsManifest}
 use Rattle.release_manifest.specs.declared.manifest_type.Manifest.{Manifest}
-use Rattle.release_manifest.specs.declared.manifest_type.TheConstants.{MOST_BYTES}
+use Rattle.release_manifest.specs.declared.manifest_type.TheConstants.{MOST_BYTES, MOST_DEPTH}
 use Rattle.release_manifest.proofs.MeaningLemmas.{cond_none, no_fault, has_manifest, one_manifest}
 use Rattle.release_manifest.specs.declared.manifest_fault.ManifestFault.{ManifestFault}
 use Rattle.release_manifest.specs.declared.manifest_fault.ManifestFault.TheVariants as fault
 
-pub value_read : (text : List ℕ) (d : Data) → IsUtf8 text → read_text text ≡ Some d → value_in text ≡ Some d
-unfolding value_in
-value_read text d utf8 reads = rw (is_utf8-from_IsUtf8 text utf8) reads
+-- ---- a document, from its tokens
 
-chosen_none : (b : Bool) (o : Option Data) → (b ≡ true → o ≡ None) → cond b o None ≡ None
+-- one value, and nothing after it
+pub whole_read : (text : List ℕ) (d : Json) (rest : List Token) → value MOST_DEPTH (tokens text) ≡ Some (d, rest) → rest ≡ []
+    → document text ≡ Some d
+unfolding document
+whole_read text d rest reads none = rw (reads, none)
+
+-- a value, and more after it
+pub more_left : (text : List ℕ) (d : Json) (t : Token) (ts rest : List Token) → value MOST_DEPTH (tokens text) ≡ Some (d, rest)
+    → rest ≡ t ∷ ts → document text ≡ None
+unfolding document
+more_left text d t ts rest reads more = rw (reads, more)
+
+-- no value
+no_document : (text : List ℕ) → value MOST_DEPTH (tokens text) ≡ None → document text ≡ None
+unfolding document
+no_document text none = rw none
+
+-- An error of the reader that is not of memory, nor of a kind that never comes, is that of no value.
+pub none_read : (text : List ℕ) (e : Error) → e ≢ unread.OutOfMemory → e ≢ unread.TooLong → e ≢ unread.DuplicateKey
+    → (e ≡ unread.Invalid → value MOST_DEPTH (tokens text) ≡ None) → document text ≡ None
+none_read text unread.Invalid memory long twice none = no_document text (none refl)
+none_read text unread.OutOfMemory memory long twice none = absurd (memory refl)
+none_read text unread.TooLong memory long twice none = absurd (long refl)
+none_read text unread.DuplicateKey memory long twice none = absurd (twice refl)
+
+-- ---- bytes
+
+bytes_are : (text : List ℕ) → IsUtf8 text → value_in text ≡ document text
+unfolding value_in
+bytes_are text utf8 = rw (is_utf8-from_IsUtf8 text utf8)
+
+-- bytes whose text was read
+pub bytes_read : {T : Type 0} (view : T → Json) (text : List ℕ) (r : Result T ManifestFault) → IsUtf8 text → ReadsDocument view text r
+    → ReadsValue view text r
+bytes_read view text (Ok v) utf8 reads = bytes_are text utf8 ∙ reads
+bytes_read view text (Err e) utf8 reads = λ n. let parts = reads n in (parts.0, bytes_are text utf8 ∙ parts.1)
+
+chosen_none : (b : Bool) (o : Option Json) → (b ≡ true → o ≡ None) → cond b o None ≡ None
 chosen_none true o h = h refl
 chosen_none false o h = refl
 
-pub value_refused : (text : List ℕ) → (IsUtf8 text → read_text text ≡ None) → value_in text ≡ None
+pub value_refused : (text : List ℕ) → (IsUtf8 text → document text ≡ None) → value_in text ≡ None
 unfolding value_in
 value_refused text refused = chosen_none _ _ (λ t. refused (IsUtf8-from_is_utf8 text t))
 
@@ -35,7 +73,7 @@ pub no_value : (text : List ℕ) → length text ≤ MOST_BYTES → value_in tex
 unfolding manifest_text_fault
 no_value text h none = let e : nat_le (length text) MOST_BYTES ≡ true = grind arith in rw (e, none)
 
-pub of_value : (text : List ℕ) (d : Data) → length text ≤ MOST_BYTES → value_in text ≡ Some d → manifest_text_fault text ≡ document_fault d
+pub of_value : (text : List ℕ) (d : Json) → length text ≤ MOST_BYTES → value_in text ≡ Some d → manifest_text_fault text ≡ document_fault d
 unfolding manifest_text_fault
 of_value text d h some = let e : nat_le (length text) MOST_BYTES ≡ true = grind arith in rw (e, some)
 
@@ -55,13 +93,13 @@ syntax_fault text e fits refused n =
     let parts = refused n in
     no_value text fits parts.1 ∙ ap Some (sym parts.0)
 
-pub member_fault : {T : Type 0} (text : List ℕ) (d : Data) (r : Result T ManifestFault) → length text ≤ MOST_BYTES
+pub member_fault : {T : Type 0} (text : List ℕ) (d : Json) (r : Result T ManifestFault) → length text ≤ MOST_BYTES
     → value_in text ≡ Some d → JudgesChecks r (manifest_checks d) → IfErr r (IsFaultOf text)
 unfolding document_fault
 member_fault text d (Ok x) fits some judged = tt
 member_fault text d (Err e) fits some judged = λ n. of_value text d fits some ∙ judged n
 
-pub manifest_found : (text : List ℕ) (d : Data) (r : Result Manifest ManifestFault) → length text ≤ MOST_BYTES
+pub manifest_found : (text : List ℕ) (d : Json) (r : Result Manifest ManifestFault) → length text ≤ MOST_BYTES
     → value_in text ≡ Some d → IfOk r (λ m. IsManifest d m) → IfOk r (IsManifestText text)
 manifest_found text d (Ok m) fits some is = record { fits = fits; value = d; reads = some; is = is }
 manifest_found text d (Err e) fits some is = tt
@@ -104,7 +142,7 @@ refused_unless text (Err e) ok err f has = elim (memory_or e) [
   | inr n ↦ inl (ap Err (same_Some e f (sym (err n) ∙ has)))
 ]
 
-fault_free : (o : Option Data) → option_map_or document_fault o (Some fault.Syntax) ≡ None → (d : Data) × (o ≡ Some d) × (document_fault d ≡ None)
+fault_free : (o : Option Json) → option_map_or document_fault o (Some fault.Syntax) ≡ None → (d : Json) × (o ≡ Some d) × (document_fault d ≡ None)
 fault_free None h = cc
 fault_free (Some d) h = (d, refl, h)
 

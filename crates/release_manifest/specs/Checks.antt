@@ -2,8 +2,8 @@
 use Rattle.std.specs.Prelude.{ℕ, ◌+◌, List, [], ◌∷◌, ◌++◌, codes, Bool, false, if◌then◌else◌}
 use Rattle.std.specs.Prelude.{Option, None, Some, is_some, unwrap_or, option_and_then}
 use Rattle.std.specs.Option.{option_map_or}
-use Rattle.serde_json.specs.Data.{Data, Items, no_items, item}
-use Rattle.serde_json.specs.Find.{get, as_str, as_array, as_object}
+use Rattle.json.specs.Json.{Json, Items, no_items, item}
+use Rattle.json.specs.Find.{get, as_str, as_array, as_object}
 use Rattle.td_base.specs.Names.{is_label, is_file_name}
 use Rattle.td_civil.specs.Reading.{moment_in, is_date_text}
 use Rattle.td_civil.specs.Bounds.{has_meaning}
@@ -27,16 +27,16 @@ unfoldable pub is_stamp_text : List ℕ → Bool
 is_stamp_text text = option_map_or has_meaning (moment_in text) false
 
 -- a value that is to be an object
-unfoldable pub object_checks : Path → Data → List Check
+unfoldable pub object_checks : Path → Json → List Check
 object_checks at d = record { fault = fault.Field at; passes = is_some (as_object d) } ∷ []
 
 -- a member that is to be a text
-unfoldable pub text_checks : Path → Option Data → List Check
+unfoldable pub text_checks : Path → Option Json → List Check
 text_checks at member =
     record { fault = fault.Field at; passes = is_some (option_and_then as_str member) } ∷ []
 
 -- a member that is to be a text of some form
-unfoldable pub form_checks : (List ℕ → Bool) → Path → Option Data → List Check
+unfoldable pub form_checks : (List ℕ → Bool) → Path → Option Json → List Check
 form_checks form at member =
     record { fault = fault.Field at; passes = is_some (option_and_then as_str member) }
     ∷ record {
@@ -45,12 +45,12 @@ form_checks form at member =
     } ∷ []
 
 -- each of the items, by its number
-unfoldable pub each_checks : (ℕ → Data → List Check) → ℕ → Items → List Check
+unfoldable pub each_checks : (ℕ → Json → List Check) → ℕ → Items → List Check
 each_checks checks n no_items = []
 each_checks checks n (item d ds) = checks n d ++ each_checks checks (n + 1) ds
 
 -- the aliases of a zone, which may be left out
-unfoldable pub alias_checks : ℕ → Option Data → List Check
+unfoldable pub alias_checks : ℕ → Option Json → List Check
 alias_checks zone None = []
 alias_checks zone (Some d) =
     record { fault = fault.Field (path.Aliases zone); passes = is_some (as_array d) }
@@ -58,7 +58,7 @@ alias_checks zone (Some d) =
     (unwrap_or (as_array d) no_items)
 
 -- a zone
-unfoldable pub zone_checks : ℕ → Data → List Check
+unfoldable pub zone_checks : ℕ → Json → List Check
 zone_checks zone d =
     object_checks (path.Zone zone) d
     ++ text_checks (path.Tzid zone) (get (codes "tzid") d)
@@ -66,13 +66,13 @@ zone_checks zone d =
     ++ alias_checks zone (get (codes "aliases") d)
 
 -- the list of zones
-unfoldable pub zones_checks : Option Data → List Check
+unfoldable pub zones_checks : Option Json → List Check
 zones_checks member =
     record { fault = fault.Field path.Zones; passes = is_some (option_and_then as_array member) }
     ∷ each_checks zone_checks 0 (unwrap_or (option_and_then as_array member) no_items)
 
 -- the leap seconds, which may be left out
-unfoldable pub leap_checks : Option Data → List Check
+unfoldable pub leap_checks : Option Json → List Check
 leap_checks None = []
 leap_checks (Some d) =
     object_checks path.Leaps d
@@ -80,7 +80,7 @@ leap_checks (Some d) =
     ++ form_checks is_date_text path.Expires (get (codes "expires") d)
 
 -- all of them
-unfoldable pub manifest_checks : Data → List Check
+unfoldable pub manifest_checks : Json → List Check
 manifest_checks d =
     object_checks path.Whole d
     ++ form_checks is_label path.Publisher (get (codes "publisher") d)
@@ -90,5 +90,5 @@ manifest_checks d =
     ++ leap_checks (get (codes "leapseconds") d)
 
 -- the first fault of a value, as a manifest
-unfoldable pub document_fault : Data → Option ManifestFault
+unfoldable pub document_fault : Json → Option ManifestFault
 document_fault d = first_failing (manifest_checks d)

@@ -1,5 +1,5 @@
 ghost use Rattle.std.specs.Prelude.{◌≡◌, ℕ, List, None};
-ghost use Rattle.serde_json.specs.Data.{Data};
+ghost use Rattle.json.specs.Json.{Json};
 ghost use Rattle.release_manifest.specs.declared.manifest_type.Manifest.{Manifest};
 ghost use Rattle.release_manifest.specs.Checks.{document_fault};
 ghost use Rattle.release_manifest.specs.Meaning.{IsManifest};
@@ -7,9 +7,9 @@ ghost use Rattle.release_manifest.specs.Reading.{IsManifestText, manifest_text_f
 
 /// A JSON value is a manifest exactly when it has no fault, and then it is only one manifest.
 pub fn one_meaning()
-    ensures found { (d : Data) → document_fault d ≡ None → (m : Manifest) × IsManifest d m }
-    ensures sound { (d : Data) (m : Manifest) → IsManifest d m → document_fault d ≡ None }
-    ensures one { (d : Data) (m n : Manifest) → IsManifest d m → IsManifest d n → m ≡ n }
+    ensures found { (d : Json) → document_fault d ≡ None → (m : Manifest) × IsManifest d m }
+    ensures sound { (d : Json) (m : Manifest) → IsManifest d m → document_fault d ≡ None }
+    ensures one { (d : Json) (m n : Manifest) → IsManifest d m → IsManifest d n → m ≡ n }
 {}
 
 /// A text is a manifest exactly when it has no fault, and then it is only one manifest.

@@ -1,8 +1,7 @@
 //! Reader of release manifests: JSON objects with the publisher, version, stamp, zone files and
 //! leap second file of a release. The main call is [`read`]: `Meaning.antt` and `Reading.antt`
 //! define the manifest of a text, and `Checks.antt` the first fault of a refused one. It depends on
-//! `td_base`, `td_civil` and `serde_json`; the crates that check, install and generate releases use
-//! it.
+//! `td_base`, `td_civil` and `json`; the crates that check, install and generate releases use it.
 #![tactic(auto)]
 
 // A manifest, and the error of a bad one.
@@ -20,5 +19,5 @@ mod send_sync;
 
 pub use laws::{one_meaning, one_reading};
 pub use manifest_fault::{ManifestFault, Path};
-pub use manifest_type::{MOST_BYTES, Manifest, ManifestLeaps, ManifestZone};
+pub use manifest_type::{MOST_BYTES, MOST_DEPTH, Manifest, ManifestLeaps, ManifestZone};
 pub use reading::read;

@@ -4,6 +4,9 @@ use td_civil::Moment;
 /// The most bytes that a manifest may have.
 pub const MOST_BYTES: usize = 4_194_304;
 
+/// How deep the arrays and objects of a manifest may nest.
+pub const MOST_DEPTH: usize = 127;
+
 /// The content of a release's manifest.
 #[derive(Drop)]
 pub struct Manifest {

@@ -1,6 +1,7 @@
-ghost use Rattle.std.specs.Prelude.{◌≡◌, Some, None, IfOk, MatchResult, codes, option_and_then};
-ghost use Rattle.serde_json.specs.Find.{get, as_str};
-ghost use Rattle.serde_json.specs.View.{view};
+ghost use Rattle.std.specs.Prelude.{◌≡◌, Some, None, IfOk, MatchResult, codes};
+ghost use Rattle.std.specs.Prelude.{option_and_then, option_map};
+ghost use Rattle.json.specs.Find.{get, as_array, as_str};
+ghost use Rattle.json.specs.Value.{items_view, value_view};
 ghost use Rattle.td_base.specs.Names.{is_label as has_label_form};
 ghost use Rattle.td_base.specs.Names.{is_file_name as has_file_name_form};
 ghost use Rattle.td_civil.specs.Reading.{is_date_text};
@@ -11,17 +12,17 @@ ghost use Rattle.release_manifest.specs.Meaning.{IsForm, IsStampOf};
 ghost use Rattle.release_manifest.specs.Reading.{JudgesChecks};
 
 use crate::{ManifestFault, Path};
-use serde_json::Value;
+use json::Value;
 use std::alloc::Global;
 use td_base::{Bytes, is_file_name, is_label};
 use td_civil::{Moment, is_date, moment_of};
 
 /// Checks that the value is an object.
 #[tactic(auto, unfolding(crate::specs::Checks::object_checks))]
-pub(crate) fn check_object(value: &Value, path: Path) -> Result<(), ManifestFault>
-    ensures { JudgesChecks result (object_checks path (view value.now)) }
+pub(crate) fn check_object(value: &Value<'_>, path: Path) -> Result<(), ManifestFault>
+    ensures { JudgesChecks result (object_checks path (value_view value.now)) }
 {
-    if value.is_object() {
+    if let Value::Object(_) = value {
         Ok(())
     } else {
         Err(ManifestFault::Field(path))
@@ -30,18 +31,31 @@ pub(crate) fn check_object(value: &Value, path: Path) -> Result<(), ManifestFaul
 
 /// The text of a member of the object.
 pub(crate) fn text_member<'v>(
-    object: &'v Value,
+    object: &Value<'v>,
     name: &str,
     path: Path,
 ) -> Result<&'v str, ManifestFault>
     ensures { MatchResult result
-        (λ t. option_and_then as_str (get name.now (view object.now)) ≡ Some t.now)
+        (λ t. option_and_then as_str (get name.now (value_view object.now)) ≡ Some t.now)
         (λ e. (e ≡ ManifestFault.Field path)
-        × (option_and_then as_str (get name.now (view object.now)) ≡ None)) }
+        × (option_and_then as_str (get name.now (value_view object.now)) ≡ None)) }
 {
-    match object.get(name).and_then(Value::as_str) {
+    let Some(member) = object.get(name) else {
+        return Err(ManifestFault::Field(path));
+    };
+    match member.as_str() {
         Some(text) => Ok(text),
         None => Err(ManifestFault::Field(path)),
+    }
+}
+
+/// The items of an array.
+pub(crate) fn items<'v, 'a>(value: &'v Value<'a>) -> Option<&'v [Value<'a>]>
+    ensures { option_map (λ list. items_view list.now) result ≡ as_array (value_view value.now) }
+{
+    match value {
+        Value::Array(list) => Some(list.as_slice()),
+        _ => None,
     }
 }
 
@@ -49,13 +63,13 @@ pub(crate) fn text_member<'v>(
 #[tactic(auto, unfolding(crate::specs::Checks::text_checks))]
 pub(crate) fn read_text(
     alloc: Global,
-    object: &Value,
+    object: &Value<'_>,
     name: &str,
     path: Path,
 ) -> Result<Bytes, ManifestFault>
     ensures found { IfOk result
-        (λ b. option_and_then as_str (get name.now (view object.now)) ≡ Some b) }
-    ensures judged { JudgesChecks result (text_checks path (get name.now (view object.now))) }
+        (λ b. option_and_then as_str (get name.now (value_view object.now)) ≡ Some b) }
+    ensures judged { JudgesChecks result (text_checks path (get name.now (value_view object.now))) }
 {
     let text = text_member(object, name, path)?;
     Ok(Bytes::from_slice(alloc, text.as_bytes())?)
@@ -65,13 +79,14 @@ pub(crate) fn read_text(
 #[tactic(auto, unfolding(crate::specs::Checks::form_checks))]
 pub(crate) fn read_label(
     alloc: Global,
-    object: &Value,
+    object: &Value<'_>,
     name: &str,
     path: Path,
 ) -> Result<Bytes, ManifestFault>
-    ensures found { IfOk result (λ b. IsForm has_label_form (get name.now (view object.now)) b) }
+    ensures found { IfOk result
+        (λ b. IsForm has_label_form (get name.now (value_view object.now)) b) }
     ensures judged { JudgesChecks result
-        (form_checks has_label_form path (get name.now (view object.now))) }
+        (form_checks has_label_form path (get name.now (value_view object.now))) }
 {
     let text = text_member(object, name, path)?.as_bytes();
     if !is_label(text) {
@@ -84,13 +99,13 @@ pub(crate) fn read_label(
 #[tactic(auto, unfolding(crate::specs::Checks::form_checks))]
 pub(crate) fn read_file_name(
     alloc: Global,
-    object: &Value,
+    object: &Value<'_>,
     path: Path,
 ) -> Result<Bytes, ManifestFault>
     ensures found { IfOk result
-        (λ b. IsForm has_file_name_form (get (codes "file") (view object.now)) b) }
+        (λ b. IsForm has_file_name_form (get (codes "file") (value_view object.now)) b) }
     ensures judged { JudgesChecks result
-        (form_checks has_file_name_form path (get (codes "file") (view object.now))) }
+        (form_checks has_file_name_form path (get (codes "file") (value_view object.now))) }
 {
     let text = text_member(object, "file", path)?.as_bytes();
     if !is_file_name(text) {
@@ -101,10 +116,10 @@ pub(crate) fn read_file_name(
 
 /// Reads the moment of the release, which must be within the bounds of known local time.
 #[tactic(auto, unfolding(crate::specs::Checks::form_checks, crate::specs::Checks::is_stamp_text))]
-pub(crate) fn read_stamp(object: &Value) -> Result<Moment, ManifestFault>
-    ensures found { IfOk result (λ m. IsStampOf (get (codes "stamp") (view object.now)) m) }
+pub(crate) fn read_stamp(object: &Value<'_>) -> Result<Moment, ManifestFault>
+    ensures found { IfOk result (λ m. IsStampOf (get (codes "stamp") (value_view object.now)) m) }
     ensures judged { JudgesChecks result
-        (form_checks is_stamp_text path.Stamp (get (codes "stamp") (view object.now))) }
+        (form_checks is_stamp_text path.Stamp (get (codes "stamp") (value_view object.now))) }
 {
     let text = text_member(object, "stamp", Path::Stamp)?;
     match moment_of(text.as_bytes()) {
@@ -115,11 +130,11 @@ pub(crate) fn read_stamp(object: &Value) -> Result<Moment, ManifestFault>
 
 /// Reads the date from which the leap seconds are expired.
 #[tactic(auto, unfolding(crate::specs::Checks::form_checks))]
-pub(crate) fn read_expiry(alloc: Global, object: &Value) -> Result<Bytes, ManifestFault>
+pub(crate) fn read_expiry(alloc: Global, object: &Value<'_>) -> Result<Bytes, ManifestFault>
     ensures found { IfOk result
-        (λ b. IsForm is_date_text (get (codes "expires") (view object.now)) b) }
+        (λ b. IsForm is_date_text (get (codes "expires") (value_view object.now)) b) }
     ensures judged { JudgesChecks result
-        (form_checks is_date_text path.Expires (get (codes "expires") (view object.now))) }
+        (form_checks is_date_text path.Expires (get (codes "expires") (value_view object.now))) }
 {
     let text = text_member(object, "expires", Path::Expires)?.as_bytes();
     if !is_date(text) {

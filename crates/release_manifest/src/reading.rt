@@ -1,20 +1,22 @@
 ghost use Rattle.std.specs.Prelude.{◌≡◌, ◌≢◌, ◌⊎◌, ◌<◌, Ok, Err, Some, IfOk, IfErr, codes, length};
 ghost use Rattle.release_manifest.specs.declared.manifest_type.TheConstants.{MOST_BYTES};
-ghost use Rattle.serde_json.specs.Errors.{IsMemory};
-ghost use Rattle.serde_json.specs.Find.{get};
-ghost use Rattle.serde_json.specs.View.{view};
+ghost use Rattle.json.specs.declared.error.Error.TheVariants as unread;
+ghost use Rattle.json.specs.Find.{get};
+ghost use Rattle.json.specs.Value.{value_view};
 ghost use Rattle.release_manifest.specs.declared.manifest_fault.ManifestFault.{ManifestFault};
 ghost use Rattle.release_manifest.specs.declared.manifest_type.Manifest.{Manifest};
 ghost use Rattle.release_manifest.specs.Checks.{leap_checks, manifest_checks};
 ghost use Rattle.release_manifest.specs.Meaning.{AreLeaps, IsLeaps, IsManifest};
-ghost use Rattle.release_manifest.specs.Reading.{IsManifestText, JudgesChecks, ReadsValue};
+ghost use Rattle.release_manifest.specs.Reading.{IsManifestText, JudgesChecks};
+ghost use Rattle.release_manifest.specs.Reading.{ReadsDocument, ReadsValue};
 ghost use Rattle.release_manifest.specs.Reading.{manifest_text_fault};
 
 use crate::members::{check_object, read_expiry, read_file_name, read_label, read_stamp};
 use crate::zone_members::read_zones;
-use crate::{MOST_BYTES, Manifest, ManifestFault, ManifestLeaps, Path};
-use serde_json::{Error, Value};
+use crate::{MOST_BYTES, MOST_DEPTH, Manifest, ManifestFault, ManifestLeaps, Path};
+use json::{Error, Reader, Scratch, Value};
 use std::alloc::Global;
+use std::str;
 
 /// Reads a manifest. [`ManifestFault::Long`] is the error of a text longer than [`MOST_BYTES`], and
 /// `Syntax` that of a text that is not JSON in UTF-8 (RFC 8259). After these the error is the first
@@ -37,36 +39,63 @@ pub fn read(alloc: Global, bytes: &[u8]) -> Result<Manifest, ManifestFault>
     if bytes.len() > MOST_BYTES {
         return Err(ManifestFault::Long);
     }
-    let value = read_value(alloc, bytes)?;
+    let mut scratch = Scratch::new(alloc);
+    let value = read_value(alloc, bytes, &mut scratch)?;
     read_manifest(alloc, &value)
 }
 
-/// The JSON value of a text.
-fn read_value(alloc: Global, bytes: &[u8]) -> Result<Value, ManifestFault>
-    ensures { ReadsValue view bytes.now result }
+/// The JSON value of bytes. Its texts are borrowed from them or, if they have escapes, from the
+/// scratch.
+fn read_value<'a>(
+    alloc: Global,
+    bytes: &'a [u8],
+    scratch: &'a mut Scratch,
+) -> Result<Value<'a>, ManifestFault>
+    ensures { ReadsValue value_view bytes.now result }
 {
-    match Value::from_slice(alloc, bytes) {
-        Ok(value) => Ok(value),
-        Err(error) => Err(refusal(&error)),
+    match str::from_utf8(bytes) {
+        Ok(text) => read_document(alloc, text, scratch),
+        Err(_) => Err(ManifestFault::Syntax),
+    }
+}
+
+/// The JSON value of a text.
+fn read_document<'a>(
+    alloc: Global,
+    text: &'a str,
+    scratch: &'a mut Scratch,
+) -> Result<Value<'a>, ManifestFault>
+    ensures { ReadsDocument value_view text.now result }
+{
+    let mut reader = match Reader::new(text, scratch) {
+        Ok(reader) => reader,
+        Err(_) => return Err(ManifestFault::NoMemory),
+    };
+    let value = match Value::read(alloc, &mut reader, MOST_DEPTH) {
+        Ok(value) => value,
+        Err(error) => return Err(refusal(error)),
+    };
+    match reader.next() {
+        Some(_) => Err(ManifestFault::Syntax),
+        None => Ok(value),
     }
 }
 
 /// The fault for an error of the JSON reader.
-fn refusal(error: &Error) -> ManifestFault
-    ensures memory { IsMemory error.now → result ≡ ManifestFault.NoMemory }
-    ensures syntax { (¬ IsMemory error.now) → result ≡ ManifestFault.Syntax }
+fn refusal(error: Error) -> ManifestFault
+    ensures memory { error ≡ unread.OutOfMemory → result ≡ ManifestFault.NoMemory }
+    ensures syntax { error ≢ unread.OutOfMemory → result ≡ ManifestFault.Syntax }
 {
-    if error.is_memory() {
-        ManifestFault::NoMemory
-    } else {
-        ManifestFault::Syntax
+    match error {
+        Error::OutOfMemory => ManifestFault::NoMemory,
+        _ => ManifestFault::Syntax,
     }
 }
 
 /// Reads the manifest of a value.
-fn read_manifest(alloc: Global, value: &Value) -> Result<Manifest, ManifestFault>
-    ensures found { IfOk result (λ m. IsManifest (view value.now) m) }
-    ensures judged { JudgesChecks result (manifest_checks (view value.now)) }
+fn read_manifest(alloc: Global, value: &Value<'_>) -> Result<Manifest, ManifestFault>
+    ensures found { IfOk result (λ m. IsManifest (value_view value.now) m) }
+    ensures judged { JudgesChecks result (manifest_checks (value_view value.now)) }
 {
     check_object(value, Path::Whole)?;
     let publisher = read_label(alloc, value, "publisher", Path::Publisher)?;
@@ -85,11 +114,11 @@ fn read_manifest(alloc: Global, value: &Value) -> Result<Manifest, ManifestFault
 
 /// Reads the leap seconds; `None` if the member is left out.
 #[tactic(auto, unfolding(crate::specs::Checks::leap_checks))]
-fn read_leaps(alloc: Global, manifest: &Value) -> Result<Option<ManifestLeaps>, ManifestFault>
+fn read_leaps(alloc: Global, manifest: &Value<'_>) -> Result<Option<ManifestLeaps>, ManifestFault>
     ensures found { IfOk result
-        (λ leaps. AreLeaps (get (codes "leapseconds") (view manifest.now)) leaps) }
+        (λ leaps. AreLeaps (get (codes "leapseconds") (value_view manifest.now)) leaps) }
     ensures judged { JudgesChecks result
-        (leap_checks (get (codes "leapseconds") (view manifest.now))) }
+        (leap_checks (get (codes "leapseconds") (value_view manifest.now))) }
 {
     match manifest.get("leapseconds") {
         Some(member) => Ok(Some(read_leap_members(alloc, member)?)),
@@ -99,9 +128,9 @@ fn read_leaps(alloc: Global, manifest: &Value) -> Result<Option<ManifestLeaps>, 
 
 /// Reads the leap seconds of a value.
 #[tactic(auto, unfolding(crate::specs::Checks::leap_checks))]
-fn read_leap_members(alloc: Global, leaps: &Value) -> Result<ManifestLeaps, ManifestFault>
-    ensures found { IfOk result (λ l. IsLeaps (view leaps.now) l) }
-    ensures judged { JudgesChecks result (leap_checks (Some (view leaps.now))) }
+fn read_leap_members(alloc: Global, leaps: &Value<'_>) -> Result<ManifestLeaps, ManifestFault>
+    ensures found { IfOk result (λ l. IsLeaps (value_view leaps.now) l) }
+    ensures judged { JudgesChecks result (leap_checks (Some (value_view leaps.now))) }
 {
     check_object(leaps, Path::Leaps)?;
     let file = read_file_name(alloc, leaps, Path::LeapFile)?;

@@ -1,5 +1,5 @@
 use Rattle.std.proofs.Common.{◌≡◌, List, ◌++◌, drop}
-use Rattle.serde_json.specs.View.{items_view}
+use Rattle.json.specs.Value.{items_view}
 use Rattle.release_manifest.specs.Checks.{first_failing, zone_checks, each_checks}
 use Rattle.release_manifest.specs.Meaning.{AllAre, IsZone}
 use Rattle.release_manifest.proofs.zone_members.read_each_zone.Given as goal
