@@ -21,6 +21,7 @@ pub fn limits_are_these()
     ensures path_bytes { name.MOST_PATH_BYTES ≡ 1024 }
     ensures requests_of_a_connection { report.MOST_PLACES ≡ 1000 }
     ensures manifest_bytes { manifest.MOST_BYTES ≡ 4194304 }
+    ensures manifest_depth { manifest.MOST_DEPTH ≡ 127 }
     ensures tzif_bytes { tzif.MOST_BYTES ≡ 65536 }
     ensures tzif_transitions { tzif.MOST_TRANSITIONS ≡ 4096 }
     ensures zones { release.MOST_ZONES ≡ 4096 }
