@@ -94,6 +94,7 @@ def introduction(figures):
         f"It measured commit {machine['commit'][:12]}{changed}.", run["note"],
         f"The machine has {machine['processors']} processors ({machine['processor']}) and {machine['memory_mib']:,} MiB of memory.",
         apart, f"The system is {machine['system']}; nginx is {machine['nginx'].rpartition('/')[2]}.",
+        f"TCP's congestion control is {machine['congestion']}." if machine.get("congestion") else "",
         f"The load before the run was {machine['load_before']}.",
         f"The release has {release['zones']} zones, whose files have {release['bytes']:,} bytes.",
     ]

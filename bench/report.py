@@ -27,7 +27,9 @@ Times of two machines cannot be compared, but the two ratios can. The parts:
 
 It needs Linux, and uses wrk, nginx, openssl and a C compiler: on Debian
 `apt-get install wrk nginx openssl gcc strace`. The servers run on one half of the processors, and
-the clients on the other. It is run by hand on an idle machine, and is no part of the gate.
+the clients on the other. It is run by hand on an idle machine, and is no part of the gate. BBR
+paces what it sends, and now and then sends little for 200 ms, also over the loopback. So measure
+with TCP's other congestion control, by `sysctl net.ipv4.tcp_congestion_control=cubic`.
 """
 
 import argparse
@@ -80,6 +82,15 @@ def commit_of(program):
     return said("git", "-C", os.path.dirname(program), "rev-parse", "--short=12", "HEAD")
 
 
+def congestion_control():
+    """The system's congestion control of TCP, or an empty text."""
+    try:
+        with open("/proc/sys/net/ipv4/tcp_congestion_control") as file:
+            return file.read().strip()
+    except OSError:
+        return ""
+
+
 def described(program):
     """The machine, the tools, the commit and the program."""
     from measured import ASKING, SERVING
@@ -91,6 +102,7 @@ def described(program):
     return {
         "processor": processor(), "processors": os.cpu_count(), "serving": len(SERVING), "asking": len(ASKING),
         "apart": SERVING != ASKING, "memory_mib": memory >> 20, "system": f"{platform.system()} {platform.release()}",
+        "congestion": congestion_control(),
         "python": platform.python_version(), "nginx": said("nginx", "-v"), "wrk": said("wrk", "-v")[:40], "compiler": said("cc", "--version"),
         "load_before": round(os.getloadavg()[0], 2), "date": datetime.datetime.now(datetime.timezone.utc).strftime("%Y-%m-%d"),
         "commit": said("git", "rev-parse", "--short=12", "HEAD"), "is_changed": bool(said("git", "status", "--porcelain", "-uno")),
@@ -224,7 +236,9 @@ def write_pages(figures, out):
 
 def parser():
     flags = argparse.ArgumentParser(
-        description=__doc__.split("\n")[0], epilog="example: bench/report.py --quick release"
+        description=__doc__.split("\n")[0],
+        epilog="Measure with TCP's congestion control cubic, since bbr delays long replies: "
+        "sysctl net.ipv4.tcp_congestion_control=cubic. example: bench/report.py --quick release",
     )
     flags.add_argument("folder", metavar="RELEASE_DIR", nargs="?", help="as tools/pack_zoneinfo.py makes it")
     flags.add_argument("--quick", action="store_true", help="a quarter of an hour")
@@ -287,6 +301,8 @@ def main():
             out.write("\n")
         os.replace(f"{path}.new", path)
 
+    if congestion_control() == "bbr":
+        print("TCP uses bbr, which delays long replies: see what --help says", file=sys.stderr)
     try:
         status = measure(words, "quick" if words.quick else "smoke" if words.smoke else "full", figures, keep)
     except Failure as fault:
