@@ -12,7 +12,8 @@ reads the columns:
 
     Crate, Function, Clause  the function has a clause of this label (`result`: one without a label)
     Definition, Where        the name is declared in this file
-    Edit                     the crate has this edit; `row x`: a table of cases has this word
+    Edit                     the crate has this edit; `row x`: a table of cases has this word;
+                             `plant x`: the file tools/plants/x.patch exists
     Clause that falls        the first line of the row's edit names this function and this clause
 
 Of fenced blocks marked `sh` it checks that scripts have the flags. Of those marked `sh run` it
@@ -95,6 +96,11 @@ class Page:
 def slim(cell):
     """The names in backticks of a cell."""
     return SPAN.findall(cell)
+
+
+def words_after(mark, cell):
+    """The names in backticks that follow a mark, with commas or `and` between them."""
+    return [it for row in re.findall(rf"{mark} ((?:`[^`]+`(?:, | and )?)+)", cell) for it in slim(row)]
 
 
 class Checks:
@@ -287,15 +293,17 @@ class Checks:
                     self.fault(page, number, f"{name} has no clause {label}")
 
     def check_edits(self, page, number, crate, cell):
-        rows = re.findall(r"rows? ((?:`[^`]+`(?:, | and )?)+)", cell)
-        words = [it for row in rows for it in slim(row)]
-        for word in words:
+        rows, plants = words_after("rows?", cell), words_after("plants?", cell)
+        for word in rows:
             if not any(re.search(rf"\b{re.escape(word)}\b", it) for it in self.declared.rows.values()):
                 self.fault(page, number, f"no table of cases has a row {word}")
+        for name in plants:
+            if f"tools/plants/{name}.patch" not in self.declared.files:
+                self.fault(page, number, f"no plant {name}")
         for name in slim(cell):
             owner, _, edit = name.rpartition("/")
             owner = owner or crate
-            if name not in words and edit not in self.declared.edits.get(owner, ()):
+            if name not in rows + plants and edit not in self.declared.edits.get(owner, ()):
                 self.fault(page, number, f"{owner} has no edit {edit}")
 
     def check_falls(self, page, number, crate, edit, cell):

@@ -51,6 +51,7 @@ module _ {V : Type} where
 """,
     "crates/base/must-fail/found_nothing.edit": "# Falls: Names::find_one, `found`: it is found.\nfile: src/lib.rt\n",
     "crates/upper/stdin": "worker 1 2 = 3\n",
+    "tools/plants/wrong.patch": "# It is wrong.\n",
     "tools/make_it.py": "ROOM = 12\nflags.add_argument('--made-at')\n",
     "docs/OTHER.md": "# Other things\n\n## What is here (now)\n",
 }
@@ -66,7 +67,7 @@ Files: `base/src/lib.rt`, `crates/base/src/lib.rt:5`, `Sorted.antt`, `tools/`,
 
 | Crate | Function | Clause | Edit or row |
 |---|---|---|---|
-| `base` | `Names::find_one` | `found`, `sorted` | `found_nothing`, row `worker` |
+| `base` | `Names::find_one` | `found`, `sorted` | `found_nothing`, row `worker`, plant `wrong` |
 | | `read_all` | `result` | |
 | `upper` | `call_it` | `calls` | `base/found_nothing` |
 
@@ -115,6 +116,7 @@ FAULTS = (
     ("| `found_nothing`, row", "| `found_all`, row", "base has no edit found_all"),
     ("| `Names::find_one`: `found` |", "| `Names::find_one`: `sorted` |", "by its first line found_nothing breaks"),
     ("row `worker`", "row `walker`", "no table of cases has a row walker"),
+    ("plant `wrong`", "plant `strong`", "no plant strong"),
     ("| `LeadsTo` | `base/specs/Sorted.antt`", "| `Names` | `base/specs/Sorted.antt`", "does not declare Names"),
     ("--made-at 3", "--made-by 3", "tools/make_it.py has no flag --made-by"),
     ("tools/make_it.py --", "tools/take_it.py --", "no script tools/take_it.py"),
